@@ -1,5 +1,5 @@
 -- The laws that proofs of other crates may cite. A crate above imports this file and no other of this folder.
-use Rattle.vers_trees.proofs.Words.{◌≡◌, ℕ, suc, ◌+◌, ◌-◌, ◌*◌, ◌^◌, ◌<◌, ◌≤◌, ◌↔◌, ⊎_elim, Bool, true, false, not, List, [], ◌∷◌, ◌++◌, map, length, get_or, eqb, max, Option, Some, None, slice_get, option_map, Contains, bit_value, enclosing, Forest, text, pairs, IsBalanced, forest_of, block_count, clog, node_count, nodes, IsNode, closing, parent, depth, level, first_of, last_of, next_of, previous_of, IsAlongLevel, arith, refl, sym, subst, ap, ◌∙◌, cases_lt, take, same_Some, slice_get-get_or, get_or_from_slice_get, slice_get_within, length_push, map-append, take_all, take_more, Decides-eqb, length-filter_both, clog_least, pow_next, negsuc, first_rise_after, last_rise_before, ints, rules, Reads, AddsAtMost, IsWithin, superblock_count, get_reads, rank_reads, select_reads, levels, search_reads, enclose_reads, two_searches_reads, post_reads, tree_reads}
+use Rattle.vers_trees.proofs.Words.{◌≡◌, ℕ, suc, ◌+◌, ◌-◌, ◌*◌, ◌^◌, ◌<◌, ◌≤◌, ◌↔◌, ⊎_elim, Bool, true, false, not, List, [], ◌∷◌, ◌++◌, map, length, get_or, eqb, max, Option, Some, None, slice_get, option_map, Contains, enclosing, Forest, text, pairs, IsBalanced, forest_of, block_count, clog, node_count, nodes, IsNode, closing, parent, depth, level, first_of, last_of, next_of, previous_of, IsAlongLevel, arith, refl, sym, subst, ap, ◌∙◌, cases_lt, take, slice_get-get_or, get_or_from_slice_get, slice_get_within, length_push, map-append, take_all, take_more, Decides-eqb, length-filter_both, clog_least, pow_next, negsuc, first_rise_after, last_rise_before, ints, rules, Reads, AddsAtMost, IsWithin, superblock_count, get_reads, rank_reads, select_reads, levels, search_reads, enclose_reads, two_searches_reads, post_reads, tree_reads}
 -- reading from the left decides whether parentheses are balanced
 pub use Rattle.vers_trees.proofs.grammar.Grammar.{balance_decides}
 -- the forest of a balanced list writes down that list again, and that of a text is the one written down
@@ -25,12 +25,7 @@ node_iff_bit bits v b = (
 
 -- the same, by what stands at the place
 pub node_iff_one : (bits : List Bool) (v : ℕ) → IsBalanced bits → IsNode (forest_of bits) v ↔ (slice_get bits v ≡ Some true)
-node_iff_one bits v b =
-    let n = node_iff_bit bits v b in grind (arith, slice_get-get_or, bit_inside, get_or_from_slice_get)
-
--- the same, by what `get` answers
-pub node_iff_got : (bits : List Bool) (v : ℕ) → IsBalanced bits → IsNode (forest_of bits) v ↔ (option_map bit_value (slice_get bits v) ≡ Some 1)
-node_iff_got bits v b = grind (arith, node_iff_one, same_Some)
+node_iff_one bits v b = grind (arith, ints, slice_get-get_or, bit_inside, get_or_from_slice_get, node_iff_bit bits v b)
 
 -- ---- pairs
 
@@ -51,12 +46,10 @@ open_pair F v c h = (
 )
 
 pub open_of_close : (F : Forest) (v : ℕ) → slice_get (text F) v ≡ Some true → (c : ℕ) × (first_rise_after (text F) v (negsuc 0) ≡ Some c) × (last_rise_before (text F) c (negsuc 0) ≡ Some v)
-open_of_close F v h =
-    grind (arith, has_bit, open_is_paired, paired_closes, after_is, after_from_closes, before_is, before_from_closes)
+open_of_close F v h = grind (arith, has_bit, open_is_paired, paired_closes, after_is, after_from_closes, before_is, before_from_closes)
 
 pub close_of_open : (F : Forest) (c : ℕ) → slice_get (text F) c ≡ Some false → (v : ℕ) × (last_rise_before (text F) c (negsuc 0) ≡ Some v) × (first_rise_after (text F) v (negsuc 0) ≡ Some c)
-close_of_open F c h =
-    grind (arith, has_bit, close_is_paired, paired_closes, before_is, before_from_closes, after_is, after_from_closes)
+close_of_open F c h = grind (arith, has_bit, close_is_paired, paired_closes, before_is, before_from_closes, after_is, after_from_closes)
 
 -- from the closing bracket of a pair two less is found where one less is from the opening one
 pub found_at_close : (l : List Bool) (v c : ℕ) → Closes l v c → (o : Option ℕ) → last_rise_before l v (negsuc 0) ≡ o → last_rise_before l c (negsuc 1) ≡ o
@@ -66,8 +59,7 @@ found_at_close l v c q (Some p) e = search (rules, before_is, enclose_at_close, 
 -- of both places of a pair, the nearest pair around it opens at the parent of its node
 pub enclosed_by_parent : (F : Forest) (v c : ℕ) → Contains (pairs F) (v, c) → (enclosing (text F) v ≡ parent F v) × (enclosing (text F) c ≡ parent F v)
 enclosed_by_parent F v c k =
-    let q = paired_closes F v c (paired_from_contains F (v, c) k) in
-    let opens = closes_rises (text F) v c false q in
+    let q = paired_closes F v c (paired_from_contains F (v, c) k) in let opens = closes_rises (text F) v c false q in
     let b : IsBalanced (text F) = record { forest = F; written = refl } in
     let s = rw (forest_of-text F) at (parent_is_search (text F) b v (one_pair (text F) b v (omega arith) opens)) in (
       sym (enclosing_open (text F) v opens) ∙ s,
@@ -114,8 +106,7 @@ level_iff_depth F d v = (
 pub levels_go_on : (F : Forest) (d i v : ℕ) → slice_get (level F d) i ≡ Some v
     → IsNode F v × (depth F v ≡ d) × (next_of (level F d) v ≡ slice_get (level F d) (i + 1))
 levels_go_on F d i v e =
-    let m = level_member F d i v e in
-    let s : suc i ≡ i + 1 = omega arith in
+    let m = level_member F d i v e in let s : suc i ≡ i + 1 = omega arith in
     (m.0, m.1, next_member 0 i v (level F d) (level_ascends F d) e ∙ ap (slice_get (level F d)) s)
 
 -- the one before on the level is the member before it, and before the first there is none; the last has the greatest number
@@ -131,8 +122,7 @@ levels_go_back F d = (
 -- no level has more members than the forest has nodes
 pub levels_are_parts : (F : Forest) (d : ℕ) → length (level F d) ≤ length (nodes F)
 unfolding level
-levels_are_parts F d =
-    omega (arith, length-filter_both (λ v. eqb (depth F v) d) (λ v. not (eqb (depth F v) d)) (λ v. refl) (nodes F))
+levels_are_parts F d = omega (arith, length-filter_both (λ v. eqb (depth F v) d) (λ v. not (eqb (depth F v) d)) (λ v. refl) (nodes F))
 
 -- ---- walks along a level by handles: what a loop by `level_leftmost` and `level_next` keeps
 
@@ -151,8 +141,7 @@ walk_meets_nodes {place = place} {F = F} {d = d} {met = met} {v = v} h e = (leve
 pub walk_goes_on : {H : Type 0} {place : H → ℕ} {F : Forest} {d : ℕ} {met all : List H} {next after : Option H} {v : H} → IsAlongLevel place F d met next → next ≡ Some v
     → all ≡ met ++ v ∷ [] → option_map place after ≡ next_of (level F (depth F (place v))) (place v) → IsAlongLevel place F d all after
 walk_goes_on {place = place} {F = F} {d = d} {met = met} {all = all} {v = v} h e a n =
-    let m = member_met h e in
-    let g = levels_go_on F d (length met) (place v) m in
+    let m = member_met h e in let g = levels_go_on F d (length met) (place v) m in
     let long : length all ≡ length met + 1 = ap (λ (vs : List _). length vs) a ∙ length_push met v in
     record {
       first = ap (map place) a ∙ map-append place met (v ∷ []) ∙ ap (λ (vs : List ℕ). vs ++ place v ∷ []) h.first ∙ sym (take_more (level F d) (length met) 0 (slice_get_within (level F d) (length met) (place v) m) ∙ ap (λ (y : ℕ). take (length met) (level F d) ++ y ∷ []) (get_or_from_slice_get (level F d) (length met) (place v) 0 m)) ∙ ap (λ (k : ℕ). take k (level F d)) (sym long);
@@ -162,8 +151,7 @@ walk_goes_on {place = place} {F = F} {d = d} {met = met} {all = all} {v = v} h e
 -- fewer are still to be met
 pub walk_comes_nearer : {H : Type 0} {place : H → ℕ} {F : Forest} {d : ℕ} {met all : List H} {next : Option H} {v : H} → IsAlongLevel place F d met next → next ≡ Some v
     → all ≡ met ++ v ∷ [] → length (level F d) - length all < length (level F d) - length met
-walk_comes_nearer {place = place} {F = F} {d = d} {met = met} {all = all} {v = v} h e a =
-    grind (arith, slice_get_within, length_push)
+walk_comes_nearer {place = place} {F = F} {d = d} {met = met} {all = all} {v = v} h e a = grind (arith, slice_get_within, length_push)
 
 -- where none comes next, all of the level were met
 pub walk_ends : {H : Type 0} {place : H → ℕ} {F : Forest} {d : ℕ} {met : List H} {next : Option H} → IsAlongLevel place F d met next → next ≡ None → map place met ≡ level F d

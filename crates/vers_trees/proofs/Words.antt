@@ -13,7 +13,7 @@ pub use Rattle.std.proofs.lemmas.List.FromFn.{filter_of_map_range_with_len_more}
 pub use Rattle.std.proofs.lemmas.List.Sums.{sum_by-cons, sum_by-append, length-filter, count_by-le-length}
 pub use Rattle.std.proofs.lemmas.Nat.{ones-le, pow_pos, shr-shr, mod-pow-add, or_block, and_block, or_lt}
 pub use Rattle.std.proofs.lemmas.Nat.Bits.{bit_at_lowest, bit_at-suc, bit_at-trailing_zeros}
-pub use Rattle.std.proofs.lemmas.Option.{slice_get-get_or, get_or_from_slice_get, slice_get_within, slice_get_past, same_Some, cond_some}
+pub use Rattle.std.proofs.lemmas.Option.{slice_get-get_or, get_or_from_slice_get, slice_get_within, slice_get_past, cond_some}
 pub use Rattle.std.proofs.lemmas.Result.{IfOk-weaker, IfOk-from_err}
 pub use Rattle.std.proofs.lemmas.Simd.{map-map}
 pub use Rattle.std.specs.Int.{bit_at, int_min, int_max}
@@ -29,19 +29,19 @@ pub use Rattle.vers_rank.specs.Queries.{superblock_count, get_reads, rank_reads,
 unfoldable pub use Rattle.vers_rank.specs.Queries.{part_number_or_zero}
 pub use Rattle.vers_tally.proofs.PublicLaws.{digits_half, digits_up, adds_then, adds_weaker, adds_nothing, within_itself, digits_below_pow, clog_least, clog_is_least, pow_next}
 pub use Rattle.vers_tally.specs.Ends.{Walking}
-pub use Rattle.vers_tally.specs.Reads.{Reads, AddsAtMost, IsWithin, only_nodes, plus}
+pub use Rattle.vers_tally.specs.Reads.{Reads, AddsAtMost, IsWithin, only_nodes}
 unfoldable pub use Rattle.vers_tally.specs.Reads.{digits}
 pub use Rattle.vers_trees.specs.Balance.{are_balanced, closes}
-pub use Rattle.vers_trees.specs.Bytes.{IsByte, IsEntry, sum_along, place_along, place_in, least_in, greatest_in, IsFirstMet}
+pub use Rattle.vers_trees.specs.Bytes.{IsByte, IsEntry, sum_along, place_along, place_in, least_in, greatest_in}
 pub use Rattle.vers_trees.specs.Excess.{bit_step}
 unfoldable pub use Rattle.vers_trees.specs.Excess.{enclosing, excess, last_rise_before, first_rise_after}
-pub use Rattle.vers_trees.specs.Forest.{Forest, text, pairs, IsBalanced, none, tree, closed, parse, moved}
+pub use Rattle.vers_trees.specs.Forest.{Forest, text, pairs, IsBalanced, none, tree, parse, moved}
 unfoldable pub use Rattle.vers_trees.specs.Forest.{forest_of}
 pub use Rattle.vers_trees.specs.Laws.{IsFirstRiseAfter, IsLastRiseBefore}
 pub use Rattle.vers_trees.specs.Layout.{block_count, search_reads, enclose_reads, two_searches_reads, clog}
 unfoldable pub use Rattle.vers_trees.specs.Layout.{node_count, levels}
 pub use Rattle.vers_trees.specs.LevelWalks.{IsAlongLevel}
-pub use Rattle.vers_trees.specs.Nodes.{nodes, IsNode, first_of, last_of, next_of, previous_of, proper_ancestors, children, siblings}
+pub use Rattle.vers_trees.specs.Nodes.{nodes, IsNode, first_of, last_of, next_of, previous_of, children, siblings}
 unfoldable pub use Rattle.vers_trees.specs.Nodes.{parent, depth, level, closing, is_ancestor, is_proper_ancestor, node_index, subtree, level_ancestor, nodes_under}
 pub use Rattle.vers_trees.specs.ReadLaws.{tree_reads}
 pub use Rattle.vers_trees.specs.Siblings.{IsWalkOfSiblings, opening_of, tree_to, opened, tree_from, tree_before, met, walked, MeetsJust, tree_beside}
@@ -53,7 +53,7 @@ pub use Rattle.vers_trees.specs.declared.trees.bp.min_max.Node.{Node}
 pub use Rattle.vers_trees.specs.inside.Bytes.{octal, AreEntries, HasMet, step_along}
 pub use Rattle.vers_trees.specs.inside.Closed.{closed_by}
 pub use Rattle.vers_trees.specs.inside.Index.{IsIndexed, IsBuilding, IsWidth, IsGrowing, AreFirstBlocks, IsTreeOf, IsPassed, past_reads}
-pub use Rattle.vers_trees.specs.inside.MinMax.{empty_node, IsPart, combined, JoinFits, IsLevel, IsInRange, IsInRangeOrStart, start_of, Covers, StandsOver, CoveredFrom, AreLeaves, IsMinMax, Sought, sought, target, IsAfter, Passed, HasNone, HasPlace, IsAhead, BeginsAt, LeadsTo, PassedTo, IsOddPart, IsBeside, near_child, far_child, IsFarChild, beside_far, ComesTo, IsMet, left_past}
-pub use Rattle.vers_trees.specs.inside.Scans.{sum_past, edge, IsBetween, up_to, opened_after, IsRise, HasNoRise, scan_reads, block_reads, falls, is_not_closed, rises}
+pub use Rattle.vers_trees.specs.inside.MinMax.{empty_node, IsPart, combined, JoinFits, IsLevel, IsInRange, IsInRangeOrStart, start_of, Covers, StandsOver, CoveredFrom, AreLeaves, IsMinMax, Sought, sought, target, IsAfter, Passed, HasNone, HasPlace, IsAhead, BeginsAt, LeadsTo, PassedTo, IsOddPart, IsBeside, near_child, far_child, ComesTo, IsMet, left_past}
+pub use Rattle.vers_trees.specs.inside.Scans.{sum_past, edge, IsBetween, up_to, IsRise, HasNoRise, scan_reads, block_reads, falls, is_not_closed, rises}
 pub use lib.Count.{ones_step, ones-ones}
 pub use mir.Val.{bool_byte}

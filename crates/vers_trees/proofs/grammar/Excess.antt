@@ -63,14 +63,14 @@ excess-is_walk l = record {
 -- past a one the excess is one more, past a zero one less
 pub excess_after_bit : (l : List Bool) (i : ℕ) (d : Bool) → i < length l → excess l (i + 1) ≡ excess l i +ℤ bit_step (get_or l i d)
 excess_after_bit [] i d h = absurd (omega arith)
-excess_after_bit (b ∷ l) zero d h = let e = excess-cons b l 0 in let z = excess-zero l in let y = excess-zero (b ∷ l) in omega (arith, ints)
+excess_after_bit (b ∷ l) zero d h = grind (arith, ints, excess-zero, excess-cons)
 excess_after_bit (b ∷ l) (suc i) d h = let ih = rw add-one at (excess_after_bit l i d (omega arith)) in let e = excess-cons b l i in let r = excess-cons b l (suc i) in rw add-one (omega (arith, ints))
 
 pub excess_after_open : (l : List Bool) (i : ℕ) (d : Bool) → i < length l → get_or l i d ≡ true → excess l (i + 1) ≡ excess l i +ℤ pos 1
 excess_after_open l i d h b = rw b at (excess_after_bit l i d h)
 
 pub excess_after_close : (l : List Bool) (i : ℕ) (d : Bool) → i < length l → get_or l i d ≡ false → excess l (i + 1) ≡ excess l i -ℤ pos 1
-excess_after_close l i d h b = let e = rw b at (excess_after_bit l i d h) in omega (arith, ints)
+excess_after_close l i d h b = omega (arith, ints, rw b at (excess_after_bit l i d h))
 
 -- along a list appended to another
 pub excess-append_left : (k l : List Bool) (i : ℕ) → i ≤ length k → excess (k ++ l) i ≡ excess k i

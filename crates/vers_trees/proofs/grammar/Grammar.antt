@@ -16,8 +16,7 @@ Closing (suc n) bits = (F : Forest) × (rest : List Bool) × (text F ++ false �
 -- one tree more before them
 Closing-tree : (n : ℕ) (F : Forest) (rest : List Bool) → Closing n rest → Closing n (true ∷ (text F ++ false ∷ rest))
 Closing-tree zero F rest c = record { forest = tree F c.forest; written = rw c.written refl }
-Closing-tree (suc n) F rest c =
-    (tree F c.0, c.1, rw (← c.2) (ap (λ l. true ∷ l) (append_assoc (text F) (false ∷ text c.0) (false ∷ c.1))), c.3)
+Closing-tree (suc n) F rest c = (tree F c.0, c.1, rw (← c.2) (ap (λ l. true ∷ l) (append_assoc (text F) (false ∷ text c.0) (false ∷ c.1))), c.3)
 
 Closing-from : (bits : List Bool) (n : ℕ) → closes n bits ≡ true → Closing n bits
 Closing-from [] zero h = grind arith
@@ -41,8 +40,7 @@ joined-none (tree X Y) = ap (tree X) (joined-none Y)
 
 parse-text : (F : Forest) (l : List Bool) → parse (text F ++ l) ≡ (joined F (parse l).0, (parse l).1)
 parse-text none l = refl
-parse-text (tree X Y) l =
-    grind (arith, append_assoc, joined-none, parse-text Y l, parse-text X (false ∷ (text Y ++ l)))
+parse-text (tree X Y) l = grind (arith, append_assoc, joined-none, parse-text Y l, parse-text X (false ∷ (text Y ++ l)))
 
 -- a forest is read back from its text, so no list is the text of two
 pub forest_of-text : (F : Forest) → forest_of (text F) ≡ F

@@ -18,27 +18,19 @@ pub record Closes (l : List Bool) (v c : ℕ) : Type 0 where
   pub above : (j : ℕ) → v < j → j ≤ c → excess l v <ℤ excess l j
 
 pub length-tree : (X Y : Forest) → length (text (tree X Y)) ≡ length (text X) + length (text Y) + 2
-length-tree X Y = let e = length-append (text X) (false ∷ text Y) in omega arith
+length-tree X Y = grind (arith, ints, length-append)
 
 -- inside the first tree
 pub excess_in_first : (X Y : Forest) (i : ℕ) → i ≤ length (text X) → excess (text (tree X Y)) (i + 1) ≡ excess (text X) i +ℤ pos 1
-excess_in_first X Y i h =
-    let e = excess-cons true (text X ++ false ∷ text Y) i in
-    grind (arith, excess-append_left)
+excess_in_first X Y i h = grind (arith, ints, excess-append_left, excess-cons true (text X ++ false ∷ text Y) i)
 
 rest_from_zero : (X Y : Forest) (i : ℕ) → excess (text X) (length (text X)) ≡ pos 0 → excess (text (tree X Y)) (length (text X) + 2 + i) ≡ excess (text Y) i
 rest_from_zero X Y i z =
-    let n = length (text X) in
-    let a = excess-cons true (text X ++ false ∷ text Y) (n + suc i) in
-    grind (arith, ints, excess-append_right, excess-cons)
+    grind (arith, ints, excess-append_right, excess-cons, excess-cons true (text X ++ false ∷ text Y) ((length (text X)) + suc i))
 
 pub total_is_zero : (F : Forest) → excess (text F) (length (text F)) ≡ pos 0
 total_is_zero none = excess-nil 0
-total_is_zero (tree X Y) =
-    let zx = total_is_zero X in
-    let zy = total_is_zero Y in
-    let r = rest_from_zero X Y (length (text Y)) zx in
-    grind (arith, length-tree)
+total_is_zero (tree X Y) = grind (arith, ints, length-tree, rest_from_zero X Y (length (text Y)) (total_is_zero X), total_is_zero Y)
 
 -- past the first tree
 pub excess_in_rest : (X Y : Forest) (i : ℕ) → excess (text (tree X Y)) (length (text X) + 2 + i) ≡ excess (text Y) i
@@ -50,8 +42,7 @@ never_negative none i h = grind (arith, ints, excess-nil)
 never_negative (tree X Y) zero h = grind (arith, ints, excess-zero)
 never_negative (tree X Y) (suc i) h = ⊎_elim
     (λ (a : length (text X) < i).
-    let len = length-tree X Y in
-    let ih = never_negative Y (i - length (text X) - 1) (omega arith) in
+    let len = length-tree X Y in let ih = never_negative Y (i - length (text X) - 1) (omega arith) in
     let r = excess_in_rest X Y (i - length (text X) - 1) in
     let e : excess (text (tree X Y)) (length (text X) + 2 + (i - length (text X) - 1)) ≡ excess (text (tree X Y)) (suc i) = ap (excess (text (tree X Y))) (omega arith) in
     omega (arith, ints))
@@ -61,8 +52,7 @@ never_negative (tree X Y) (suc i) h = ⊎_elim
 -- each pair closes as the excess says
 closes_root : (X Y : Forest) → Closes (text (tree X Y)) 0 (length (text X) + 1)
 closes_root X Y =
-    let len = length-tree X Y in let start = excess-zero (text (tree X Y)) in
-    let rest = excess_in_rest X Y 0 in let z = excess-zero (text Y) in
+    let len = length-tree X Y in let start = excess-zero (text (tree X Y)) in let rest = excess_in_rest X Y 0 in let z = excess-zero (text Y) in
     let end : excess (text (tree X Y)) (length (text X) + 1 + 1) ≡ excess (text (tree X Y)) (length (text X) + 2 + 0) = ap (excess (text (tree X Y))) (omega arith) in
     record {
       after = omega arith;
@@ -87,18 +77,16 @@ closes_moved l m p x y h at c =
 
 closes_first : (X Y : Forest) (x y : ℕ) → Closes (text X) x y → Closes (text (tree X Y)) (1 + x) (1 + y)
 closes_first X Y x y = closes_moved (text (tree X Y)) (text X) 1 x y (grind (arith, ints, length-tree)) (λ j h.
-    let r = excess_in_first X Y j h in let s = excess_in_first X Y 0 (omega arith) in let z = excess-zero (text X) in
-    grind (arith, ints))
+    let r = excess_in_first X Y j h in let s = excess_in_first X Y 0 (omega arith) in let z = excess-zero (text X) in grind (arith, ints))
 
 closes_rest : (X Y : Forest) (x y : ℕ) → Closes (text Y) x y → Closes (text (tree X Y)) (length (text X) + 2 + x) (length (text X) + 2 + y)
 closes_rest X Y x y = closes_moved (text (tree X Y)) (text Y) (length (text X) + 2) x y (grind (arith, length-tree)) (λ j h.
-    let r = excess_in_rest X Y j in let s = excess_in_rest X Y 0 in let z = excess-zero (text Y) in
-    grind arith)
+    let r = excess_in_rest X Y j in let s = excess_in_rest X Y 0 in let z = excess-zero (text Y) in grind arith)
 
 pub paired_closes : (F : Forest) (v c : ℕ) → Paired F v c → Closes (text F) v c
 paired_closes none v c p = absurd p
 paired_closes (tree X Y) v c (inl p) = rw (p.0, p.1) (closes_root X Y)
-paired_closes (tree X Y) v c (inr (inl p)) = let a : v ≡ 1 + p.0 = (let e = p.2 in omega arith) in let b : c ≡ 1 + p.1 = (let e = p.3 in omega arith) in rw (a, b) (closes_first X Y p.0 p.1 (paired_closes X p.0 p.1 p.4))
+paired_closes (tree X Y) v c (inr (inl p)) = let a : v ≡ 1 + p.0 = (omega arith) in let b : c ≡ 1 + p.1 = (omega arith) in rw (a, b) (closes_first X Y p.0 p.1 (paired_closes X p.0 p.1 p.4))
 paired_closes (tree X Y) v c (inr (inr p)) = rw (p.2, p.3) (closes_rest X Y p.0 p.1 (paired_closes Y p.0 p.1 p.4))
 
 -- each bit is one end of a pair, a one where it opens and a zero where it closes
@@ -107,8 +95,7 @@ end_at true v c = v
 end_at false v c = c
 
 end_moved : (bit : Bool) (n v c : ℕ) → end_at bit (n + v) (n + c) ≡ n + end_at bit v c
-end_moved true n v c = refl
-end_moved false n v c = refl
+end_moved bit n v c = grind arith
 
 bit_is_paired : (F : Forest) (bit : Bool) (i : ℕ) (d : Bool) → i < length (text F) → get_or (text F) i d ≡ bit → (v : ℕ) × (c : ℕ) × Paired F v c × (end_at bit v c ≡ i)
 bit_is_paired none bit i d h b = absurd (omega arith)
@@ -121,8 +108,7 @@ bit_is_paired (tree X Y) bit (suc i) d h b = ⊎_elim
     let r = bit_is_paired X bit i d a (sym (get_or_append_left (text X) (false ∷ text Y) d i a) ∙ b) in let m = end_moved bit 1 r.0 r.1 in let e = r.3 in
     (1 + r.0, 1 + r.1, inr (inl (r.0, r.1, omega arith, omega arith, r.2)), omega arith))
     (λ (a : length (text X) < i).
-    let len = length-tree X Y in
-    let g : length (text X) + suc (i - length (text X) - 1) ≡ i = omega arith in
+    let len = length-tree X Y in let g : length (text X) + suc (i - length (text X) - 1) ≡ i = omega arith in
     let r = bit_is_paired Y bit (i - length (text X) - 1) d (omega arith) (sym (get_or-append-add (text X) (false ∷ text Y) (suc (i - length (text X) - 1)) d) ∙ ap (λ (m : ℕ). get_or (text (tree X Y)) (suc m) d) g ∙ b) in
     let m = end_moved bit (length (text X) + 2) r.0 r.1 in let e = r.3 in
     (length (text X) + 2 + r.0, length (text X) + 2 + r.1, inr (inr (r.0, r.1, refl {a = length (text X) + 2 + r.0}, refl {a = length (text X) + 2 + r.1}, r.2)), omega arith))
@@ -148,9 +134,7 @@ pub closes_rises : (l : List Bool) (v c : ℕ) (d : Bool) → Closes l v c → g
 closes_rises l v c d p = open_from_rise l v d (omega arith) (p.above (v + 1) (omega arith) (omega arith))
 
 pub closes_falls : (l : List Bool) (v c : ℕ) (d : Bool) → Closes l v c → get_or l c d ≡ false
-closes_falls l v c d p = let a = p.after in let i = p.inside in let x = p.above c a (omega arith) in close_from_fall l c d i (omega (arith, ints))
+closes_falls l v c d p = let x = p.above c p.after (omega arith) in close_from_fall l c d p.inside (omega (arith, ints))
 
 pub closes_paired : (F : Forest) (v c : ℕ) → Closes (text F) v c → Paired F v c
-closes_paired F v c p =
-    let r = open_is_paired F v false (omega arith) (closes_rises (text F) v c false p) in
-    grind (arith, closes_once, paired_closes)
+closes_paired F v c p = grind (arith, ints, closes_once, paired_closes, open_is_paired F v false (omega arith) (closes_rises (text F) v c false p))

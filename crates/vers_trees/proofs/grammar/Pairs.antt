@@ -14,8 +14,7 @@ contains_map f xs x c = (c.0, (let l = length-map xs f in omega arith), get_or-m
 
 pub contains_map_cases : {X Y : Type 0} → (f : X → Y) (xs : List X) (d : X) (y : Y) → Contains (map f xs) y → (x : X) × Contains xs x × (f x ≡ y)
 contains_map_cases f xs d y c =
-    let l = length-map xs f in
-    let i : c.0 < length xs = omega arith in
+    let l = length-map xs f in let i : c.0 < length xs = omega arith in
     (get_or xs c.0 d, Contains-get_or xs c.0 d i, sym (get_or-map f xs c.0 d y i) ∙ c.2)
 
 abbrev pub second : Forest → Forest → List (ℕ × ℕ)
@@ -26,8 +25,7 @@ pub contains_from_paired : (F : Forest) (v c : ℕ) → Paired F v c → Contain
 contains_from_paired none v c p = absurd p
 contains_from_paired (tree X Y) v c (inl p) = grind (arith, contains_first)
 contains_from_paired (tree X Y) v c (inr (inl p)) =
-    let m = contains_map (moved 1) (pairs X) (p.0, p.1) (contains_from_paired X p.0 p.1 p.4) in
-    grind (arith, Contains-append_left, contains_later)
+    let m = contains_map (moved 1) (pairs X) (p.0, p.1) (contains_from_paired X p.0 p.1 p.4) in grind (arith, Contains-append_left, contains_later)
 contains_from_paired (tree X Y) v c (inr (inr p)) =
     let m = contains_map (moved (length (text X) + 2)) (pairs Y) (p.0, p.1) (contains_from_paired Y p.0 p.1 p.4) in
     let a = Contains-append_right (map (moved 1) (pairs X)) (map (moved (length (text X) + 2)) (pairs Y)) (length (text X) + 2 + p.0, length (text X) + 2 + p.1) m in
@@ -97,27 +95,15 @@ around_none n F v c (inr h) = count_none (λ q. strictly_contains (moved n q) (v
 pub pairs_around : (F : Forest) (v c : ℕ) → Paired F v c → pos (count_by (λ q. strictly_contains q (v, c)) (pairs F)) ≡ excess (text F) v
 pairs_around none v c p = absurd p
 pairs_around (tree X Y) v c (inl p) =
-    let ec = p.1 in
     let t = count_tree (λ q. strictly_contains q (v, c)) X Y in
     let a : one_if (strictly_contains (0, length (text X) + 1) (v, c)) ≡ 0 = ap one_if (and_left (ltb 0 v) (ltb c (length (text X) + 1)) (le-ltb 0 v (omega arith))) in
-    let b = around_none 1 X v c (inl (omega arith)) in
-    let d = around_none (length (text X) + 2) Y v c (inl (omega arith)) in
+    let b = around_none 1 X v c (inl (omega arith)) in let d = around_none (length (text X) + 2) Y v c (inl (omega arith)) in
     let z : excess (text (tree X Y)) v ≡ pos 0 = ap (excess (text (tree X Y))) p.0 ∙ excess-zero (text (tree X Y)) in
     ap pos (let r : count_by (λ q. strictly_contains q (v, c)) (pairs (tree X Y)) ≡ 0 = omega arith in r) ∙ sym z
 pairs_around (tree X Y) v c (inr (inl p)) =
-    let k = paired_closes X p.0 p.1 p.4 in
-    let ih = pairs_around X p.0 p.1 p.4 in
-    let t = count_tree (λ q. strictly_contains q (v, c)) X Y in
-    let ev = p.2 in let ec = p.3 in let ki = k.inside in let ka = k.after in
-    let a : one_if (strictly_contains (0, length (text X) + 1) (v, c)) ≡ 1 = ap one_if (and_from (ltb 0 v) (ltb c (length (text X) + 1)) (lt-ltb 0 v (omega arith)) (lt-ltb c (length (text X) + 1) (omega arith))) in
-    let b = around_moved 1 X p.0 p.1 v c (omega arith) (omega arith) in
-    let d = around_none (length (text X) + 2) Y v c (inl (omega arith)) in
-    grind (arith, ints, excess_in_first)
+    let k = paired_closes X p.0 p.1 p.4 in let t = count_tree (λ q. strictly_contains q (v, c)) X Y in
+    let b = around_moved 1 X p.0 p.1 v c (omega arith) (omega arith) in let d = around_none (length (text X) + 2) Y v c (inl (omega arith)) in
+    grind (arith, ints, excess_in_first, and_from, lt-ltb, pairs_around X p.0 p.1 p.4)
 pairs_around (tree X Y) v c (inr (inr p)) =
-    let k = paired_closes Y p.0 p.1 p.4 in
-    let ih = pairs_around Y p.0 p.1 p.4 in
-    let t = count_tree (λ q. strictly_contains q (v, c)) X Y in
-    let ev = p.2 in let ec = p.3 in let ki = k.inside in let ka = k.after in
-    let a : one_if (strictly_contains (0, length (text X) + 1) (v, c)) ≡ 0 = ap one_if (and_right (ltb 0 v) (ltb c (length (text X) + 1)) (le-ltb c (length (text X) + 1) (omega arith))) in
     let b = around_none 1 X v c (inr (omega arith)) in
-    grind (arith, ints, around_moved, excess_in_rest, tree)
+    grind (arith, ints, around_moved, excess_in_rest, tree, count_tree (λ q. strictly_contains q (v, c)) X Y, pairs_around Y p.0 p.1 p.4)

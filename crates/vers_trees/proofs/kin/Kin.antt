@@ -1,5 +1,5 @@
 -- The nodes around a node of a balanced list: its parent, its depth, how many come before it, and where its nearest children and siblings open.
-use Rattle.vers_trees.proofs.Words.{◌≡◌, ℕ, zero, suc, ◌+◌, ◌-◌, ◌<◌, ◌≤◌, ◌<ℤ◌, Bool, true, false, ◌&&◌, List, [], ◌∷◌, get_or, ltb, leb, count_by, pos, negsuc, neg_ℤ, Some, arith, ⊎_elim, sym, refl, ap, ◌∙◌, Decides, lt-ltb, le-ltb, le-leb, Decides-ltb, Decides-and, leb_tells, length-filter, count, places, excess, last_rise_before, Forest, pairs, IsBalanced, forest_of, nodes, closing, is_ancestor, is_proper_ancestor, depth, parent, node_index, IsLastRiseBefore, ints, rules, common_steps, cond, length, Option, None, subst, filter, Contains, last_or, cases_lt, Decides-like, same_from_decides, cond_both, eq-or-lt_of_le, nodes_under, children, siblings, first_of, last_of, next_of, previous_of, get_or_default, ◌↔◌, IsTrue, is_some, not, count_both, first_rise_after, IsNode, ◌≢◌, slice_get, option_map, ◌==◌, slice_get-get_or, select, length-places, none, tree, text, ne_eqb, slice_get_within, false_from_ne_true}
+use Rattle.vers_trees.proofs.Words.{◌≡◌, ℕ, zero, suc, ◌+◌, ◌-◌, ◌<◌, ◌≤◌, ◌<ℤ◌, Bool, true, false, ◌&&◌, List, [], ◌∷◌, get_or, ltb, leb, count_by, pos, negsuc, neg_ℤ, Some, arith, ⊎_elim, sym, refl, ap, ◌∙◌, Decides, lt-ltb, le-ltb, le-leb, Decides-ltb, Decides-and, leb_tells, length-filter, count, places, excess, last_rise_before, Forest, pairs, IsBalanced, forest_of, nodes, closing, is_ancestor, is_proper_ancestor, depth, parent, node_index, IsLastRiseBefore, ints, rules, common_steps, cond, length, Option, None, subst, filter, Contains, last_or, Decides-like, same_from_decides, cond_both, eq-or-lt_of_le, nodes_under, children, siblings, first_of, last_of, next_of, previous_of, get_or_default, ◌↔◌, IsTrue, is_some, not, count_both, first_rise_after, IsNode, ◌≢◌, slice_get, option_map, ◌==◌, slice_get-get_or, select, length-places, none, tree, text, ne_eqb, slice_get_within, false_from_ne_true}
 use Rattle.vers_trees.proofs.walks.Lists.{places-cons}
 use Rattle.vers_trees.proofs.searches.Searches.{before_some, before_none, by_answer, before_is, after_is}
 use Rattle.vers_trees.proofs.grammar.Excess.{above_since, excess-is_walk, open_from_rise, excess_after_open, excess_after_close}
@@ -7,7 +7,7 @@ use Rattle.vers_trees.proofs.grammar.Grammar.{text-forest_of}
 use Rattle.vers_trees.proofs.grammar.Paired.{closes_rises, Closes, closes_falls}
 use Rattle.vers_trees.proofs.grammar.Pairs.{paired_from_contains, count_by-cons, count_by-append, count_by-map, count_agree, count_none, moved_lt, strictly_contains, pairs_around, contains_first, contains_later}
 use Rattle.vers_trees.proofs.kin.Partners.{nested, IsAbove, one_before, parent_is_nearest, no_parent, before_from_closes, opens_around, same_around, first_child_above, last_child_closes, last_child_above, after_from_closes}
-use Rattle.vers_trees.proofs.kin.NodeList.{HasPair, one_pair, bit_inside, paired_here, closes_to, closing_is, nodes_by, opens, inside, zero_pair, node_pair, IsFirstNode, first_in, last_node, next_in, previous_in, option_decides}
+pub use Rattle.vers_trees.proofs.kin.NodeList.{HasPair, one_pair, bit_inside, paired_here, closes_to, closing_is, nodes_by, opens, inside, zero_pair, node_pair, IsFirstNode, first_in, last_node, next_in, previous_in, option_decides}
 
 -- ---- what a test tells
 pub Decides-leb : (a b : ℕ) → Decides (leb a b) (a ≤ b)
@@ -25,20 +25,13 @@ ancestor_decides F a v = Decides-and (leb a v) (leb (closing F v) (closing F a))
 -- what a search backwards from a node finds stands above it
 pub above_from_before : (l : List Bool) (b : IsBalanced l) (v t a : ℕ) → 0 < t → get_or l v false ≡ true → IsLastRiseBefore l v (neg_ℤ (pos t)) a → IsAbove l v t a
 above_from_before l b v t a h o p =
-    let i = p.before in
     let high : (j : ℕ) → a < j → j ≤ v → excess l a <ℤ excess l j =
     λ j x y. above_since (excess l) (excess-is_walk l) (excess l a) j v y (omega (arith, ints)) (λ k g m e. grind (arith, ints)) in
-    let k = one_pair l b a (omega arith) (open_from_rise l a false (omega arith) (high (a + 1) (omega arith) (omega arith))) in
-    grind (arith, ints, one_before)
+    grind (arith, ints, one_before, one_pair l b a (omega arith) (open_from_rise l a false (omega arith) (high (a + 1) (omega arith) (omega arith))))
 
 -- what stands above v is around it
 pub above_is_around : (l : List Bool) (b : IsBalanced l) (v t a : ℕ) → HasPair l v → IsAbove l v t a → (a < v) × (closing (forest_of l) v < closing (forest_of l) a) × HasPair l a
-above_is_around l b v t a h p =
-    let q = p.pair in
-    let i = p.before in
-    let e = closes_to l b a p.close q in
-    let n = nested l a p.close v (closing (forest_of l) v) q h.closes i (omega arith) in
-    grind (arith, ints, one_pair, closes_rises)
+above_is_around l b v t a h p = grind (arith, ints, one_pair, closes_rises, closes_to l b a p.close p.pair, p.before)
 
 pub above_parent : (l : List Bool) (b : IsBalanced l) (v p : ℕ) → HasPair l v → IsAbove l v 1 p → parent (forest_of l) v ≡ Some p
 unfolding parent
@@ -71,8 +64,7 @@ has_parent l b v q h k x y =
 pub depth_is_excess : (l : List Bool) (b : IsBalanced l) (v : ℕ) → HasPair l v → pos (depth (forest_of l) v) ≡ excess l v
 unfolding depth is_proper_ancestor
 depth_is_excess l b v h =
-    let F = forest_of l in
-    let a = length-filter (λ w. is_proper_ancestor F w v) (nodes F) in
+    let F = forest_of l in let a = length-filter (λ w. is_proper_ancestor F w v) (nodes F) in
     let m = count_by-map (λ w. is_proper_ancestor F w v) (λ (q : ℕ × ℕ). q.0) (pairs F) in
     let c = count_agree (λ (q : ℕ × ℕ). is_proper_ancestor F q.0 v) (λ (q : ℕ × ℕ). strictly_contains q (v, closing F v)) (pairs F) (λ q i. ap (λ (k : ℕ). ltb q.0 v && ltb (closing F v) k) (closing_is F q.0 q.1 (paired_from_contains F q i))) in
     ap pos (a ∙ m ∙ c) ∙ pairs_around F v (closing F v) (paired_here l b v (closing F v) h.closes) ∙ ap (λ (k : List Bool). excess k v) (text-forest_of l b)
@@ -96,10 +88,8 @@ filter_agree {X = X} p q (x ∷ xs) h = grind (arith, contains_later, contains_f
 -- a node inside the tree of v has its parent at v or after it, so not the parent of v
 not_beside : (l : List Bool) (b : IsBalanced l) (v w : ℕ) → HasPair l v → HasPair l w → v < w → w ≤ closing (forest_of l) v → parent (forest_of l) w ≡ parent (forest_of l) v → ⊥
 not_beside l b v w h k x y e =
-    let n = nested l v (closing (forest_of l) v) w (closing (forest_of l) w) h.closes k.closes x y in
-    let p = has_parent l b w v k h x n in
-    let r = parent_around l b v p.0 h (sym e ∙ p.1) in
-    omega arith
+    let p = has_parent l b w v k h x (nested l v (closing (forest_of l) v) w (closing (forest_of l) w) h.closes k.closes x y) in
+    omega (arith, parent_around l b v p.0 h (sym e ∙ p.1))
 
 -- the tree that opens right after that of v has the same parent
 same_parent : (l : List Bool) (b : IsBalanced l) (v : ℕ) → HasPair l v → HasPair l (closing (forest_of l) v + 1) → parent (forest_of l) (closing (forest_of l) v + 1) ≡ parent (forest_of l) v
@@ -112,9 +102,7 @@ same_parent l b v h k =
 -- ---- children
 -- nothing opens inside a tree that closes right after it opens
 no_child : (l : List Bool) (b : IsBalanced l) (v w : ℕ) → HasPair l v → get_or l (v + 1) false ≡ false → HasPair l w → parent (forest_of l) w ≡ Some v → ⊥
-no_child l b v w h o k e =
-    let up = excess_after_open l v false (omega arith) (opens l v h) in
-    grind (arith, ints, excess_after_close, parent_around)
+no_child l b v w h o k e = grind (arith, ints, excess_after_close, parent_around, excess_after_open l v false (omega arith) (opens l v h))
 
 pub last_child_none : (l : List Bool) (b : IsBalanced l) (v : ℕ) → HasPair l v → closing (forest_of l) v ≡ v + 1 → last_of (children (forest_of l) v) ≡ None
 unfolding nodes_under
@@ -134,28 +122,25 @@ last_child_is_search l b v c h s x =
 -- what a tree's parent closes right after it has no later child
 last_beside : (l : List Bool) (b : IsBalanced l) (v w : ℕ) → HasPair l v → closing (forest_of l) v + 1 < length l → get_or l (closing (forest_of l) v + 1) false ≡ false → HasPair l w → closing (forest_of l) v < w → parent (forest_of l) w ≡ parent (forest_of l) v → ⊥
 last_beside l b v w h i o k x e =
-    let s = zero_pair l b (closing (forest_of l) v + 1) i o in let q = s.1 in let qc = s.2 in let m = s.3 in
-    let z = opens_around l v (closing (forest_of l) v) s.0 (closing (forest_of l) v + 1) h.closes m (omega arith) (omega arith) in
-    let g = has_parent l b v s.0 h q z (omega arith) in
-    let r = parent_around l b w g.0 k (e ∙ g.1) in
-    grind (arith, parent_around, nested, eq-or-lt_of_le)
+    let s = zero_pair l b (closing (forest_of l) v + 1) i o in
+    let z = opens_around l v (closing (forest_of l) v) s.0 (closing (forest_of l) v + 1) h.closes s.3 (omega arith) (omega arith) in
+    let g = has_parent l b v s.0 h s.1 z (omega arith) in
+    grind (arith, ints, parent_around, nested, eq-or-lt_of_le, parent_around l b w g.0 k (e ∙ g.1))
 
 pub previous_sibling_none : (l : List Bool) (b : IsBalanced l) (v : ℕ) → HasPair l v → 0 < v → get_or l (v - 1) false ≡ true → previous_of (siblings (forest_of l) v) v ≡ None
 unfolding nodes_under
 previous_sibling_none l b v h some o =
-    let e : v - 1 + 1 ≡ v = omega arith in
-    let k : HasPair l (v - 1 + 1) = rw e h in
+    let e : v - 1 + 1 ≡ v = omega arith in let k : HasPair l (v - 1 + 1) = rw e h in
     let p : parent (forest_of l) v ≡ Some (v - 1) = rw e at (above_parent l b (v - 1 + 1) (v - 1) k (first_child_above l (v - 1) (closing (forest_of l) (v - 1)) (one_pair l b (v - 1) (omega arith) o).closes (opens l (v - 1 + 1) k))) in
-    previous_in l b _ _ (λ w. option_decides (parent (forest_of l) w) (parent (forest_of l) v)) v None (λ w k g. let y = g.1 in let r = (parent_around l b w (v - 1) k (g.0 ∙ p)).0 in omega arith)
+    previous_in l b _ _ (λ w. option_decides (parent (forest_of l) w) (parent (forest_of l) v)) v None (λ w k g. let r = (parent_around l b w (v - 1) k (g.0 ∙ p)).0 in omega arith)
 
 pub previous_sibling_is_search : (l : List Bool) (b : IsBalanced l) (v : ℕ) → HasPair l v → 0 < v → get_or l (v - 1) false ≡ false → last_rise_before l (v - 1) (negsuc 0) ≡ previous_of (siblings (forest_of l) v) v
 unfolding nodes_under
 previous_sibling_is_search l b v h some o =
-    let p = zero_pair l b (v - 1) (omega arith) o in let k = p.1 in let pc = p.2 in let q = p.3 in
-    let at : closing (forest_of l) p.0 + 1 ≡ v = omega arith in
+    let p = zero_pair l b (v - 1) (omega arith) o in let k = p.1 in let at : closing (forest_of l) p.0 + 1 ≡ v = omega arith in
     let same : parent (forest_of l) v ≡ parent (forest_of l) p.0 = ap (parent (forest_of l)) (sym at) ∙ same_parent l b p.0 k (subst (HasPair l) (sym at) h) in
-    before_is l (v - 1) (negsuc 0) p.0 (before_from_closes l p.0 (v - 1) q)
-    ∙ sym (previous_in l b _ _ (λ w. option_decides (parent (forest_of l) w) (parent (forest_of l) v)) v (Some p.0) (k, (sym same, omega arith), λ w y kw e. let x = e.1 in not_beside l b p.0 w k kw y (omega arith) (e.0 ∙ same)))
+    before_is l (v - 1) (negsuc 0) p.0 (before_from_closes l p.0 (v - 1) p.3)
+    ∙ sym (previous_in l b _ _ (λ w. option_decides (parent (forest_of l) w) (parent (forest_of l) v)) v (Some p.0) (k, (sym same, omega arith), λ w y kw e. not_beside l b p.0 w k kw y (omega arith) (e.0 ∙ same)))
 
 -- ---- by one bit: what opens at a place, and what closes right before it
 abbrev pub opened_here : List Bool → ℕ → Option ℕ
@@ -180,18 +165,14 @@ pub next_sibling_is : (l : List Bool) (b : IsBalanced l) (v : ℕ) → HasPair l
 unfolding nodes_under
 next_sibling_is l b v h =
     let c = closing (forest_of l) v in
-    sym (next_in l b _ _ (λ w. option_decides (parent (forest_of l) w) (parent (forest_of l) v)) v (opened_here l (c + 1)) (cond_both (get_or l (c + 1) false) (Some (c + 1)) None (IsFirstNode l (λ w. (parent (forest_of l) w ≡ parent (forest_of l) v) × (v < w)))
-    (λ o.
-    let k = one_pair l b (c + 1) (bit_inside l (c + 1) o) o in
-    (k, (same_parent l b v h k, omega arith), λ w x kw e. not_beside l b v w h kw e.1 (omega arith) e.0))
-    (λ o w k e. ⊎_elim (λ (t : c < w). last_beside l b v w h (let i = inside l w k in omega arith) o k t e.0) (λ (t : w ≤ c). not_beside l b v w h k e.1 t e.0) (cases_lt c w))))
+    sym (next_in l b _ _ (λ w. option_decides (parent (forest_of l) w) (parent (forest_of l) v)) v (opened_here l (c + 1)) (grind (arith, ints, one_pair, bit_inside, same_parent, not_beside, last_beside)))
 
 pub last_child_is : (l : List Bool) (b : IsBalanced l) (v : ℕ) → HasPair l v → closed_before l (closing (forest_of l) v) ≡ last_of (children (forest_of l) v)
 last_child_is l b v h = grind (arith, ints, same_bit, last_child_closes, last_child_is_search, closes_rises, last_child_none)
 
 pub previous_sibling_is : (l : List Bool) (b : IsBalanced l) (v : ℕ) → HasPair l v → closed_before l v ≡ previous_of (siblings (forest_of l) v) v
 unfolding nodes_under
-previous_sibling_is l b zero h = sym (previous_in l b _ _ (λ w. option_decides (parent (forest_of l) w) (parent (forest_of l) 0)) 0 None (λ w k e. let y = e.1 in omega arith))
+previous_sibling_is l b zero h = sym (previous_in l b _ _ (λ w. option_decides (parent (forest_of l) w) (parent (forest_of l) 0)) 0 None (λ w k e. omega arith))
 previous_sibling_is l b (suc u) h = grind (arith, ints, inside, previous_sibling_none, same_bit, previous_sibling_is_search)
 
 -- ---- what the calls on a node answer, by the searches that they make
@@ -206,20 +187,17 @@ module _ (l : List Bool) (b : IsBalanced l) (v : ℕ) (n : IsNode (forest_of l) 
   -- by the ones before the node
   pub depth_by_ones : (ones : ℕ) → ones ≡ count true l v → (ones ≤ v) × (v - ones ≤ ones) × (ones - (v - ones) ≡ depth (forest_of l) v)
   unfolding excess
-  depth_by_ones ones e = let d = depth_is_excess l b v (node_pair l b v n) in grind (arith, closes_inside, count_both)
+  depth_by_ones ones e = grind (arith, ints, closes_inside, count_both, depth_is_excess l b v (node_pair l b v n))
 
 -- a list is empty where it has no first
 pub leaf_by : (xs : List ℕ) (o : Option ℕ) (r : Bool) → is_some o ≡ not r → o ≡ first_of xs → IsTrue r ↔ (xs ≡ [])
-leaf_by [] o true e f = search rules
-leaf_by [] o false e f = cc
-leaf_by (x ∷ xs) o true e f = let g : is_some o ≡ true = ap is_some f in absurd (cc)
-leaf_by (x ∷ xs) o false e f = (λ h. absurd (cc), λ h. absurd (cc))
+leaf_by [] o r e f = grind arith
+leaf_by (x ∷ xs) o r e f = grind arith
 
 -- ---- in the words of any tree
 -- a handle is the place itself
 pub same_place : (o p : Option ℕ) → o ≡ p → option_map (λ v. v) o ≡ p
-same_place None p e = e
-same_place (Some x) p e = e
+same_place o p e = grind arith
 
 pub size_by : (l : List Bool) → IsBalanced l → (n : ℕ) → n ≡ count true l (length l) → n ≡ length (nodes (forest_of l))
 size_by l b n e = e ∙ sym (length-places true l) ∙ ap (λ (xs : List ℕ). length xs) (sym (nodes_by l b))

@@ -2,7 +2,7 @@
 use Rattle.vers_trees.proofs.Words.{◌≡◌, ℕ, zero, suc, ◌+◌, ◌<◌, ◌≤◌, Bool, true, false, ◌&&◌, List, [], ◌∷◌, map, length, get_or, Option, Some, None, MatchOption, eqb, ltb, arith, subst, sym, refl, ap, ◌∙◌, find, filter, slice_get, Decides, option_eq, Contains, range_with_len, last_or, Decides-eqb, Decides-ltb, Decides-and, is_bit, places, Forest, IsBalanced, forest_of, none, tree, text, moved, pairs, nodes, IsNode, closing, first_of, next_of, previous_of, map-append, ints, cond_both, ⊎_elim, cases_lt, get_or_past}
 use Rattle.vers_trees.proofs.walks.Lists.{opening_moved, places-tree}
 use Rattle.vers_trees.proofs.searches.Searches.{find_is, last_is}
-use Rattle.vers_trees.proofs.grammar.Grammar.{text-forest_of}
+pub use Rattle.vers_trees.proofs.grammar.Grammar.{text-forest_of}
 use Rattle.vers_trees.proofs.grammar.Paired.{Closes, Paired, paired_closes, closes_paired, open_is_paired, close_is_paired, closes_once, closes_rises}
 use Rattle.vers_trees.proofs.grammar.Pairs.{contains_first, contains_later, contains_map_cases, contains_from_paired, paired_from_contains}
 
@@ -11,8 +11,7 @@ pub nodes_are_ones : (F : Forest) → nodes F ≡ places true (text F)
 unfolding places
 nodes_are_ones none = refl
 nodes_are_ones (tree X Y) =
-    let n = length (text X) + 2 in
-    let e : length (text X) + 2 ≡ 1 + length (text X) + 1 = omega arith in
+    let n = length (text X) + 2 in let e : length (text X) + 2 ≡ 1 + length (text X) + 1 = omega arith in
     rw (map-append (λ (p : ℕ × ℕ). p.0) (map (moved 1) (pairs X)) (map (moved n) (pairs Y)), opening_moved 1 (pairs X), opening_moved n (pairs Y), nodes_are_ones X, nodes_are_ones Y, e) (sym (places-tree true (text X) (text Y)))
 
 -- ---- where a node of a balanced list closes
@@ -21,13 +20,13 @@ find_only {X = X} test [] y c t h = grind arith
 find_only {X = X} test (x ∷ xs) y c t h = cond_both (test x) (Some x) (find test xs) (λ (o : Option X). o ≡ Some y) (λ e. ap Some (h x (contains_first x xs) e)) (λ e. find_only test xs y (later c e) t (λ z d g. h z (contains_later x xs z d) g))
   where
     later : Contains (x ∷ xs) y → test x ≡ false → Contains xs y
-    later (zero, l, e) f = let g : test y ≡ false = subst (λ (z : X). test z ≡ false) e f in absurd (cc)
+    later (zero, l, e) f = absurd (cc)
     later (suc k, l, e) f = (k, omega arith, e)
 
 pub closing_is : (F : Forest) (v c : ℕ) → Paired F v c → closing F v ≡ c
 unfolding closing
 closing_is F v c p =
-    let f = find_only (λ (q : ℕ × ℕ). eqb q.0 v) (pairs F) (v, c) (contains_from_paired F v c p) ((Decides-eqb v v).1 refl) (λ q d t. let e = (Decides-eqb q.0 v).0 t in let m = paired_closes F q.0 q.1 (paired_from_contains F q d) in grind (arith, closes_once, paired_closes)) in
+    let f = find_only (λ (q : ℕ × ℕ). eqb q.0 v) (pairs F) (v, c) (contains_from_paired F v c p) ((Decides-eqb v v).1 refl) (λ q d t. let m = paired_closes F q.0 q.1 (paired_from_contains F q d) in grind (arith, closes_once, paired_closes)) in
     grind (arith, ints)
 
 pub closes_here : (l : List Bool) (b : IsBalanced l) (v c : ℕ) → Paired (forest_of l) v c → Closes l v c
@@ -114,7 +113,6 @@ module _ (l : List Bool) (b : IsBalanced l) (t : ℕ → Bool) (P : ℕ → Type
   pub first_node : (o : Option ℕ) → IsFirstNode l P o → find t (nodes (forest_of l)) ≡ o
   first_node None n = find_node l b t ∙ find_is (node_test l t) _ (at_one l t P d) 0 (length l) None (λ k x y q. n k (one_pair l b k (omega arith) q.0) q.1)
   first_node (Some v) n =
-      let i = inside l v n.0 in
       find_node l b t ∙ find_is (node_test l t) _ (at_one l t P d) 0 (length l) (Some v) (record { from = omega arith; below = omega arith; holds = (opens l v n.0, n.1); first = λ k x y q. n.2 k y (one_pair l b k (omega arith) q.0) q.1 })
 
   pub last_node : (o : Option ℕ) → IsLastNode l P o → last_or None (filter t (nodes (forest_of l))) ≡ o

@@ -4,34 +4,26 @@ use Rattle.vers_trees.proofs.grammar.Excess.{above_until, above_since, excess-is
 use Rattle.vers_trees.proofs.grammar.Paired.{Closes, closes_rises, closes_falls, closes_once}
 
 pub after_from_closes : (l : List Bool) (v c : ℕ) → Closes l v c → IsFirstRiseAfter l v (negsuc 0) c
-after_from_closes l v c p =
-    let i = p.inside in
-    let r = excess_after_open l v false (omega arith) (closes_rises l v c false p) in
-    grind (arith, ints)
+after_from_closes l v c p = grind (arith, ints, excess_after_open l v false (omega arith) (closes_rises l v c false p))
 
 pub closes_from_after : (l : List Bool) (v c : ℕ) (d : Bool) → get_or l v d ≡ true → IsFirstRiseAfter l v (negsuc 0) c → Closes l v c
 closes_from_after l v c d o p =
-    let a = p.after in let i = p.inside in
     let r = excess_after_open l v d (omega arith) o in
     record {
-      after = a;
-      inside = i;
+      after = p.after;
+      inside = p.inside;
       back = omega (arith, ints);
       above = λ j x y. above_until (excess l) (excess-is_walk l) (excess l v) (v + 1) j (omega arith) (omega (arith, ints)) (λ k g h e. let at : excess l (k - 1 + 1) ≡ excess l k = ap (excess l) (omega arith) in p.first (k - 1) (omega arith) (omega arith) (omega (arith, ints)));
     }
 
 pub before_from_closes : (l : List Bool) (v c : ℕ) → Closes l v c → IsLastRiseBefore l c (negsuc 0) v
-before_from_closes l v c p =
-    let i = p.inside in
-    let r = excess_after_close l c true i (closes_falls l v c true p) in
-    grind (arith, ints)
+before_from_closes l v c p = grind (arith, ints, excess_after_close l c true p.inside (closes_falls l v c true p))
 
 pub closes_from_before : (l : List Bool) (v c : ℕ) (d : Bool) → get_or l c d ≡ false → IsLastRiseBefore l c (negsuc 0) v → Closes l v c
 closes_from_before l v c d o p =
-    let a = p.before in let i = p.inside in
-    let r = excess_after_close l c d i o in
+    let i = p.inside in let r = excess_after_close l c d i o in
     record {
-      after = a;
+      after = p.before;
       inside = i;
       back = omega (arith, ints);
       above = λ j x y. above_since (excess l) (excess-is_walk l) (excess l v) j c y (omega (arith, ints)) (λ k g h e. p.last k (omega arith) h (omega (arith, ints)));
@@ -64,14 +56,12 @@ parent_is_nearest l v p q e a c x y = grind arith
 
 pub no_parent : (l : List Bool) (v q e : ℕ) → ((k : ℕ) → k < v → excess l k ≢ excess l v +ℤ negsuc 0) → Closes l q e → q < v → v ≤ e → ⊥
 no_parent l v q e n c x y =
-    let g = c.above v x y in
     let h : (excess l v +ℤ negsuc 0) <ℤ excess l q = above_since (excess l) (excess-is_walk l) (excess l v +ℤ negsuc 0) q v (omega arith) (omega (arith, ints)) (λ k u w. n k w) in
-    omega (arith, ints)
+    grind (arith, ints)
 
 -- what is two less than before the closing bracket is one less than before the opening one, and before it
 pub before_pair : (l : List Bool) (v c : ℕ) → Closes l v c → (k : ℕ) → k < c → excess l k ≡ excess l c +ℤ negsuc 1 → (k < v) × (excess l k ≡ excess l v +ℤ negsuc 0)
-before_pair l v c q k x e =
-    let r = excess_after_close l c true q.inside (closes_falls l v c true q) in grind (arith, eq-or-lt_of_le)
+before_pair l v c q k x e = grind (arith, ints, eq-or-lt_of_le, excess_after_close l c true q.inside (closes_falls l v c true q))
 
 -- so from the closing bracket two less is found where from the opening one is
 pub enclose_at_close : (l : List Bool) (v c p : ℕ) → Closes l v c → IsLastRiseBefore l v (negsuc 0) p → IsLastRiseBefore l c (negsuc 1) p
@@ -86,19 +76,12 @@ same_around l v c d q e p n m = grind arith
 
 -- the first child opens right after the node
 pub first_child_above : (l : List Bool) (v c : ℕ) → Closes l v c → get_or l (v + 1) false ≡ true → IsAbove l (v + 1) 1 v
-first_child_above l v c p b =
-    let s = excess_after_open l v false (omega arith) (closes_rises l v c false p) in
-    grind (arith, one_before)
+first_child_above l v c p b = grind (arith, ints, one_before, excess_after_open l v false (omega arith) (closes_rises l v c false p))
 
 -- a node with a child has a closing bracket before its own, that of its last child
 pub last_child_closes : (l : List Bool) (v c : ℕ) → Closes l v (c + 1) → v < c → get_or l c false ≡ false
 last_child_closes l v c p h =
-    let i = p.inside in
-    let f = excess_after_close l (c + 1) false i (closes_falls l v (c + 1) false p) in
-    grind (arith, excess_after_open, cases_Bool)
+    grind (arith, ints, excess_after_open, cases_Bool, excess_after_close l (c + 1) false p.inside (closes_falls l v (c + 1) false p))
 
 pub last_child_above : (l : List Bool) (v c w : ℕ) → Closes l v (c + 1) → Closes l w c → v < w → IsAbove l w 1 v
-last_child_above l v c w p q h =
-    let i = p.inside in
-    let f = excess_after_close l (c + 1) false i (closes_falls l v (c + 1) false p) in
-    grind arith
+last_child_above l v c w p q h = grind (arith, ints, excess_after_close l (c + 1) false p.inside (closes_falls l v (c + 1) false p))

@@ -1,7 +1,7 @@
 -- Building a tree of excesses from its leaves up to its root.
 use Rattle.vers_trees.proofs.Words.{◌≡◌, ℕ, ◌+◌, ◌-◌, ◌*◌, ◌^◌, ◌<◌, ◌≤◌, ◌↔◌, inl, inr, min, Bool, List, [], ◌∷◌, length, get_or, set, ◌≤ℤ◌, ◌<ℤ◌, arith, ⊎_elim, subst, sym, refl, ap, ◌∙◌, cases_lt, get_or_past, get_or-set_same, get_or-set_other, eq-or-lt_of_le, mul-le-mul_right, div_ceil_times, Node, combined, JoinFits, empty_node, IsPart, start_of, Covers, StandsOver, CoveredFrom, AreLeaves, AreFirstBlocks, block_count, IsLevel, IsBalanced, IsIndexed}
 use Rattle.vers_trees.proofs.layout.MinMax.{HasChildren, stands_children, stands_every, leaf_stands, root, part_inside, covers_joined, children_fit}
-use Rattle.vers_trees.proofs.layout.Blocks.{balanced_iff_root}
+pub use Rattle.vers_trees.proofs.layout.Blocks.{balanced_iff_root, balance_decides}
 
 -- where the blocks' nodes stand from `first` on, the leaves cover the blocks
 pub leaves_covered : (l : List Bool) (size first : ℕ) (nodes : List Node) → 0 < size → length l < 2 ^ 63 → AreFirstBlocks l size first (block_count size (length l)) nodes → AreLeaves l size first nodes
@@ -9,8 +9,7 @@ leaves_covered l size first nodes so short b = record { short = short; covered =
   where
     covered : CoveredFrom l size first nodes first
     covered m s e h p =
-        let q = leaf_stands first m s e p h in let q0 = q.0 in let q1 = q.1 in let n = b.counted in
-        let d = div_ceil_times (length l) size so in let d0 = d.0 in let d1 = d.1 in
+        let q = leaf_stands first m s e p h in let q1 = q.1 in let d = div_ceil_times (length l) size so in
         let place : first + s ≡ m = omega arith in ⊎_elim
         (λ (w : s < block_count size (length l)).
         let u : (s + 1) * size ≤ block_count size (length l) * size = mul-le-mul_right size (omega arith) in
@@ -52,7 +51,7 @@ module _ (l : List Bool) (size first : ℕ) (nodes : List Node) (i : ℕ) (x y :
 -- ---- the node over all blocks tells whether the list is balanced
 pub balanced_iff_level : (l : List Bool) (size first : ℕ) (nodes : List Node) (x : Node) → IsIndexed l size first nodes → 0 < length l → x ≡ get_or nodes 0 empty_node → IsBalanced l ↔ IsLevel x
 balanced_iff_level l size first nodes x i some e =
-    let m = (i.over some).tree in let f = m.fits in
+    let m = (i.over some).tree in
     let c : Covers l size 0 (first + 1) x = rw e (m.covered 0 0 (first + 1) (omega arith) (root first m.height m.levels)) in
     let p = part_inside l size 0 (first + 1) x c (omega arith) in
     let from : start_of l size 0 ≡ 0 = omega arith in let upto : start_of l size (first + 1) ≡ length l = omega arith in

@@ -19,9 +19,7 @@ one_more_built size l b total h room = grind (arith, length-append, excess_more)
 
 -- the excess of a list that is not too long fits
 pub built_fits : (size : ℕ) (l : List Bool) (total : ℤ) → IsBuilding size l total → FitsSigned w64 total
-built_fits size l total h =
-    let z = excess-zero l in
-    rise_fits l 0 (length l) total h.short (omega arith) (omega arith) (omega (arith, ints))
+built_fits size l total h = let z = excess-zero l in rise_fits l 0 (length l) total h.short (omega arith) (omega arith) (omega (arith, ints))
 
 -- the excess with one more bit, as the machine has it
 pub stored_sum : (size : ℕ) (l : List Bool) (b : Bool) (total d : ℤ) → IsBuilding size l total → length l < 9223372036854775807 → d ≡ bit_step b → FitsSigned w64 (to_z w64 (of_z w64 total) +ℤ to_z w64 (of_z w64 d)) × (to_z w64 (of_z w64 (to_z w64 (of_z w64 total) +ℤ to_z w64 (of_z w64 d))) ≡ total +ℤ bit_step b)

@@ -1,7 +1,7 @@
 -- The steps of a search in a tree of excesses, forwards and backwards.
 use Rattle.vers_trees.proofs.Words.{◌≡◌, ℕ, zero, suc, ◌+◌, ◌-◌, ◌*◌, ◌/◌, ◌^◌, ◌<◌, ◌≤◌, Bool, true, false, List, length, get_or, ℤ, ◌+ℤ◌, ◌-ℤ◌, arith, ⊎_elim, subst, ap, FitsSigned, w64, ints, cases_lt, pow-succ', le-mul_of_pos_right, mul-le-mul_right, pow_pos, excess, Node, empty_node, start_of, Covers, StandsOver, IsMinMax, Sought, target, edge, Passed, HasNone, IsAhead, BeginsAt, LeadsTo, PassedTo, IsBeside, near_child, far_child, ComesTo, IsMet, left_past}
 use Rattle.vers_trees.proofs.layout.MinMax.{HasChildren, stands_children, parent_of_left, parent_of_right, stands_leaf, leaf_stands, root_stands, stands_some, total_of_part}
-use Rattle.vers_trees.proofs.layout.Blocks.{place_in, passed_over, left_fits, too_far}
+pub use Rattle.vers_trees.proofs.layout.Blocks.{place_in, passed_over, left_fits, too_far, rest_is}
 
 -- the node that a search comes to, a far child, and where it goes on once it has passed that node's part
 record Far (back : Bool) (s : Sought) (first place : ℕ) (left : ℤ) (x : Node) : Type 0 where
@@ -19,16 +19,16 @@ module _ (s : Sought) (first : ℕ) (nodes : List Node) where
 
   -- what is left past a part is counted from its other end
   remains_past : (back : Bool) (i e : ℕ) (x : Node) (left : ℤ) → Covers s.bits s.size i e x → i ≤ e → Passed back s (start_of s.bits s.size (edge back i e)) left → excess s.bits (start_of s.bits s.size (edge back e i)) +ℤ left_past back left x ≡ target s
-  remains_past false i e x left c le p = let t = total_of_part s.bits s.size i e x c le in let r = p.remains in omega (arith, ints)
-  remains_past true i e x left c le p = let t = total_of_part s.bits s.size i e x c le in let r = p.remains in omega (arith, ints)
+  remains_past false i e x left c le p = omega (arith, ints, total_of_part s.bits s.size i e x c le)
+  remains_past true i e x left c le p = omega (arith, ints, total_of_part s.bits s.size i e x c le)
 
   -- ---- going down
   pub left_past_fits : (back : Bool) (place : ℕ) (left : ℤ) (x : Node) → LeadsTo back s first nodes place left → place < first → x ≡ get_or nodes (near_child back place) empty_node → FitsSigned w64 (left_past back left x)
   left_past_fits back place left x p h e = go back p.ahead (stands_children first place p.start p.stop p.stands h) e
     where
       go : (back : Bool) → IsAhead back s p.start p.stop left → HasChildren first place p.start p.stop → x ≡ get_or nodes (near_child back place) empty_node → FitsSigned w64 (left_past back left x)
-      go false a c e = let k = a.place in let k2 = k.2 in left_fits false s (start_of s.bits s.size c.middle) (left -ℤ x.total) k.0 p.tree.short (omega arith) (remains_past false p.start c.middle x left (covers_at _ _ _ x p.tree e c.left) c.after a.passed) (omega arith) k.3
-      go true a c e = let k = a.place in let k2 = k.2 in left_fits true s (start_of s.bits s.size c.middle) (left +ℤ x.total) k.0 p.tree.short (omega arith) (remains_past true c.middle p.stop x left (covers_at _ _ _ x p.tree e c.right) c.before a.passed) (omega arith) k.3
+      go false a c e = let k = a.place in left_fits false s (start_of s.bits s.size c.middle) (left -ℤ x.total) k.0 p.tree.short (omega arith) (remains_past false p.start c.middle x left (covers_at _ _ _ x p.tree e c.left) c.after a.passed) (omega arith) k.3
+      go true a c e = let k = a.place in left_fits true s (start_of s.bits s.size c.middle) (left +ℤ x.total) k.0 p.tree.short (omega arith) (remains_past true c.middle p.stop x left (covers_at _ _ _ x p.tree e c.right) c.before a.passed) (omega arith) k.3
 
   pub to_near : (back : Bool) (place child : ℕ) (left : ℤ) (x : Node) → LeadsTo back s first nodes place left → place < first → x ≡ get_or nodes (near_child back place) empty_node → child ≡ near_child back place → IsMet back x left → LeadsTo back s first nodes child left
   to_near false place child left x p h e n i =
@@ -42,17 +42,17 @@ module _ (s : Sought) (first : ℕ) (nodes : List Node) where
   to_far false place child left x p h e n o =
       let c = stands_children first place p.start p.stop p.stands h in let k = p.ahead.place in
       let q = passed_over false s p.start c.middle x left (covers_at _ _ _ x p.tree e c.left) c.after p.ahead.passed o in
-      let far : start_of s.bits s.size c.middle ≤ k.0 = ⊎_elim (λ (w : k.0 < start_of s.bits s.size c.middle). let a = p.ahead.passed.after in let b = k.1 in absurd (q.none k.0 (omega arith, w) k.3)) (λ (w : start_of s.bits s.size c.middle ≤ k.0). w) (cases_lt k.0 (start_of s.bits s.size c.middle)) in
+      let far : start_of s.bits s.size c.middle ≤ k.0 = grind (arith, ints) in
       rw n (record { tree = p.tree; start = c.middle; stop = p.stop; stands = c.right; ahead = record { passed = q; place = (k.0, far, k.2, k.3) } })
   to_far true place child left x p h e n o =
       let c = stands_children first place p.start p.stop p.stands h in let k = p.ahead.place in
       let q = passed_over true s c.middle p.stop x left (covers_at _ _ _ x p.tree e c.right) c.before p.ahead.passed o in
-      let far : k.0 < start_of s.bits s.size c.middle = ⊎_elim (λ (w : k.0 < start_of s.bits s.size c.middle). w) (λ (w : start_of s.bits s.size c.middle ≤ k.0). let a = p.ahead.passed.after in let b = k.2 in absurd (q.none k.0 (w, omega arith) k.3)) (cases_lt k.0 (start_of s.bits s.size c.middle)) in
+      let far : k.0 < start_of s.bits s.size c.middle = grind (arith, ints) in
       rw n (record { tree = p.tree; start = p.start; stop = c.middle; stands = c.left; ahead = record { passed = q; place = (k.0, k.1, far, k.3) } })
 
   pub at_leaf : (back : Bool) (place : ℕ) (left : ℤ) → LeadsTo back s first nodes place left → first ≤ place → IsAhead back s (place - first) (place - first + 1) left
   at_leaf back place left p h =
-      let l = leaf_stands first place p.start p.stop p.stands h in let l0 = l.0 in let l1 = l.1 in
+      let l = leaf_stands first place p.start p.stop p.stands h in
       subst (λ (n : ℕ). IsAhead back s n (place - first + 1) left) l.0 (subst (λ (n : ℕ). IsAhead back s p.start n left) (omega arith) p.ahead)
 
   -- ---- climbing, past the far children that the passed part ends with
@@ -60,14 +60,14 @@ module _ (s : Sought) (first : ℕ) (nodes : List Node) where
   comes_to false place left next m p o = go o.zeros place p o.splits
     where
       go : (k place : ℕ) → PassedTo false s first place left → place + 2 ≡ (next + 1) * 2 ^ k → ComesTo false s first nodes next left
-      go zero place p e = let ends = o.ends in record { tree = m; far = λ some. omega arith; passed = λ some. subst (λ (n : ℕ). PassedTo false s first n left) (omega arith) p; none = λ z. absurd (omega arith) }
+      go zero place p e = record { tree = m; far = λ some. omega arith; passed = λ some. subst (λ (n : ℕ). PassedTo false s first n left) (omega arith) p; none = λ z. absurd (omega arith) }
       go (suc k) place p e =
-          let ends = o.ends in let most = le-mul_of_pos_right (next + 1) (pow_pos k) in
+          let most = le-mul_of_pos_right (next + 1) (pow_pos k) in
           let twice : (next + 1) * 2 ^ suc k ≡ (next + 1) * (2 * 2 ^ k) = ap (λ (x : ℕ). (next + 1) * x) (pow-succ' 2 k) in
           ⊎_elim
           (λ (root : place < 1).
           let r = root_stands first p.start p.stop (subst (λ (n : ℕ). StandsOver first n p.start p.stop) (omega arith) p.stands) in
-          let all : start_of s.bits s.size p.stop ≡ length s.bits = (let f = m.fits in rw r.1 (omega arith)) in
+          let all : start_of s.bits s.size p.stop ≡ length s.bits = (rw r.1 (omega arith)) in
           record { tree = m; far = λ some. absurd (omega arith); passed = λ some. absurd (omega arith); none = λ z k a b. p.passed.none k (a, omega arith) })
           (λ (some : 1 ≤ place).
           let here : place ≡ 2 * ((place - 1) / 2) + 2 = omega arith in
@@ -78,7 +78,6 @@ module _ (s : Sought) (first : ℕ) (nodes : List Node) where
     where
       go : (k place : ℕ) → PassedTo true s first place left → place + 1 ≡ b.0 * 2 ^ k → ComesTo true s first nodes (b.0 - 2) left
       go zero place p e =
-          let ends = b.1.ends in
           record {
             tree = m;
             far = λ some. omega arith;
@@ -95,32 +94,25 @@ module _ (s : Sought) (first : ℕ) (nodes : List Node) where
 
   -- from a block on
   pub begin_within : (back : Bool) (begin : ℕ) (left : ℤ) → BeginsAt back s first nodes begin left → begin ≤ first
-  begin_within back begin left b =
-      let some = b.some in let f = b.tree.fits in ⊎_elim
-      (λ (w : first < begin). let u : (first + 1) * s.size ≤ begin * s.size = mul-le-mul_right s.size (omega arith) in absurd (omega arith))
-      (λ (w : begin ≤ first). w)
-      (cases_lt first begin)
+  begin_within back begin left b = grind (arith, ints, mul-le-mul_right)
 
   pub comes_from : (back : Bool) (begin : ℕ) (left : ℤ) (next : ℕ) → BeginsAt back s first nodes begin left → IsBeside back (first + begin) next → ComesTo back s first nodes next left
   comes_from back begin left next b o = comes_to back (first + begin) left next b.tree (record { start = begin; stop = begin + 1; stands = stands_leaf first b.tree.height begin b.tree.levels (begin_within back begin left b); passed = b.passed }) o
 
   -- past the last block there is nothing left to pass
   pub ends_after : (begin : ℕ) (left : ℤ) → BeginsAt false s first nodes begin left → first ≤ begin → HasNone false s
-  ends_after begin left b h k x y =
-      let f = b.tree.fits in let u : (first + 1) * s.size ≤ (begin + 1) * s.size = mul-le-mul_right s.size (omega arith) in b.passed.none k (x, omega arith)
+  ends_after begin left b h k x y = grind (arith, mul-le-mul_right)
 
   -- ---- beside the passed part
   far_of : (back : Bool) (place : ℕ) (left : ℤ) (x : Node) → ComesTo back s first nodes place left → 0 < place → x ≡ get_or nodes place empty_node → Far back s first place left x
   far_of false place left x c some e =
-      let v = c.far some in let p = c.passed some in
-      let here : place - 1 ≡ 2 * ((place - 1) / 2) + 1 = omega arith in
+      let v = c.far some in let p = c.passed some in let here : place - 1 ≡ 2 * ((place - 1) / 2) + 1 = omega arith in
       let at : 2 * ((place - 1) / 2) + 2 ≡ place = omega arith in
       let u = parent_of_left first ((place - 1) / 2) p.start p.stop (subst (λ (n : ℕ). StandsOver first n p.start p.stop) here p.stands) in
       let t : StandsOver first place p.stop u.0 = subst (λ (n : ℕ). StandsOver first n p.stop u.0) at u.2 in
       record { start = p.stop; stop = u.0; stands = t; passed = p.passed; covers = covers_at place p.stop u.0 x c.tree e t; onward = λ rest q. record { start = p.start; stop = u.0; stands = u.1; passed = q } }
   far_of true place left x c some e =
-      let v = c.far some in let p = c.passed some in
-      let here : place + 1 ≡ 2 * ((place - 1) / 2) + 2 = omega arith in
+      let v = c.far some in let p = c.passed some in let here : place + 1 ≡ 2 * ((place - 1) / 2) + 2 = omega arith in
       let at : 2 * ((place - 1) / 2) + 1 ≡ place = omega arith in
       let u = parent_of_right first ((place - 1) / 2) p.start p.stop (subst (λ (n : ℕ). StandsOver first n p.start p.stop) here p.stands) in
       let t : StandsOver first place u.0 p.start = subst (λ (n : ℕ). StandsOver first n u.0 p.start) at u.2 in
@@ -131,7 +123,7 @@ module _ (s : Sought) (first : ℕ) (nodes : List Node) where
     far = far_of back place left x c some e
 
     within : far.start ≤ far.stop
-    within = let h = stands_some first place far.start far.stop far.stands in omega arith
+    within = grind (arith, ints, stands_some)
 
     pub goes_down : IsMet back x left → LeadsTo back s first nodes place left
     goes_down i = record { tree = c.tree; start = far.start; stop = far.stop; stands = far.stands; ahead = record { passed = far.passed; place = place_in back s far.start far.stop x left far.covers within far.passed i } }

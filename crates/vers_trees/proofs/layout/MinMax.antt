@@ -4,38 +4,30 @@ use Rattle.vers_trees.proofs.searches.Scans.{rise_fits, part_joined}
 
 -- a later block begins no earlier
 pub starts_up : (l : List Bool) (size i e : ℕ) → i ≤ e → start_of l size i ≤ start_of l size e
-starts_up l size i e h = let m : i * size ≤ e * size = mul-le-mul_right size h in omega arith
+starts_up l size i e h = grind (arith, ints, mul-le-mul_right)
 
 -- the part of a node that begins inside the list has a place, and every part has the node's total
 pub part_inside : (l : List Bool) (size i e : ℕ) (x : Node) → Covers l size i e x → i * size < length l → IsPart l (start_of l size i) (start_of l size e) x
-part_inside l size i e x c h = ⊎_elim (λ (p : IsPart l (start_of l size i) (start_of l size e) x). p) (λ (q : (length l ≤ i * size) × (x ≡ empty_node)). absurd (omega arith)) c.part
+part_inside l size i e x c h = grind arith
 
 pub total_of_part : (l : List Bool) (size i e : ℕ) (x : Node) → Covers l size i e x → i ≤ e → excess l (start_of l size e) ≡ excess l (start_of l size i) +ℤ x.total
 total_of_part l size i e x c h = grind (arith, starts_up)
 
 -- the node over both of two neighbouring parts, of which the second may be empty
 pub covers_joined : (l : List Bool) (size i m e : ℕ) (x y r : Node) → i ≤ m → m ≤ e → Covers l size i m x → Covers l size m e y → (y.least ≤ℤ y.greatest → r ≡ combined x y) → (y.greatest <ℤ y.least → r ≡ x) → Covers l size i e r
-covers_joined l size i m e x y r im me c d both alone =
-    let a = starts_up l size i m im in let b = starts_up l size m e me in ⊎_elim
-    (λ (q : IsPart l (start_of l size m) (start_of l size e) y).
-    let q1 = q.least.1 in let q2 = q.least.2 in let lo = q.low q.greatest.0 q.greatest.1 q.greatest.2 in let g = q.greatest.3 in
-    record { part = inl (rw (both (omega (arith, ints))) (part_joined l (start_of l size i) (start_of l size m) (start_of l size e) x y (part_inside l size i m x c (omega arith)) q)) })
-    (λ (q : (length l ≤ m * size) × (y ≡ empty_node)).
-    let same : start_of l size m ≡ start_of l size e = omega arith in
-    rw (alone (rw q.1 (omega (arith, ints)))) (record { part = subst (λ (n : ℕ). IsPart l (start_of l size i) n x ⊎ ((length l ≤ i * size) × (x ≡ empty_node))) same c.part }))
-    d.part
+covers_joined l size i m e x y r im me c d both alone = grind (arith, ints, starts_up, part_joined, part_inside)
 
 -- the sums of a node's two parts fit
 pub children_fit : (l : List Bool) (size i m e : ℕ) (x y : Node) → length l < 2 ^ 63 → i ≤ m → Covers l size i m x → Covers l size m e y → JoinFits x y
 children_fit l size i m e x y short im c d = record {
-  total = λ h. let p = parts h in let q = p.1 in let pt = p.0.total in rise_fits l (start_of l size i) (start_of l size e) (x.total +ℤ y.total) short (omega arith) (omega arith) (omega (arith, ints));
-  least = λ h. let p = parts h in let q = p.1.least in let q2 = q.2 in let q3 = q.3 in let pt = p.0.total in rise_fits l (start_of l size i) q.0 (x.total +ℤ y.least) short (omega arith) (omega arith) (omega (arith, ints));
-  greatest = λ h. let p = parts h in let q = p.1.greatest in let q2 = q.2 in let q3 = q.3 in let pt = p.0.total in rise_fits l (start_of l size i) q.0 (x.total +ℤ y.greatest) short (omega arith) (omega arith) (omega (arith, ints));
+  total = λ h. let p = parts h in let q = p.1 in rise_fits l (start_of l size i) (start_of l size e) (x.total +ℤ y.total) short (omega arith) (omega arith) (omega (arith, ints));
+  least = λ h. let p = parts h in let q = p.1.least in rise_fits l (start_of l size i) q.0 (x.total +ℤ y.least) short (omega arith) (omega arith) (omega (arith, ints));
+  greatest = λ h. let p = parts h in let q = p.1.greatest in rise_fits l (start_of l size i) q.0 (x.total +ℤ y.greatest) short (omega arith) (omega arith) (omega (arith, ints));
 }
   where
     parts : y.least ≤ℤ y.greatest → IsPart l (start_of l size i) (start_of l size m) x × IsPart l (start_of l size m) (start_of l size e) y
     parts h = ⊎_elim
-        (λ (q : IsPart l (start_of l size m) (start_of l size e) y). let q1 = q.least.1 in let q2 = q.least.2 in let u = starts_up l size i m im in (part_inside l size i m x c (omega arith), q))
+        (λ (q : IsPart l (start_of l size m) (start_of l size e) y). let u = starts_up l size i m im in (part_inside l size i m x c (omega arith), q))
         (λ (q : (length l ≤ m * size) × (y ≡ empty_node)). let g = rw q.1 at h in absurd (omega (arith, ints)))
         d.part
 
@@ -53,12 +45,9 @@ stands_children first i s e p h = go p.height refl
     go : (k : ℕ) → p.height ≡ k → HasChildren first i s e
     go zero z = grind arith
     go (suc k) z =
-        let lv = p.levels in let ins = p.inside in let pl = p.place in let fr = p.from in let up = p.upto in
-        let pw : 2 ^ p.height ≡ 2 * 2 ^ k = ap (λ (n : ℕ). 2 ^ n) z ∙ pow-succ' 2 k in
-        let pl2 = pow_next p.level in
-        let lv' : 2 ^ (p.level + 1 + k) ≡ first + 1 = ap (λ (n : ℕ). 2 ^ n) (let g : p.level + 1 + k ≡ p.level + p.height = omega arith in g) ∙ lv in
-        let fr' : s ≡ p.offset * (2 * 2 ^ k) = fr ∙ ap (λ (n : ℕ). p.offset * n) pw in
-        let up' : e ≡ p.offset * (2 * 2 ^ k) + 2 * 2 ^ k = up ∙ ap (λ (n : ℕ). p.offset * n + n) pw in
+        let pw : 2 ^ p.height ≡ 2 * 2 ^ k = ap (λ (n : ℕ). 2 ^ n) z ∙ pow-succ' 2 k in let pl2 = pow_next p.level in
+        let lv' : 2 ^ (p.level + 1 + k) ≡ first + 1 = ap (λ (n : ℕ). 2 ^ n) (let g : p.level + 1 + k ≡ p.level + p.height = omega arith in g) ∙ p.levels in
+        let fr' : s ≡ p.offset * (2 * 2 ^ k) = p.from ∙ ap (λ (n : ℕ). p.offset * n) pw in
         record {
           middle = 2 * p.offset * 2 ^ k + 2 ^ k;
           after = omega arith;
@@ -69,15 +58,14 @@ stands_children first i s e p h = go p.height refl
 
 -- the root's part is all
 pub root : (first h : ℕ) → 2 ^ h ≡ first + 1 → StandsOver first 0 0 (first + 1)
-root first h lv = record { level = 0; height = h; offset = 0; levels = ap (λ (n : ℕ). 2 ^ n) (let g : 0 + h ≡ h = omega arith in g) ∙ lv; inside = omega arith; place = omega arith; from = omega arith; upto = omega arith }
+root first h lv = grind (arith, ints)
 
 -- every node above the leaves stands over some part
 pub stands_every : (first h : ℕ) → 2 ^ h ≡ first + 1 → (fuel i : ℕ) → i ≤ fuel → i ≤ 2 * first → (s : ℕ) × (e : ℕ) × StandsOver first i s e
 stands_every first h lv fuel zero a b = (0, first + 1, root first h lv)
 stands_every first h lv zero (suc i) a b = absurd (omega arith)
 stands_every first h lv (suc fuel) (suc i) a b =
-    let p = stands_every first h lv fuel (i / 2) (omega arith) (omega arith) in
-    let c = stands_children first (i / 2) p.0 p.1 p.2 (omega arith) in
+    let p = stands_every first h lv fuel (i / 2) (omega arith) (omega arith) in let c = stands_children first (i / 2) p.0 p.1 p.2 (omega arith) in
     ⊎_elim
     (λ (x : i % 2 < 1). (p.0, c.middle, subst (λ (n : ℕ). StandsOver first n p.0 c.middle) (omega arith) c.left))
     (λ (x : 1 ≤ i % 2). (c.middle, p.1, subst (λ (n : ℕ). StandsOver first n c.middle p.1) (omega arith) c.right))
@@ -89,28 +77,25 @@ stands_within first i s e p = grind (arith, pow-le-pow_right)
 
 -- a node has one part
 pub order : (a b : ℕ) → 2 ^ a < 2 ^ (b + 1) → a ≤ b
-order a b h = ⊎_elim (λ (u : b < a). let le : 2 ^ (b + 1) ≤ 2 ^ a = pow-le-pow_right (omega arith) (omega arith) in absurd (omega arith)) (λ (u : a ≤ b). u) (cases_lt b a)
+order a b h = grind (arith, pow-le-pow_right)
 
 one_part : (first i s e s' e' : ℕ) → StandsOver first i s e → StandsOver first i s' e' → (s ≡ s') × (e ≡ e')
 one_part first i s e s' e' p q =
-    let a = pow_next p.level in let b = pow_next q.level in let c = pow_next (p.level + p.height) in let d = pow_next (q.level + q.height) in
-    grind (arith, order)
+    let c = pow_next (p.level + p.height) in let d = pow_next (q.level + q.height) in grind (arith, ints, order, pow_next q.level, pow_next p.level)
 
 -- the parent of a child, with its other child
 parent_of : (first i j s e : ℕ) → StandsOver first i s e → (i ≡ 2 * j + 1) ⊎ (i ≡ 2 * j + 2) → (u : ℕ) × (v : ℕ) × StandsOver first j u v × HasChildren first j u v
 parent_of first i j s e p is =
-    let w = stands_within first i s e p in
-    let q = stands_every first (p.level + p.height) p.levels j j (omega arith) (omega (arith, is)) in
+    let w = stands_within first i s e p in let q = stands_every first (p.level + p.height) p.levels j j (omega arith) (omega (arith, is)) in
     (q.0, q.1, q.2, stands_children first j q.0 q.1 q.2 (omega (arith, is)))
 
 pub parent_of_left : (first j s e : ℕ) → StandsOver first (2 * j + 1) s e → (u : ℕ) × StandsOver first j s u × StandsOver first (2 * j + 2) e u × (e ≤ u)
 parent_of_left first j s e p =
-    let q = parent_of first (2 * j + 1) j s e p (inl refl) in
-    let o = one_part first (2 * j + 1) _ _ _ _ p q.3.left in
+    let q = parent_of first (2 * j + 1) j s e p (inl refl) in let o = one_part first (2 * j + 1) _ _ _ _ p q.3.left in
     (q.1, rw (← o.0) at q.2, rw (← o.1) at q.3.right, rw (← o.1) at q.3.before)
 
 pub parent_of_right : (first j s e : ℕ) → StandsOver first (2 * j + 2) s e → (u : ℕ) × StandsOver first j u e × StandsOver first (2 * j + 1) u s
-parent_of_right first j s e p = let q = parent_of first (2 * j + 2) j s e p (inr refl) in grind (arith, one_part)
+parent_of_right first j s e p = grind (arith, ints, one_part, parent_of first (2 * j + 2) j s e p (inr refl))
 
 leaf : (first h i : ℕ) → 2 ^ h ≡ first + 1 → first ≤ i → i ≤ 2 * first → StandsOver first i (i - first) (i - first + 1)
 leaf first h i lv a b = record { level = h; height = 0; offset = i - first; levels = ap (λ (n : ℕ). 2 ^ n) (let g : h + 0 ≡ h = omega arith in g) ∙ lv; inside = omega arith; place = omega arith; from = omega arith; upto = omega arith }
@@ -120,12 +105,11 @@ stands_leaf first h k lv b = let e : first + k - first ≡ k = omega arith in rw
 
 pub leaf_stands : (first i s e : ℕ) → StandsOver first i s e → first ≤ i → (s ≡ i - first) × (e ≡ s + 1)
 leaf_stands first i s e p h =
-    let o = one_part first i _ _ _ _ p (leaf first (p.level + p.height) i p.levels h (stands_within first i s e p)) in
-    (omega arith, omega arith)
+    let o = one_part first i _ _ _ _ p (leaf first (p.level + p.height) i p.levels h (stands_within first i s e p)) in (omega arith, omega arith)
 
 -- a node's part has a block
 pub stands_some : (first i s e : ℕ) → StandsOver first i s e → s < e
-stands_some first i s e p = let some = pow_pos p.height in omega arith
+stands_some first i s e p = grind (arith, ints, pow_pos)
 
 pub root_stands : (first s e : ℕ) → StandsOver first 0 s e → (s ≡ 0) × (e ≡ first + 1)
 root_stands first s e p = one_part first 0 _ _ _ _ p (root first (p.level + p.height) p.levels)

@@ -5,32 +5,25 @@ use Rattle.vers_trees.proofs.Words.{◌≡◌, ℕ, zero, suc, Bool, bool_byte, 
 zeros_below : (i n : ℕ) → ((j : ℕ) → j < i → bit_at n j ≡ 0) → n / 2 ^ i * 2 ^ i ≡ n
 zeros_below zero n h = omega arith
 zeros_below (suc i) n h =
-    let even : n % 2 ≡ 0 = sym (bit_at_lowest n) ∙ h 0 (omega arith) in
-    let rest = zeros_below i (n / 2) (λ j a. sym (bit_at-suc n j) ∙ h (suc j) (omega arith)) in
-    let twice : 2 ^ suc i ≡ 2 * 2 ^ i = pow-succ' 2 i in
+    let even : n % 2 ≡ 0 = sym (bit_at_lowest n) ∙ h 0 (omega arith) in let twice : 2 ^ suc i ≡ 2 * 2 ^ i = pow-succ' 2 i in
     let above : n / 2 / 2 ^ i ≡ n / 2 ^ suc i = shr-shr n 1 i ∙ ap (λ (k : ℕ). n / 2 ^ k) (let g : 1 + i ≡ suc i = omega arith in g) in
     let q : n / 2 ^ suc i * 2 ^ suc i ≡ n / 2 / 2 ^ i * (2 * 2 ^ i) = ap (λ (x : ℕ). x * 2 ^ suc i) (sym above) ∙ ap (λ (x : ℕ). n / 2 / 2 ^ i * x) twice in
-    omega (arith, q, rest)
+    omega (arith, q, (zeros_below i (n / 2) (λ j a. sym (bit_at-suc n j) ∙ h (suc j) (omega arith))))
 
 -- the digits from the lowest one up
 pub from_lowest_one : (i n : ℕ) → bit_at n i ≡ 1 → ((j : ℕ) → j < i → bit_at n j ≡ 0) → IsOddPart n (n / 2 ^ i)
 from_lowest_one i n one h = record { zeros = i; splits = sym (zeros_below i n h); ends = one }
 
 pub odd_most : (n odd : ℕ) → IsOddPart n odd → odd ≤ n
-odd_most n odd p = let a = le-mul_of_pos_right odd (pow_pos p.zeros) in omega arith
+odd_most n odd p = omega (arith, le-mul_of_pos_right odd (pow_pos p.zeros))
 
 -- the node after the parent of a right child is a level up at least
 pub digits_after : (node odd : ℕ) → 0 < node → node % 2 ≡ 0 → IsOddPart ((node - 1) / 2 + 2) odd → digits odd + 1 ≤ digits (node + 1)
-digits_after node odd some even p =
-    let most = odd_most _ _ p in
-    let half = digits_half (node + 1) (omega arith) in
-    grind (arith, digits_up, digits_half)
+digits_after node odd some even p = let most = odd_most _ _ p in grind (arith, digits_up, digits_half)
 
 -- the node before the parent of a left child is a level up at least
 pub digits_before : (node odd : ℕ) → node % 2 ≡ 1 → IsOddPart ((node - 1) / 2 + 1) odd → digits (odd - 2 + 1) + 1 ≤ digits (node + 1)
-digits_before node odd left p =
-    let most = odd_most _ _ p in
-    grind (arith, digits_half, digits_up)
+digits_before node odd left p = let most = odd_most _ _ p in grind (arith, digits_half, digits_up)
 
 -- ---- how many nodes a search reads: a level has a digit more than the one above it
 pub adds_none : (a p : Reads) → AddsAtMost a a p
@@ -45,7 +38,7 @@ digits_child m n e h = omega (arith, digits_half n h, ap digits e)
 
 -- going down: a node read at each level, which is one of two
 pub one_of_two : (b : Bool) → bool_byte b ≤ 1
-one_of_two b = let e = byte_value b in let h = bit_value_le b in omega arith
+one_of_two b = omega (arith, bit_value_le b, byte_value b)
 
 pub read_down : (a b c : Reads) (node child : ℕ) → (child + 1) / 2 ≡ node + 1 → AddsAtMost a b (only_nodes (digits (node + 1) - 1)) → AddsAtMost b c (only_nodes 1) → AddsAtMost a c (only_nodes (digits (child + 1) - 1))
 read_down a b c node child e p q = grind (arith, digits_child, digit_some, adds_then)

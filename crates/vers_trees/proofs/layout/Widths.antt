@@ -1,5 +1,5 @@
 -- The width of a tree, and its nodes put together.
-use Rattle.vers_trees.proofs.Words.{◌≡◌, ℕ, zero, suc, ◌+◌, ◌-◌, ◌*◌, ◌^◌, ◌<◌, ◌≤◌, inl, inr, min, max, Bool, List, [], ◌∷◌, ◌++◌, length, get_or, take, drop, arith, ⊎_elim, subst, sym, refl, ap, ◌∙◌, length-append, cases_lt, div_ceil_times, get_or_append_left, get_or_at, take-append_seam, pow-le-pow_right, pow_next, pow_pos, clog_is_least, mul-le-mul_right, digits, digits_below_pow, Node, IsPart, CoveredFrom, empty_node, block_count, clog, levels, node_count, IsWidth, IsGrowing, AreFirstBlocks, IsTreeOf, IsIndexed}
+use Rattle.vers_trees.proofs.Words.{◌≡◌, ℕ, suc, ◌+◌, ◌-◌, ◌*◌, ◌^◌, ◌<◌, ◌≤◌, inl, inr, min, max, Bool, List, [], ◌∷◌, ◌++◌, length, get_or, take, drop, arith, ⊎_elim, subst, sym, refl, ap, ◌∙◌, length-append, cases_lt, div_ceil_times, get_or_append_left, get_or_at, take-append_seam, pow-le-pow_right, pow_next, pow_pos, clog_is_least, mul-le-mul_right, digits, digits_below_pow, Node, IsPart, CoveredFrom, empty_node, block_count, clog, levels, node_count, IsWidth, IsGrowing, AreFirstBlocks, IsTreeOf, IsIndexed}
 use Rattle.vers_trees.proofs.layout.MinMax.{order}
 
 pub grow_start : (leaves : ℕ) → IsGrowing leaves 2
@@ -10,8 +10,7 @@ grow_more leaves w g h = record { exponent = suc g.exponent; power = omega arith
 
 pub grown : (leaves w : ℕ) → leaves < 2 ^ 63 → IsGrowing leaves w → leaves ≤ w → IsWidth leaves w
 grown leaves w h g enough =
-    let q = g.power in let n = pow_next g.exponent in let one = pow_pos g.exponent in
-    let most = (clog_is_least leaves (g.exponent + 1)).0 (omega arith) in
+    let n = pow_next g.exponent in let one = pow_pos g.exponent in let most = (clog_is_least leaves (g.exponent + 1)).0 (omega arith) in
     let small = (clog_is_least leaves g.exponent).1 in
     let exact : g.exponent + 1 ≡ max 1 (clog leaves) = ⊎_elim (λ (z : g.exponent ≡ 0). omega arith) (λ (s : 2 ^ g.exponent < leaves). ⊎_elim (λ (u : g.exponent < clog leaves). omega arith) (λ (u : clog leaves ≤ g.exponent). let k = small u in absurd (omega arith)) (cases_lt g.exponent (clog leaves))) g.short in
     let few : g.exponent ≤ 62 = ⊎_elim (λ (z : g.exponent ≡ 0). omega arith) (λ (s : 2 ^ g.exponent < leaves). order g.exponent 62 (omega arith)) g.short in
@@ -21,16 +20,11 @@ grown leaves w h g enough =
 
 -- ---- how many nodes there are
 width_is : (leaves w : ℕ) → IsWidth leaves w → w - 1 ≡ max 1 (2 ^ clog leaves - 1)
-width_is leaves w h =
-    let p = h.power in ⊎_elim
-    (λ (x : 0 < clog leaves). let e : 2 ^ max 1 (clog leaves) ≡ 2 ^ clog leaves = ap (λ (k : ℕ). 2 ^ k) (omega arith) in omega arith)
-    (λ (x : clog leaves ≤ 0). let e : 2 ^ max 1 (clog leaves) ≡ 2 = ap (λ (k : ℕ). 2 ^ k) (let k : max 1 (clog leaves) ≡ 1 = omega arith in k) in let z : 2 ^ clog leaves ≡ 1 = ap (λ (k : ℕ). 2 ^ k) (let k : clog leaves ≡ 0 = omega arith in k) in omega arith)
-    (cases_lt 0 (clog leaves))
+width_is leaves w h = grind arith
 
 pub some_counted : (size n : ℕ) → 0 < n → (node_count size n ≡ block_count size n + max 1 (2 ^ clog (block_count size n) - 1)) × (levels size n ≡ max 1 (clog (block_count size n)) + 1)
 unfolding node_count levels
-some_counted size zero h = absurd (omega arith)
-some_counted size (suc n) h = (refl, refl)
+some_counted size n h = grind arith
 
 pub no_nodes_counted : (size n : ℕ) (nodes : List Node) → n ≡ 0 → nodes ≡ [] → length nodes ≡ node_count size n
 unfolding node_count
@@ -59,16 +53,15 @@ block_added l size first n nodes x b p =
 
 -- where block k begins
 pub begins_inside : (size n k leaves : ℕ) → leaves ≡ block_count size n → 0 < size → k < leaves → k * size < n
-begins_inside size n k leaves e so h =
-    let d = (div_ceil_times n size so).1 in let u : (k + 1) * size ≤ leaves * size = mul-le-mul_right size (omega arith) in let w = ap (λ (m : ℕ). m * size) e in omega arith
+begins_inside size n k leaves e so h = grind (arith, div_ceil_times, mul-le-mul_right)
 
 pub one_at_least : (n size : ℕ) → 0 < size → 0 < n → 0 < block_count size n
 one_at_least n size so h = grind (arith, div_ceil_times)
 
 pub tree_made : (l : List Bool) (size first : ℕ) (nodes : List Node) → 0 < size → 0 < length l → length l < 2 ^ 63 → IsWidth (block_count size (length l)) (first + 1) → CoveredFrom l size first nodes 0 → IsTreeOf l size first nodes
 tree_made l size first nodes so some short w c =
-    let d = (div_ceil_times (length l) size so).0 in let e = w.enough in let b = w.bounded in let p = w.power in
-    let u : block_count size (length l) * size ≤ (first + 1) * size = mul-le-mul_right size e in
+    let d = (div_ceil_times (length l) size so).0 in let p = w.power in
+    let u : block_count size (length l) * size ≤ (first + 1) * size = mul-le-mul_right size w.enough in
     let k : digits first ≡ max 1 (clog (block_count size (length l))) = ap digits (omega arith) ∙ digits_below_pow (max 1 (clog (block_count size (length l)))) in
     let n = (some_counted size (length l) some).1 in
     record { tree = record { height = max 1 (clog (block_count size (length l))); levels = sym p; fits = omega arith; covered = c; some = so; short = short; small = omega arith }; few = omega arith }

@@ -1,10 +1,10 @@
 -- The nodes of one depth: which of them the searches find.
-use Rattle.vers_trees.proofs.Words.{◌≡◌, ℕ, ◌+◌, ◌-◌, ◌<◌, ◌≤◌, ◌≢◌, ◌↔◌, Bool, true, false, ◌&&◌, List, length, get_or, eqb, ℤ, pos, negsuc, neg_ℤ, ◌+ℤ◌, ◌<ℤ◌, Some, None, arith, ⊎_elim, sym, ap, ◌∙◌, Decides, ints, cases_lt, Decides-eqb, Decides-and, eq-or-lt_of_le, count_le, excess, first_rise_after, last_rise_before, Forest, IsBalanced, forest_of, true_from_ne_false, false_from_ne_true, closing, is_ancestor, depth, level, level_ancestor, first_of, last_of, next_of, previous_of}
+use Rattle.vers_trees.proofs.Words.{◌≡◌, ℕ, ◌+◌, ◌-◌, ◌<◌, ◌≤◌, ◌≢◌, ◌↔◌, Bool, true, false, ◌&&◌, List, length, get_or, eqb, ℤ, pos, negsuc, neg_ℤ, ◌+ℤ◌, ◌<ℤ◌, Option, Some, None, arith, ⊎_elim, sym, ap, ◌∙◌, Decides, ints, cases_lt, Decides-eqb, Decides-and, eq-or-lt_of_le, count_le, excess, first_rise_after, last_rise_before, Forest, IsBalanced, forest_of, true_from_ne_false, false_from_ne_true, closing, is_ancestor, depth, level, level_ancestor, first_of, last_of, next_of, previous_of}
 use Rattle.vers_trees.proofs.searches.Searches.{by_answer, after_some, after_none, before_some, before_is, before_none}
 use Rattle.vers_trees.proofs.grammar.Excess.{below_until, below_since, excess-zero, excess-is_walk, excess_after_open, excess_after_close, open_from_rise, close_from_fall}
 use Rattle.vers_trees.proofs.grammar.Grammar.{balanced_total, balanced_above}
 use Rattle.vers_trees.proofs.kin.Partners.{before_from_closes}
-use Rattle.vers_trees.proofs.kin.NodeList.{HasPair, one_pair, zero_pair, opens, inside, IsFirstNode, IsLastNode, first_node, first_in, last_node, next_in, previous_in}
+pub use Rattle.vers_trees.proofs.kin.NodeList.{HasPair, one_pair, zero_pair, opens, inside, IsFirstNode, IsLastNode, first_node, first_in, last_node, next_in, previous_in, node_pair}
 use Rattle.vers_trees.proofs.kin.Kin.{ancestor_decides, above_from_before, above_is_around, depth_is_excess}
 
 -- ---- places where the excess is x, below which it stands at a place before or after
@@ -34,25 +34,27 @@ module _ (l : List Bool) (b : IsBalanced l) (c : ℕ) (r : ℤ) (some : pos 0 <�
       let k = one_pair l b u q.inside (opens_at l c u (excess l (c + 1) +ℤ r) (omega (arith, ints)) q.after q.inside q.sum q.first) in
       (k, (is u k).1 (q.after, q.sum), λ w x kw p. let m = (is w kw).0 p in q.first w m.0 x m.1))
 
+-- what opens for a place, if there is one
+abbrev pub opens_for : List Bool → Option ℕ → Option ℕ
+opens_for l None = None
+opens_for l (Some c) = last_rise_before l c (negsuc 0)
+
 -- ---- the last node that opens before v where the excess, with the node's own one, is r above that before v
 module _ (l : List Bool) (b : IsBalanced l) (v : ℕ) (r : ℤ) (some : pos 0 <ℤ r) (P : ℕ → Type 0) (is : (w : ℕ) → HasPair l w → P w ↔ ((w < v) × (excess l w +ℤ pos 1 ≡ excess l v +ℤ r))) where
-  none_before_it : v < length l → last_rise_before l v r ≡ None → IsLastNode l P None
-  none_before_it i e w k p =
-      let q = (is w k).0 p in not_between l 0 v w (excess l v +ℤ r) (λ k y z. before_none l v r i e k z) (omega (arith, ints)) (omega arith) q.0 (omega arith) (opens l w k) q.1
-
   -- it is the tree that closes where the excess is that
-  opened_before : (c : ℕ) → last_rise_before l v r ≡ Some c → IsLastNode l P (last_rise_before l c (negsuc 0))
-  opened_before c e =
-      let q = before_some l v r c e in let qb = q.before in let qi = q.inside in let s = q.sum in
-      let f = closes_at l c v (excess l v +ℤ r) (omega (arith, ints)) qb qi s q.last in
-      let p = zero_pair l b c (omega arith) f in let m = p.3 in let back = m.back in let after = m.after in
+  opened_before : v < length l → (o : Option ℕ) → last_rise_before l v r ≡ o → IsLastNode l P (opens_for l o)
+  opened_before i None e = λ w k p.
+      let q = (is w k).0 p in not_between l 0 v w (excess l v +ℤ r) (λ k y z. before_none l v r i e k z) (omega (arith, ints)) (omega arith) q.0 (omega arith) (opens l w k) q.1
+  opened_before i (Some c) e =
+      let q = before_some l v r c e in let qb = q.before in let qi = q.inside in
+      let f = closes_at l c v (excess l v +ℤ r) (omega (arith, ints)) qb qi q.sum q.last in let p = zero_pair l b c (omega arith) f in let m = p.3 in
       let fall = excess_after_close l c false (omega arith) f in
       rw (before_is l c (negsuc 0) p.0 (before_from_closes l p.0 c m)) (
         p.1,
         (is p.0 p.1).1 (omega arith, omega (arith, ints)),
         λ u a k pu.
-            let y = ((is u k).0 pu).0 in let t = ((is u k).0 pu).1 in ⊎_elim
-            (λ (z : c < u). not_between l c v u _ q.last (omega (arith, ints)) (omega arith) y (omega arith) (opens l u k) t)
+            let t = ((is u k).0 pu).1 in ⊎_elim
+            (λ (z : c < u). not_between l c v u _ q.last (omega (arith, ints)) (omega arith) (((is u k).0 pu).0) (omega arith) (opens l u k) t)
             (λ (z : u ≤ c). let w = m.above u a z in omega (arith, ints))
             (cases_lt c u),
       )
@@ -73,10 +75,8 @@ unfolding level_ancestor
 level_ancestor_is_search l b v t h some = by_answer (λ o. o ≡ level_ancestor (forest_of l) v t) (last_rise_before l v (neg_ℤ (pos t)))
     (λ e. sym (first_node l b _ _ (at_depth_decides (forest_of l) v t) None (grind (arith, ints, depth_is_excess, before_none, inside, eq-or-lt_of_le))))
     (λ a e.
-    let m = above_from_before l b v t a some (opens l v h) (before_some l v (neg_ℤ (pos t)) a e) in
-    let r = above_is_around l b v t a h m in
-    let k = r.2 in
-    let da = depth_is_excess l b a k in let dv = depth_is_excess l b v h in
+    let m = above_from_before l b v t a some (opens l v h) (before_some l v (neg_ℤ (pos t)) a e) in let r = above_is_around l b v t a h m in
+    let k = r.2 in let da = depth_is_excess l b a k in let dv = depth_is_excess l b v h in
     sym (first_node l b _ _ (at_depth_decides (forest_of l) v t) (Some a) (k, ((omega arith, omega arith), omega (arith, ints)), grind (arith, ints, depth_is_excess))))
 
 -- no node is so deep
@@ -92,28 +92,22 @@ too_far_up l b v t h far = first_node l b _ _ (at_depth_decides (forest_of l) v 
 -- the nodes of the depth of v after it open past its tree, and those before it before it
 later_on_level : (l : List Bool) (b : IsBalanced l) (v : ℕ) → HasPair l v → (w : ℕ) → HasPair l w → ((depth (forest_of l) w ≡ depth (forest_of l) v) × (v < w)) ↔ ((closing (forest_of l) v < w) × (excess l (w + 1) ≡ excess l (closing (forest_of l) v + 1) +ℤ pos 1))
 later_on_level l b v h w k =
-    let dw = depth_is_excess l b w k in let dv = depth_is_excess l b v h in let back = h.closes.back in let after = h.closes.after in
+    let dw = depth_is_excess l b w k in let dv = depth_is_excess l b v h in
     let up = excess_after_open l w false (inside l w k) (opens l w k) in (
-      λ e. let e0 = e.0 in (⊎_elim (λ (z : closing (forest_of l) v < w). z) (λ (z : w ≤ closing (forest_of l) v). let r = h.closes.above w e.1 z in absurd (omega (arith, ints))) (cases_lt (closing (forest_of l) v) w), omega (arith, ints)),
-      λ e. let e0 = e.0 in let e1 = e.1 in (omega (arith, ints), omega arith),
+      λ e. (grind (arith, ints), omega (arith, ints)),
+      λ e. (omega (arith, ints), omega arith),
     )
 
 earlier_on_level : (l : List Bool) (b : IsBalanced l) (v : ℕ) → HasPair l v → (w : ℕ) → HasPair l w → ((depth (forest_of l) w ≡ depth (forest_of l) v) × (w < v)) ↔ ((w < v) × (excess l w +ℤ pos 1 ≡ excess l v +ℤ pos 1))
-earlier_on_level l b v h w k =
-    let dw = depth_is_excess l b w k in let dv = depth_is_excess l b v h in
-    (λ e. let e0 = e.0 in (e.1, omega (arith, ints)), λ e. let e1 = e.1 in (omega (arith, ints), e.0))
+earlier_on_level l b v h w k = grind (arith, ints, depth_is_excess)
 
 pub level_next_is_search : (l : List Bool) (b : IsBalanced l) (v : ℕ) → HasPair l v → first_rise_after l (closing (forest_of l) v) (pos 1) ≡ next_of (level (forest_of l) (depth (forest_of l) v)) v
 unfolding level
 level_next_is_search l b v h = sym (next_in l b _ _ (λ w. Decides-eqb (depth (forest_of l) w) (depth (forest_of l) v)) v _ (opened_after l b (closing (forest_of l) v) (pos 1) (omega (arith, ints)) _ (later_on_level l b v h)))
 
-pub no_level_prev_found : (l : List Bool) (b : IsBalanced l) (v : ℕ) → HasPair l v → last_rise_before l v (pos 1) ≡ None → previous_of (level (forest_of l) (depth (forest_of l) v)) v ≡ None
+pub level_prev_is_search : (l : List Bool) (b : IsBalanced l) (v : ℕ) (o : Option ℕ) → HasPair l v → last_rise_before l v (pos 1) ≡ o → opens_for l o ≡ previous_of (level (forest_of l) (depth (forest_of l) v)) v
 unfolding level
-no_level_prev_found l b v h e = previous_in l b _ _ (λ w. Decides-eqb (depth (forest_of l) w) (depth (forest_of l) v)) v None (none_before_it l b v (pos 1) (omega (arith, ints)) _ (earlier_on_level l b v h) (inside l v h) e)
-
-pub level_prev_is_search : (l : List Bool) (b : IsBalanced l) (v c : ℕ) → HasPair l v → last_rise_before l v (pos 1) ≡ Some c → last_rise_before l c (negsuc 0) ≡ previous_of (level (forest_of l) (depth (forest_of l) v)) v
-unfolding level
-level_prev_is_search l b v c h e = sym (previous_in l b _ _ (λ w. Decides-eqb (depth (forest_of l) w) (depth (forest_of l) v)) v _ (opened_before l b v (pos 1) (omega (arith, ints)) _ (earlier_on_level l b v h) c e))
+level_prev_is_search l b v o h e = sym (previous_in l b _ _ (λ w. Decides-eqb (depth (forest_of l) w) (depth (forest_of l) v)) v _ (opened_before l b v (pos 1) (omega (arith, ints)) _ (earlier_on_level l b v h) (inside l v h) o e))
 
 -- ---- the ends of a level
 -- a forest with a node opens at 0 and closes at its end
@@ -122,8 +116,7 @@ opens_first l b h = one_pair l b 0 h (true_from_ne_false _ (λ e. let r = excess
 
 closes_last : (l : List Bool) (b : IsBalanced l) (n : ℕ) → length l ≡ n + 1 → get_or l n false ≡ false
 closes_last l b n e =
-    let t : excess l (n + 1) ≡ pos 0 = ap (excess l) (sym e) ∙ balanced_total l b in
-    let a = balanced_above l b n (omega arith) in
+    let t : excess l (n + 1) ≡ pos 0 = ap (excess l) (sym e) ∙ balanced_total l b in let a = balanced_above l b n (omega arith) in
     false_from_ne_true _ (λ o. let r = excess_after_open l n false (omega arith) o in omega (arith, ints))
 
 pub first_root : (l : List Bool) (b : IsBalanced l) → 0 < length l → first_of (level (forest_of l) 0) ≡ Some 0
@@ -140,11 +133,11 @@ too_deep l b t far = (first_in l b _ _ (λ w. Decides-eqb (depth (forest_of l) w
 -- below the first root a node opens where the excess rises from there
 below_first : (l : List Bool) (b : IsBalanced l) (t : ℕ) → 0 < t → (w : ℕ) → HasPair l w → (depth (forest_of l) w ≡ t) ↔ ((0 < w) × (excess l (w + 1) ≡ excess l (0 + 1) +ℤ pos t))
 below_first l b t some w k =
-    let z = excess-zero l in let d = depth_is_excess l b w k in let i = inside l w k in
+    let z = excess-zero l in let d = depth_is_excess l b w k in
     let one = excess_after_open l 0 false (omega arith) (opens l 0 (opens_first l b (omega arith))) in
-    let r = excess_after_open l w false i (opens l w k) in (
+    let r = excess_after_open l w false (inside l w k) (opens l w k) in (
       λ e. (⊎_elim (λ (s : w < 1). let g : excess l w ≡ excess l 0 = ap (excess l) (omega arith) in absurd (omega (arith, ints))) (λ (s : 1 ≤ w). s) (cases_lt w 1), omega (arith, ints)),
-      λ e. let e1 = e.1 in omega (arith, ints),
+      λ e. omega (arith, ints),
     )
 
 pub level_leftmost_is_search : (l : List Bool) (b : IsBalanced l) (t : ℕ) → 0 < t → first_rise_after l 0 (pos t) ≡ first_of (level (forest_of l) t)
@@ -156,22 +149,16 @@ pub last_root_is_search : (l : List Bool) (b : IsBalanced l) (n : ℕ) → lengt
 unfolding level
 last_root_is_search l b n e =
     let p = zero_pair l b n (omega arith) (closes_last l b n e) in let k = p.1 in let q = p.3 in
-    let t : excess l (n + 1) ≡ pos 0 = ap (excess l) (sym e) ∙ balanced_total l b in
-    let d = depth_is_excess l b p.0 k in
+    let t : excess l (n + 1) ≡ pos 0 = ap (excess l) (sym e) ∙ balanced_total l b in let d = depth_is_excess l b p.0 k in
     before_is l n (negsuc 0) p.0 (before_from_closes l p.0 n q)
     ∙ sym (last_node l b _ _ (λ w. Decides-eqb (depth (forest_of l) w) 0) (Some p.0) (k, omega (arith, ints), λ w x k g. let u = q.above w x (omega arith) in let d = depth_is_excess l b w k in omega (arith, ints)))
 
 before_end : (l : List Bool) (b : IsBalanced l) (n t : ℕ) → length l ≡ n + 1 → (w : ℕ) → HasPair l w → (depth (forest_of l) w ≡ t) ↔ ((w < n) × (excess l w +ℤ pos 1 ≡ excess l n +ℤ pos t))
 before_end l b n t e w k =
     let all : excess l (n + 1) ≡ pos 0 = ap (excess l) (sym e) ∙ balanced_total l b in
-    let r = excess_after_close l n false (omega arith) (closes_last l b n e) in
-    let d = depth_is_excess l b w k in let a = k.closes.after in let i = k.closes.inside in
-    (λ g. (omega arith, omega (arith, ints)), λ g. let g1 = g.1 in omega (arith, ints))
+    let r = excess_after_close l n false (omega arith) (closes_last l b n e) in let d = depth_is_excess l b w k in
+    (λ g. (omega arith, omega (arith, ints)), λ g. omega (arith, ints))
 
-pub no_level_rightmost : (l : List Bool) (b : IsBalanced l) (n t : ℕ) → length l ≡ n + 1 → 0 < t → last_rise_before l n (pos t) ≡ None → last_of (level (forest_of l) t) ≡ None
+pub level_rightmost_is_search : (l : List Bool) (b : IsBalanced l) (n t : ℕ) (o : Option ℕ) → length l ≡ n + 1 → 0 < t → last_rise_before l n (pos t) ≡ o → opens_for l o ≡ last_of (level (forest_of l) t)
 unfolding level
-no_level_rightmost l b n t e some missing = last_node l b _ _ (λ w. Decides-eqb (depth (forest_of l) w) t) None (none_before_it l b n (pos t) (omega (arith, ints)) _ (before_end l b n t e) (omega arith) missing)
-
-pub level_rightmost_is_search : (l : List Bool) (b : IsBalanced l) (n t j : ℕ) → length l ≡ n + 1 → 0 < t → last_rise_before l n (pos t) ≡ Some j → last_rise_before l j (negsuc 0) ≡ last_of (level (forest_of l) t)
-unfolding level
-level_rightmost_is_search l b n t j e some found = sym (last_node l b _ _ (λ w. Decides-eqb (depth (forest_of l) w) t) _ (opened_before l b n (pos t) (omega (arith, ints)) _ (before_end l b n t e) j found))
+level_rightmost_is_search l b n t o e some found = sym (last_node l b _ _ (λ w. Decides-eqb (depth (forest_of l) w) t) _ (opened_before l b n (pos t) (omega (arith, ints)) _ (before_end l b n t e) (omega arith) o found))

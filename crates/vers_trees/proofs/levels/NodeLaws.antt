@@ -18,22 +18,19 @@ range_ascends a (suc n) = (omega arith, range_ascends (a + 1) n)
 
 pub filter_ascends : (p : ℕ → Bool) (n : ℕ) (xs : List ℕ) → AscendsFrom n xs → AscendsFrom n (filter p xs)
 filter_ascends p n [] a = tt
-filter_ascends p n (x ∷ xs) a =
-    let r = filter_ascends p (x + 1) xs a.1 in
-    cond_both (p x) (x ∷ filter p xs) (filter p xs) (AscendsFrom n) (λ e. (a.0, r)) (λ e. ascends_lower n (x + 1) (filter p xs) (omega arith) r)
+filter_ascends p n (x ∷ xs) a = grind (arith, ascends_lower, filter_ascends p (x + 1) xs a.1)
 
 -- they rise by one at least from each to the next
 member_from : (n i : ℕ) (xs : List ℕ) → AscendsFrom n xs → i < length xs → n + i ≤ get_or xs i 0
 member_from n i [] a h = absurd (omega arith)
-member_from n zero (x ∷ xs) a h = let a0 = a.0 in omega arith
-member_from n (suc i) (x ∷ xs) a h = let r = member_from (x + 1) i xs a.1 (omega arith) in let a0 = a.0 in omega arith
+member_from n zero (x ∷ xs) a h = omega arith
+member_from n (suc i) (x ∷ xs) a h = omega (arith, member_from (x + 1) i xs a.1 (omega arith))
 
 in_order : (n i j : ℕ) (xs : List ℕ) → AscendsFrom n xs → i ≤ j → j < length xs → get_or xs i 0 + j ≤ get_or xs j 0 + i
 in_order n i j [] a h k = absurd (omega arith)
 in_order n zero zero (x ∷ xs) a h k = omega arith
-in_order n (suc i) zero (x ∷ xs) a h k = absurd (omega arith)
-in_order n zero (suc j) (x ∷ xs) a h k = let r = member_from (x + 1) j xs a.1 (omega arith) in omega arith
-in_order n (suc i) (suc j) (x ∷ xs) a h k = let r = in_order (x + 1) i j xs a.1 (omega arith) (omega arith) in omega arith
+in_order n zero (suc j) (x ∷ xs) a h k = omega (arith, member_from (x + 1) j xs a.1 (omega arith))
+in_order n (suc i) j (x ∷ xs) a h k = grind (arith, in_order (x + 1) i (j - 1) xs a.1)
 
 pub next_member : (n i v : ℕ) (xs : List ℕ) → AscendsFrom n xs → slice_get xs i ≡ Some v → find (λ w. ltb v w) xs ≡ slice_get xs (suc i)
 next_member n i v xs a e =

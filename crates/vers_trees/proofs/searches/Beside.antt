@@ -1,6 +1,6 @@
 -- The places right beside one, which a search finds by their bits alone.
 use Rattle.vers_trees.proofs.Words.{◌≡◌, ◌↔◌, ℕ, ◌+◌, ◌-◌, ◌<◌, ◌≤◌, Bool, true, false, List, length, get_or, not, nat_eq, ℤ, FitsSigned, to_z, of_z, Some, arith, ap, neg_ℤ, pos, negsuc, ◌-ℤ◌, refl, w64, IsTrue, ints, to_z-of_z, eq-eqb, eqb-true, excess, first_rise_after, last_rise_before, bit_step, enclosing, count, count_both}
-use Rattle.vers_trees.proofs.searches.Searches.{after_some, after_is, before_some, before_is}
+pub use Rattle.vers_trees.proofs.searches.Searches.{after_some, after_is, before_some, before_is, before_past}
 use Rattle.vers_trees.proofs.searches.Scans.{step_fits, bit_is, fits_small}
 
 -- two numbers that are the same are so as the machine has them
@@ -17,8 +17,7 @@ nothing_after l i r h = ((λ t. absurd (cc)), (λ found. let a = (after_some l i
 
 -- ---- right before
 turned_step : (b : Bool) → bit_step (not b) ≡ pos 0 -ℤ bit_step b
-turned_step true = refl
-turned_step false = refl
+turned_step b = grind arith
 
 pub right_before : (l : List Bool) (i : ℕ) (r d : ℤ) (b : Bool) → FitsSigned w64 r → 0 < i → i < length l → b ≡ get_or l (i - 1) false → d ≡ bit_step (not b) → IsTrue (nat_eq (of_z w64 d) (of_z w64 r)) ↔ (last_rise_before l i r ≡ Some (i - 1))
 right_before l i r d b f some h e q =
@@ -35,7 +34,7 @@ enclosing_close l i e = rw e refl
 
 -- the ones among the first i bits, and the rest of them as zeros
 pub few_ones : (l : List Bool) (i n : ℕ) → n ≡ count true l i → n ≤ i
-few_ones l i n e = let b = count_both l i in omega arith
+few_ones l i n e = omega (arith, count_both l i)
 
 -- a number below 2 ^ 63 is the same with a sign
 pub small_number : (n : ℕ) → n < 9223372036854775808 → FitsSigned w64 (pos n)

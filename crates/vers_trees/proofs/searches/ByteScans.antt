@@ -1,5 +1,5 @@
 -- Whole bytes of a scan, by the entries of their tables.
-use Rattle.vers_trees.proofs.Words.{◌≡◌, ◌≢◌, ℕ, ◌+◌, ◌-◌, ◌*◌, ◌/◌, ◌%◌, ◌^◌, ◌<◌, ◌≤◌, Bool, true, false, List, length, take, drop, ℤ, pos, negsuc, ◌+ℤ◌, ◌-ℤ◌, ◌≤ℤ◌, arith, sym, ap, refl, Option, Some, FitsSigned, to_z, of_z, ◌∙◌, w64, count_ones, is_some, ints, nat_tests, mod-pow-add, take-append-drop, length-take-le, length-drop, drop-take, drop-drop, take_all, mod-eq_of_lt, number, part, count, limb, number_below, number-drop, count_limb, count_both, count_none, number-take, part_number_or_zero, excess, sum_past, IsByte, IsEntry, sum_along, place_along, place_in, least_in, greatest_in, IsRise, HasNoRise}
+use Rattle.vers_trees.proofs.Words.{◌≡◌, ◌≢◌, ℕ, ◌+◌, ◌-◌, ◌*◌, ◌/◌, ◌%◌, ◌^◌, ◌<◌, ◌≤◌, Bool, true, false, List, length, take, drop, ℤ, pos, ◌+ℤ◌, ◌-ℤ◌, ◌≤ℤ◌, arith, sym, ap, Option, Some, FitsSigned, to_z, of_z, ◌∙◌, w64, count_ones, is_some, ints, nat_tests, mod-pow-add, take-append-drop, length-take-le, length-drop, drop-take, drop-drop, take_all, mod-eq_of_lt, number, part, limb, number_below, number-drop, count_limb, count_both, count_none, number-take, part_number_or_zero, excess, sum_past, IsByte, IsEntry, sum_along, place_along, place_in, least_in, greatest_in, IsRise, HasNoRise}
 use Rattle.vers_trees.proofs.searches.Scans.{found, forward_more, backward_more}
 use Rattle.vers_trees.proofs.grammar.Excess.{excess-append_left, excess-append_right}
 
@@ -8,34 +8,23 @@ pub length-part : (l : List Bool) (p n : ℕ) → p + n ≤ length l → length 
 length-part l p n h = length-take-le n (drop p l) (let e = length-drop p l in omega arith)
 
 excess-drop : (l : List Bool) (p j : ℕ) → p ≤ length l → excess l (p + j) ≡ excess l p +ℤ excess (drop p l) j
-excess-drop l p j h =
-    let e = length-take-le p l h in
-    let w = take-append-drop p l in
-    grind (arith, ints, excess-append_right, excess-append_left)
+excess-drop l p j h = grind (arith, ints, excess-append_right, excess-append_left, take-append-drop p l, length-take-le p l h)
 
 pub excess-part : (l : List Bool) (p n j : ℕ) → p + n ≤ length l → j ≤ n → excess l (p + j) ≡ excess l p +ℤ excess (part l p n) j
 excess-part l p n j h i =
     let m = length-part l p n h in
-    let t = ap (λ (m : List Bool). excess m j) (take-append-drop n (drop p l)) in
-    grind (arith, excess-append_left, excess-drop)
+    grind (arith, ints, excess-append_left, excess-drop, ap (λ (m : List Bool). excess m j) (take-append-drop n (drop p l)))
 
 -- the excess of at most 64 bits, by the ones of their number
 excess-number : (bits : List Bool) (n : ℕ) → n ≤ 64 → length bits ≡ n → excess bits n ≡ pos (2 * count_ones (number bits)) -ℤ pos n
 unfolding excess limb
 excess-number bits n few e =
-    let c = count_limb bits 0 n few in
-    let z = count_none true bits in
-    let b = count_both bits n in
-    let at : count true bits (64 * 0 + n) ≡ count true bits n = ap (count true bits) (omega arith) in
+    let c = count_limb bits 0 n few in let z = count_none true bits in let b = count_both bits n in
     let whole : take 64 bits ≡ bits = take_all 64 bits (omega arith) in
-    let f : limb bits 0 % 2 ^ n ≡ number bits = rw whole (mod-eq_of_lt (number_below bits n (omega arith))) in
-    let o = ap count_ones f in
-    omega (arith, ints)
+    let f : limb bits 0 % 2 ^ n ≡ number bits = rw whole (mod-eq_of_lt (number_below bits n (omega arith))) in grind (arith, ints)
 
 pub total_of : (l : List Bool) (p n word : ℕ) (d : ℤ) → n ≤ 64 → p + n ≤ length l → word ≡ number (part l p n) → d ≡ pos (2 * count_ones word) -ℤ pos n → excess l (p + n) ≡ excess l p +ℤ d
-total_of l p n word d few h e q =
-    let f = excess-part l p n n h (omega arith) in
-    grind (arith, excess-number, length-part)
+total_of l p n word d few h e q = grind (arith, ints, excess-number, length-part, excess-part l p n n h (omega arith))
 
 -- ---- the word at a place, and the byte in a word
 word_is : (l : List Bool) (p n : ℕ) → n ≤ 64 → p + n ≤ length l → part_number_or_zero l p n ≡ Some (number (part l p n))
@@ -60,10 +49,7 @@ byte_of_word l s n m h i =
     front : (k : ℕ) (l : List Bool) → number (take (8 + k) l) % 2 ^ 8 ≡ number (take 8 l)
     front k l =
         let w : number l % 2 ^ (8 + k) ≡ number l % 2 ^ (k + 8) = ap (λ (n : ℕ). number l % 2 ^ n) (omega arith) in
-        let s = mod-pow-add (number l) k 8 in
-        let t = number-take (8 + k) l in
-        let u = number-take 8 l in
-        omega arith
+        let s = mod-pow-add (number l) k 8 in let t = number-take (8 + k) l in let u = number-take 8 l in omega arith
 
 pub byte_read : (l : List Bool) (s n m : ℕ) (o : Option ℕ) (word : ℕ) → o ≡ part_number_or_zero l s n → o ≡ Some word → n ≤ 64 → m + 8 ≤ n → s + n ≤ length l → IsByte (part l (s + m) 8) (word / 2 ^ m % 256)
 byte_read l s n m o word e f few h i = record {
@@ -79,28 +65,21 @@ sum_from true l p = excess l (p + 8)
 along : (from_end : Bool) (l : List Bool) (p n : ℕ) → p + 8 ≤ length l → n < 8 → sum_past from_end l (p + place_along from_end n) ≡ sum_from from_end l p +ℤ sum_along from_end (part l p 8) (n + 1)
 along false l p n a h = ap (excess l) (let g : p + n + 1 ≡ p + (n + 1) = omega arith in g) ∙ excess-part l p 8 (n + 1) a (omega arith)
 along true l p n a h =
-    let f = excess-part l p 8 (8 - (n + 1)) a (omega arith) in
-    let e = excess-part l p 8 8 a (omega arith) in
     let here : excess l (p + (7 - n)) ≡ excess l (p + (8 - (n + 1))) = ap (excess l) (omega arith) in
-    omega (arith, ints)
+    omega (arith, ints, excess-part l p 8 8 a (omega arith), excess-part l p 8 (8 - (n + 1)) a (omega arith))
 
 turned : (from_end : Bool) (n : ℕ) → n < 8 → (place_along from_end n < 8) × (place_along from_end (place_along from_end n) ≡ n)
-turned false n h = (h, refl)
-turned true n h = (omega arith, omega arith)
+turned from_end n h = grind arith
 
 natural : (a : ℕ) (z : ℤ) → pos a ≤ℤ z → (n : ℕ) × (z ≡ pos n)
-natural a (pos n) h = (n, refl)
-natural a (negsuc n) h = absurd (omega arith)
+natural a z h = grind (arith, ints)
 
 -- where none of the sums of an entry is t
 missed : (from_end : Bool) (l : List Bool) (p entry : ℕ) (t : ℤ) → p + 8 ≤ length l → IsEntry from_end (part l p 8) entry → ((x : ℕ) → least_in entry ≤ x → x ≤ greatest_in entry → sum_from from_end l p +ℤ (pos x -ℤ pos 8) ≢ t) → (k : ℕ) → p ≤ k → k < p + 8 → sum_past from_end l k ≢ t
 missed from_end l p entry t a e none k y z q =
-    let n : ℕ = place_along from_end (k - p) in
-    let m = turned from_end (k - p) (omega arith) in
-    let s = along from_end l p n a m.0 in
+    let n : ℕ = place_along from_end (k - p) in let m = turned from_end (k - p) (omega arith) in let s = along from_end l p n a m.0 in
     let here : sum_past from_end l (p + place_along from_end n) ≡ sum_past from_end l k = ap (sum_past from_end l) (omega arith) in
-    let lo = e.low n m.0 in let hi = e.high n m.0 in
-    let x = natural (least_in entry) (sum_along from_end (part l p 8) (n + 1) +ℤ pos 8) lo in
+    let lo = e.low n m.0 in let hi = e.high n m.0 in let x = natural (least_in entry) (sum_along from_end (part l p 8) (n + 1) +ℤ pos 8) lo in
     none x.0 (omega (arith, ints)) (omega (arith, ints)) (omega (arith, ints))
 
 -- where one of them is, at the place that the entry has for it
@@ -108,27 +87,25 @@ met : (from_end : Bool) (l : List Bool) (p entry x : ℕ) (t : ℤ) → p + 8 �
     → (place_in entry x < 8) × (sum_past from_end l (p + place_in entry x) ≡ t) × ((k : ℕ) → p ≤ k → k < p + 8 → place_along from_end (k - p) < place_along from_end (place_in entry x) → sum_past from_end l k ≢ t)
 met from_end l p entry x t a e u v z =
     let m = e.met x u v in
-    let w = turned from_end m.step m.within in
-    let back : place_along from_end (place_in entry x) ≡ m.step = ap (place_along from_end) m.place ∙ w.1 in
+    let back : place_along from_end (place_in entry x) ≡ m.step = ap (place_along from_end) m.place ∙ (turned from_end m.step m.within).1 in
     let s = along from_end l p m.step a m.within in
     let here : sum_past from_end l (p + place_along from_end m.step) ≡ sum_past from_end l (p + place_in entry x) = ap (λ (n : ℕ). sum_past from_end l (p + n)) (sym m.place) in (
       omega arith,
       omega (arith, ints),
       λ k b c i q.
-          let v = turned from_end (k - p) (omega arith) in
-          let f = along from_end l p (place_along from_end (k - p)) a v.0 in
+          let v = turned from_end (k - p) (omega arith) in let f = along from_end l p (place_along from_end (k - p)) a v.0 in
           let at : sum_past from_end l (p + place_along from_end (place_along from_end (k - p))) ≡ sum_past from_end l k = ap (sum_past from_end l) (omega arith) in
           m.first (place_along from_end (k - p)) (omega arith) (omega (arith, ints)),
     )
 
 pub entry_ordered : (from_end : Bool) (bits : List Bool) (entry : ℕ) → IsEntry from_end bits entry → least_in entry ≤ greatest_in entry
-entry_ordered from_end bits entry e = let a = e.low 0 (omega arith) in let b = e.high 0 (omega arith) in omega (arith, ints)
+entry_ordered from_end bits entry e = omega (arith, ints, e.high 0 (omega arith), e.low 0 (omega arith))
 
 -- ---- forwards
 pub forward_byte_found : (l : List Bool) (from p end : ℕ) (r rise : ℤ) (entry x : ℕ) → HasNoRise false l from p r rise → from ≤ p → p + 8 ≤ end → end ≤ length l → IsEntry false (part l p 8) entry → least_in entry ≤ x → x ≤ greatest_in entry → rise +ℤ (pos x -ℤ pos 8) ≡ r → IsRise false l from end r (p + place_in entry x)
 forward_byte_found l from p end r rise entry x h o a b e u v z =
     let m = met false l p entry x (excess l from +ℤ r) (omega arith) e u v (omega (arith, ints)) in
-    found false l from p (p + place_in entry x) end r rise (pos x -ℤ pos 8) h (omega arith, omega arith) (λ k y. let w = y.1 in m.2 k y.0 (omega arith) (omega arith)) (omega (arith, ints)) z
+    found false l from p (p + place_in entry x) end r rise (pos x -ℤ pos 8) h (omega arith, omega arith) (λ k y. m.2 k y.0 (omega arith) (omega arith)) (omega (arith, ints)) z
 
 pub forward_byte : (l : List Bool) (from p q : ℕ) (r rise d : ℤ) (entry byte : ℕ) → HasNoRise false l from p r rise → length l < 2 ^ 63 → from ≤ p → q ≡ p + 8 → q ≤ length l → IsByte (part l p 8) byte → ((bits : List Bool) → IsByte bits byte → IsEntry false bits entry)
     → ((x : ℕ) → least_in entry ≤ x → x ≤ greatest_in entry → rise +ℤ (pos x -ℤ pos 8) ≢ r) → d ≡ pos (2 * count_ones byte) -ℤ pos 8 → FitsSigned w64 (rise +ℤ to_z w64 (of_z w64 d)) × HasNoRise false l from q r (to_z w64 (of_z w64 (rise +ℤ to_z w64 (of_z w64 d))))
@@ -139,7 +116,7 @@ forward_byte l from p q r rise d entry byte h short o n a is e none k =
 pub backward_byte_found : (l : List Bool) (from p q end : ℕ) (r rise : ℤ) (entry x : ℕ) → HasNoRise true l end q r rise → q ≡ p + 8 → from ≤ p → q ≤ end → end ≤ length l → IsEntry true (part l p 8) entry → least_in entry ≤ x → x ≤ greatest_in entry → rise +ℤ (pos x -ℤ pos 8) ≡ r → IsRise true l end from r (p + place_in entry x)
 backward_byte_found l from p q end r rise entry x h n o a b e u v z =
     let k = rw n at h in let m = met true l p entry x (excess l end +ℤ r) (omega arith) e u v (omega (arith, ints)) in
-    found true l end (p + 8) (p + place_in entry x) from r rise (pos x -ℤ pos 8) k (omega arith, omega arith) (λ k y. let w = y.0 in let u = y.1 in m.2 k (omega arith) u (omega arith)) (omega (arith, ints)) z
+    found true l end (p + 8) (p + place_in entry x) from r rise (pos x -ℤ pos 8) k (omega arith, omega arith) (λ k y. let u = y.1 in m.2 k (omega arith) u (omega arith)) (omega (arith, ints)) z
 
 pub backward_byte : (l : List Bool) (p q end : ℕ) (r rise d : ℤ) (entry byte : ℕ) → HasNoRise true l end q r rise → length l < 2 ^ 63 → q ≡ p + 8 → q ≤ end → end ≤ length l → IsByte (part l p 8) byte → ((bits : List Bool) → IsByte bits byte → IsEntry true bits entry)
     → ((x : ℕ) → least_in entry ≤ x → x ≤ greatest_in entry → rise +ℤ (pos x -ℤ pos 8) ≢ r) → d ≡ pos (2 * count_ones byte) -ℤ pos 8 → FitsSigned w64 (rise -ℤ to_z w64 (of_z w64 d)) × HasNoRise true l end p r (to_z w64 (of_z w64 (rise -ℤ to_z w64 (of_z w64 d))))

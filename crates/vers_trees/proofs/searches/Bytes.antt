@@ -8,15 +8,14 @@ AreOctal ds = (x : ℕ) → get_or ds x 7 < 8
 
 octal-lt : (ds : List ℕ) → AreOctal ds → octal ds < 8 ^ length ds
 octal-lt [] h = omega arith
-octal-lt (d ∷ ds) h = let z = h 0 in let ih = octal-lt ds (λ x. h (suc x)) in let p = pow-suc 8 (length ds) in omega arith
+octal-lt (d ∷ ds) h = omega (arith, pow-suc 8 (length ds), octal-lt ds (λ x. h (suc x)), h 0)
 
 -- of 17 digits the number is below 2 ^ 51, whatever number of the lowest is left out
 pub octal_small : (ds : List ℕ) (i : ℕ) → length ds ≡ 17 → AreOctal ds → octal (drop i ds) < 2 ^ 51
 octal_small ds i e h =
-    let a = octal-lt (drop i ds) (λ x. rw (get_or-drop i ds x 7) (h (i + x))) in
     let l = length-drop i ds in
     let m : 8 ^ length (drop i ds) ≤ 8 ^ 17 = pow-le-pow_right {n = 8} (let z : 0 < 8 = omega arith in z) {i = length (drop i ds)} {j = 17} (omega arith) in
-    omega arith
+    grind (arith, ints, octal-lt, get_or-drop)
 
 -- the digit before
 pub octal_more : (ds : List ℕ) (x number d : ℕ) → 0 < x → x ≤ length ds → number ≡ octal (drop x ds) → 8 * number + get_or ds (x - 1) d ≡ octal (drop (x - 1) ds)
@@ -25,13 +24,8 @@ octal_more ds x number d some h e = grind (arith, drop-cons)
 -- digit x
 pub octal-digit : (ds : List ℕ) (x : ℕ) → AreOctal ds → x < length ds → octal ds / 2 ^ (3 * x) % 8 ≡ get_or ds x 7
 octal-digit [] x h i = absurd (omega arith)
-octal-digit (d ∷ ds) zero h i = let z = h 0 in omega arith
-octal-digit (d ∷ ds) (suc x) h i =
-    let z = h 0 in
-    let ih = octal-digit ds x (λ y. h (suc y)) (omega arith) in
-    let e : 3 * suc x ≡ 3 + 3 * x = omega arith in
-    let s = shr-shr (octal (d ∷ ds)) 3 (3 * x) in
-    grind arith
+octal-digit (d ∷ ds) zero h i = omega (arith, h 0)
+octal-digit (d ∷ ds) (suc x) h i = grind (arith, ints, shr-shr (octal (d ∷ ds)) 3 (3 * x), octal-digit ds x (λ y. h (suc y)) (omega arith), h 0)
 
 -- ---- how the entry of a byte is met, step by step along its bits
 -- before the first step
@@ -43,12 +37,11 @@ step_by : (from_end b : Bool) → step_along from_end b ≡ cond from_end (pos 0
 step_by from_end b = grind arith
 
 next_sum : (from_end : Bool) (bits : List Bool) (n : ℕ) → length bits ≡ 8 → n < 8 → sum_along from_end bits (n + 1) ≡ sum_along from_end bits n +ℤ step_along from_end (get_or bits (place_along from_end n) false)
-next_sum false bits n e h = let s = excess_after_bit bits n false (omega arith) in let t = step_by false (get_or bits n false) in omega (arith, ints)
+next_sum false bits n e h = grind (arith, ints, step_by, excess_after_bit)
 next_sum true bits n e h =
-    let s = excess_after_bit bits (7 - n) false (omega arith) in let t = step_by true (get_or bits (7 - n) false) in
     let a : excess bits (7 - n + 1) ≡ excess bits (8 - n) = ap (excess bits) (omega arith) in
     let b : excess bits (8 - (n + 1)) ≡ excess bits (7 - n) = ap (excess bits) (omega arith) in
-    omega (arith, ints)
+    omega (arith, ints, step_by true (get_or bits (7 - n) false), excess_after_bit bits (7 - n) false (omega arith))
 
 pub up_or_down : (from_end b : Bool) (value next : ℕ) → pos next ≡ pos value +ℤ step_along from_end b → (next ≡ value + 1) ⊎ (next + 1 ≡ value)
 up_or_down from_end b value next u = grind arith
@@ -75,8 +68,7 @@ met_more from_end bits byte n value least greatest next place places least' grea
     let bit : get_or bits (place_along from_end n) false ≡ nat_eq (byte / 2 ^ place % 2) 1 =
     (grind (arith, ints, bit_at-number)) in
     let s = next_sum from_end bits n is.eight h ∙ ap (λ (c : Bool). sum_along from_end bits n +ℤ step_along from_end c) bit in
-    let sum : pos next ≡ sum_along from_end bits (n + 1) +ℤ pos 8 = omega (arith, ints) in
-    let near = up_or_down from_end _ value next u in
+    let sum : pos next ≡ sum_along from_end bits (n + 1) +ℤ pos 8 = omega (arith, ints) in let near = up_or_down from_end _ value next u in
     let last = λ (k : ℕ) (y : k < n + 1) (z : n ≤ k). ap (sum_along from_end bits) (let g : k + 1 ≡ n + 1 = omega arith in g) in
     record {
       sum = sum;
@@ -90,7 +82,7 @@ met_more from_end bits byte n value least greatest next place places least' grea
           rw q.1 (record { step = f.step; within = omega arith; sum = f.sum; first = f.first; place = f.place }))
           (noted_at least greatest next place places least' greatest' places' w inside x);
       absent = λ x o. ⊎_elim
-          (λ (q : ((next < least) ⊎ (greatest < next)) × (next ≡ x) × (get_or places' x 7 ≡ place)). let at = q.1 in absurd (omega (arith, o)))
+          (λ (q : ((next < least) ⊎ (greatest < next)) × (next ≡ x) × (get_or places' x 7 ≡ place)). absurd (omega (arith, o)))
           (λ (q : (((least ≤ next) × (next ≤ greatest)) ⊎ (next ≢ x)) × (get_or places' x 7 ≡ get_or places x 7)). q.1 ∙ m.absent x (⊎_elim (λ (z : x < least'). inl (omega arith)) (λ (z : greatest' < x). inr (omega arith)) o))
           (noted_at least greatest next place places least' greatest' places' w inside x);
     }
@@ -98,8 +90,8 @@ met_more from_end bits byte n value least greatest next place places least' grea
 -- the places stay digits
 pub few_more : (least greatest next p : ℕ) (places : List ℕ) (least' greatest' : ℕ) (places' : List ℕ) → IsNoted least greatest next p places least' greatest' places' → next < length places → p < 8 → ((x : ℕ) → get_or places x 7 < 8) → (x : ℕ) → get_or places' x 7 < 8
 few_more least greatest next p places least' greatest' places' w inside small old x = ⊎_elim
-    (λ (q : ((next < least) ⊎ (greatest < next)) × (next ≡ x) × (get_or places' x 7 ≡ p)). let e = q.2 in omega arith)
-    (λ (q : (((least ≤ next) × (next ≤ greatest)) ⊎ (next ≢ x)) × (get_or places' x 7 ≡ get_or places x 7)). let e = q.1 in omega arith)
+    (λ (q : ((next < least) ⊎ (greatest < next)) × (next ≡ x) × (get_or places' x 7 ≡ p)). omega arith)
+    (λ (q : (((least ≤ next) × (next ≤ greatest)) ⊎ (next ≢ x)) × (get_or places' x 7 ≡ get_or places x 7)). omega arith)
     (noted_at least greatest next p places least' greatest' places' w inside x)
 
 -- no place met

@@ -1,7 +1,7 @@
 -- A search: the scan of the block that it begins in, what the tree answers, and the scan of that block.
 use Rattle.vers_trees.proofs.Words.{◌≡◌, ℕ, ◌+◌, ◌-◌, ◌*◌, ◌/◌, ◌<◌, ◌≤◌, Bool, true, false, List, length, ℤ, ◌-ℤ◌, FitsSigned, to_z, of_z, Option, None, Some, Result, Ok, Err, MatchResult, arith, ⊎_elim, refl, sym, ap, ◌∙◌, w64, result_ok, ints, to_z-of_z, Node, first_rise_after, last_rise_before, edge, IsBetween, up_to, IsRise, HasNoRise, start_of, Sought, sought, IsAfter, Passed, HasNone, IsAhead, BeginsAt, IsPassed, Reads, AddsAtMost, only_nodes, digits, past_reads, block_reads, levels, adds_then, adds_weaker}
-use Rattle.vers_trees.proofs.searches.Searches.{after_is, none_after, before_is, none_before}
-use Rattle.vers_trees.proofs.searches.Scans.{rise_fits, split}
+pub use Rattle.vers_trees.proofs.searches.Searches.{after_is, none_after, before_is, none_before, before_past}
+pub use Rattle.vers_trees.proofs.searches.Scans.{rise_fits, split, rise_is}
 use Rattle.vers_trees.proofs.layout.Blocks.{left_fits, too_far}
 
 -- a number as the machine has it
@@ -23,7 +23,7 @@ pub record IsAnswer (back : Bool) (s : Sought) (o : Option ℕ) : Type 0 where
 pub answer_after : (l : List Bool) (size i : ℕ) (r : ℤ) → IsAnswer false (sought l size (i + 1) r) (first_rise_after l i r)
 answer_after l size i r = record {
   none = λ n. sym (none_after l i r (λ k a b. n k (omega arith) b));
-  some = λ place q. let a = q.between.0 in sym (after_is l i r place (record { after = omega arith; inside = q.between.1; sum = q.sum; first = λ k x y. q.first k (omega arith, y) }));
+  some = λ place q. sym (after_is l i r place (record { after = omega arith; inside = q.between.1; sum = q.sum; first = λ k x y. q.first k (omega arith, y) }));
 }
 
 pub answer_before : (l : List Bool) (size i : ℕ) (r : ℤ) → i < length l → IsAnswer true (sought l size i r) (last_rise_before l i r)
@@ -37,20 +37,17 @@ answer_here back s o a end place q b = a.some place (record { between = b; sum =
 
 -- ---- where a search comes to past its block, and where the places of a block lie on its way
 comes_past : (back : Bool) (s : Sought) (block : ℕ) → 0 < s.size → 0 < s.from → s.from ≤ length s.bits → block ≡ (s.from - 1) / s.size → IsAfter back s.from (start_of s.bits s.size (edge back (block + 1) block))
-comes_past false s block so a b e = rw e (omega arith)
-comes_past true s block so a b e = rw e (omega arith)
+comes_past back s block so a b e = grind arith
 
 in_block : (back : Bool) (s : Sought) (j k : ℕ) → start_of s.bits s.size j ≤ k → k < start_of s.bits s.size (j + 1) → IsBetween back (start_of s.bits s.size (edge back j (j + 1))) (start_of s.bits s.size (edge back (j + 1) j)) k
-in_block false s j k a b = (a, b)
-in_block true s j k a b = (a, b)
+in_block back s j k a b = grind arith
 
 in_list : (back : Bool) (s : Sought) (j k : ℕ) → s.from ≤ length s.bits → IsAfter back s.from (start_of s.bits s.size (edge back j (j + 1))) → IsBetween back (start_of s.bits s.size (edge back j (j + 1))) (start_of s.bits s.size (edge back (j + 1) j)) k → IsBetween back s.from (edge back (length s.bits) 0) k
-in_list false s j k i a b = let b0 = b.0 in let b1 = b.1 in (omega arith, omega arith)
-in_list true s j k i a b = let b0 = b.0 in let b1 = b.1 in (omega arith, omega arith)
+in_list back s j k i a b = grind arith
 
 -- the block that a search backwards goes on in ends before the place that it begins at
 pub ends_before : (s : Sought) (j : ℕ) (rest : ℤ) → IsAhead true s j (j + 1) rest → j * s.size + s.size < s.from
-ends_before s j rest a = let h = a.passed.after in let i = a.passed.inside in omega arith
+ends_before s j rest a = omega arith
 
 -- ---- in a list with its tree, where the block that the search begins in has no place with its sum
 module _ (back : Bool) (s : Sought) (first : ℕ) (nodes : List Node) (block : ℕ) (rise : ℤ) (p : IsPassed back s first nodes block rise) (o : Option ℕ) (a : IsAnswer back s o) (f : FitsSigned w64 s.rise) where
@@ -58,7 +55,7 @@ module _ (back : Bool) (s : Sought) (first : ℕ) (nodes : List Node) (block : �
   fits = rise_fits s.bits s.from (start_of s.bits s.size (edge back (block + 1) block)) rise p.indexed.short p.inside (omega arith) p.passed.risen
 
   passed : (left : ℤ) → left ≡ s.rise -ℤ rise → Passed back s (start_of s.bits s.size (edge back (block + 1) block)) left
-  passed left e = let t = p.passed.risen in record { inside = p.inside; after = comes_past back s block p.indexed.some p.some p.inside p.begins; remains = omega (arith, ints); none = p.passed.none }
+  passed left e = record { inside = p.inside; after = comes_past back s block p.indexed.some p.some p.inside p.begins; remains = omega (arith, ints); none = p.passed.none }
 
   pub none_far : (FitsSigned w64 (stored s.rise -ℤ stored rise) → ⊥) → None ≡ o
   none_far long =
@@ -68,7 +65,7 @@ module _ (back : Bool) (s : Sought) (first : ℕ) (nodes : List Node) (block : �
   -- the tree is asked for what is left
   module _ (left : ℤ) (d : Difference s.rise rise left) where
     pub begins : BeginsAt back s first nodes block (stored left)
-    begins = record { tree = (p.indexed.over (let i = p.inside in omega arith)).tree; some = (let so = p.indexed.some in rw p.begins (omega arith)); passed = passed (stored left) (left_is s.rise rise left f fits d) }
+    begins = record { tree = (p.indexed.over (omega arith)).tree; some = (rw p.begins (omega arith)); passed = passed (stored left) (left_is s.rise rise left f fits d) }
 
     pub none_next : ((q : Sought) → BeginsAt back q first nodes block (stored left) → HasNone back q) → None ≡ o
     none_next none = a.none (none s begins)
@@ -79,30 +76,30 @@ module _ (back : Bool) (s : Sought) (first : ℕ) (nodes : List Node) (block : �
       ahead = next s begins
 
       pub next_inside : j * s.size < length s.bits
-      next_inside = let k1 = ahead.place.1 in let k2 = ahead.place.2 in omega arith
+      next_inside = omega (arith, ahead.place.2, ahead.place.1)
 
       whole : stored rest ≡ rest
-      whole = let k = ahead.place in let k2 = k.2 in to_z-of_z w64 rest (left_fits back s (start_of s.bits s.size (edge back j (j + 1))) rest k.0 p.indexed.short (omega arith) ahead.passed.remains (omega arith) k.3)
+      whole = let k = ahead.place in to_z-of_z w64 rest (left_fits back s (start_of s.bits s.size (edge back j (j + 1))) rest k.0 p.indexed.short (omega arith) ahead.passed.remains (omega arith) k.3)
 
       pub next_answer : (x y : ℕ) (r : Result ℕ ℤ) → x ≡ start_of s.bits s.size (edge back j (j + 1)) → y ≡ start_of s.bits s.size (edge back (j + 1) j) → MatchResult r (λ place. IsRise back s.bits x y (stored rest) place) (λ past. HasNoRise back s.bits x y (stored rest) past) → result_ok r ≡ o
       next_answer x y (Ok place) e g q =
-          let t = rw (e, g) at q in let su = t.sum in let re = ahead.passed.remains in let wh = whole in
+          let t = rw (e, g) at q in let re = ahead.passed.remains in let wh = whole in
           a.some place (record {
             between = in_list back s j place p.inside ahead.passed.after t.between;
             sum = omega (arith, ints);
             first = λ k b z. ⊎_elim (λ w. ahead.passed.none k w z) (λ w. t.first k w (omega (arith, ints))) (split back s.from (start_of s.bits s.size (edge back j (j + 1))) (up_to back place) k b);
           })
       next_answer x y (Err past) e g q =
-          let t = rw (e, g) at q in let re = ahead.passed.remains in let wh = whole in let k = ahead.place in let k3 = k.3 in
-          absurd (t.none k.0 (in_block back s j k.0 k.1 k.2) (omega (arith, ints)))
+          let re = ahead.passed.remains in let wh = whole in let k = ahead.place in
+          absurd ((rw (e, g) at q).none k.0 (in_block back s j k.0 k.1 k.2) (omega (arith, ints)))
 
 -- what it reads then: the tree's nodes, and the bits of a block
 module _ (back : Bool) (s : Sought) (first : ℕ) (nodes : List Node) (block : ℕ) (rise : ℤ) (p : IsPassed back s first nodes block rise) (a b : Reads) (h : AddsAtMost a b (only_nodes (2 * digits first))) where
   few : digits first ≤ levels s.size (length s.bits)
-  few = (p.indexed.over (let i = p.inside in let f = p.some in omega arith)).few
+  few = (p.indexed.over (omega arith)).few
 
   pub climbed : AddsAtMost a b (past_reads s.size (length s.bits))
-  climbed = adds_weaker h (let f = few in grind arith)
+  climbed = adds_weaker h (grind arith)
 
   pub climbed_and_scanned : (c : Reads) (n : ℕ) → n ≤ s.size → AddsAtMost b c (block_reads n) → AddsAtMost a c (past_reads s.size (length s.bits))
-  climbed_and_scanned c n e q = adds_then h q (let f = few in grind arith)
+  climbed_and_scanned c n e q = adds_then h q (grind arith)

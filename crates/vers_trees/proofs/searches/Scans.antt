@@ -1,5 +1,5 @@
 -- Scans over the bits of a part, by stretches: a bit, a byte or a word at a time.
-use Rattle.vers_trees.proofs.Words.{◌≡◌, ◌≢◌, ℕ, ◌+◌, ◌-◌, ◌^◌, ◌<◌, ◌≤◌, ◌⊎◌, inl, inr, Bool, true, false, List, length, get_or, ℤ, pos, negsuc, ◌+ℤ◌, ◌-ℤ◌, ◌≤ℤ◌, FitsSigned, to_z, of_z, arith, ⊎_elim, refl, sym, ap, ◌∙◌, w64, ints, clamps, by_lt_z, to_z-of_z, cases_lt, Reads, AddsAtMost, adds_then, get_reads, Node, combined, excess, bit_step, count, count_near, count_up, IsPart, sum_past, IsBetween, up_to, IsRise, HasNoRise, scan_reads}
+use Rattle.vers_trees.proofs.Words.{◌≡◌, ◌≢◌, ℕ, ◌+◌, ◌-◌, ◌^◌, ◌<◌, ◌≤◌, ◌⊎◌, Bool, true, false, List, length, get_or, ℤ, pos, negsuc, ◌+ℤ◌, ◌-ℤ◌, ◌≤ℤ◌, FitsSigned, to_z, of_z, arith, ⊎_elim, refl, sym, ap, ◌∙◌, w64, ints, clamps, by_lt_z, to_z-of_z, cases_lt, Reads, AddsAtMost, adds_then, get_reads, Node, combined, excess, bit_step, count, count_near, count_up, IsPart, sum_past, IsBetween, up_to, IsRise, HasNoRise, scan_reads}
 use Rattle.vers_trees.proofs.grammar.Excess.{excess_after_bit}
 
 -- the excess changes by at most as much as there are places between
@@ -14,8 +14,7 @@ rise_within l i j n z e a b = ⊎_elim
     near i j h = (count_up true l i j h, count_up false l i j h, count_near true l i j h, count_near false l i j h)
 
 pub fits_small : (z : ℤ) → z ≤ℤ pos (2 ^ 63 - 1) → negsuc (2 ^ 63 - 1) ≤ℤ z → FitsSigned w64 z
-fits_small (pos n) a b = record { sfits = omega (arith, ints) }
-fits_small (negsuc n) a b = record { sfits = omega (arith, ints) }
+fits_small z a b = grind (arith, ints)
 
 -- between two places of a list of fewer than 2^63 bits the excess rises by a number that fits
 pub rise_fits : (l : List Bool) (i j : ℕ) (z : ℤ) → length l < 2 ^ 63 → i ≤ length l → j ≤ length l → excess l j ≡ excess l i +ℤ z → FitsSigned w64 z
@@ -25,8 +24,7 @@ pub rise_is : (l : List Bool) (i j : ℕ) (z : ℤ) → length l < 2 ^ 63 → i 
 rise_is l i j z short a b e = to_z-of_z w64 z (rise_fits l i j z short a b e)
 
 pub step_fits : (b : Bool) (d : ℤ) → d ≡ bit_step b → FitsSigned w64 d
-step_fits true d e = rw e (fits_small (pos 1) (omega (arith, ints)) (omega (arith, ints)))
-step_fits false d e = rw e (fits_small (negsuc 0) (omega (arith, ints)) (omega (arith, ints)))
+step_fits b d e = grind (arith, ints, fits_small)
 
 -- what the machine has of a sum or a difference that was tested
 pub rest_is : (f : ℤ → ℤ) (x b : ℤ) → FitsSigned w64 x → FitsSigned w64 (f (to_z w64 (of_z w64 x))) × (b ≡ f (to_z w64 (of_z w64 x))) → to_z w64 (of_z w64 b) ≡ f x
@@ -38,8 +36,7 @@ Misses back l p q t = (k : ℕ) → IsBetween back p q k → sum_past back l k �
 
 -- what it passes on to q it passes on to p, or from there
 pub split : (back : Bool) (from p q k : ℕ) → IsBetween back from q k → IsBetween back from p k ⊎ IsBetween back p q k
-split false from p q k b = ⊎_elim (λ (w : k < p). inl (b.0, w)) (λ (w : p ≤ k). inr (w, b.1)) (cases_lt k p)
-split true from p q k b = ⊎_elim (λ (w : k < p). inr (b.0, w)) (λ (w : p ≤ k). inl (w, b.1)) (cases_lt k p)
+split back from p q k b = grind arith
 
 pub joined : (back : Bool) (l : List Bool) (from p q : ℕ) (t : ℤ) → Misses back l from p t → Misses back l p q t → Misses back l from q t
 joined back l from p q t m n k b = ⊎_elim (m k) (n k) (split back from p q k b)
@@ -47,11 +44,11 @@ joined back l from p q t m n k b = ⊎_elim (m k) (n k) (split back from p q k b
 -- past a stretch on which the excess rises by x or by d
 pub found : (back : Bool) (l : List Bool) (from p place end : ℕ) (r rise x : ℤ) → HasNoRise back l from p r rise → IsBetween back from end place → Misses back l p (up_to back place) (excess l from +ℤ r) → sum_past back l place ≡ excess l p +ℤ x → rise +ℤ x ≡ r → IsRise back l from end r place
 found back l from p place end r rise x h i m e z =
-    let s = h.risen in record { between = i; sum = omega (arith, ints); first = joined back l from p (up_to back place) _ h.none m }
+    record { between = i; sum = omega (arith, ints); first = joined back l from p (up_to back place) _ h.none m }
 
 more : (back : Bool) (l : List Bool) (from p q : ℕ) (r rise d z : ℤ) → HasNoRise back l from p r rise → length l < 2 ^ 63 → from ≤ length l → q ≤ length l → excess l q ≡ excess l p +ℤ d → z ≡ rise +ℤ d → Misses back l p q (excess l from +ℤ r) → FitsSigned w64 z × HasNoRise back l from q r (to_z w64 (of_z w64 z))
 more back l from p q r rise d z h short i j e n m =
-    let s = h.risen in let sum : excess l q ≡ excess l from +ℤ (rise +ℤ d) = omega (arith, ints) in
+    let sum : excess l q ≡ excess l from +ℤ (rise +ℤ d) = omega (arith, ints) in
     let f = rise_fits l from q (rise +ℤ d) short i j sum in rw n (f, rw (to_z-of_z w64 (rise +ℤ d) f) (record { risen = sum; none = joined back l from p q _ h.none m }))
 
 -- the same with the rise of the list, as the code has it
@@ -71,8 +68,8 @@ pub forward_bit : (l : List Bool) (from p end : ℕ) (r rise d : ℤ) (b : Bool)
 forward_bit l from p end r rise d b h short o i j e q =
     let t = to_z-of_z w64 d (step_fits b d q) in let s = bit_is l p (p + 1) b d refl (omega arith) e q in (
       rw t (rise_fits l from (p + 1) (rise +ℤ d) short (omega arith) (omega arith) (omega (arith, ints))),
-      λ z. found false l from p p end r rise d h (o, i) (λ k x. let x0 = x.0 in let x1 = x.1 in absurd (omega arith)) s (rw t at z),
-      λ ne. (forward_more l from p (p + 1) r rise d h short o (omega arith) (omega arith) s (λ k x z. let x0 = x.0 in let x1 = x.1 in let same : excess l (k + 1) ≡ excess l (p + 1) = ap (excess l) (omega arith) in ne (rw t (omega (arith, ints))))).1,
+      λ z. found false l from p p end r rise d h (o, i) (λ k x. absurd (omega arith)) s (rw t at z),
+      λ ne. (forward_more l from p (p + 1) r rise d h short o (omega arith) (omega arith) s (λ k x z. let same : excess l (k + 1) ≡ excess l (p + 1) = ap (excess l) (omega arith) in ne (rw t (omega (arith, ints))))).1,
     )
 
 pub backward_bit : (l : List Bool) (from p q end : ℕ) (r rise d : ℤ) (b : Bool) → HasNoRise true l end q r rise → length l < 2 ^ 63 → from ≤ p → q ≤ end → end ≤ length l → q ≡ p + 1 → b ≡ get_or l p false → d ≡ bit_step b
@@ -80,8 +77,8 @@ pub backward_bit : (l : List Bool) (from p q end : ℕ) (r rise d : ℤ) (b : Bo
 backward_bit l from p q end r rise d b h short o i j n e g =
     let t = to_z-of_z w64 d (step_fits b d g) in let s = bit_is l p q b d n (omega arith) e g in (
       rw t (rise_fits l end p (rise -ℤ d) short j (omega arith) (omega (arith, ints))),
-      λ z. let y = rw t at z in found true l end q p from r rise (pos 0 -ℤ d) h (o, omega arith) (λ k u. let u0 = u.0 in let u1 = u.1 in absurd (omega arith)) (omega (arith, ints)) (omega (arith, ints)),
-      λ ne. (backward_more l p q end r rise d h short (omega arith) i j s (λ k x z. let x0 = x.0 in let x1 = x.1 in let same : excess l k ≡ excess l p = ap (excess l) (omega arith) in ne (rw t (omega (arith, ints))))).1,
+      λ z. found true l end q p from r rise (pos 0 -ℤ d) h (o, omega arith) (λ k u. absurd (omega arith)) (omega (arith, ints)) (omega (arith, ints)),
+      λ ne. (backward_more l p q end r rise d h short (omega arith) i j s (λ k x z. let same : excess l k ≡ excess l p = ap (excess l) (omega arith) in ne (rw t (omega (arith, ints))))).1,
     )
 
 -- one bit more is read
@@ -95,23 +92,19 @@ part_start l a d s = grind arith
 -- the node over two neighbouring parts
 pub part_joined : (l : List Bool) (a m b : ℕ) (x y : Node) → IsPart l a m x → IsPart l m b y → IsPart l a b (combined x y)
 part_joined l a m b x y p q =
-    let pt = p.total in let p1 = p.least.1 in let p2 = p.least.2 in let q1 = q.least.1 in let q2 = q.least.2 in
     record {
       total = omega (arith, ints);
-      low = λ j u v. ⊎_elim
-          (λ (w : m < j). let h = q.low j w v in omega (arith, ints, clamps))
-          (λ (w : j ≤ m). let h = p.low j u w in omega (arith, ints, clamps))
-          (cases_lt m j);
+      low = λ j u v. grind (arith, ints, clamps);
       high = λ j u v. ⊎_elim
           (λ (w : m < j). let h = q.high j w v in omega (arith, ints, clamps))
           (λ (w : j ≤ m). let h = p.high j u w in omega (arith, ints, clamps))
           (cases_lt m j);
       least = by_lt_z (x.total +ℤ y.least) x.least
-          (λ w. let e = q.least.3 in (q.least.0, omega arith, q2, omega (arith, ints, clamps)))
-          (λ w. let e = p.least.3 in (p.least.0, p1, omega arith, omega (arith, ints, clamps)));
+          (λ w. (q.least.0, omega arith, q.least.2, omega (arith, ints, clamps)))
+          (λ w. (p.least.0, p.least.1, omega arith, omega (arith, ints, clamps)));
       greatest = by_lt_z x.greatest (x.total +ℤ y.greatest)
-          (λ w. let g1 = q.greatest.1 in let e = q.greatest.3 in (q.greatest.0, omega arith, q.greatest.2, omega (arith, ints, clamps)))
-          (λ w. let g2 = p.greatest.2 in let e = p.greatest.3 in (p.greatest.0, p.greatest.1, omega arith, omega (arith, ints, clamps)));
+          (λ w. (q.greatest.0, omega arith, q.greatest.2, omega (arith, ints, clamps)))
+          (λ w. (p.greatest.0, p.greatest.1, omega arith, omega (arith, ints, clamps)));
     }
 
 pub part_more : (l : List Bool) (a p : ℕ) (x : Node) (d : ℤ) → IsPart l a p x → excess l (p + 1) ≡ excess l p +ℤ d → IsPart l a (p + 1) (combined x (record { total = d; least = d; greatest = d }))

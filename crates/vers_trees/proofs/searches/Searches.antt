@@ -15,10 +15,7 @@ pub record IsLast (P : ℕ → Type 0) (n j : ℕ) : Type 0 where
 
 -- two answers to one question are the same
 same_answer : (o p : Option ℕ) (N : Type 0) (Is : ℕ → Type 0) → MatchOption o N Is → MatchOption p N Is → (N → (j : ℕ) → Is j → ⊥) → ((i j : ℕ) → Is i → Is j → i ≡ j) → o ≡ p
-same_answer None None N Is m q n u = refl
-same_answer None (Some j) N Is m q n u = absurd (n m j q)
-same_answer (Some i) None N Is m q n u = absurd (n q i m)
-same_answer (Some i) (Some j) N Is m q n u = ap Some (u i j m q)
+same_answer o p N Is m q n u = grind arith
 
 -- what follows from an answer that is none, and from one that is a place
 pub by_answer : (P : Option ℕ → Type 0) (o : Option ℕ) → (o ≡ None → P None) → ((j : ℕ) → o ≡ Some j → P (Some j)) → P o

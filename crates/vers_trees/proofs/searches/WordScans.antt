@@ -1,18 +1,18 @@
 -- Whole words of a scan: how far a sum falls along one at most, by its zeros that no one stands right before, and by its ones that no zero stands right after.
 use Rattle.vers_trees.proofs.Words.{◌≡◌, ℕ, zero, suc, ◌+◌, ◌-◌, ◌*◌, ◌/◌, ◌%◌, ◌^◌, ◌<◌, ◌≤◌, Bool, true, false, ◌&&◌, List, [], ◌∷◌, length, take, ℤ, pos, negsuc, ◌+ℤ◌, ◌-ℤ◌, ◌≤ℤ◌, ◌<ℤ◌, Option, Some, arith, ap, refl, FitsSigned, to_z, of_z, ◌∙◌, w64, pow-suc, ones-le, part_number_or_zero, bit_or, bit_and, count_ones, IsTrue, lt_z, ints, to_z-of_z, to_z_pos, or_block, and_block, or_lt, number, part, bit_value, number-take, excess, Reads, AddsAtMost, adds_then, get_bits_reads, HasNoRise, falls, is_not_closed, rises, scan_reads, ones_step, ones-ones, bit_value_le}
-use Rattle.vers_trees.proofs.searches.Scans.{fits_small, forward_more, backward_more}
+pub use Rattle.vers_trees.proofs.searches.Scans.{fits_small, forward_more, backward_more, rise_within}
 use Rattle.vers_trees.proofs.grammar.Excess.{excess-zero, excess-nil, excess-cons}
-use Rattle.vers_trees.proofs.searches.ByteScans.{length-part, excess-part, total_of, whole_word}
+pub use Rattle.vers_trees.proofs.searches.ByteScans.{length-part, excess-part, total_of, whole_word, read_some, byte_read, entry_ordered, forward_byte_found, forward_byte, backward_byte_found, backward_byte}
 
 -- ---- the number of a list and its first bit
 number_next : (b : Bool) (l : List Bool) → number (b ∷ l) ≡ number l * 2 ^ 1 + bit_value b
 number_next b l = omega arith
 
 bit_small : (b : Bool) → bit_value b < 2 ^ 1
-bit_small b = let h = bit_value_le b in omega arith
+bit_small b = omega (arith, bit_value_le b)
 
 ones_next : (n : ℕ) (b : Bool) → count_ones (n * 2 ^ 1 + bit_value b) ≡ bit_value b + count_ones n
-ones_next n b = let s = ones_step (n * 2 ^ 1 + bit_value b) in let m = bit_small b in grind arith
+ones_next n b = grind (arith, ints, ones_step)
 
 -- ---- forwards: the zeros that no one stands right before
 abbrev before : Bool → List Bool → List Bool
@@ -32,17 +32,13 @@ or_ones p (b ∷ l) =
     grind (arith, number_next, ones_next, or_ones b l)
 
 pub falls_counted : (l : List Bool) (word : ℕ) → length l ≡ 64 → word ≡ number l → falls false l + count_ones (bit_or word (word * 2 % 18446744073709551616)) ≡ 64
-falls_counted l word h e =
-    let o = or_ones false l in
-    let b = ap number (before_is false 63 l h) in
-    let t = number-take 63 l in
-    grind arith
+falls_counted l word h e = grind (arith, ints, number-take 63 l, ap number (before_is false 63 l h), or_ones false l)
 
 -- no sum along the list falls further
 above : (p : Bool) (l : List Bool) (j : ℕ) → pos 0 ≤ℤ (excess l j +ℤ pos (bit_value p + falls p l))
-above p [] j = let e = excess-nil j in omega (arith, ints)
-above p (b ∷ l) zero = let e = excess-zero (b ∷ l) in omega (arith, ints)
-above p (b ∷ l) (suc j) = let h = above b l j in let e = excess-cons b l j in grind (arith, ints)
+above p [] j = grind (arith, ints, excess-nil)
+above p (b ∷ l) zero = grind (arith, ints, excess-zero)
+above p (b ∷ l) (suc j) = grind (arith, ints, excess-cons, above b l j)
 
 pub covered_few : (word : ℕ) → word < 18446744073709551616 → count_ones (bit_or word (word * 2 % 18446744073709551616)) ≤ 64
 covered_few word h = ones-le 64 (bit_or word (word * 2 % 18446744073709551616)) (or_lt 64 word (word * 2 % 18446744073709551616) h (omega arith))
@@ -62,33 +58,29 @@ number-after b (c ∷ l) = let h = number-after c l in omega (arith, pow-suc 2 (
 and_ones : (l : List Bool) → count_ones (bit_and (number l) (number (after l))) ≡ rises l
 and_ones [] = ones-ones 0
 and_ones (b ∷ l) =
-    let p = is_not_closed l in
-    let a = and_block 1 (number l) (number (after l)) (bit_value b) (bit_value p) (bit_small b) (bit_small p) in
+    let p = is_not_closed l in let a = and_block 1 (number l) (number (after l)) (bit_value b) (bit_value p) (bit_small b) (bit_small p) in
     rw (number_next b l, number_next p (after l)) (ap count_ones (a ∙ ap (λ (n : ℕ). bit_and (number l) (number (after l)) * 2 ^ 1 + n) (and_values b p)) ∙ ones_next _ (b && p) ∙ ap (λ (n : ℕ). bit_value (b && p) + n) (and_ones l))
 
 after_word : (l : List Bool) → length l ≡ 64 → number (after l) ≡ number l / 2 + 9223372036854775808
 after_word [] h = absurd (omega arith)
-after_word (b ∷ l) h = let e = number-after b l in grind (arith, bit_small)
+after_word (b ∷ l) h = grind (arith, ints, bit_small, number-after b l)
 
 pub rises_counted : (l : List Bool) (word : ℕ) → length l ≡ 64 → word ≡ number l → rises l ≡ count_ones (bit_and word (word / 2 + 9223372036854775808))
-rises_counted l word h e = let a = after_word l h in grind (arith, and_ones)
+rises_counted l word h e = grind (arith, ints, and_ones, after_word l h)
 
 pub rises_few : (l : List Bool) → rises l ≤ length l
 rises_few [] = omega arith
-rises_few (b ∷ l) = let h = rises_few l in let s = bit_small (b && is_not_closed l) in omega arith
+rises_few (b ∷ l) = grind (arith, ints, bit_small, rises_few l)
 
 -- no sum from the end of the list falls further
 total_few : (l : List Bool) → (excess l (length l) +ℤ pos (1 - bit_value (is_not_closed l))) ≤ℤ pos (rises l)
-total_few [] = let e = excess-nil 0 in omega (arith, ints)
-total_few (false ∷ l) = let h = total_few l in let e = excess-cons false l (length l) in omega (arith, ints)
-total_few (true ∷ []) = let e = excess-cons true [] 0 in let z = excess-zero [] in omega (arith, ints)
-total_few (true ∷ true ∷ l) = let h = total_few (true ∷ l) in let e = excess-cons true (true ∷ l) (suc (length l)) in omega (arith, ints)
-total_few (true ∷ false ∷ l) = let h = total_few (false ∷ l) in let e = excess-cons true (false ∷ l) (suc (length l)) in omega (arith, ints)
+total_few [] = grind (arith, ints, excess-nil)
+total_few (b ∷ l) = grind (arith, ints, excess-zero, excess-nil, excess-cons, total_few l)
 
 below : (l : List Bool) (j : ℕ) → j ≤ length l → excess l (length l) ≤ℤ (excess l j +ℤ pos (rises l))
-below l zero h = let t = total_few l in let z = excess-zero l in omega (arith, ints)
+below l zero h = omega (arith, ints, excess-zero l, total_few l)
 below [] (suc j) h = absurd (omega arith)
-below (b ∷ l) (suc j) h = let i = below l j (omega arith) in let a = excess-cons b l j in let e = excess-cons b l (length l) in omega (arith, ints)
+below (b ∷ l) (suc j) h = omega (arith, ints, excess-cons b l (length l), excess-cons b l j, below l j (omega arith))
 
 -- ---- as the code has them
 pub count_is : (n : ℕ) → n ≤ 64 → to_z w64 n ≡ pos n
@@ -120,10 +112,8 @@ pub forward_word : (l : List Bool) (from p q n : ℕ) (r rise d : ℤ) (o : Opti
 forward_word l from p q n r rise d o word h short s e a long read some over k =
     let b : p + 64 ≤ length l = omega arith in let is = whole_word l p n o word read some long (omega arith) in let f = over (part l p 64) (length-part l p 64 b) is in
     rw (e, long) (forward_more l from p (p + 64) r rise d h short s (omega arith) b (total_of l p 64 word d (omega arith) b is k) (λ k y w.
-    let y0 = y.0 in let y1 = y.1 in
     let g = excess-part l p 64 (k - p + 1) b (omega arith) in
-    let here : excess l (p + (k - p + 1)) ≡ excess l (k + 1) = ap (excess l) (omega arith) in
-    let u = above false (part l p 64) (k - p + 1) in
+    let here : excess l (p + (k - p + 1)) ≡ excess l (k + 1) = ap (excess l) (omega arith) in let u = above false (part l p 64) (k - p + 1) in
     absurd (omega (arith, ints))))
 
 pub backward_word : (l : List Bool) (p q n end : ℕ) (r rise d : ℤ) (o : Option ℕ) (word : ℕ) → HasNoRise true l end q r rise → length l < 2 ^ 63 → q ≡ p + n → q ≤ end → end ≤ length l → n ≡ 64 → o ≡ part_number_or_zero l p n → o ≡ Some word
@@ -131,11 +121,6 @@ pub backward_word : (l : List Bool) (p q n end : ℕ) (r rise d : ℤ) (o : Opti
 backward_word l p q n end r rise d o word h short e s a long read some over k =
     let t = rw (e, long) at h in let b : p + 64 ≤ length l = omega arith in let is = whole_word l p n o word read some long (omega arith) in let f = over (part l p 64) (length-part l p 64 b) is in
     backward_more l p (p + 64) end r rise d t short (omega arith) (omega arith) a (total_of l p 64 word d (omega arith) b is k) (λ k y w.
-    let y0 = y.0 in let y1 = y.1 in
-    let m = length-part l p 64 b in
-    let same = ap (excess (part l p 64)) m in
-    let g64 = excess-part l p 64 64 b (omega arith) in
-    let g = excess-part l p 64 (k - p) b (omega arith) in
-    let here : excess l (p + (k - p)) ≡ excess l k = ap (excess l) (omega arith) in
-    let u = below (part l p 64) (k - p) (omega arith) in
-    absurd (omega (arith, ints)))
+    let m = length-part l p 64 b in let same = ap (excess (part l p 64)) m in let g64 = excess-part l p 64 64 b (omega arith) in
+    let g = excess-part l p 64 (k - p) b (omega arith) in let here : excess l (p + (k - p)) ≡ excess l k = ap (excess l) (omega arith) in
+    let u = below (part l p 64) (k - p) (omega arith) in absurd (omega (arith, ints)))

@@ -46,9 +46,7 @@ shifted-zero (x ∷ xs) = let e : 0 + x ≡ x = omega arith in rw (e, shifted-ze
 pub places-append : (bit : Bool) (k l : List Bool) → places bit (k ++ l) ≡ places bit k ++ shifted (length k) (places bit l)
 unfolding places
 places-append bit [] l = sym (shifted-zero (places bit l))
-places-append bit (b ∷ k) l =
-    let e : 1 + length k ≡ suc (length k) = omega arith in
-    rw (places-cons bit b (k ++ l), places-append bit k l, places-cons bit b k, ← e) (simp (map-append, shifted-shifted, append_assoc))
+places-append bit (b ∷ k) l = grind (arith, places-cons, map-append, shifted-shifted, append_assoc, places-append bit k l)
 
 -- the places of a tree written down, and of what follows it
 pub places-tree : (bit : Bool) (k l : List Bool) → places bit (true ∷ (k ++ false ∷ l))
@@ -86,8 +84,7 @@ pub closing_is_zeros : (F : Forest) → closing_places (pairs_by_closing F) ≡ 
 unfolding places
 closing_is_zeros none = refl
 closing_is_zeros (tree X Y) =
-    let n : length (text X) + 2 ≡ 1 + length (text X) + 1 = omega arith in
-    let c : length (text X) + 1 ≡ 1 + length (text X) + 0 = omega arith in
+    let n : length (text X) + 2 ≡ 1 + length (text X) + 1 = omega arith in let c : length (text X) + 1 ≡ 1 + length (text X) + 0 = omega arith in
     rw (closing-tree X Y, closing_is_zeros X, closing_is_zeros Y, n, c) (sym (places-tree false (text X) (text Y)))
 
 -- each is a pair of the forest

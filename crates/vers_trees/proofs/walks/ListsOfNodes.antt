@@ -4,7 +4,7 @@ use Rattle.vers_trees.proofs.grammar.Grammar.{text-forest_of}
 use Rattle.vers_trees.proofs.grammar.Paired.{Paired}
 use Rattle.vers_trees.proofs.kin.Partners.{before_from_closes, nested}
 use Rattle.vers_trees.proofs.searches.Searches.{before_is}
-use Rattle.vers_trees.proofs.kin.NodeList.{HasPair, nodes_by, node_pair, zero_pair, closing_is}
+pub use Rattle.vers_trees.proofs.kin.NodeList.{HasPair, nodes_by, node_pair, zero_pair, closing_is}
 use Rattle.vers_trees.proofs.kin.Kin.{Decides-leb, ancestor_decides, below_counted, filter_agree}
 use Rattle.vers_trees.proofs.grammar.Pairs.{one_if, count_by-cons}
 use Rattle.vers_trees.proofs.walks.Lists.{filter_mapped, HasBitAt, all_places, closing_is_zeros, closing_paired, mapped_all, postorder_opens}
@@ -24,9 +24,8 @@ outside v c w o = grind (arith, nat_tests, o)
 count_between : (v c : ℕ) (xs : List ℕ) → v ≤ c + 1 → count_by (between v c) xs + count_by (λ w. ltb w v) xs ≡ count_by (λ w. ltb w (c + 1)) xs
 count_between v c [] h = refl
 count_between v c (x ∷ xs) h =
-    let ih = count_between v c xs h in
-    let a = count_by-cons (between v c) x xs in let b = count_by-cons (λ w. ltb w v) x xs in let d = count_by-cons (λ w. ltb w (c + 1)) x xs in
-    grind arith
+    let b = count_by-cons (λ w. ltb w v) x xs in let d = count_by-cons (λ w. ltb w (c + 1)) x xs in
+    grind (arith, ints, count_by-cons (between v c) x xs, count_between v c xs h)
 
 -- of numbers that ascend they are a part
 past_part : (v c n : ℕ) (xs : List ℕ) → AscendsFrom n xs → c < n → filter (between v c) xs ≡ []
@@ -35,12 +34,11 @@ past_part v c n (x ∷ xs) a h = rw (outside v c x (inr (omega arith))) (past_pa
 
 first_part : (v c n : ℕ) (xs : List ℕ) → AscendsFrom n xs → v ≤ n → filter (between v c) xs ≡ take (length (filter (between v c) xs)) xs
 first_part v c n [] a h = refl
-first_part v c n (x ∷ xs) a h =
-    grind (arith, past_part, between_decides, first_part v c (x + 1) xs a.1 (omega arith))
+first_part v c n (x ∷ xs) a h = grind (arith, past_part, between_decides, first_part v c (x + 1) xs a.1 (omega arith))
 
 none_below : (v n : ℕ) (xs : List ℕ) → AscendsFrom n xs → v ≤ n → count_by (λ w. ltb w v) xs ≡ 0
 none_below v n [] a h = refl
-none_below v n (x ∷ xs) a h = let ih = none_below v (x + 1) xs a.1 (omega arith) in grind (arith, count_by-cons, one_if, le-ltb)
+none_below v n (x ∷ xs) a h = grind (arith, ints, count_by-cons, one_if, le-ltb, none_below v (x + 1) xs a.1 (omega arith))
 
 between_is_part : (v c n : ℕ) (xs : List ℕ) → AscendsFrom n xs → filter (between v c) xs ≡ take (length (filter (between v c) xs)) (drop (count_by (λ w. ltb w v) xs) xs)
 between_is_part v c n [] a = refl
@@ -69,10 +67,8 @@ as_part bit l v =
 pub part_counted : (bit : Bool) (l : List Bool) (v : ℕ) → HasPair l v → length (places_in bit l v) + count bit l v ≡ count bit l (closing (forest_of l) v + 1)
 unfolding places_in
 part_counted bit l v h =
-    let n = length-filter (between v (closing (forest_of l) v)) (places bit l) in let a = h.closes.after in
-    let k = count_between v (closing (forest_of l) v) (places bit l) (omega arith) in
-    let x = below_counted bit l v in let y = below_counted bit l (closing (forest_of l) v + 1) in
-    omega arith
+    let k = count_between v (closing (forest_of l) v) (places bit l) (omega arith) in let x = below_counted bit l v in
+    grind (arith, ints, below_counted, length-filter)
 
 pub part_inside : (bit : Bool) (l : List Bool) (v : ℕ) → HasPair l v → count bit l v + length (places_in bit l v) ≤ length (places bit l)
 part_inside bit l v h = grind (arith, part_counted, below_counted, count_by-le-length)
@@ -88,7 +84,7 @@ unfolding subtree places_in
 subtree_is l b v h = filter_agree (λ w. is_ancestor (forest_of l) v w) (between v (closing (forest_of l) v)) (nodes (forest_of l)) (λ w i. let k = node_pair l b w i in grind (arith, ints, same_from_decides, Decides-like, ancestor_decides, between_decides)) ∙ ap (filter (between v (closing (forest_of l) v))) (nodes_by l b)
 
 pub subtree_size_is : (l : List Bool) (b : IsBalanced l) (v : ℕ) → HasPair l v → 2 * length (subtree (forest_of l) v) + v ≡ closing (forest_of l) v + 1
-subtree_size_is l b v h = let s = ap (λ (xs : List ℕ). length xs) (subtree_is l b v h) in let p = part_size true l v h in omega arith
+subtree_size_is l b v h = grind (arith, ints, part_size, subtree_is)
 
 -- in postorder
 pub postorder_by : (l : List Bool) → IsBalanced l → map (opening_of l) (places false l) ≡ postorder (forest_of l)

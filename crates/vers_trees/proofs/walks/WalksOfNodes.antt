@@ -4,7 +4,7 @@ use Rattle.vers_trees.proofs.searches.Searches.{after_is}
 use Rattle.vers_trees.proofs.kin.Partners.{after_from_closes}
 use Rattle.vers_trees.proofs.kin.NodeList.{HasPair, node_pair, nodes_by, opens, option_decides}
 use Rattle.vers_trees.proofs.levels.NodeLaws.{AscendsFrom, nodes_ascend, filter_ascends, next_member, member_before, first_member_before, last_by_number, member_passes}
-use Rattle.vers_trees.proofs.kin.Kin.{opened_here, closed_before, first_child_is, last_child_is, next_sibling_is, previous_sibling_is}
+pub use Rattle.vers_trees.proofs.kin.Kin.{opened_here, closed_before, first_child_is, last_child_is, next_sibling_is, previous_sibling_is, closes_inside}
 use Rattle.vers_trees.proofs.walks.ListsOfNodes.{postorder_by, places_in, as_part, part_inside, part_size, subtree_is, subtree_size_is, subtree_post_is}
 
 -- a walk that ends meets what `walked` says, if it is given enough steps
@@ -12,8 +12,7 @@ pub walk_is : (step : ℕ → Option (ℕ × ℕ)) (n p : ℕ) (vs : List ℕ) �
 walk_is step zero p [] h g = refl
 walk_is step (suc n) p [] h g = ap (λ (o : Option (ℕ × ℕ)). met o (walked step n)) h
 walk_is step zero p (v ∷ vs) h g = absurd (omega arith)
-walk_is step (suc n) p (v ∷ vs) h g =
-    ap (λ (o : Option (ℕ × ℕ)). met o (walked step n)) h.1 ∙ ap (λ (xs : List ℕ). v ∷ xs) (walk_is step n h.0 vs h.2 (omega arith))
+walk_is step (suc n) p (v ∷ vs) h g = grind (arith, walk_is step n h.0 vs h.2 (omega arith))
 
 -- a walk meets no more than its steps
 pub walk_short : (step : ℕ → Option (ℕ × ℕ)) (n p : ℕ) → length (walked step n p) ≤ n
@@ -80,8 +79,7 @@ meets_backwards l b v h =
     steps_meet (tree_before l) (reverse xs) (λ p i. slice_get (reverse xs) i ≡ closed_before l p)
     (λ p i a e. before_step l p ∙ ap opened (sym a ∙ e))
     (λ p i w a e.
-    let r = length-reverse xs in let n = slice_get_within (reverse xs) i w e in
-    let at = sym (reversed_at xs i (omega arith)) ∙ e in
+    let r = length-reverse xs in let n = slice_get_within (reverse xs) i w e in let at = sym (reversed_at xs i (omega arith)) ∙ e in
     let m = child_member l b v (length xs - 1 - i) w at in (
       w,
       before_step l p ∙ ap opened (sym a ∙ e),
@@ -123,8 +121,7 @@ pub subtree_part : (l : List Bool) (v : ℕ) → IsBalanced l → IsNode (forest
 subtree_part l v b n = grind (arith, subtree_is, node_pair, as_part)
 
 pub subtree_post_part : (l : List Bool) (v : ℕ) → IsBalanced l → IsNode (forest_of l) v → map (opening_of l) (take (length (subtree (forest_of l) v)) (drop (count false l v) (places false l))) ≡ subtree_post (forest_of l) v
-subtree_post_part l v b n =
-    grind (arith, node_pair, places_in, part_size, subtree_size_is, as_part, subtree_post_is)
+subtree_post_part l v b n = grind (arith, node_pair, places_in, part_size, subtree_size_is, as_part, subtree_post_is)
 
 -- ---- handles
 pub ones_are_nodes : (bits : List Bool) (i : ℕ) → IsBalanced bits → i < count true bits (length bits) → IsNode (forest_of bits) (select true bits i)
@@ -149,8 +146,7 @@ zeros_fit l = omega (arith, length-places false l, (count_le false l (length l))
 
 pub closed_item : (l : List Bool) (k n i c : ℕ) → k + n ≤ length (places false l) → i < length (closed_by l k n) → slice_get (places false l) (k + i) ≡ Some c → slice_get (closed_by l k n) i ≡ Some (opening_of l c)
 closed_item l k n i c h low at =
-    let zs = take n (drop k (places false l)) in
-    let few : i < n = omega (arith, low, length-closed_by l k n h) in
+    let zs = take n (drop k (places false l)) in let few : i < n = omega (arith, low, length-closed_by l k n h) in
     let inside : i < length zs = omega (arith, few, length-zeros_from l k n h) in
     let is : get_or zs i 0 ≡ c = get_or-take n (drop k (places false l)) i 0 few ∙ get_or-drop k (places false l) i 0 ∙ get_or_from_slice_get (places false l) (k + i) c 0 at in
     slice_get-get_or (closed_by l k n) i 0 low ∙ ap Some (get_or-map (opening_of l) zs i 0 0 inside ∙ ap (opening_of l) is)

@@ -4,6 +4,3 @@ use Rattle.vers_trees.proofs.trees.bp.BpTree.closed_by.Goals as goal
 pub invariant_of-new : goal.invariant_of-new
 invariant_of-new g c =
     let s = c.searched-searched.ensures in (s.indexed, rw c.new.ensures (record { inside = rw s.bits c.requires; same = refl; reads = refl }))
-
-pub returns : goal.returns
-returns g c = rw (← c.searched-searched.ensures.bits) c.new-2.ensures.value

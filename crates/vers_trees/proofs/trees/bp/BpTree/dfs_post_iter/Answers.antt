@@ -4,9 +4,7 @@ use Rattle.vers_trees.proofs.trees.bp.BpTree.dfs_post_iter.Goals as goal
 
 pub closed_by-requires : goal.closed_by-requires
 closed_by-requires g c =
-    let now = c.args.self.now in
-    let all = c.zeros.ensures.value ∙ ap (λ (l : List Bool). count false l (length l)) c.self.view_is in
-    omega (arith, all, length-places false now)
+    omega (arith, (c.zeros.ensures.value ∙ ap (λ (l : List Bool). count false l (length l)) c.self.view_is), length-places false c.args.self.now)
 
 pub returns : goal.returns
 returns g c =

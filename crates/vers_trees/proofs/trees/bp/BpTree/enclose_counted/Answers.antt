@@ -1,13 +1,11 @@
 use Rattle.vers_trees.proofs.Words.{false, Bool, List, get_or, arith, sym, ap, ◌∙◌, last_rise_before, ints, enclosing}
-use Rattle.vers_trees.proofs.searches.Beside.{enclosing_open, enclosing_close}
-use Rattle.vers_trees.proofs.searches.Searches.{before_past}
+use Rattle.vers_trees.proofs.searches.Beside.{enclosing_open, enclosing_close, before_past}
 use Rattle.vers_trees.proofs.trees.bp.BpTree.enclose_counted.Goals as goal
 use Rattle.vers_trees.proofs.trees.bp.BpTree.enclose_counted.Goals.{then-is_one_counted, else-is_one_counted}
 
 pub returns-then-i-len-clause-value : goal.returns-then-i-len-clause-value
 unfolding enclosing
-returns-then-i-len-clause-value g c =
-    grind (arith, ints, before_past)
+returns-then-i-len-clause-value g c = grind (arith, ints, before_past)
 
 pub returns-clause-value : goal.returns-clause-value
 returns-clause-value g c =

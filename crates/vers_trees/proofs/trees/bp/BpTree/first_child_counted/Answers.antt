@@ -1,6 +1,5 @@
 use Rattle.vers_trees.proofs.Words.{rules, ◌∙◌}
-use Rattle.vers_trees.proofs.kin.NodeList.{node_pair, inside}
-use Rattle.vers_trees.proofs.kin.Kin.{first_child_is}
+use Rattle.vers_trees.proofs.kin.Kin.{first_child_is, node_pair, inside}
 use Rattle.vers_trees.proofs.trees.bp.BpTree.first_child_counted.Goals as goal
 
 pub opens_after-requires : goal.opens_after-requires

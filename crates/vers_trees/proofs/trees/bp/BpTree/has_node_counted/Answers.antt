@@ -1,9 +1,6 @@
-use Rattle.vers_trees.proofs.Words.{◌≡◌, Bool, false, IsTrue, refl, arith, adds_then, adds_weaker, within_itself}
+use Rattle.vers_trees.proofs.Words.{false, refl, arith, adds_then, adds_weaker, within_itself}
 use Rattle.vers_trees.proofs.PublicLaws.{node_iff_one}
 use Rattle.vers_trees.proofs.trees.bp.BpTree.has_node_counted.Goals as goal
-
-refuted : {P : Type 0} (b : Bool) → b ≡ false → IsTrue b → P
-refuted b e one = absurd (cc)
 
 pub returns-then-is_balanced_counted : goal.returns-then-is_balanced_counted
 returns-then-is_balanced_counted g c = record {
@@ -16,7 +13,7 @@ returns-then-is_balanced_counted g c = record {
 pub returns-else-is_balanced_counted : goal.returns-else-is_balanced_counted
 returns-else-is_balanced_counted g c = record {
   value = rw (← c.is_balanced_counted.ensures.value, c.if-is_balanced_counted.false) refl;
-  balanced = λ one. refuted _ c.if-is_balanced_counted.false one;
-  node = λ one. refuted _ c.if-is_balanced_counted.false one;
+  balanced = λ one. absurd (cc);
+  node = λ one. absurd (cc);
   adds = adds_weaker c.is_balanced_counted.ensures.adds (grind arith);
 }

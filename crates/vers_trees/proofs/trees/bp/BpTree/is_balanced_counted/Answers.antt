@@ -1,6 +1,5 @@
 use Rattle.vers_trees.proofs.Words.{◌≡◌, true, Bool, List, subst, sym, ◌∙◌, same_from_decides, are_balanced, IsBalanced}
-use Rattle.vers_trees.proofs.grammar.Grammar.{balance_decides}
-use Rattle.vers_trees.proofs.layout.Build.{balanced_iff_level, some_bits}
+use Rattle.vers_trees.proofs.layout.Build.{balanced_iff_level, some_bits, balance_decides}
 use Rattle.vers_trees.proofs.trees.bp.BpTree.is_balanced_counted.Goals as goal
 
 pub returns-clause-grammar : goal.returns-clause-grammar

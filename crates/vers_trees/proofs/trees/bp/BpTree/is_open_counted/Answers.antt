@@ -8,12 +8,6 @@ returns-then-i-len-clause-value g c = rw (← c.self.view_is) (sym (slice_get_pa
 pub returns-then-i-len-clause-adds : goal.returns-then-i-len-clause-adds
 returns-then-i-len-clause-adds g c = adds_none _ _
 
-pub is_one_counted-requires : goal.is_one_counted-requires
-is_one_counted-requires g c = omega (arith, c.len.ensures.value)
-
 pub returns-clause-value : goal.returns-clause-value
 returns-clause-value g c =
     rw (← c.self.view_is) (ap Some c.is_one_counted.ensures.value ∙ sym (slice_get-get_or c.self.inside.bits c.args.i false (omega (arith, c.len.ensures.value))))
-
-pub returns-clause-adds : goal.returns-clause-adds
-returns-clause-adds g c = c.is_one_counted.ensures.adds

@@ -1,7 +1,6 @@
 use Rattle.vers_trees.proofs.Words.{◌≡◌, ℕ, Some, arith, sym, ap, subst, ◌∙◌, forest_of, last_rise_before, level_ancestor}
 use Rattle.vers_trees.proofs.searches.Beside.{negated}
-use Rattle.vers_trees.proofs.kin.NodeList.{node_pair}
-use Rattle.vers_trees.proofs.levels.LevelNodes.{no_steps_up, too_far_up, level_ancestor_is_search}
+use Rattle.vers_trees.proofs.levels.LevelNodes.{no_steps_up, too_far_up, level_ancestor_is_search, node_pair}
 use Rattle.vers_trees.proofs.trees.bp.BpTree.level_ancestor_counted.Goals as goal
 
 pub returns-then-levels-eq0-clause-value : goal.returns-then-levels-eq0-clause-value

@@ -1,11 +1,7 @@
-use Rattle.vers_trees.proofs.Words.{◌∙◌, adds_then, within_itself}
-use Rattle.vers_trees.proofs.kin.NodeList.{node_pair}
-use Rattle.vers_trees.proofs.levels.LevelNodes.{level_next_is_search}
+use Rattle.vers_trees.proofs.Words.{◌∙◌}
+use Rattle.vers_trees.proofs.levels.LevelNodes.{level_next_is_search, node_pair}
 use Rattle.vers_trees.proofs.trees.bp.BpTree.level_next_counted.Goals as goal
 
 pub returns-clause-value : goal.returns-clause-value
 returns-clause-value g c =
     (rw c.end_counted-close.ensures.value at c.fwd_search_counted.ensures.value) ∙ level_next_is_search _ c.requires.balanced _ (node_pair _ c.requires.balanced _ c.requires.node)
-
-pub returns-clause-adds : goal.returns-clause-adds
-returns-clause-adds g c = adds_then c.end_counted-close.ensures.adds c.fwd_search_counted.ensures.adds (within_itself _)

@@ -1,6 +1,6 @@
-use Rattle.vers_trees.proofs.Words.{ℕ, ◌-◌, arith, sym, ap, ◌∙◌, forest_of, last_rise_before, level, last_of}
+use Rattle.vers_trees.proofs.Words.{ℕ, None, Some, ◌-◌, arith, sym, ap, ◌∙◌, forest_of, last_rise_before, level, last_of}
 use Rattle.vers_trees.proofs.searches.Beside.{with_sign}
-use Rattle.vers_trees.proofs.levels.LevelNodes.{too_deep, last_root_is_search, no_level_rightmost, level_rightmost_is_search}
+use Rattle.vers_trees.proofs.levels.LevelNodes.{too_deep, last_root_is_search, level_rightmost_is_search}
 use Rattle.vers_trees.proofs.trees.bp.BpTree.level_rightmost_counted.Goals as goal
 
 pub returns-then-depth-len-clause-value : goal.returns-then-depth-len-clause-value
@@ -11,10 +11,10 @@ returns-then-depth-eq0-clause-value g c = c.open_counted.ensures.value ∙ last_
 
 pub returns-in_err-close-clause-value : goal.returns-in_err-close-clause-value
 returns-in_err-close-clause-value g c =
-    let m = (let a = c.in_err-close.ensures in a.value) ∙ ap (last_rise_before c.args.self.now (c.len-len.result - 1)) (with_sign c.args.depth (omega arith)) in
-    c.from_residual.ensures ∙ sym (no_level_rightmost c.args.self.now c.requires.balanced (c.len-len.result - 1) c.args.depth (omega arith) (omega arith) (sym m))
+    let m = c.in_err-close.ensures.value ∙ ap (last_rise_before c.args.self.now (c.len-len.result - 1)) (with_sign c.args.depth (omega arith)) in
+    c.from_residual.ensures ∙ level_rightmost_is_search c.args.self.now c.requires.balanced (c.len-len.result - 1) c.args.depth None (omega arith) (omega arith) (sym m)
 
 pub returns-clause-value : goal.returns-clause-value
 returns-clause-value g c =
-    let m = (let a = c.in_ok-close.ensures in a.value) ∙ ap (last_rise_before c.args.self.now (c.len-len.result - 1)) (with_sign c.args.depth (omega arith)) in
-    c.open_counted-2.ensures.value ∙ level_rightmost_is_search c.args.self.now c.requires.balanced (c.len-len.result - 1) c.args.depth c.in_ok-close.close (omega arith) (omega arith) (sym m)
+    let m = c.in_ok-close.ensures.value ∙ ap (last_rise_before c.args.self.now (c.len-len.result - 1)) (with_sign c.args.depth (omega arith)) in
+    c.open_counted-2.ensures.value ∙ level_rightmost_is_search c.args.self.now c.requires.balanced (c.len-len.result - 1) c.args.depth (Some c.in_ok-close.close) (omega arith) (omega arith) (sym m)

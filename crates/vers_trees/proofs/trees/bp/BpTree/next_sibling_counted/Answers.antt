@@ -1,6 +1,5 @@
 use Rattle.vers_trees.proofs.Words.{◌∙◌}
-use Rattle.vers_trees.proofs.kin.NodeList.{node_pair}
-use Rattle.vers_trees.proofs.kin.Kin.{next_sibling_is}
+use Rattle.vers_trees.proofs.kin.Kin.{next_sibling_is, node_pair}
 use Rattle.vers_trees.proofs.trees.bp.BpTree.next_sibling_counted.Goals as goal
 
 pub returns-clause-value : goal.returns-clause-value

@@ -1,6 +1,5 @@
 use Rattle.vers_trees.proofs.Words.{arith}
-use Rattle.vers_trees.proofs.kin.NodeList.{node_pair}
-use Rattle.vers_trees.proofs.walks.ListsOfNodes.{subtree_size_is}
+use Rattle.vers_trees.proofs.walks.ListsOfNodes.{subtree_size_is, node_pair}
 use Rattle.vers_trees.proofs.trees.bp.BpTree.nodes_within.Goals as goal
 
 pub returns : goal.returns

@@ -1,11 +1,6 @@
 use Rattle.vers_trees.proofs.Words.{ap, Some, arith}
-use Rattle.vers_trees.proofs.kin.NodeList.{node_pair}
-use Rattle.vers_trees.proofs.walks.ListsOfNodes.{subtree_size_is}
+use Rattle.vers_trees.proofs.walks.ListsOfNodes.{subtree_size_is, node_pair}
 use Rattle.vers_trees.proofs.trees.bp.BpTree.subtree_size_counted.Goals as goal
 
 pub returns-clause-value : goal.returns-clause-value
-returns-clause-value g c =
-    ap Some (let v = c.end_counted-close.ensures.value in let d = c.div_ceil.ensures in omega (arith, subtree_size_is _ c.requires.balanced _ (node_pair _ c.requires.balanced _ c.requires.node)))
-
-pub returns-clause-adds : goal.returns-clause-adds
-returns-clause-adds g c = c.end_counted-close.ensures.adds
+returns-clause-value g c = ap Some (omega (arith, subtree_size_is _ c.requires.balanced _ (node_pair _ c.requires.balanced _ c.requires.node)))

@@ -1,9 +1,4 @@
-use Rattle.vers_trees.proofs.Words.{◌∙◌}
 use Rattle.vers_trees.proofs.trees.bp.BpTreeClone.clone.Goals as goal
 
 pub invariant_of-result : goal.invariant_of-result
-invariant_of-result g c =
-    let o = c.in_ok-tree.ensures in let b = c.in_ok-bits.ensures in rw (b.cases, o.same_nodes, o.same_first) c.self.invariant
-
-pub returns : goal.returns
-returns g c = let b = c.in_ok-bits.ensures in record { cases = b.cases ∙ c.self.view_is }
+invariant_of-result g c = let o = c.in_ok-tree.ensures in rw (c.in_ok-bits.ensures.cases, o.same_nodes, o.same_first) c.self.invariant

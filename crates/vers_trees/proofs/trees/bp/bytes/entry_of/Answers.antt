@@ -1,6 +1,5 @@
-use Rattle.std.proofs.Common.{◌<◌, arith, refl, ◌∙◌, subst, sym}
 use Rattle.vers_trees.proofs.searches.Bytes.{IsNoted, met_nothing, sevens, met_more, few_more, place_small, up_or_down}
-use Rattle.vers_trees.proofs.Words.{length-set, ints}
+use Rattle.vers_trees.proofs.Words.{length-set, ints, ◌<◌, arith, refl, ◌∙◌, subst, sym}
 use Rattle.vers_trees.proofs.trees.bp.bytes.entry_of.Goals as goal
 
 pub loop-step-init : goal.loop-step-init
@@ -16,10 +15,8 @@ loop-step-init c = record {
 
 pub loop-step-preserved : goal.loop-step-preserved
 loop-step-preserved c =
-    let i = c.loop-step.invariant in
-    let m = c.meet.ensures in
+    let i = c.loop-step.invariant in let m = c.meet.ensures in
     let u = up_or_down c.args.from_end _ c.loop-step.value c.stepped-value.result c.stepped-value.ensures in
-    let n = i.many in
     let w : IsNoted c.loop-step.met.least c.loop-step.met.greatest c.stepped-value.result c.place_of-place.result c.loop-step.met.places c.meet.new.self.least c.meet.new.self.greatest c.meet.new.self.places = record { lower = m.least; upper = m.greatest; again = m.again; first = m.first } in
     record {
       met = λ bits is. met_more c.args.from_end bits c.args.byte c.loop-step.step c.loop-step.value c.loop-step.met.least c.loop-step.met.greatest c.stepped-value.result c.place_of-place.result c.loop-step.met.places _ _ _ is (omega arith) (i.met bits is) c.place_of-place.ensures c.stepped-value.ensures (omega arith) w;
@@ -27,6 +24,6 @@ loop-step-preserved c =
       high = omega arith;
       least = omega arith;
       greatest = omega arith;
-      many = (grind (arith, ints, length-set)) ∙ n;
+      many = (grind (arith, ints, length-set)) ∙ i.many;
       few = few_more _ _ _ _ c.loop-step.met.places _ _ _ w (omega arith) (subst (λ q. q < 8) (sym c.place_of-place.ensures) (place_small c.args.from_end c.loop-step.step (omega arith))) i.few;
     }

@@ -1,7 +1,5 @@
 use Rattle.vers_trees.proofs.Words.{◌+◌, arith, w64, to_z, of_z, to_z-of_z}
-use Rattle.vers_trees.proofs.searches.Scans.{rise_within}
-use Rattle.vers_trees.proofs.searches.ByteScans.{read_some, byte_read, entry_ordered, forward_byte_found, forward_byte}
-use Rattle.vers_trees.proofs.searches.WordScans.{forward_word, word_counted}
+use Rattle.vers_trees.proofs.searches.WordScans.{forward_word, word_counted, read_some, byte_read, entry_ordered, forward_byte_found, forward_byte, rise_within}
 use Rattle.vers_trees.proofs.trees.bp.scan.bytes_forward.Goals as goal
 
 pub unwrap-word-requires : goal.unwrap-word-requires

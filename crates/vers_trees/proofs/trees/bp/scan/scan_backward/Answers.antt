@@ -2,11 +2,6 @@ use Rattle.vers_trees.proofs.Words.{arith, w64, to_z-of_z}
 use Rattle.vers_trees.proofs.searches.Scans.{rise_is}
 use Rattle.vers_trees.proofs.trees.bp.scan.scan_backward.Goals as goal
 
-pub returns-in-Ok-clause-value : goal.returns-in-Ok-clause-value
-returns-in-Ok-clause-value g c =
-    let p = rw (to_z-of_z w64 c.args.target c.ranges.target) at c.in-Ok.ensures.value in
-    record { between = (let n = p.between.0 in omega arith, p.between.1); sum = p.sum; first = p.first }
-
 pub bits_backward-requires-clause-passed : goal.bits_backward-requires-clause-passed
 bits_backward-requires-clause-passed g c =
     let n = c.in-Err.ensures.value in

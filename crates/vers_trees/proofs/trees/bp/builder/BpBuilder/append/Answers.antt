@@ -9,12 +9,9 @@ overflow_add-self g c =
 pub invariant_of-self-2 : goal.invariant_of-self-2
 invariant_of-self-2 g c =
     let room : length c.self.inside.bits < 9223372036854775807 = omega arith in
-    let grown : c.append.new.self ≡ c.self.inside.bits ++ c.args.opens ∷ [] = (let a = c.in_ok-append.ensures in a.grown) in
+    let grown : c.append.new.self ≡ c.self.inside.bits ++ c.args.opens ∷ [] = c.in_ok-append.ensures.grown in
     rw (stored_sum g.row.BLOCK_SIZE c.self.inside.bits c.args.opens c.self.inside.excess c.step.result c.self.invariant room c.step.ensures).1
     (subst (λ (l : List Bool). IsBuilding g.row.BLOCK_SIZE l (c.self.inside.excess +ℤ bit_step c.args.opens)) (sym grown) (one_more_built g.row.BLOCK_SIZE c.self.inside.bits c.args.opens c.self.inside.excess c.self.invariant room))
 
-pub invariant_of-self : goal.invariant_of-self
-invariant_of-self g c = let a = c.in_err-append.ensures in rw a.kept c.self.invariant
-
 pub returns-clause-grown : goal.returns-clause-grown
-returns-clause-grown g c = let a = c.in_ok-append.ensures in rw (← c.self.view_is) a.grown
+returns-clause-grown g c = rw (← c.self.view_is) c.in_ok-append.ensures.grown

@@ -1,9 +1,6 @@
-use Rattle.vers_trees.proofs.Words.{true, false, refl, arith, ◌∙◌, length-set}
+use Rattle.vers_trees.proofs.Words.{true, false, arith, ◌∙◌, length-set}
 use Rattle.vers_trees.proofs.searches.Bytes.{entries_more}
 use Rattle.vers_trees.proofs.trees.bp.bytes.ByteTables.new.Goals as goal
-
-pub loop-byte-init : goal.loop-byte-init
-loop-byte-init c = record { forward = λ byte h. absurd (omega arith); backward = λ byte h. absurd (omega arith); all = refl; both = refl }
 
 pub loop-byte-preserved : goal.loop-byte-preserved
 loop-byte-preserved c =

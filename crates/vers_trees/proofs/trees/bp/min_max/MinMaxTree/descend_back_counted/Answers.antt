@@ -21,8 +21,7 @@ returns g c = record {
 
 pub loop-node-preserved : goal.loop-node-preserved
 loop-node-preserved g c =
-    let f : FitsSigned w64 c.node_counted-below.result.total = search rules in
-    let i = c.loop-node.invariant in
+    let f : FitsSigned w64 c.node_counted-below.result.total = search rules in let i = c.loop-node.invariant in
     let two : c.from.result ≤ 1 = rw c.from.ensures (one_of_two _) in
     record {
       every = λ s p.

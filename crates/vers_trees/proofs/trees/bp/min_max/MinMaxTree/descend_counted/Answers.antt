@@ -14,7 +14,7 @@ overflow_sub-left g c =
     elim c.if-is_past.branch [
       | then-is_past b ↦ rw (b.left-is, to_z-of_z w64 c.node_counted-below.result.total f) (left_past_fits _ _ _ false _ _ c.node_counted-below.result p c.loop-node-test.true c.node_counted-below.ensures.value)
       | else-is_past b ↦
-          let z : to_z w64 c.loop-node.left-bits -ℤ to_z w64 c.if-is_past.left-bits ≡ to_z w64 c.loop-node.left-bits = (let q = b.left-is in omega (arith, ints)) in
+          let z : to_z w64 c.loop-node.left-bits -ℤ to_z w64 c.if-is_past.left-bits ≡ to_z w64 c.loop-node.left-bits = (omega (arith, ints)) in
           rw z (search rules)
     ]
 
@@ -27,8 +27,7 @@ returns g c = record {
 pub loop-node-preserved : goal.loop-node-preserved
 loop-node-preserved g c =
     let f : FitsSigned w64 c.node_counted-below.result.total = search rules in
-    let l : FitsSigned w64 (to_z w64 c.loop-node.left-bits) = search rules in
-    let i = c.loop-node.invariant in
+    let l : FitsSigned w64 (to_z w64 c.loop-node.left-bits) = search rules in let i = c.loop-node.invariant in
     let two : c.from.result ≤ 1 = rw c.from.ensures (one_of_two _) in
     record {
       every = λ s p.

@@ -1,6 +1,5 @@
 use Rattle.vers_trees.proofs.Words.{rules, false, ◌-ℤ◌, w64, FitsSigned, to_z, arith, to_z-of_z, not_from_Decides}
-use Rattle.vers_trees.proofs.layout.Climbs.{comes_from, ends_after, goes_down, goes_on, ends_there}
-use Rattle.vers_trees.proofs.searches.Scans.{rest_is}
+use Rattle.vers_trees.proofs.layout.Climbs.{comes_from, ends_after, goes_down, goes_on, ends_there, rest_is}
 use Rattle.vers_trees.proofs.layout.Steps.{odd_most, digits_after, adds_none, read_up, up_ends, up_then_down, up_then_none}
 use Rattle.vers_trees.proofs.trees.bp.min_max.MinMaxTree.next_block_counted.Goals as goal
 
@@ -9,8 +8,7 @@ returns-then-begin-self-clause-value g c = λ s b. ends_after _ _ _ _ _ b (omega
 
 pub loop-node-init : goal.loop-node-init
 loop-node-init g c =
-    let o = c.node_after-node.ensures in
-    let most = odd_most _ _ o in
+    let o = c.node_after-node.ensures in let most = odd_most _ _ o in
     record { comes = λ s b. comes_from s c.args.self.now.first c.args.self.now.nodes false c.args.begin _ _ b o; within = omega arith; reads = adds_none _ _ }
 
 pub returns : goal.returns
@@ -35,8 +33,7 @@ returns-then-reaches g c =
 
 pub returns-in_err-left : goal.returns-in_err-left
 returns-in_err-left g c =
-    let f : FitsSigned w64 c.node_counted-after.result.total = search rules in
-    let i = c.loop-node.invariant in
+    let f : FitsSigned w64 c.node_counted-after.result.total = search rules in let i = c.loop-node.invariant in
     record {
       value = rw c.from_residual.ensures (λ s b. ends_there _ _ _ false _ _ c.node_counted-after.result (i.comes s (rw (to_z-of_z w64 c.args.left c.ranges.left) b)) c.loop-node-test.true c.node_counted-after.ensures.value (λ h. c.in_err-left.ensures (rw (to_z-of_z w64 c.node_counted-after.result.total f) h)));
       adds = up_then_none _ _ _ c.args.self.now.first c.loop-node.node i.within c.loop-node-test.true i.reads c.node_counted-after.ensures.adds;
@@ -44,11 +41,9 @@ returns-in_err-left g c =
 
 pub loop-node-preserved : goal.loop-node-preserved
 loop-node-preserved g c =
-    let f : FitsSigned w64 c.node_counted-after.result.total = search rules in
-    let i = c.loop-node.invariant in
+    let f : FitsSigned w64 c.node_counted-after.result.total = search rules in let i = c.loop-node.invariant in
     let e = rest_is (λ y. to_z w64 c.loop-node.left-bits -ℤ y) c.node_counted-after.result.total c.in_ok-left.left f c.in_ok-left.ensures in
-    let o = c.node_after-node-in-loop-node.ensures in
-    let most = odd_most _ _ o in
+    let o = c.node_after-node-in-loop-node.ensures in let most = odd_most _ _ o in
     let far = (i.comes c.requires.begins.0 (rw (to_z-of_z w64 c.args.left c.ranges.left) c.requires.begins.1)).far c.loop-node-test.true in
     record {
       comes = λ s b. rw e (goes_on _ _ _ false _ _ c.node_counted-after.result (i.comes s b) c.loop-node-test.true c.node_counted-after.ensures.value _ (not_from_Decides _ c.reaches.ensures c.if-reaches.false) o);
@@ -57,4 +52,4 @@ loop-node-preserved g c =
     }
 
 pub loop-node-smaller : goal.loop-node-smaller
-loop-node-smaller g c = let most = odd_most _ _ c.node_after-node-in-loop-node.ensures in omega arith
+loop-node-smaller g c = omega (arith, odd_most _ _ c.node_after-node-in-loop-node.ensures)

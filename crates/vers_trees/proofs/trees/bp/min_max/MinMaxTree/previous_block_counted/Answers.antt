@@ -1,13 +1,11 @@
 use Rattle.vers_trees.proofs.Words.{rules, true, ◌+ℤ◌, w64, FitsSigned, to_z, arith, to_z-of_z, not_from_Decides}
-use Rattle.vers_trees.proofs.layout.Climbs.{begin_within, comes_from, goes_down, goes_on, ends_there}
-use Rattle.vers_trees.proofs.searches.Scans.{rest_is}
+use Rattle.vers_trees.proofs.layout.Climbs.{begin_within, comes_from, goes_down, goes_on, ends_there, rest_is}
 use Rattle.vers_trees.proofs.layout.Steps.{odd_most, digits_before, adds_none, read_up, up_ends, up_then_down, up_then_none}
 use Rattle.vers_trees.proofs.trees.bp.min_max.MinMaxTree.previous_block_counted.Goals as goal
 
 pub loop-node-init : goal.loop-node-init
 loop-node-init g c =
-    let o = c.node_before-node.ensures in let at = o.2 in
-    let most = odd_most _ _ o.1 in let few = begin_within _ _ _ true c.args.begin _ c.requires.begins.1 in
+    let o = c.node_before-node.ensures in let most = odd_most _ _ o.1 in let few = begin_within _ _ _ true c.args.begin _ c.requires.begins.1 in
     record { comes = λ s b. comes_from s c.args.self.now.first c.args.self.now.nodes true c.args.begin _ _ b o; within = omega arith; reads = adds_none _ _ }
 
 pub returns : goal.returns
@@ -35,8 +33,7 @@ returns-then-meets g c =
 
 pub returns-in_err-rest : goal.returns-in_err-rest
 returns-in_err-rest g c =
-    let f : FitsSigned w64 c.node_counted-before.result.total = search rules in
-    let i = c.loop-node.invariant in
+    let f : FitsSigned w64 c.node_counted-before.result.total = search rules in let i = c.loop-node.invariant in
     record {
       value = rw c.from_residual.ensures (λ s b. ends_there _ _ _ true _ _ c.node_counted-before.result (i.comes s (rw (to_z-of_z w64 c.args.left c.ranges.left) b)) c.loop-node-test.true c.node_counted-before.ensures.value (λ h. c.in_err-rest.ensures (rw (to_z-of_z w64 c.node_counted-before.result.total f) h)));
       adds = up_then_none _ _ _ c.args.self.now.first c.loop-node.node i.within c.loop-node-test.true i.reads c.node_counted-before.ensures.adds;
@@ -46,8 +43,7 @@ pub loop-node-preserved : goal.loop-node-preserved
 loop-node-preserved g c =
     let i = c.loop-node.invariant in
     let e = rest_is (λ y. to_z w64 c.loop-node.left-bits +ℤ y) c.node_counted-before.result.total c.in_ok-rest.rest (search rules) c.in_ok-rest.ensures in
-    let o = c.node_before-node-in-loop-node.ensures in let at = o.2 in
-    let most = odd_most _ _ o.1 in
+    let o = c.node_before-node-in-loop-node.ensures in let at = o.2 in let most = odd_most _ _ o.1 in
     let far = (i.comes c.requires.begins.0 (rw (to_z-of_z w64 c.args.left c.ranges.left) c.requires.begins.1)).far c.loop-node-test.true in
     record {
       comes = λ s b. rw e (goes_on _ _ _ true _ _ c.node_counted-before.result (i.comes s b) c.loop-node-test.true c.node_counted-before.ensures.value _ (λ r. not_from_Decides _ c.meets.ensures c.if-meets.false (rw e r)) o);
@@ -56,19 +52,10 @@ loop-node-preserved g c =
     }
 
 pub loop-node-smaller : goal.loop-node-smaller
-loop-node-smaller g c =
-    let o = c.node_before-node-in-loop-node.ensures in let at = o.2 in
-    let most = odd_most _ _ o.1 in
-    omega arith
+loop-node-smaller g c = omega (arith, odd_most _ _ c.node_before-node-in-loop-node.ensures.1)
 
 pub overflow_add-self : goal.overflow_add-self
 overflow_add-self g c = let few = begin_within _ _ _ true c.args.begin _ c.requires.begins.1 in record { fits = omega arith }
 
 pub node_before-node-requires : goal.node_before-node-requires
-node_before-node-requires g c = let few = begin_within _ _ _ true c.args.begin _ c.requires.begins.1 in omega arith
-
-pub overflow_sub-node : goal.overflow_sub-node
-overflow_sub-node g c = omega arith
-
-pub node_before-node-requires-in-loop-node : goal.node_before-node-requires-in-loop-node
-node_before-node-requires-in-loop-node g c = let i = c.loop-node.invariant.within in let f = c.loop-node.auto.node-fits in omega arith
+node_before-node-requires g c = omega (arith, begin_within _ _ _ true c.args.begin _ c.requires.begins.1)

@@ -2,9 +2,6 @@ use Rattle.vers_trees.proofs.Words.{arith}
 use Rattle.vers_trees.proofs.layout.Build.{code_fits, code_step}
 use Rattle.vers_trees.proofs.trees.bp.min_max.build.fill.Goals as goal
 
-pub loop-i-init : goal.loop-i-init
-loop-i-init c = (omega arith, λ bits size a. a.covered)
-
 pub joined-requires : goal.joined-requires
 joined-requires c =
     let i = c.loop-i.invariant in let a = c.requires.leaves in
@@ -12,8 +9,5 @@ joined-requires c =
 
 pub loop-i-preserved : goal.loop-i-preserved
 loop-i-preserved c =
-    let i = c.loop-i.invariant in let r = c.requires.room in let n = c.loop-i.auto.nodes in
+    let i = c.loop-i.invariant in
     (omega arith, λ bits size a. code_step bits size c.args.first c.loop-i.nodes c.loop-i.i _ _ c.loop-i-test.true i.0 (i.1 bits size a) c.node_or_empty-left.ensures c.node_or_empty-right.ensures c.joined.result (omega arith) c.joined.ensures.both c.joined.ensures.alone)
-
-pub returns : goal.returns
-returns c = λ bits size a m s e h p. c.loop-i.invariant.1 bits size a m s e (omega arith) p

@@ -18,6 +18,5 @@ pub returns-clause-counted : goal.returns-clause-counted
 returns-clause-counted g c =
     let n : length c.fill.new.nodes ≡ length c.deref_mut.result.now = search rules in
     let v : length c.fill.new.nodes ≡ length c.in_ok-nodes.nodes.items = n ∙ ap length c.deref_mut.ensures.value in
-    let b = c.in_ok-nodes.ensures in
     subst (λ (l : List Node). length l ≡ node_count c.args.size (length c.args.bits.now)) (sym (written_back c.fill.new.nodes c.in_ok-nodes.nodes.items c.in_ok-nodes.nodes.len (sym (n ∙ c.deref_mut.ensures.len))))
-    (nodes_counted c.args.bits.now c.args.size c.args.first c.fill.new.nodes c.requires.bits c.requires.wide (v ∙ b.counted))
+    (nodes_counted c.args.bits.now c.args.size c.args.first c.fill.new.nodes c.requires.bits c.requires.wide (v ∙ c.in_ok-nodes.ensures.counted))

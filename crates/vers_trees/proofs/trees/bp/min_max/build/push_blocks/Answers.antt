@@ -1,12 +1,9 @@
-use Rattle.vers_trees.proofs.Words.{IfOk-from_err, ◌≡◌, ℕ, List, [], ◌∷◌, ◌++◌, ◌+◌, ◌*◌, min, length, arith, sym, subst, ap, ◌∙◌, Node, IsPart, block_count, AreFirstBlocks}
+use Rattle.vers_trees.proofs.Words.{◌≡◌, ℕ, List, [], ◌∷◌, ◌++◌, ◌+◌, ◌*◌, min, length, arith, sym, subst, ap, ◌∙◌, Node, IsPart, block_count, AreFirstBlocks}
 use Rattle.vers_trees.proofs.layout.Widths.{no_blocks, block_added, begins_inside}
 use Rattle.vers_trees.proofs.trees.bp.min_max.build.push_blocks.Goals as goal
 
-pub div_ceil-leaves-requires : goal.div_ceil-leaves-requires
-div_ceil-leaves-requires g c = c.requires.can.some
-
 pub loop-block-init : goal.loop-block-init
-loop-block-init g c = no_blocks c.args.bits.now c.args.size c.args.first c.args.nodes.now.items (let o = c.args.nodes.now.ok in let r = c.requires.before in omega arith)
+loop-block-init g c = no_blocks c.args.bits.now c.args.size c.args.first c.args.nodes.now.items (omega arith)
 
 pub overflow_mul-start : goal.overflow_mul-start
 overflow_mul-start g c = record { fits = omega (arith, begins_inside c.args.size c.len-len.result _ _ c.div_ceil-leaves.ensures c.requires.can.some c.loop-block-test.true) }
@@ -21,17 +18,14 @@ node_of-requires g c = record {
   short = c.requires.can.short;
 }
 
-pub returns-in_err-push : goal.returns-in_err-push
-returns-in_err-push g c = IfOk-from_err c.from_residual.result _ c.from_residual.ensures.0
-
 pub loop-block-preserved : goal.loop-block-preserved
 loop-block-preserved g c =
-    let e : c.push.new.self.items ≡ c.loop-block.nodes.items ++ c.node_of.result ∷ [] = cc (c.in_ok-push.ensures.items) in
+    let e : c.push.new.self.items ≡ c.loop-block.nodes.items ++ c.node_of.result ∷ [] = cc c.in_ok-push.ensures.items in
     let m : c.min-end.result ≡ min (c.loop-block.block * c.args.size + c.args.size) (length c.args.bits.now) = c.min-end.ensures ∙ ap (min (c.loop-block.block * c.args.size + c.args.size)) c.len-len.ensures.value in
     subst (λ (l : List Node). AreFirstBlocks c.args.bits.now c.args.size c.args.first (c.loop-block.block + 1) l) (sym e)
     (block_added c.args.bits.now c.args.size c.args.first c.loop-block.block c.loop-block.nodes.items c.node_of.result c.loop-block.invariant (subst (λ (n : ℕ). IsPart c.args.bits.now (c.loop-block.block * c.args.size) n c.node_of.result) m c.node_of.ensures))
 
 pub returns : goal.returns
 returns g c =
-    let e : c.loop-block.block ≡ block_count c.args.size (length c.args.bits.now) = (let x = c.loop-block-test.false in let y = c.loop-block.auto.block-end in let d = c.div_ceil-leaves.ensures in let h : c.loop-block.block ≡ c.div_ceil-leaves.result = omega arith in h ∙ d) ∙ ap (block_count c.args.size) c.len-len.ensures.value in
+    let e : c.loop-block.block ≡ block_count c.args.size (length c.args.bits.now) = (let d = c.div_ceil-leaves.ensures in let h : c.loop-block.block ≡ c.div_ceil-leaves.result = omega arith in h ∙ d) ∙ ap (block_count c.args.size) c.len-len.ensures.value in
     subst (λ (n : ℕ). AreFirstBlocks c.args.bits.now c.args.size c.args.first n c.loop-block.nodes.items) e c.loop-block.invariant

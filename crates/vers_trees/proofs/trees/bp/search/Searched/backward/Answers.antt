@@ -1,7 +1,5 @@
 use Rattle.vers_trees.proofs.Words.{rules, ◌≡◌, ◌-◌, ◌*◌, ◌/◌, true, arith, w64, refl, sym, to_z-of_z, ints, start_of}
-use Rattle.vers_trees.proofs.searches.Finds.{answer_before, answer_here}
-use Rattle.vers_trees.proofs.searches.Searches.{before_past, none_before}
-use Rattle.vers_trees.proofs.searches.Scans.{rise_is}
+use Rattle.vers_trees.proofs.searches.Finds.{answer_before, answer_here, before_past, none_before, rise_is}
 use Rattle.vers_trees.proofs.trees.bp.search.Searched.backward.Goals as goal
 use Rattle.vers_trees.proofs.trees.bp.search.Searched.backward.Goals.{then-i-eq0-via-then-i-eq0, then-i-eq0-via-else-i-eq0+then-i-len}
 
@@ -9,7 +7,7 @@ pub returns-then-i-eq0-clause-value : goal.returns-then-i-eq0-clause-value
 returns-then-i-eq0-clause-value g c =
     elim c.then-i-eq0.branch [
       | then-i-eq0-via-then-i-eq0 w ↦ rw w.if-i-eq0.true (grind (arith, ints, none_before))
-      | then-i-eq0-via-else-i-eq0+then-i-len w ↦ sym (before_past c.args.self.bits.now c.args.i c.args.r (let t = w.if-i-len.true in let v = w.len.ensures.value in omega arith))
+      | then-i-eq0-via-else-i-eq0+then-i-len w ↦ sym (before_past c.args.self.bits.now c.args.i c.args.r (omega arith))
     ]
 
 pub returns-in-Ok-clause-value : goal.returns-in-Ok-clause-value
@@ -19,9 +17,6 @@ returns-in-Ok-clause-value g c =
 
 pub backward_past-requires : goal.backward_past-requires
 backward_past-requires g c =
-    let n = c.in-Err.ensures.value in let so = c.requires.some in
+    let n = c.in-Err.ensures.value in
     let e : (c.args.i - 1) / g.row.BLOCK_SIZE * g.row.BLOCK_SIZE ≡ start_of c.args.self.bits.now g.row.BLOCK_SIZE ((c.args.i - 1) / g.row.BLOCK_SIZE) = omega arith in
     (search rules, record { indexed = c.requires; some = omega arith; inside = omega arith; last = λ t. omega arith; begins = refl; passed = rw (← e, rise_is c.args.self.bits.now c.args.i _ c.in-Err.rise c.requires.short (omega arith) (omega arith) n.risen) n })
-
-pub returns-in-Err-clause-value : goal.returns-in-Err-clause-value
-returns-in-Err-clause-value g c = rw (to_z-of_z w64 c.args.r c.ranges.r) at c.backward_past.ensures.value

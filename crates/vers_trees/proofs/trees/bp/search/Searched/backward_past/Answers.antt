@@ -14,24 +14,18 @@ returns-in_err-previous-clause-value g c =
     c.from_residual-in_err-previous.ensures ∙ none_next true _ _ _ _ _ c.requires _ (answer_before c.args.self.bits.now g.row.BLOCK_SIZE c.args.i c.args.r (c.requires.last refl)) c.ranges.r c.in_ok-left.left c.in_ok-left.ensures (let a = c.in_err-previous.ensures in a.value)
 
 pub overflow_mul-start : goal.overflow_mul-start
-overflow_mul-start g c = let h = c.requires.inside in record { fits = omega (arith, ends_before _ c.in_ok-previous.previous _ ((let a = c.in_ok-previous.ensures in a.value) (sought c.args.self.bits.now g.row.BLOCK_SIZE c.args.i c.args.r) (begins true _ _ _ _ _ c.requires _ (answer_before c.args.self.bits.now g.row.BLOCK_SIZE c.args.i c.args.r (c.requires.last refl)) c.ranges.r c.in_ok-left.left c.in_ok-left.ensures))) }
+overflow_mul-start g c = record { fits = omega (arith, ends_before _ c.in_ok-previous.previous _ ((let a = c.in_ok-previous.ensures in a.value) (sought c.args.self.bits.now g.row.BLOCK_SIZE c.args.i c.args.r) (begins true _ _ _ _ _ c.requires _ (answer_before c.args.self.bits.now g.row.BLOCK_SIZE c.args.i c.args.r (c.requires.last refl)) c.ranges.r c.in_ok-left.left c.in_ok-left.ensures))) }
 
 pub overflow_add-end : goal.overflow_add-end
-overflow_add-end g c = let h = c.requires.inside in record { fits = omega (arith, ends_before _ c.in_ok-previous.previous _ ((let a = c.in_ok-previous.ensures in a.value) (sought c.args.self.bits.now g.row.BLOCK_SIZE c.args.i c.args.r) (begins true _ _ _ _ _ c.requires _ (answer_before c.args.self.bits.now g.row.BLOCK_SIZE c.args.i c.args.r (c.requires.last refl)) c.ranges.r c.in_ok-left.left c.in_ok-left.ensures))) }
+overflow_add-end g c = record { fits = omega (arith, ends_before _ c.in_ok-previous.previous _ ((let a = c.in_ok-previous.ensures in a.value) (sought c.args.self.bits.now g.row.BLOCK_SIZE c.args.i c.args.r) (begins true _ _ _ _ _ c.requires _ (answer_before c.args.self.bits.now g.row.BLOCK_SIZE c.args.i c.args.r (c.requires.last refl)) c.ranges.r c.in_ok-left.left c.in_ok-left.ensures))) }
 
 pub returns-clause-value : goal.returns-clause-value
 returns-clause-value g c =
-    let i = c.requires.inside in let h = ends_before _ c.in_ok-previous.previous _ ((let a = c.in_ok-previous.ensures in a.value) (sought c.args.self.bits.now g.row.BLOCK_SIZE c.args.i c.args.r) (begins true _ _ _ _ _ c.requires _ (answer_before c.args.self.bits.now g.row.BLOCK_SIZE c.args.i c.args.r (c.requires.last refl)) c.ranges.r c.in_ok-left.left c.in_ok-left.ensures)) in
+    let h = ends_before _ c.in_ok-previous.previous _ ((let a = c.in_ok-previous.ensures in a.value) (sought c.args.self.bits.now g.row.BLOCK_SIZE c.args.i c.args.r) (begins true _ _ _ _ _ c.requires _ (answer_before c.args.self.bits.now g.row.BLOCK_SIZE c.args.i c.args.r (c.requires.last refl)) c.ranges.r c.in_ok-left.left c.in_ok-left.ensures)) in
     c.ok.ensures.value ∙ next_answer true _ _ _ _ _ c.requires _ (answer_before c.args.self.bits.now g.row.BLOCK_SIZE c.args.i c.args.r (c.requires.last refl)) c.ranges.r c.in_ok-left.left c.in_ok-left.ensures c.in_ok-previous.previous c.in_ok-previous.rest (let a = c.in_ok-previous.ensures in a.value) _ _ _ (omega arith) (omega arith) c.scan_backward.ensures.value
 
 pub returns-in_err-left-clause-adds : goal.returns-in_err-left-clause-adds
 returns-in_err-left-clause-adds g c = adds_none _ _
-
-pub overflow_sub-block : goal.overflow_sub-block
-overflow_sub-block g c = c.requires.some
-
-pub nonzero_div-block : goal.nonzero_div-block
-nonzero_div-block g c = c.requires.indexed.some
 
 pub returns-in_err-previous-clause-adds : goal.returns-in_err-previous-clause-adds
 returns-in_err-previous-clause-adds g c = climbed true _ _ _ _ _ c.requires _ _ c.previous_block_counted.ensures.adds
@@ -43,6 +37,6 @@ returns-clause-adds g c =
 pub scan_backward-requires : goal.scan_backward-requires
 scan_backward-requires g c = record {
   order = omega arith;
-  inside = let h = c.requires.inside in omega (arith, ends_before _ c.in_ok-previous.previous _ ((let a = c.in_ok-previous.ensures in a.value) (sought c.args.self.bits.now g.row.BLOCK_SIZE c.args.i c.args.r) (begins true _ _ _ _ _ c.requires _ (answer_before c.args.self.bits.now g.row.BLOCK_SIZE c.args.i c.args.r (c.requires.last refl)) c.ranges.r c.in_ok-left.left c.in_ok-left.ensures)));
+  inside = omega (arith, ends_before _ c.in_ok-previous.previous _ ((let a = c.in_ok-previous.ensures in a.value) (sought c.args.self.bits.now g.row.BLOCK_SIZE c.args.i c.args.r) (begins true _ _ _ _ _ c.requires _ (answer_before c.args.self.bits.now g.row.BLOCK_SIZE c.args.i c.args.r (c.requires.last refl)) c.ranges.r c.in_ok-left.left c.in_ok-left.ensures)));
   short = c.requires.indexed.short;
 }

@@ -27,9 +27,6 @@ returns-clause-value g c =
 pub returns-in_err-left-clause-adds : goal.returns-in_err-left-clause-adds
 returns-in_err-left-clause-adds g c = adds_none _ _
 
-pub nonzero_div-i : goal.nonzero_div-i
-nonzero_div-i g c = c.requires.indexed.some
-
 pub returns-in_err-next-clause-adds : goal.returns-in_err-next-clause-adds
 returns-in_err-next-clause-adds g c = climbed false _ _ _ _ _ c.requires _ _ c.next_block_counted.ensures.adds
 

@@ -1,8 +1,8 @@
-use Rattle.std.proofs.Common.{negsuc, arith, sym}
+use Rattle.vers_trees.proofs.Words.{negsuc, arith, sym}
 use Rattle.vers_trees.proofs.searches.Searches.{after_some}
 use Rattle.vers_trees.proofs.trees.bp.search.Searched.tree_from.Goals as goal
 
 pub overflow_add-result : goal.overflow_add-result
 overflow_add-result g c =
     let f = after_some c.args.self.bits.now c.args.place (negsuc 0) c.in_ok-close.close (sym c.in_ok-close.ensures.value) in
-    let i = f.inside in let b = c.requires.short in record { fits = omega arith }
+    record { fits = omega arith }
