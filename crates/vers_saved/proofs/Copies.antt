@@ -1,6 +1,5 @@
 -- Words that are copied one after another.
-use Rattle.vers_saved.proofs.Names.{◌≡◌, ℕ, ◌+◌, ◌-◌, ◌<◌, ◌≤◌, List, ◌++◌, length, get_or, take, drop, Option, Some, None, sym, ap, ◌∙◌, inl, inr, arith, slice_get, unwrap_or, cases_lt, same_lists, length-take, length-drop, get_or-take, get_or-drop, get_or_append_left, get_or-append_right, drop-drop, slice_get-get_or, slice_get_past}
-use Rattle.std.proofs.lemmas.List.{places}
+use Rattle.vers_saved.proofs.Names.{◌≡◌, ℕ, ◌+◌, ◌-◌, ◌<◌, ◌≤◌, List, ◌++◌, length, get_or, take, drop, Option, Some, None, sym, ap, ◌∙◌, inl, inr, arith, slice_get, unwrap_or, cases_lt, same_lists, length-take, length-drop, get_or-take, get_or-drop, get_or_append_left, get_or-append_right, drop-drop, slice_get-get_or, slice_get_past, places}
 
 -- n words, each of which is that at its place
 pub copied : (words out : List ℕ) (from n : ℕ) → length out ≡ n → from + n ≤ length words → ((j : ℕ) → j < n → get_or out j 0 ≡ get_or words (from + j) 0)

@@ -1,8 +1,7 @@
 -- Words in an order.
-use Rattle.vers_saved.proofs.Names.{◌≡◌, ℕ, zero, suc, ◌+◌, ◌-◌, ◌/◌, ◌<◌, ◌&&◌, Bool, true, List, [], ◌∷◌, ◌++◌, length, get_or, take, drop, refl, sym, ap, ◌∙◌, arith, take_more, get_or-take, get_or-drop, length-take, length-drop, take_all, limb_count, each_next, words_among, stands, in_order}
+use Rattle.vers_saved.proofs.Names.{◌≡◌, ℕ, zero, suc, ◌+◌, ◌-◌, ◌/◌, ◌<◌, ◌&&◌, Bool, true, List, [], ◌∷◌, ◌++◌, length, get_or, take, drop, refl, sym, ap, ◌∙◌, arith, take_more, get_or-take, get_or-drop, length-take, length-drop, take_all, limb_count, each_next, words_among, stands, in_order, ordered_words}
 use Rattle.std.proofs.Math.Bool.{and_assoc, and_comm}
 use Rattle.vers_saved.specs.declared.kind.Order.{Order}
-use Rattle.vers_saved.specs.Faults.{ordered_words}
 
 -- one word more stands in the order where it does to the last one before it
 pub each_next-more : (o : ℕ → ℕ → Bool) (xs : List ℕ) (j : ℕ) → suc j < length xs

@@ -1,6 +1,5 @@
 -- Saved forms of documents with costs.
-use Rattle.vers_saved.proofs.Names.{◌≡◌, ℕ, ◌-◌, ◌*◌, ◌/◌, ◌<◌, ◌≤◌, List, ◌++◌, length, get_or, take, drop, sym, ap, subst, ◌∙◌, inl, inr, arith, All, IsStrictlyIncreasing, cases_lt, get_or_append_left, get_or-append_right, get_or_past, take_at, take-append-drop, length-append, length-take, each_next-rising, POSTING_LISTS, posting_words, IsWhole}
-use Rattle.std.proofs.lemmas.List.Elements.{All-get_or}
+use Rattle.vers_saved.proofs.Names.{◌≡◌, ℕ, ◌-◌, ◌*◌, ◌/◌, ◌<◌, ◌≤◌, List, ◌++◌, length, get_or, take, drop, sym, ap, subst, ◌∙◌, inl, inr, arith, All, IsStrictlyIncreasing, cases_lt, get_or_append_left, get_or-append_right, get_or_past, take_at, take-append-drop, length-append, length-take, each_next-rising, POSTING_LISTS, posting_words, IsWhole, All-get_or}
 use Rattle.postings.specs.Posted.{Posted, ArePaired}
 use Rattle.vers_saved.proofs.WordBytes.{AreWords, fit_append}
 use Rattle.vers_saved.proofs.Shapes.{bounds_are, within_bounds}
@@ -31,7 +30,7 @@ pub whole_postings : (posted : Posted) → length posted.documents ≤ 549755813
 whole_postings posted few paired fit =
     let long : length (posting_words posted) ≡ 2 * length posted.documents = length-posting posted paired in
     record {
-      may = within_bounds POSTING_LISTS (length posted.documents) 128 (omega arith) (omega arith) (omega arith) few (omega arith);
+      may = within_bounds POSTING_LISTS (length posted.documents) 128 (omega (arith, few));
       counted = omega (arith, long);
       fit = fit_append posted.documents posted.costs (documents_fit posted.documents paired.numbers) fit;
       padded = inl (omega arith);

@@ -1,8 +1,5 @@
 -- What a reader had at first, by what was read of it.
-use Rattle.vers_saved.proofs.Names.{◌≡◌, ℕ, ◌+◌, ◌*◌, ◌<◌, ◌≤◌, List, [], ◌∷◌, ◌++◌, length, get_or, take, drop, Option, Some, None, refl, sym, ap, subst, ◌∙◌, inl, inr, append_assoc, arith, Consumes, prepend_known, set, take-add, append-nil, length-append, get_or_append_left, limb_count, Kind, LoadError, TooShort, BadLength, bytes_of, words_of, saved, saved_size, first_failing, head_tests, body_tests, tests_of, fault_of, bits_said, item_bits, words_among, IsWhole, IsRefused, Consumes-trans}
-use Rattle.std.specs.Prelude.{IfSome, ◌⊎◌}
-use Rattle.std.specs.Io.KnownBytes.{IsAtEnd}
-use Rattle.vers_saved.specs.declared.fault.LoadError.TheVariants.{Read, Memory}
+use Rattle.vers_saved.proofs.Names.{◌≡◌, ℕ, ◌+◌, ◌*◌, ◌<◌, ◌≤◌, List, [], ◌∷◌, ◌++◌, length, get_or, take, drop, Option, Some, None, refl, sym, ap, subst, ◌∙◌, inl, inr, append_assoc, arith, Consumes, prepend_known, set, take-add, append-nil, length-append, get_or_append_left, limb_count, Kind, LoadError, TooShort, BadLength, bytes_of, words_of, saved, saved_size, first_failing, head_tests, body_tests, tests_of, fault_of, bits_said, item_bits, words_among, IsWhole, IsRefused, Consumes-trans, IfSome, ◌⊎◌, IsAtEnd, Read, Memory}
 use Rattle.vers_saved.proofs.WordBytes.{AreWords, length-bytes_of, words_of-bytes_of, words_first, fit_append}
 use Rattle.vers_saved.proofs.Forms.{loaded_words}
 use Rattle.vers_saved.proofs.Tests.{fault_is, few_bytes, bad_head, too_short, too_long, by_body}
@@ -45,19 +42,13 @@ filled_more old mid new first after filled n c front d =
     (Consumes-trans old mid new (take filled first) (take n (drop filled after)) c d)
 
 -- what a head says is said by its words alone
-same_head : (kind : Kind) (ws more : List ℕ) → 5 ≤ length ws → head_tests kind (ws ++ more) ≡ head_tests kind ws
-same_head kind (a ∷ b ∷ c ∷ d ∷ e ∷ ws) more h = refl
+same_head : (kind : Kind) (ws more : List ℕ) → 5 ≤ length ws → (head_tests kind (ws ++ more) ≡ head_tests kind ws) × (bits_said kind (ws ++ more) ≡ bits_said kind ws)
+same_head kind (a ∷ b ∷ c ∷ d ∷ e ∷ ws) more h = (refl, refl)
 same_head kind _ more h = absurd (omega arith)
 
-same_said : (kind : Kind) (ws more : List ℕ) → 5 ≤ length ws → bits_said kind (ws ++ more) ≡ bits_said kind ws
-same_said kind (a ∷ b ∷ c ∷ d ∷ e ∷ ws) more h = refl
-same_said kind _ more h = absurd (omega arith)
-
-head_holds : (kind : Kind) (ws rest : List ℕ) → AreWords ws → 5 ≤ length ws → first_failing (head_tests kind (words_of (bytes_of ws ++ rest))) ≡ first_failing (head_tests kind ws)
-head_holds kind ws rest fit long = ap (λ l. first_failing (head_tests kind l)) (words_first ws rest fit) ∙ ap first_failing (same_head kind ws (words_of rest) long)
-
-said_holds : (kind : Kind) (ws rest : List ℕ) → AreWords ws → 5 ≤ length ws → bits_said kind (words_of (bytes_of ws ++ rest)) ≡ bits_said kind ws
-said_holds kind ws rest fit long = ap (bits_said kind) (words_first ws rest fit) ∙ same_said kind ws (words_of rest) long
+head_holds : (kind : Kind) (ws rest : List ℕ) → AreWords ws → 5 ≤ length ws
+    → (first_failing (head_tests kind (words_of (bytes_of ws ++ rest))) ≡ first_failing (head_tests kind ws)) × (bits_said kind (words_of (bytes_of ws ++ rest)) ≡ bits_said kind ws)
+head_holds kind ws rest fit long = let same = same_head kind ws (words_of rest) long in rw (words_first ws rest fit) (ap first_failing same.0, same.1)
 
 -- a reader that had fewer bytes than a head and a sum
 pub ended_early : (kind : Kind) (old new : Option (List ℕ)) (text : List ℕ) → Consumes old new text → IsAtEnd new → length text < 48
@@ -72,7 +63,7 @@ head_fault kind old new ws e fit long c bad =
     known old new (bytes_of ws) (λ bytes. fault_of kind bytes ≡ Some e) c (λ rest.
     let all : List ℕ = bytes_of ws ++ rest in
     let many : 48 ≤ length (bytes_of ws ++ rest) = omega (arith, length-append (bytes_of ws) rest, length-bytes_of ws) in
-    fault_is kind all ∙ bad_head kind (length all) (words_of all) e many (head_holds kind ws rest fit (omega arith) ∙ bad))
+    fault_is kind all ∙ bad_head kind (length all) (words_of all) e many ((head_holds kind ws rest fit (omega arith)).0 ∙ bad))
 
 -- one that had fewer bytes than its head says
 pub ended_short : (kind : Kind) (n : ℕ) (old new : Option (List ℕ)) (ws text : List ℕ) → AreWords ws → length ws ≡ 6 → first_failing (head_tests kind ws) ≡ None
@@ -81,9 +72,9 @@ pub ended_short : (kind : Kind) (n : ℕ) (old new : Option (List ℕ)) (ws text
 ended_short kind n old new ws text fit long none said c e few =
     let all : List ℕ = bytes_of ws ++ text in
     let many : length (bytes_of ws ++ text) ≡ 8 * length ws + length text = omega (arith, length-append (bytes_of ws) text, length-bytes_of ws) in
-    let size : saved_size (bits_said kind (words_of (bytes_of ws ++ text))) ≡ saved_size n = ap saved_size (said_holds kind ws text fit (omega arith) ∙ sym said) in
+    let size : saved_size (bits_said kind (words_of (bytes_of ws ++ text))) ≡ saved_size n = ap saved_size ((head_holds kind ws text fit (omega arith)).1 ∙ sym said) in
     behind old (bytes_of ws) (λ bytes. fault_of kind bytes ≡ Some TooShort) (known_end old new text (λ l. fault_of kind (bytes_of ws ++ l) ≡ Some TooShort) c e
-    (fault_is kind all ∙ too_short kind (length all) (words_of all) (omega arith) (head_holds kind ws text fit (omega arith) ∙ none) (omega arith)))
+    (fault_is kind all ∙ too_short kind (length all) (words_of all) (omega arith) ((head_holds kind ws text fit (omega arith)).0 ∙ none) (omega arith)))
 
 -- one that had more
 pub goes_on : (kind : Kind) (n : ℕ) (old mid new : Option (List ℕ)) (ws more text : List ℕ) → AreWords ws → length ws ≡ 6 → first_failing (head_tests kind ws) ≡ None
@@ -94,19 +85,19 @@ goes_on kind n old mid new ws more text fit long none said c exact d some =
     let tail : List ℕ = (bytes_of more ++ text) ++ rest in
     let all : List ℕ = bytes_of ws ++ ((bytes_of more ++ text) ++ rest) in
     let size : saved_size (bits_said kind (words_of (bytes_of ws ++ ((bytes_of more ++ text) ++ rest)))) ≡ saved_size n =
-    ap saved_size (said_holds kind ws ((bytes_of more ++ text) ++ rest) fit (omega arith) ∙ sym said) in
+    ap saved_size ((head_holds kind ws ((bytes_of more ++ text) ++ rest) fit (omega arith)).1 ∙ sym said) in
     let many : 8 * (length ws + length more) + length text ≤ length (bytes_of ws ++ ((bytes_of more ++ text) ++ rest)) =
     omega (arith, length-append (bytes_of ws) ((bytes_of more ++ text) ++ rest), length-append (bytes_of more ++ text) rest, length-append (bytes_of more) text, length-bytes_of ws, length-bytes_of more) in
-    fault_is kind all ∙ too_long kind (length all) (words_of all) (omega (arith, length-append ws more)) (head_holds kind ws tail fit (omega arith) ∙ none) (omega (arith, length-append ws more))))
+    fault_is kind all ∙ too_long kind (length all) (words_of all) (omega (arith, length-append ws more)) ((head_holds kind ws tail fit (omega arith)).0 ∙ none) (omega (arith, length-append ws more))))
 
 -- bytes that are as many as the head says have the fault of what comes after it
 rest_tells : (kind : Kind) (n : ℕ) (ws more : List ℕ) → AreWords (ws ++ more) → 5 ≤ length ws → first_failing (head_tests kind ws) ≡ None
     → n ≡ bits_said kind ws → length (ws ++ more) ≡ limb_count n + 6 → fault_of kind (bytes_of (ws ++ more)) ≡ first_failing (body_tests kind.order n (ws ++ more))
 rest_tells kind n ws more fit long none said exact =
     let words : words_of (bytes_of (ws ++ more)) ≡ ws ++ more = words_of-bytes_of (ws ++ more) fit in
-    let is : bits_said kind (ws ++ more) ≡ n = same_said kind ws more long ∙ sym said in
+    let is : bits_said kind (ws ++ more) ≡ n = (same_head kind ws more long).1 ∙ sym said in
     fault_is kind (bytes_of (ws ++ more)) ∙ ap (λ l. first_failing (tests_of kind (length (bytes_of (ws ++ more))) l)) words
-    ∙ by_body kind (length (bytes_of (ws ++ more))) (ws ++ more) (ap first_failing (same_head kind ws more long) ∙ none)
+    ∙ by_body kind (length (bytes_of (ws ++ more))) (ws ++ more) (ap first_failing (same_head kind ws more long).0 ∙ none)
     (omega (arith, length-bytes_of (ws ++ more), ap saved_size is))
     ∙ ap (λ m. first_failing (body_tests kind.order m (ws ++ more))) is
 

@@ -1,5 +1,4 @@
-use Rattle.vers_saved.proofs.Names.{◌≡◌, length, ap, arith, pack}
-use Rattle.std.proofs.lemmas.Result.{IfOk-at_ok}
+use Rattle.vers_saved.proofs.Names.{◌≡◌, length, ap, arith, pack, IfOk-at_ok}
 use Rattle.vers_saved.proofs.LimbLists.{length-pack}
 use Rattle.vers_saved.proofs.form.first_bits.Goals as goal
 

@@ -6,7 +6,7 @@ use Rattle.vers_saved.proofs.form.form_of.Goals as goal
 
 pub returns-in_err-head-clause-back : goal.returns-in_err-head-clause-back
 returns-in_err-head-clause-back g c = λ count width words whole e.
-    let none = no_fault_back c.args.kind c.args.bytes.now count width words (omega arith, omega arith, omega arith) whole e in
+    let none = no_fault_back c.args.kind c.args.bytes.now count width words (omega arith) whole e in
     cc (c.in_err-head.ensures.fault)
 
 pub tested_words-requires : goal.tested_words-requires
@@ -22,7 +22,7 @@ pub returns-in_err-words-clause-back : goal.returns-in_err-words-clause-back
 returns-in_err-words-clause-back g c = λ count width words whole e.
     let refused = told_of c.args.kind c.args.bytes.now c.in_ok-head.head.bits c.in_err-words.field-0.0 c.as_chunks.result.0.now c.as_chunks.ensures.front c.in_ok-head.ensures.body c.in_err-words.ensures.refused in
     let memory = memory_alone (fault_of c.args.kind c.args.bytes.now) c.in_err-words.field-0.0 refused
-    (no_fault_back c.args.kind c.args.bytes.now count width words (omega arith, omega arith, omega arith) whole e) in
+    (no_fault_back c.args.kind c.args.bytes.now count width words (omega arith) whole e) in
     search (rules, memory)
 
 pub returns : goal.returns
@@ -40,5 +40,5 @@ returns g c =
       none = none;
       err = tt;
       back = λ count width words whole e.
-          one_form c.args.kind c.args.bytes.now h.count h.width count width c.in_ok-words.words.items words (omega arith, omega arith, omega arith) p.1 whole p.0 e;
+          one_form c.args.kind c.args.bytes.now h.count h.width count width c.in_ok-words.words.items words (omega arith) p.1 whole p.0 e;
     }

@@ -1,5 +1,4 @@
-use Rattle.vers_saved.proofs.Names.{◌≡◌, ◌+◌, ◌++◌, ◌∙◌, length, sym, ap, arith, rules, Some, length-append, prepend_known, limb_count, bytes_of, first_failing, body_tests, fault_of, IsRefused}
-use Rattle.std.proofs.lemmas.Result.{IfErr-weaker, on_ok_weaker}
+use Rattle.vers_saved.proofs.Names.{◌≡◌, ◌+◌, ◌++◌, ◌∙◌, length, sym, ap, arith, rules, Some, length-append, prepend_known, limb_count, bytes_of, first_failing, body_tests, fault_of, IsRefused, IfErr-weaker, on_ok_weaker}
 use Rattle.vers_saved.proofs.ReadForms.{stopped_early, not_ended, ended_short, goes_on, parts_tell, rest_fault, then_none}
 use Rattle.vers_saved.proofs.gather.gather_body.Goals as goal
 

@@ -1,5 +1,4 @@
-use Rattle.vers_saved.proofs.Names.{◌≡◌, ◌++◌, ◌∙◌, sym, ap, subst, inr, arith, Some, Consumes, bytes_of, first_failing, head_tests, AreWords, IsRefused}
-use Rattle.std.proofs.lemmas.Result.{IfErr-weaker}
+use Rattle.vers_saved.proofs.Names.{◌≡◌, ◌++◌, ◌∙◌, sym, ap, subst, inr, arith, Some, Consumes, bytes_of, first_failing, head_tests, AreWords, IsRefused, IfErr-weaker}
 use Rattle.vers_saved.proofs.ReadForms.{stopped_early, ended_early, head_fault}
 use Rattle.vers_saved.proofs.gather.gather_head.Goals as goal
 
