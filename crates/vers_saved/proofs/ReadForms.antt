@@ -5,29 +5,26 @@ use Rattle.vers_saved.proofs.Forms.{loaded_words}
 use Rattle.vers_saved.proofs.Tests.{fault_is, few_bytes, bad_head, too_short, too_long, by_body}
 use Rattle.vers_saved.proofs.Sums.{bytes_of-append}
 
--- what was read is a beginning of what there was
+-- what there was before a first part was read
+pub before : (old new : Option (List ℕ)) (text : List ℕ) (P : List ℕ → Type 0) → Consumes old new text → IfSome (prepend_known text new) P → IfSome old P
+before None new text P h p = tt
+before (Some xs) None text P h p = absurd h
+before (Some xs) (Some ys) text P h p = subst P (sym h) p
+
+-- what was read is a beginning of it
 pub known : (old new : Option (List ℕ)) (text : List ℕ) (P : List ℕ → Type 0) → Consumes old new text → ((rest : List ℕ) → P (text ++ rest)) → IfSome old P
-known None new text P h f = tt
-known (Some xs) None text P h f = absurd h
-known (Some xs) (Some ys) text P h f = subst P (sym h) (f ys)
+known old new text P h f = before old new text P h (elim new as (λ o. IfSome (prepend_known text o) P) [ None ↦ tt | Some ys ↦ f ys ])
 
 -- and at the end all of it
 pub known_end : (old new : Option (List ℕ)) (text : List ℕ) (P : List ℕ → Type 0) → Consumes old new text → IsAtEnd new → P text → IfSome old P
-known_end None new text P h e p = tt
-known_end (Some xs) None text P h e p = absurd h
-known_end (Some xs) (Some ys) text P h e p = subst P (sym (h ∙ ap (λ l. text ++ l) e ∙ append-nil text)) p
+known_end old None text P h e p = before old None text P h tt
+known_end old (Some ys) text P h e p = before old (Some ys) text P h (subst P (sym (ap (λ l. text ++ l) e ∙ append-nil text)) p)
 
 -- the words of a head, and the one behind them
 pub six_words : (ws rest : List ℕ) (a b c d e f : ℕ) → length ws ≡ 6 → a ≡ get_or ws 0 a → b ≡ get_or ws 1 b → c ≡ get_or ws 2 c → d ≡ get_or ws 3 d → e ≡ get_or ws 4 e
     → f ≡ get_or ws 5 f → rest ≡ take 1 (set ws 0 f) → a ∷ b ∷ c ∷ d ∷ e ∷ rest ≡ ws
 six_words (u ∷ v ∷ w ∷ x ∷ y ∷ z ∷ []) rest a b c d e f six p q r s t o is = cc
 six_words _ rest a b c d e f six p q r s t o is = absurd (omega arith)
-
--- what there was before a first part was read
-pub before : (old new : Option (List ℕ)) (text : List ℕ) (P : List ℕ → Type 0) → Consumes old new text → IfSome (prepend_known text new) P → IfSome old P
-before None new text P h p = tt
-before (Some xs) None text P h p = absurd h
-before (Some xs) (Some ys) text P h p = subst P (sym h) p
 
 -- what holds of what comes after a first part
 behind : (old : Option (List ℕ)) (first : List ℕ) (P : List ℕ → Type 0) → IfSome old (λ l. P (first ++ l)) → IfSome (prepend_known first old) P
@@ -110,21 +107,12 @@ refused_none kind left bytes e is none (inl read) = inl read
 refused_none kind left bytes e is none (inr (inl memory)) = inr memory
 refused_none kind left bytes e is none (inr (inr some)) = let here : fault_of kind bytes ≡ Some e = at_some left bytes (λ b. fault_of kind b ≡ Some e) is some in cc
 
--- why a reader of which a part was to be gathered did not give it
-pub stopped_early : (kind : Kind) (left : Option (List ℕ)) (e : LoadError) → (e ≡ TooShort) ⊎ ((e ≡ Memory) ⊎ (e ≡ Read))
-    → (e ≡ TooShort → IfSome left (λ bytes. fault_of kind bytes ≡ Some TooShort)) → IsRefused kind left e
-stopped_early kind left e (inl is) short = inr (inr (subst (λ f. IfSome left (λ bytes. fault_of kind bytes ≡ Some f)) (sym is) (short is)))
-stopped_early kind left e (inr (inl memory)) short = inr (inl memory)
-stopped_early kind left e (inr (inr read)) short = inl read
-
-pub not_ended : (kind : Kind) (left : Option (List ℕ)) (e : LoadError) → (e ≡ BadLength) ⊎ (e ≡ Read)
-    → (e ≡ BadLength → IfSome left (λ bytes. fault_of kind bytes ≡ Some BadLength)) → IsRefused kind left e
-not_ended kind left e (inl is) long = inr (inr (subst (λ f. IfSome left (λ bytes. fault_of kind bytes ≡ Some f)) (sym is) (long is)))
-not_ended kind left e (inr read) long = inl read
-
--- nothing was read at the end
-pub then_none : (old mid new : Option (List ℕ)) (text : List ℕ) → Consumes old mid text → Consumes mid new [] → Consumes old new text
-then_none old mid new text c d = subst (Consumes old new) (append-nil text) (Consumes-trans old mid new text [] c d)
+-- why a reader of which a part was to be gathered did not give it: the bytes have that fault, or memory or the reader failed
+pub not_gathered : (kind : Kind) (left : Option (List ℕ)) (e f : LoadError) → (e ≡ f) ⊎ ((e ≡ Memory) ⊎ (e ≡ Read))
+    → (e ≡ f → IfSome left (λ bytes. fault_of kind bytes ≡ Some f)) → IsRefused kind left e
+not_gathered kind left e f (inl is) bad = inr (inr (subst (λ f. IfSome left (λ bytes. fault_of kind bytes ≡ Some f)) (sym is) (bad is)))
+not_gathered kind left e f (inr (inl memory)) bad = inr (inl memory)
+not_gathered kind left e f (inr (inr read)) bad = inl read
 
 -- what a head and the words after it tell, of which one was read with the head
 pub parts_tell : (kind : Kind) (n : ℕ) (head first more after rest : List ℕ) → rest ≡ after → AreWords head → AreWords rest → length head ≡ 5 → length first ≡ 1
