@@ -1,7 +1,7 @@
 -- The names of specs/ and of other crates that proofs use.
 pub use Rattle.std.proofs.Common.{Bool, List, Some, [], ap, arith, cond, drop, eqb, false, get_or, inl, inr, leb, length, ltb, map, max, min, not, refl, reverse, rules, set, subst, suc, sym, take, true, true≢false, zero, ℕ, ◌%◌, ◌&&◌, ◌*◌, ◌++◌, ◌+◌, ◌-◌, ◌/◌, ◌<◌, ◌^◌, ◌||◌, ◌∙◌, ◌∷◌, ◌≡◌, ◌≤◌}
 pub use Rattle.std.proofs.Math.Bool.{and_comm}
-pub use Rattle.std.proofs.Math.Nat.{mod-eq_of_lt, mul-le-mul, mul-le-mul_right, one-le-pow, pow-le-pow_right}
+pub use Rattle.std.proofs.Math.Nat.{lt_of_mul-lt-mul_right, mod-eq_of_lt, mul-div_cancel, mul-le-mul, mul-le-mul_right, mul-mod_left, one-le-pow, pow-le-pow_right}
 pub use Rattle.std.proofs.Math.Seq.{drop-cons, drop-length}
 pub use Rattle.std.proofs.lemmas.Bool.{and_from, and_left, and_parts, and_right, cases_Bool, cases_eq, cases_lt, cases_order, eq-eqb, eqb-false, eqb-true, false_from_ne_true, false≢true, le-leb, le-ltb, leb-true, lt-leb, lt-ltb, ltb-false, ltb-true, ne_eqb}
 pub use Rattle.std.proofs.lemmas.Bool.Decides.{Decides-eqb, nat_tests}
@@ -19,7 +19,7 @@ pub use Rattle.std.proofs.lemmas.Option.{cond_some, get_or_from_slice_get, slice
 pub use Rattle.std.specs.Int.{div_ceil}
 pub use Rattle.std.specs.List.{AllPairs, count_by, insert, position_or_len, prefix_len, range_with_len}
 pub use Rattle.std.specs.List.Sorted.{IsNonDecreasing, IsNonDecreasingBy, IsPermutation, IsStrictlyIncreasing}
-pub use Rattle.std.specs.Prelude.{All, Contains, filter, slice_get, slice_index_or, slice_range, ◌↔◌}
+pub use Rattle.std.specs.Prelude.{All, Contains, filter, slice_get, slice_index_or, slice_range, ◌↔◌, ◌⊎◌}
 pub use Rattle.text_index.specs.Makers.{count_reads, pattern_reads, place_reads, step_reads, symbols_of}
 pub use Rattle.text_index.specs.Sizes.{greatest, kept_rows, number_width, packed_size}
 pub use Rattle.text_index.specs.Texts.{IsSuffixOrder, is_kept, row_of, symbols_before}
