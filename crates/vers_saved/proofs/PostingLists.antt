@@ -21,21 +21,18 @@ documents_fit documents all k = elim (cases_lt k (length documents)) [
   | inr past ↦ rw (get_or_past documents k 0 past) (omega arith)
 ]
 
--- the first half of the words are the documents
-first_half : (posted : Posted) → ArePaired posted → take (length (posting_words posted) / 2) (posting_words posted) ≡ posted.documents
-first_half posted paired = take_at posted.documents posted.costs (length (posting_words posted) / 2) (omega (arith, length-posting posted paired))
-
 pub whole_postings : (posted : Posted) → length posted.documents ≤ 549755813760 → ArePaired posted → AreWords posted.costs
     → IsWhole POSTING_LISTS (length posted.documents) 128 (posting_words posted)
 whole_postings posted few paired fit =
     let long : length (posting_words posted) ≡ 2 * length posted.documents = length-posting posted paired in
+    let first = take_at posted.documents posted.costs (length (posting_words posted) / 2) (omega (arith, long)) in
     record {
       may = within_bounds POSTING_LISTS (length posted.documents) 128 (omega (arith, few));
       counted = omega (arith, long);
       fit = fit_append posted.documents posted.costs (documents_fit posted.documents paired.numbers) fit;
       padded = inl (omega arith);
       ordered = (each_next-rising (take (length (posting_words posted) / 2) (posting_words posted))).1
-          (subst IsStrictlyIncreasing (sym (first_half posted paired)) paired.ascending);
+          (subst IsStrictlyIncreasing (sym first) paired.ascending);
     }
 
 pub postings_shape : (c w : ℕ) (words : List ℕ) → IsWhole POSTING_LISTS c w words → (length words ≡ 2 * c) × (c ≤ 549755813760) × (128 ≡ w)

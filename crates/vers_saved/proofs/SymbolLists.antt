@@ -213,8 +213,6 @@ answered items w n j queries answers few h is_place is =
 pub answer_at : (queries : List GetQuery) (j : ℕ) (d : GetQuery) → j < length queries → (get_or queries j d).answer ≡ get_or (map (λ q. q.answer) queries) j None
 answer_at queries j d h = sym (get_or-map (λ (q : GetQuery). q.answer) queries j d None h)
 
-pub ruleset reading = (answer_at)
-
 -- the symbol that was found, or zero past the end
 pub given_symbol : (items : List ℕ) (p : ℕ) → unwrap_or (slice_get items p) 0 ≡ get_or items p 0
 given_symbol items p = elim (cases_lt p (length items)) [
