@@ -142,21 +142,15 @@ refused_before kind old new text e c (inl read) = inl read
 refused_before kind old new text e c (inr (inl memory)) = inr (inl memory)
 refused_before kind old new text e c (inr (inr some)) = inr (inr (before old new text (λ bytes. fault_of kind bytes ≡ Some e) c some))
 
--- what was gathered, where it has no fault
-pub gathered_is : (kind : Kind) (count width n : ℕ) (all words : List ℕ) → AreWords all → fault_of kind (bytes_of all) ≡ None → count ≡ get_or all 4 0 → width ≡ get_or all 3 0
-    → n ≡ count * item_bits kind width → words ≡ words_among n all → (bytes_of all ≡ saved kind.number count width words) × IsWhole kind count width words
-gathered_is kind count width n all words fit none is_count is_width is_n are_words =
-    loaded_words kind count width n all words fit
-    (ap (λ m. first_failing (tests_of kind m all)) (sym (length-bytes_of all)) ∙ ap (λ l. first_failing (tests_of kind (length (bytes_of all)) l)) (sym (words_of-bytes_of all fit)) ∙ sym (fault_is kind (bytes_of all)) ∙ none)
-    is_count is_width is_n are_words
-
 -- a reader of a head and of what comes after it, up to its end
 pub form_gathered : (kind : Kind) (count width n : ℕ) (old mid new : Option (List ℕ)) (ws more all words : List ℕ) → Consumes old mid (bytes_of ws) → length ws ≡ 6
     → Consumes mid new (bytes_of more) → IsAtEnd new → all ≡ ws ++ more → AreWords all → fault_of kind (bytes_of all) ≡ None → count ≡ get_or ws 4 0 → width ≡ get_or ws 3 0
     → n ≡ count * item_bits kind width → words ≡ words_among n all
     → IfSome old (λ bytes. bytes ≡ saved kind.number count width words) × IsWhole kind count width words
 form_gathered kind count width n old mid new ws more all words c long d end is fit none is_count is_width is_n are_words =
-    let p = gathered_is kind count width n all words fit none (is_count ∙ sym (ap (λ l. get_or l 4 0) is ∙ get_or_append_left ws more 0 4 (omega arith)))
+    let passed = sym (ap (λ m. first_failing (tests_of kind m all)) (length-bytes_of all)) ∙ ap (λ l. first_failing (tests_of kind (length (bytes_of all)) l)) (sym (words_of-bytes_of all fit))
+    ∙ sym (fault_is kind (bytes_of all)) ∙ none in
+    let p = loaded_words kind count width n all words fit passed (is_count ∙ sym (ap (λ l. get_or l 4 0) is ∙ get_or_append_left ws more 0 4 (omega arith)))
     (is_width ∙ sym (ap (λ l. get_or l 3 0) is ∙ get_or_append_left ws more 0 3 (omega arith))) is_n are_words in (
       known_end old new (bytes_of ws ++ bytes_of more) (λ bytes. bytes ≡ saved kind.number count width words) (Consumes-trans old mid new (bytes_of ws) (bytes_of more) c d) end
           (sym (bytes_of-append ws more) ∙ ap bytes_of (sym is) ∙ p.0),

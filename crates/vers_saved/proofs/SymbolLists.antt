@@ -76,9 +76,7 @@ packed_from : (bits : List Bool) (k a m : ℕ) → (a + m) * k ≤ length bits
     → pack (map (λ e. number (part bits (e * k) k)) (range_with_len a m)) k ≡ take (m * k) (drop (a * k) bits)
 packed_from bits k a zero h = let none : 0 * k ≡ 0 = omega arith in sym (ap (λ p. take p (drop (a * k) bits)) none)
 packed_from bits k a (suc m) h =
-    let all : (a + suc m) * k ≡ a * k + (k + m * k) = grind arith in
     let next : (a + 1) * k ≡ a * k + k = grind arith in
-    let rest : (a + 1 + m) * k ≡ a * k + (k + m * k) = grind arith in
     let more : suc m * k ≡ k + m * k = grind arith in
     let first : low_bits (number (part bits (a * k) k)) k ≡ take k (drop (a * k) bits) = low_bits_of_part bits (a * k) k (omega arith) in
     let others : pack (map (λ e. number (part bits (e * k) k)) (range_with_len (a + 1) m)) k ≡ take (m * k) (drop k (drop (a * k) bits)) =
@@ -93,12 +91,9 @@ whole_many n k count some e = ap (λ m. m / k) e ∙ mul-div_cancel count some
 pub pack-packed_symbols : (bits : List Bool) (k count : ℕ) → 1 ≤ k → length bits ≡ count * k → pack (packed_symbols bits k) k ≡ bits
 unfolding packed_symbols
 pack-packed_symbols bits k count some e =
-    let many : length bits / k ≡ count = whole_many (length bits) k count some e in
+    let all : length bits / k * k ≡ length bits = ap (λ m. m * k) (whole_many (length bits) k count some e) ∙ sym e in
     let none : 0 * k ≡ 0 = omega arith in
-    let all : 0 + count ≡ count = omega arith in
-    ap (λ m. pack (map (λ e. number (part bits (e * k) k)) (range_with_len 0 m)) k) many
-    ∙ packed_from bits k 0 count (omega (arith, ap (λ m. m * k) all))
-    ∙ ap (λ p. take (count * k) (drop p bits)) none ∙ take_all (count * k) bits (omega arith)
+    packed_from bits k 0 (length bits / k) (omega (arith, all)) ∙ ap (λ p. take (length bits / k * k) (drop p bits)) none ∙ take_all (length bits / k * k) bits (omega (arith, all))
 
 pub length-packed_symbols : (bits : List Bool) (k count : ℕ) → 1 ≤ k → length bits ≡ count * k → length (packed_symbols bits k) ≡ count
 unfolding packed_symbols
