@@ -85,7 +85,8 @@ goes_on kind n old mid new ws more text fit long none said c exact d some =
     ap saved_size ((head_holds kind ws ((bytes_of more ++ text) ++ rest) fit (omega arith)).1 ∙ sym said) in
     let many : 8 * (length ws + length more) + length text ≤ length (bytes_of ws ++ ((bytes_of more ++ text) ++ rest)) =
     omega (arith, length-append (bytes_of ws) ((bytes_of more ++ text) ++ rest), length-append (bytes_of more ++ text) rest, length-append (bytes_of more) text, length-bytes_of ws, length-bytes_of more) in
-    fault_is kind all ∙ too_long kind (length all) (words_of all) (omega (arith, length-append ws more)) ((head_holds kind ws tail fit (omega arith)).0 ∙ none) (omega (arith, length-append ws more))))
+    fault_is kind all ∙ too_long kind (length all) (words_of all) (omega (arith, length-append ws more))
+    ((head_holds kind ws tail fit (omega arith)).0 ∙ none) (omega (arith, length-append ws more))))
 
 -- bytes that are as many as the head says have the fault of what comes after it
 rest_tells : (kind : Kind) (n : ℕ) (ws more : List ℕ) → AreWords (ws ++ more) → 5 ≤ length ws → first_failing (head_tests kind ws) ≡ None
@@ -148,7 +149,8 @@ pub form_gathered : (kind : Kind) (count width n : ℕ) (old mid new : Option (L
     → n ≡ count * item_bits kind width → words ≡ words_among n all
     → IfSome old (λ bytes. bytes ≡ saved kind.number count width words) × IsWhole kind count width words
 form_gathered kind count width n old mid new ws more all words c long d end is fit none is_count is_width is_n are_words =
-    let passed = sym (ap (λ m. first_failing (tests_of kind m all)) (length-bytes_of all)) ∙ ap (λ l. first_failing (tests_of kind (length (bytes_of all)) l)) (sym (words_of-bytes_of all fit))
+    let passed = sym (ap (λ m. first_failing (tests_of kind m all)) (length-bytes_of all))
+    ∙ ap (λ l. first_failing (tests_of kind (length (bytes_of all)) l)) (sym (words_of-bytes_of all fit))
     ∙ sym (fault_is kind (bytes_of all)) ∙ none in
     let p = loaded_words kind count width n all words fit passed (is_count ∙ sym (ap (λ l. get_or l 4 0) is ∙ get_or_append_left ws more 0 4 (omega arith)))
     (is_width ∙ sym (ap (λ l. get_or l 3 0) is ∙ get_or_append_left ws more 0 3 (omega arith))) is_n are_words in (

@@ -15,7 +15,8 @@ shape_fits kind count width words bounds whole = omega (arith, bounds, bounds_ar
 pub no_fault_back : (kind : Kind) (bytes : List ℕ) (count width : ℕ) (words : List ℕ) → AreBounds kind → IsWhole kind count width words
     → bytes ≡ saved kind.number count width words → fault_of kind bytes ≡ None
 no_fault_back kind bytes count width words bounds whole e =
-    let fits = shape_fits kind count width words bounds whole in ap (fault_of kind) e ∙ saved_has_no_fault kind count width words bounds.0 fits.0 fits.1 whole
+    let fits = shape_fits kind count width words bounds whole in
+    ap (fault_of kind) e ∙ saved_has_no_fault kind count width words bounds.0 fits.0 fits.1 whole
 
 -- one form is of one shape and the same words
 pub one_form : (kind : Kind) (bytes : List ℕ) (c w c' w' : ℕ) (xs ys : List ℕ) → AreBounds kind → IsWhole kind c w xs → IsWhole kind c' w' ys

@@ -95,5 +95,6 @@ unfolding saved with_sum
 same_words k c w c' w' xs ys hk hc hw hc' hw' fx fy e =
     let words : all_words k c w xs ≡ all_words k c' w' ys =
     sym (words_of-bytes_of (all_words k c w xs) (all_fit k c w xs hk hc hw fx)) ∙ ap words_of e ∙ words_of-bytes_of (all_words k c' w' ys) (all_fit k c' w' ys hk hc' hw' fy) in
-    let same : head k c w ++ xs ≡ head k c' w' ++ ys = (same_from_push (head k c w ++ xs) (head k c' w' ++ ys) (check_sum (head k c w ++ xs)) (check_sum (head k c' w' ++ ys)) words).0 in
+    let same : head k c w ++ xs ≡ head k c' w' ++ ys =
+    (same_from_push (head k c w ++ xs) (head k c' w' ++ ys) (check_sum (head k c w ++ xs)) (check_sum (head k c' w' ++ ys)) words).0 in
     (cc, cc, cc)

@@ -42,7 +42,8 @@ sparse_fit bits small k = elim (cases_lt k (length (sparse_words bits))) [
 pub whole_sparse : (bits : List Bool) → length bits < 2 ^ 64 → count true bits (length bits) < 288230376151711743 → IsWhole SPARSE_LISTS (length (sparse_words bits)) 64 (sparse_words bits)
 whole_sparse bits small few =
     let long = length-sparse bits in
-    whole_numbers SPARSE_LISTS (sparse_words bits) refl (within_bounds SPARSE_LISTS (length (sparse_words bits)) 64 (omega (arith, long))) (sparse_fit bits small) ((each_next-rising (sparse_words bits)).1 (sparse_rises bits))
+    whole_numbers SPARSE_LISTS (sparse_words bits) refl (within_bounds SPARSE_LISTS (length (sparse_words bits)) 64 (omega (arith, long)))
+    (sparse_fit bits small) ((each_next-rising (sparse_words bits)).1 (sparse_rises bits))
 
 pub sparse_shape : (c w : ℕ) (words : List ℕ) → IsWhole SPARSE_LISTS c w words → (c ≡ length words) × (1 ≤ length words) × (64 ≡ w) × (c ≤ 288230376151711743)
 sparse_shape c w words whole =

@@ -24,7 +24,8 @@ part_number : (items : List ℕ) (w q r n m : ℕ) → q < length items → w �
 part_number items w q r n m h is =
     let bits : List Bool = drop (q * w) (pack items w) in
     let all : take (r + (n + m)) bits ≡ low_bits (get_or items q 0) (r + (n + m)) = ap (λ k. take k bits) (sym is) ∙ element items w q h ∙ ap (low_bits (get_or items q 0)) is in
-    ap number (ap (take n) (sym (drop-drop r (q * w) (pack items w))) ∙ sym (take-take n (n + m) (drop r bits) (omega arith)) ∙ ap (take n) (sym (drop-take r (n + m) bits))
+    ap number (ap (take n) (sym (drop-drop r (q * w) (pack items w))) ∙ sym (take-take n (n + m) (drop r bits) (omega arith))
+    ∙ ap (take n) (sym (drop-take r (n + m) bits))
     ∙ ap (λ l. take n (drop r l)) all ∙ symbol_part (get_or items q 0) r n m) ∙ number-low_bits (get_or items q 0 / 2 ^ r) n
 
 -- the number of bits, by that of the first of them and that of the others
@@ -93,7 +94,8 @@ unfolding packed_symbols
 pack-packed_symbols bits k count some e =
     let all : length bits / k * k ≡ length bits = ap (λ m. m * k) (whole_many (length bits) k count some e) ∙ sym e in
     let none : 0 * k ≡ 0 = omega arith in
-    packed_from bits k 0 (length bits / k) (omega (arith, all)) ∙ ap (λ p. take (length bits / k * k) (drop p bits)) none ∙ take_all (length bits / k * k) bits (omega (arith, all))
+    packed_from bits k 0 (length bits / k) (omega (arith, all))
+    ∙ ap (λ p. take (length bits / k * k) (drop p bits)) none ∙ take_all (length bits / k * k) bits (omega (arith, all))
 
 pub length-packed_symbols : (bits : List Bool) (k count : ℕ) → 1 ≤ k → length bits ≡ count * k → length (packed_symbols bits k) ≡ count
 unfolding packed_symbols
@@ -110,7 +112,8 @@ symbols_fit bits k =
 
 pub whole_symbols : (k : ℕ) (items : List ℕ) → 1 ≤ k → k ≤ 64 → length items * k ≤ 18446744073709551552 → IsWhole SYMBOL_LISTS (length items) k (limbs (pack items k))
 whole_symbols k items some few small =
-    whole_bits SYMBOL_LISTS (length items) k (pack items k) (within_bounds SYMBOL_LISTS (length items) k (omega (arith, some, few, le-mul_of_pos_right (length items) some, small)))
+    whole_bits SYMBOL_LISTS (length items) k (pack items k)
+    (within_bounds SYMBOL_LISTS (length items) k (omega (arith, some, few, le-mul_of_pos_right (length items) some, small)))
     (length-packed_items items k) refl
 
 pub symbols_shape : (count k : ℕ) (words : List ℕ) → IsWhole SYMBOL_LISTS count k words

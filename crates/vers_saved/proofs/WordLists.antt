@@ -11,7 +11,8 @@ whole_numbers kind numbers each may fit ordered =
     record { may = may; counted = omega (arith, all); fit = fit; padded = inl (omega (arith, all)); ordered = ordered }
 
 pub whole_sorted : (members : List ℕ) → length members ≤ 288230376151711743 → AreWords members → IsNonDecreasing members → IsWhole SORTED_LISTS (length members) 64 members
-whole_sorted members few fit up = whole_numbers SORTED_LISTS members refl (within_bounds SORTED_LISTS (length members) 64 (omega (arith, few))) fit ((each_next-ascending members).1 up)
+whole_sorted members few fit up =
+    whole_numbers SORTED_LISTS members refl (within_bounds SORTED_LISTS (length members) 64 (omega (arith, few))) fit ((each_next-ascending members).1 up)
 
 pub whole_table : (items : List ℕ) → length items ≤ 4294967295 → AreWords items → IsWhole TABLE_VALUES (length items) 64 items
 whole_table items few fit = whole_numbers TABLE_VALUES items refl (within_bounds TABLE_VALUES (length items) 64 (omega (arith, few))) fit refl

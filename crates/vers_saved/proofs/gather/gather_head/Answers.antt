@@ -13,4 +13,5 @@ returns-clause-refused g c =
     let is : c.gather.new.words.items ≡ m.gathered.0 = m.gathered.2 ∙ ap (λ l. l ++ m.gathered.0) c.requires.none in
     let read = subst (λ l. Consumes (g.R.Read.remaining c.args.reader.now) (g.R.Read.remaining c.gather.new.reader) (bytes_of l)) (sym is) m.gathered.1 in
     IfErr-weaker c.head_of.result _ (IsRefused c.args.kind.now (g.R.Read.remaining c.args.reader.now))
-    (λ e bad. inr (inr (head_fault c.args.kind.now _ _ c.gather.new.words.items e (subst AreWords c.as_slice.ensures.value c.are_words.ensures) m.len read bad))) c.head_of.ensures.fault
+    (λ e bad. inr (inr (head_fault c.args.kind.now _ _ c.gather.new.words.items e
+    (subst AreWords c.as_slice.ensures.value c.are_words.ensures) m.len read bad))) c.head_of.ensures.fault
