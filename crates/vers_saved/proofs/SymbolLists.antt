@@ -45,13 +45,11 @@ bits_before items w item place end start word symbol new low high above below in
     let from : item * w + (start - item * w) ≡ start = omega arith in
     let to : start + (place - start) ≡ place = omega arith in
     let all : place - start + (end - place) ≡ end - start = omega arith in
-    is_new
-    ∙ ap (λ s. s / 2 ^ (start - item * w) % 2 ^ (place - start) + 2 ^ (place - start) * word) is_symbol
-    ∙ ap (λ v. v + 2 ^ (place - start) * word) (sym (part_number items w item (start - item * w) (place - start) (item * w + w - place) here wide)
-    ∙ ap (λ p. number (take (place - start) (drop p (pack items w)))) from)
-    ∙ ap (λ v. number (take (place - start) (drop start (pack items w))) + 2 ^ (place - start) * v)
-    (is_word ∙ ap (λ p. number (take (end - place) (drop p (pack items w)))) (sym to) ∙ ap (λ l. number (take (end - place) l)) (sym (drop-drop (place - start) start (pack items w))))
-    ∙ sym (number_split (drop start (pack items w)) (place - start) (end - place)) ∙ ap (λ m. number (take m (drop start (pack items w)))) all
+    let first : number (take (place - start) (drop start (pack items w))) ≡ get_or items item 0 / 2 ^ (start - item * w) % 2 ^ (place - start) =
+    rw from at (part_number items w item (start - item * w) (place - start) (item * w + w - place) here wide) in
+    let rest : number (take (end - place) (drop (place - start) (drop start (pack items w)))) ≡ word =
+    rw (drop-drop (place - start) start (pack items w), to) (sym is_word) in
+    rw (is_new, is_symbol, ← first, ← rest, ← all) (sym (number_split (drop start (pack items w)) (place - start) (end - place)))
 
 -- the symbol that the bit before a place lies in
 pub item_of : (p w : ℕ) → 1 ≤ w → 0 < p → ((p - 1) / w * w < p) × (p ≤ (p - 1) / w * w + w)

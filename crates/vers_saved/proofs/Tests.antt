@@ -63,17 +63,14 @@ pub ruleset whole = (fault_is, words_are, few_bytes, bad_head, too_short, too_lo
 pub bad_bytes : (kind : Kind) (bytes : List ℕ) (e : LoadError) (chunks : List (List ℕ)) → chunks ≡ first_chunks 8 (length bytes / 8) bytes → 48 ≤ length bytes
     → first_failing (head_tests kind (map bytes_word chunks)) ≡ Some e → fault_of kind bytes ≡ Some e
 bad_bytes kind bytes e chunks same long bad =
-    fault_is kind bytes ∙ bad_head kind (length bytes) (words_of bytes) e long
-    (ap (λ l. first_failing (head_tests kind l)) (sym (ap (map bytes_word) same ∙ words_are bytes)) ∙ bad)
+    fault_is kind bytes ∙ bad_head kind (length bytes) (words_of bytes) e long (rw (← words_are bytes, ← same) bad)
 
 -- where bytes have the fault of what comes after the head, or memory is lacking
 pub told_of : (kind : Kind) (bytes : List ℕ) (n : ℕ) (e : LoadError) (chunks : List (List ℕ)) → chunks ≡ first_chunks 8 (length bytes / 8) bytes
     → fault_of kind bytes ≡ first_failing (body_tests kind.order n (words_of bytes))
     → (first_failing (body_tests kind.order n (map bytes_word chunks)) ≡ Some e) ⊎ ((e ≡ Memory) × (first_failing (body_tests kind.order n (map bytes_word chunks)) ≡ None))
     → (fault_of kind bytes ≡ Some e) ⊎ ((e ≡ Memory) × (fault_of kind bytes ≡ None))
-told_of kind bytes n e chunks same body =
-    subst (λ o. (o ≡ Some e) ⊎ ((e ≡ Memory) × (o ≡ None)) → (fault_of kind bytes ≡ Some e) ⊎ ((e ≡ Memory) × (fault_of kind bytes ≡ None)))
-    (body ∙ ap (λ l. first_failing (body_tests kind.order n l)) (sym (ap (map bytes_word) same ∙ words_are bytes))) (λ told. told)
+told_of kind bytes n e chunks same body told = rw (body, ← words_are bytes, ← same) told
 
 -- where there is no fault, memory alone can be lacking
 pub memory_alone : (fault : Option LoadError) (e : LoadError) → (fault ≡ Some e) ⊎ ((e ≡ Memory) × (fault ≡ None)) → fault ≡ None → e ≡ Memory
