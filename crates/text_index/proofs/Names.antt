@@ -7,14 +7,14 @@ pub use Rattle.std.proofs.lemmas.Bool.{and_from, and_left, and_parts, and_right,
 pub use Rattle.std.proofs.lemmas.Bool.Decides.{Decides-eqb, nat_tests}
 pub use Rattle.std.proofs.lemmas.Grind.{div_ceil_times}
 pub use Rattle.std.proofs.lemmas.List.{drop-drop, drop-take, drop_min, get_or-drop, get_or-map, get_or-set_other, get_or-set_same, get_or_append_left, get_or_at, get_or_default, get_or_push, length-append, length-drop, length-map, length-set, length-take, map-append, map-id, nil_from_length, reverse-append, reverse-reverse, take-append-drop, take-map, take-take, take_all, take_at, take_more}
-pub use Rattle.std.proofs.lemmas.List.Elements.{All-filter, All-map, All-push, filter-append}
+pub use Rattle.std.proofs.lemmas.List.Elements.{All-map, All-push, filter-append}
 pub use Rattle.std.proofs.lemmas.List.FromFn.{fill_by_all, get_or-map-range_with_len, get_or-range_with_len, length-map-range_with_len, length-range_with_len, map-range_with_len_more}
 pub use Rattle.std.proofs.lemmas.List.Kept.{AllPairs-from_increasing, IsNonDecreasingBy-filter}
 pub use Rattle.std.proofs.lemmas.List.Sorted.{All-permutation, Contains-permutation, IsNonDecreasingBy-from_sort, IsNonDecreasingBy-from_sort_by_key, IsNonDecreasingBy-insert, IsPartitionPoint-from_clause, IsPartitionedBy-ltb, IsPermutation-cons, IsPermutation-insert, IsPermutation-refl, IsPermutation-sym, IsPermutation-trans, length_permutation, sum_by-IsPermutation}
 pub use Rattle.std.proofs.lemmas.List.Sums.{count_by-le-length, count_by_more_no, count_by_more_yes, length-filter, position_or_len_is, prefix_len-le-length, prefix_len_passes, prefix_len_stops, sum_by-cons, sum_by-le-sum_by, sum_by-take-drop, sum_by_more_le}
 pub use Rattle.std.proofs.lemmas.Map.Keys.{IsDistinct-IsPermutation}
 pub use Rattle.std.proofs.lemmas.Map.Made.{AllPairs-from_IsDistinct, IsDistinct-from_AllPairs}
-pub use Rattle.std.proofs.lemmas.Nat.{div-add-mod', div-mul-add, leading_length, mod-mul-add, mod_below, one_shl, pow_below}
+pub use Rattle.std.proofs.lemmas.Nat.{div-add-mod', leading_length, mod-mul-add, mod_below, one_shl, pow_below}
 pub use Rattle.std.proofs.lemmas.Option.{cond_some, get_or_from_slice_get, slice_get_within}
 pub use Rattle.std.specs.Int.{div_ceil}
 pub use Rattle.std.specs.List.{AllPairs, count_by, insert, position_or_len, prefix_len, range_with_len}

@@ -1,5 +1,5 @@
 -- What bytes with no fault hold.
-use Rattle.vers_saved.proofs.Names.{take-add, take_all, take_more, ◌≡◌, ℕ, ◌+◌, ◌-◌, ◌*◌, ◌%◌, ◌^◌, ◌<◌, ◌≤◌, Bool, true, false, List, [], ◌∷◌, ◌++◌, length, get_or, take, drop, refl, sym, ap, ◌∙◌, inl, inr, arith, None, cases_eq, le-leb, nat_tests, take-append-drop, take-take, drop-take, drop_more, limb_count, MAGIC, VERSION, LoadError, bytes_of, words_of, check_sum, head, with_sum, saved, saved_size, Kind, first_failing, takes_width, takes_count, item_bits, is_padded, is_summed, in_order, words_among, bits_said, tests_of, fault_of, EndsPadded, IsWhole, AreWords, eqb-true, leb-true, and_from, drop_all}
+use Rattle.vers_saved.proofs.Names.{take-add, take_all, take_more, ◌≡◌, ℕ, ◌+◌, ◌-◌, ◌*◌, ◌%◌, ◌^◌, ◌<◌, ◌≤◌, Bool, true, false, List, [], ◌∷◌, ◌++◌, length, get_or, take, drop, refl, sym, ap, ◌∙◌, inl, inr, arith, None, cases_eq, le-leb, nat_tests, limb_count, MAGIC, VERSION, LoadError, bytes_of, words_of, check_sum, head, with_sum, saved, saved_size, Kind, first_failing, takes_width, takes_count, item_bits, is_padded, is_summed, in_order, words_among, bits_said, tests_of, fault_of, EndsPadded, IsWhole, AreWords, eqb-true, leb-true, and_from}
 use Rattle.vers_saved.proofs.Orders.{length-words_among, get_or-words_among}
 use Rattle.vers_saved.proofs.WordBytes.{length-words_of, bytes_of-words_of, words_of-fit, fit_take, fit_drop}
 

@@ -1,5 +1,5 @@
 -- The limbs of bits that were made of limbs.
-use Rattle.vers_saved.proofs.Names.{◌≡◌, ℕ, zero, suc, ◌+◌, ◌-◌, ◌*◌, ◌%◌, ◌^◌, ◌<◌, ◌≤◌, Bool, List, [], ◌∷◌, ◌++◌, length, get_or, take, drop, sym, ap, ◌∙◌, inl, inr, arith, cases_lt, cases_eq, get_or_past, same_lists, take_at, drop_at, drop-drop, drop_more, take-take, take_all, drop-take, length-take, length-drop, pow_pos, mod-eq_of_lt, number, low_bits, limb, limbs, limb_count, pack, length-low_bits, number-low_bits, number_below, number-take, length-limbs, length-packed, get_or-limbs, EndsPadded, places, element}
+use Rattle.vers_saved.proofs.Names.{◌≡◌, ℕ, ◌+◌, ◌-◌, ◌*◌, ◌%◌, ◌^◌, ◌<◌, ◌≤◌, Bool, List, length, get_or, take, drop, sym, ap, ◌∙◌, inl, inr, arith, cases_lt, cases_eq, get_or_past, same_lists, take-take, take_all, drop-take, length-take, length-drop, pow_pos, mod-eq_of_lt, number, low_bits, limb, limbs, limb_count, pack, number-low_bits, number_below, number-take, length-limbs, length-packed, get_or-limbs, EndsPadded, places, element}
 use Rattle.vers_saved.proofs.WordBytes.{AreWords}
 
 pub length-pack : (ws : List ℕ) → length (pack ws 64) ≡ 64 * length ws

@@ -1,5 +1,5 @@
 -- The names of specs/ and of other crates that many proofs use.
-pub use Rattle.std.proofs.Common.{Bool, List, [], ap, append_assoc, arith, below_more, cond, drop, false, get_or, get_or-set_other, get_or-set_same, inl, inr, length, max, min, pow-add, refl, rules, subst, suc, sym, take, true, vec_capacity, vec_len, zero, ℕ, ◌%◌, ◌&&◌, ◌*◌, ◌++◌, ◌+◌, ◌-◌, ◌/◌, ◌<◌, ◌^◌, ◌∙◌, ◌∷◌, ◌≡◌, ◌≢◌, ◌≤◌}
+pub use Rattle.std.proofs.Common.{Bool, List, [], ap, append_assoc, arith, below_more, drop, false, get_or, get_or-set_other, get_or-set_same, inl, inr, length, min, pow-add, refl, rules, subst, suc, sym, take, true, vec_capacity, vec_len, zero, ℕ, ◌%◌, ◌&&◌, ◌*◌, ◌++◌, ◌+◌, ◌-◌, ◌/◌, ◌<◌, ◌^◌, ◌∙◌, ◌∷◌, ◌≡◌, ◌≢◌, ◌≤◌}
 pub use Rattle.std.proofs.KnownBytes.{Appends-trans, Consumes-trans}
 pub use Rattle.std.proofs.Math.ListN.{set}
 pub use Rattle.std.proofs.Math.Nat.{div-mul-le_self, le-mul_of_pos_right, lt_of_mul-lt-mul_right, mod-eq-sub-div-mul, mod-eq_of_lt, mul-div_cancel, mul-le-mul_left, mul-le-mul_right, mul-mod_left, pow-le-pow_right}
@@ -8,10 +8,10 @@ pub use Rattle.std.proofs.lemmas.Bool.Decides.{nat_tests}
 pub use Rattle.std.proofs.lemmas.Bool.{and_from, and_parts, cases_eq, cases_lt, eq-eqb, eqb-true, le-leb, leb-true}
 pub use Rattle.std.proofs.lemmas.Grind.{flat_map-append, fold-append}
 pub use Rattle.std.proofs.lemmas.List.Elements.{All-get_or, All-map}
-pub use Rattle.std.proofs.lemmas.List.{append-nil, drop-drop, drop-map, drop-take, drop_all, drop_at, drop_more, flat_map_more, get_or-append_right, get_or-drop, get_or-map, get_or-take, get_or_append_left, get_or_default, get_or_past, get_or_push, length-append, length-drop, length-map, length-set, length-take, length-take-le, map-set, nil_from_length, places, same_from_push, same_lists, take-append-drop, take-map, take-take, take_all, take_at, take_more, take_rest}
+pub use Rattle.std.proofs.lemmas.List.{append-nil, drop-drop, drop-map, drop-take, drop_at, flat_map_more, get_or-append_right, get_or-drop, get_or-map, get_or-take, get_or_append_left, get_or_default, get_or_past, get_or_push, length-append, length-drop, length-map, length-set, length-take, length-take-le, map-set, nil_from_length, places, same_from_push, same_lists, take-append-drop, take-map, take-take, take_all, take_at, take_more, take_rest}
 pub use Rattle.std.proofs.lemmas.Nat.{from_le_bytes-to_le_bytes_8, le_bytes_8, mod_below, mul-mod_first, mul-mod_second, or_lt, or_shifted, pow_pos, shr_le, xor_comm, xor_lt}
 pub use Rattle.std.proofs.lemmas.Option.{slice_get-get_or, slice_get_past}
-pub use Rattle.std.proofs.lemmas.Result.{IfErr-weaker, IfOk-at_ok, IfOk-weaker, on_ok_weaker}
+pub use Rattle.std.proofs.lemmas.Result.{IfErr-weaker, IfOk-weaker, on_ok_weaker}
 pub use Rattle.std.specs.Int.{bit_at, from_le_bytes, rotate_left, w64}
 pub use Rattle.std.specs.Io.KnownBytes.{Appends, Consumes, IsAtEnd, prepend_known}
 pub use Rattle.std.specs.List.Sorted.{IsNonDecreasing, IsStrictlyIncreasing}

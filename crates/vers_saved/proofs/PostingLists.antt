@@ -1,5 +1,5 @@
 -- Saved forms of documents with costs.
-use Rattle.vers_saved.proofs.Names.{◌≡◌, ℕ, ◌-◌, ◌*◌, ◌/◌, ◌<◌, ◌≤◌, List, ◌++◌, length, get_or, take, drop, sym, ap, subst, ◌∙◌, inl, inr, arith, All, IsStrictlyIncreasing, cases_lt, get_or_append_left, get_or-append_right, get_or_past, take_at, take-append-drop, length-append, length-take, each_next-rising, POSTING_LISTS, posting_words, IsWhole, All-get_or}
+use Rattle.vers_saved.proofs.Names.{◌≡◌, ℕ, ◌-◌, ◌*◌, ◌/◌, ◌<◌, ◌≤◌, List, ◌++◌, length, get_or, take, drop, sym, ap, ◌∙◌, inl, inr, arith, All, cases_lt, get_or_append_left, get_or-append_right, get_or_past, take_at, take-append-drop, length-append, length-take, each_next-rising, POSTING_LISTS, posting_words, IsWhole, All-get_or}
 use Rattle.postings.specs.Posted.{Posted, ArePaired}
 use Rattle.vers_saved.proofs.WordBytes.{AreWords, fit_append}
 use Rattle.vers_saved.proofs.Shapes.{bounds_are, within_bounds}
@@ -32,7 +32,7 @@ whole_postings posted few paired fit =
       fit = fit_append posted.documents posted.costs (documents_fit posted.documents paired.numbers) fit;
       padded = inl (omega arith);
       ordered = (each_next-rising (take (length (posting_words posted) / 2) (posting_words posted))).1
-          (subst IsStrictlyIncreasing (sym first) paired.ascending);
+          (rw first paired.ascending);
     }
 
 pub postings_shape : (c w : ℕ) (words : List ℕ) → IsWhole POSTING_LISTS c w words → (length words ≡ 2 * c) × (c ≤ 549755813760) × (128 ≡ w)

@@ -1,5 +1,5 @@
 -- Saved forms of lists of symbols.
-use Rattle.vers_saved.proofs.Names.{number_below, ◌≡◌, ℕ, zero, suc, ◌+◌, ◌-◌, ◌*◌, ◌/◌, ◌%◌, ◌^◌, ◌<◌, ◌≤◌, Bool, List, [], ◌∷◌, ◌++◌, length, get_or, take, drop, refl, sym, ap, subst, ◌∙◌, inl, inr, append_assoc, arith, map, All, Option, None, Result, Ok, Err, nat_le, slice_get, unwrap_or, take-add, mod-eq_of_lt, set, cases_lt, le-leb, drop-drop, drop_more, take_all, take_at, drop_at, take-take, drop-take, length-take, length-map, get_or_past, slice_get-get_or, slice_get_past, mod_below, number, low_bits, part, limbs, limb_count, pack, length-low_bits, number-low_bits, number-take, length-packed, SYMBOL_LISTS, IsWhole, pow-add, below_more, get_or-set_same, get_or-set_other, ◌≢◌, IfOk, if◌then◌else◌, pow-le-pow_right, mul-le-mul_left, mul-le-mul_right, mul-div_cancel, mul-mod_left, le-mul_of_pos_right, lt_of_mul-lt-mul_right, mod-eq-sub-div-mul, div-mul-le_self, map-set, get_or-map, All-map, element, low_bits-add, number-drop, low_bits_of_part, low_symbols, packed_symbols}
+use Rattle.vers_saved.proofs.Names.{number_below, ◌≡◌, ℕ, zero, suc, ◌+◌, ◌-◌, ◌*◌, ◌/◌, ◌%◌, ◌^◌, ◌<◌, ◌≤◌, Bool, List, [], ◌∷◌, ◌++◌, length, get_or, take, drop, refl, sym, ap, ◌∙◌, inl, inr, arith, map, All, Option, None, Result, Ok, Err, nat_le, slice_get, unwrap_or, take-add, mod-eq_of_lt, set, cases_lt, le-leb, drop-drop, take_all, take_at, drop_at, take-take, drop-take, length-take, length-map, get_or_past, slice_get-get_or, slice_get_past, mod_below, number, low_bits, part, limbs, limb_count, pack, length-low_bits, number-low_bits, number-take, length-packed, SYMBOL_LISTS, IsWhole, pow-add, below_more, get_or-set_same, get_or-set_other, ◌≢◌, IfOk, if◌then◌else◌, pow-le-pow_right, mul-le-mul_left, mul-le-mul_right, mul-div_cancel, mul-mod_left, le-mul_of_pos_right, lt_of_mul-lt-mul_right, mod-eq-sub-div-mul, div-mul-le_self, map-set, get_or-map, All-map, element, low_bits-add, number-drop, low_bits_of_part, low_symbols, packed_symbols}
 use Rattle.std.specs.List.{range_with_len}
 use Rattle.std.proofs.lemmas.List.FromFn.{length-map-range_with_len, map-range_with_len_more}
 use Rattle.vers_wavelet.specs.Symbols.{Symbols}
@@ -194,7 +194,7 @@ no_query = record { place = 0; answer = None }
 pub place_next : (queries : List GetQuery) (j n : ℕ) (query : GetQuery) → j < length queries → ((i : ℕ) → i < j → get_or (map (λ q. q.place) queries) i 0 ≡ n + i) → query.place ≡ n + j
     → (i : ℕ) → i < j + 1 → get_or (map (λ q. q.place) (set queries j query)) i 0 ≡ n + i
 place_next queries j n query h so_far is =
-    subst (λ l. (i : ℕ) → i < j + 1 → get_or l i 0 ≡ n + i) (sym (map-set (λ (q : GetQuery). q.place) queries j query))
+    rw (map-set (λ (q : GetQuery). q.place) queries j query)
     (below_more _ _ (λ k less. let ne : k ≢ j = omega arith in rw get_or-set_other (so_far k less))
     (let lt : j < length (map (λ (q : GetQuery). q.place) queries) = omega (arith, length-map queries (λ (q : GetQuery). q.place)) in rw get_or-set_same is))
 

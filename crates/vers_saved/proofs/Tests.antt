@@ -1,5 +1,5 @@
 -- The fault of bytes, by the tests in turn.
-use Rattle.vers_saved.proofs.Names.{◌≡◌, ℕ, ◌/◌, ◌<◌, ◌≤◌, Bool, true, false, List, [], ◌∷◌, ◌++◌, length, refl, sym, ap, subst, ◌∙◌, inl, inr, arith, Option, None, Some, nat_le, map, first_chunks, le-leb, nat_tests, Kind, LoadError, TooShort, BadLength, words_of, bytes_word, saved_size, first_failing, head_tests, body_tests, tests_of, fault_of, bits_said, ◌⊎◌, Memory}
+use Rattle.vers_saved.proofs.Names.{◌≡◌, ℕ, ◌/◌, ◌<◌, ◌≤◌, Bool, true, false, List, [], ◌∷◌, ◌++◌, length, refl, ◌∙◌, inl, inr, arith, Option, None, Some, nat_le, map, first_chunks, le-leb, nat_tests, Kind, LoadError, TooShort, BadLength, words_of, bytes_word, saved_size, first_failing, head_tests, body_tests, tests_of, fault_of, bits_said, ◌⊎◌, Memory}
 use Rattle.vers_saved.proofs.WordBytes.{length-words_of}
 
 -- tests, and then others

@@ -1,4 +1,4 @@
-use Rattle.vers_saved.proofs.Names.{inl, inr, subst, append-nil, Consumes, Consumes-trans, TooShort, BadLength, ◌≡◌, ◌+◌, ◌++◌, ◌∙◌, length, sym, ap, arith, rules, Some, length-append, prepend_known, limb_count, bytes_of, first_failing, body_tests, fault_of, IsRefused, IfErr-weaker, on_ok_weaker}
+use Rattle.vers_saved.proofs.Names.{inl, inr, subst, append-nil, Consumes, Consumes-trans, TooShort, BadLength, ◌≡◌, ◌+◌, ◌++◌, ◌∙◌, length, sym, ap, arith, rules, length-append, prepend_known, limb_count, bytes_of, fault_of, IsRefused, IfErr-weaker, on_ok_weaker}
 use Rattle.vers_saved.proofs.ReadForms.{not_gathered, ended_short, goes_on, parts_tell, rest_fault}
 use Rattle.vers_saved.proofs.gather.gather_body.Goals as goal
 

@@ -1,4 +1,4 @@
-use Rattle.vers_saved.proofs.Names.{TooShort, ◌≡◌, ◌++◌, ◌∙◌, sym, ap, subst, inr, arith, Some, Consumes, bytes_of, first_failing, head_tests, AreWords, IsRefused, IfErr-weaker}
+use Rattle.vers_saved.proofs.Names.{TooShort, ◌≡◌, ◌++◌, ◌∙◌, ap, subst, inr, arith, AreWords, IsRefused, IfErr-weaker}
 use Rattle.vers_saved.proofs.ReadForms.{not_gathered, ended_early, head_fault}
 use Rattle.vers_saved.proofs.gather.gather_head.Goals as goal
 
@@ -11,7 +11,7 @@ pub returns-clause-refused : goal.returns-clause-refused
 returns-clause-refused g c =
     let m = c.in_default.ensures in
     let is : c.gather.new.words.items ≡ m.gathered.0 = m.gathered.2 ∙ ap (λ l. l ++ m.gathered.0) c.requires.none in
-    let read = subst (λ l. Consumes (g.R.Read.remaining c.args.reader.now) (g.R.Read.remaining c.gather.new.reader) (bytes_of l)) (sym is) m.gathered.1 in
+    let read = rw (← is) at m.gathered.1 in
     IfErr-weaker c.head_of.result _ (IsRefused c.args.kind.now (g.R.Read.remaining c.args.reader.now))
     (λ e bad. inr (inr (head_fault c.args.kind.now _ _ c.gather.new.words.items e
     (subst AreWords c.as_slice.ensures.value c.are_words.ensures) m.len read bad))) c.head_of.ensures.fault

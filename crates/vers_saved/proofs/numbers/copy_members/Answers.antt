@@ -1,4 +1,4 @@
-use Rattle.vers_saved.proofs.Names.{◌≡◌, ◌+◌, ◌++◌, get_or, arith, rules, length-append}
+use Rattle.vers_saved.proofs.Names.{◌+◌, arith, rules, length-append}
 use Rattle.vers_saved.proofs.Copies.{both_word, both_past, walked_on}
 use Rattle.vers_saved.proofs.numbers.copy_members.Goals as goal
 

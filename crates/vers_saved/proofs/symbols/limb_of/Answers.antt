@@ -1,4 +1,4 @@
-use Rattle.vers_saved.proofs.Names.{◌≡◌, ◌-◌, ◌+◌, ◌*◌, ◌/◌, ◌%◌, ◌<◌, ◌≤◌, min, max, length, get_or, take, drop, refl, ap, subst, sym, ◌∙◌, arith, length-take, number, limbs, pack, length-limbs, number_below}
+use Rattle.vers_saved.proofs.Names.{◌≡◌, ◌-◌, ◌+◌, ◌*◌, ◌%◌, min, length, get_or, take, drop, refl, ap, sym, ◌∙◌, arith, length-take, number, limbs, pack, length-limbs, number_below}
 use Rattle.vers_saved.proofs.Parentheses.{last_limb, none_yet}
 use Rattle.vers_saved.proofs.SymbolLists.{symbols_shape, item_of, in_group, bits_before, symbol_before}
 use Rattle.vers_saved.proofs.symbols.limb_of.Goals as goal
