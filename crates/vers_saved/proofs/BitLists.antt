@@ -28,7 +28,7 @@ whole_bits kind count width bits may all ordered = record {
 
 pub whole_limbs : (bits : List Bool) → length bits ≤ 18446744073709551552 → IsWhole BIT_LISTS (length bits) 1 (limbs bits)
 whole_limbs bits small =
-    whole_bits BIT_LISTS (length bits) 1 bits (within_bounds BIT_LISTS (length bits) 1 (omega arith) (omega arith) (omega arith) small (omega arith)) (omega arith) refl
+    whole_bits BIT_LISTS (length bits) 1 bits (within_bounds BIT_LISTS (length bits) 1 (omega (arith, small))) (omega arith) refl
 
 pub of_one_width : (count width : ℕ) (words : List ℕ) → IsWhole BIT_LISTS count width words → 1 ≡ width
 of_one_width count width words whole = let b = bounds_are BIT_LISTS count width words whole in omega (arith, b.0, b.1)

@@ -1,6 +1,5 @@
 -- Words that are copied one after another.
-use Rattle.vers_saved.proofs.Names.{◌≡◌, ℕ, ◌+◌, ◌-◌, ◌<◌, ◌≤◌, List, ◌++◌, length, get_or, take, drop, Option, Some, None, sym, ap, ◌∙◌, inl, inr, arith, slice_get, unwrap_or, cases_lt, same_lists, length-take, length-drop, get_or-take, get_or-drop, get_or_append_left, get_or-append_right, drop-drop, slice_get-get_or, slice_get_past}
-use Rattle.std.proofs.lemmas.List.{places}
+use Rattle.vers_saved.proofs.Names.{◌≡◌, ℕ, ◌+◌, ◌-◌, ◌<◌, ◌≤◌, List, ◌++◌, length, get_or, take, drop, Option, Some, None, sym, ap, ◌∙◌, inl, inr, arith, slice_get, unwrap_or, cases_lt, same_lists, length-take, length-drop, get_or-take, get_or-drop, get_or_append_left, get_or-append_right, drop-drop, slice_get-get_or, slice_get_past, places}
 
 -- n words, each of which is that at its place
 pub copied : (words out : List ℕ) (from n : ℕ) → length out ≡ n → from + n ≤ length words → ((j : ℕ) → j < n → get_or out j 0 ≡ get_or words (from + j) 0)
@@ -12,9 +11,9 @@ copied words out from n long few each =
     grind (arith, places))
 
 -- a walk along xs that has come to place p of xs and ys gives the word there, or where it gives none, it is one of ys
-pub both_word : (xs ys left : List ℕ) (p n x : ℕ) (given : Option ℕ) → left ≡ drop p xs → n ≡ length xs → given ≡ slice_get left 0 → x ≡ unwrap_or given (get_or ys (p - n) 0)
+pub both_word : (xs ys : List ℕ) {left : List ℕ} (p : ℕ) {n x : ℕ} {given : Option ℕ} → left ≡ drop p xs → n ≡ length xs → given ≡ slice_get left 0 → x ≡ unwrap_or given (get_or ys (p - n) 0)
     → x ≡ get_or (xs ++ ys) p 0
-both_word xs ys left p n x given is is_count is_given is_word =
+both_word xs ys {left} p {n} is is_count is_given is_word =
     let long : length left ≡ length xs - p = ap length is ∙ length-drop p xs in
     elim (cases_lt p (length xs)) [
       | inl inside ↦
@@ -27,12 +26,12 @@ both_word xs ys left p n x given is is_count is_given is_word =
     ]
 
 -- where it gives none, it has come past xs
-pub both_past : (xs left : List ℕ) (p : ℕ) (given : Option ℕ) → left ≡ drop p xs → given ≡ slice_get left 0 → given ≡ None → length xs ≤ p
-both_past xs left p given is is_given none = elim (cases_lt p (length xs)) [
+pub both_past : (xs : List ℕ) {left : List ℕ} (p : ℕ) {given : Option ℕ} → left ≡ drop p xs → given ≡ slice_get left 0 → given ≡ None → length xs ≤ p
+both_past xs {left} p {given} is is_given none = elim (cases_lt p (length xs)) [
   | inl inside ↦
       let some : given ≡ Some (get_or left 0 0) = is_given ∙ slice_get-get_or left 0 0 (omega (arith, ap length is, length-drop p xs)) in cc
   | inr past ↦ past
 ]
 
-pub walked_on : (words left : List ℕ) (from k : ℕ) → left ≡ drop (from + k) words → drop (0 + 1) left ≡ drop (from + (k + 1)) words
-walked_on words left from k is = let there : from + k + 1 ≡ from + (k + 1) = omega arith in ap (drop 1) is ∙ drop-drop 1 (from + k) words ∙ ap (λ p. drop p words) there
+pub walked_on : (words : List ℕ) {left : List ℕ} (from k : ℕ) → left ≡ drop (from + k) words → drop (0 + 1) left ≡ drop (from + (k + 1)) words
+walked_on words from k is = let there : from + k + 1 ≡ from + (k + 1) = omega arith in ap (drop 1) is ∙ drop-drop 1 (from + k) words ∙ ap (λ p. drop p words) there

@@ -1,7 +1,5 @@
 -- What bytes with no fault hold.
-use Rattle.vers_saved.proofs.Names.{◌≡◌, ℕ, ◌+◌, ◌-◌, ◌*◌, ◌%◌, ◌^◌, ◌<◌, ◌≤◌, Bool, true, false, List, [], ◌∷◌, ◌++◌, length, get_or, take, drop, refl, sym, ap, ◌∙◌, inl, inr, arith, None, cases_eq, le-leb, nat_tests, take-append-drop, take-take, drop-take, drop_more, limb_count, MAGIC, VERSION, LoadError, bytes_of, words_of, check_sum, head, with_sum, saved, saved_size, Kind, first_failing, takes_width, takes_count, item_bits, is_padded, is_summed, in_order, words_among, bits_said, tests_of, fault_of, EndsPadded, IsWhole, AreWords}
-use Rattle.std.proofs.lemmas.Bool.{eqb-true, leb-true, and_from}
-use Rattle.std.proofs.lemmas.List.{drop_all}
+use Rattle.vers_saved.proofs.Names.{take-add, take_all, take_more, ◌≡◌, ℕ, ◌+◌, ◌-◌, ◌*◌, ◌%◌, ◌^◌, ◌<◌, ◌≤◌, Bool, true, false, List, [], ◌∷◌, ◌++◌, length, get_or, take, drop, refl, sym, ap, ◌∙◌, inl, inr, arith, None, cases_eq, le-leb, nat_tests, limb_count, MAGIC, VERSION, LoadError, bytes_of, words_of, check_sum, head, with_sum, saved, saved_size, Kind, first_failing, takes_width, takes_count, item_bits, is_padded, is_summed, in_order, words_among, bits_said, tests_of, fault_of, EndsPadded, IsWhole, AreWords, eqb-true, leb-true, and_from}
 use Rattle.vers_saved.proofs.Orders.{length-words_among, get_or-words_among}
 use Rattle.vers_saved.proofs.WordBytes.{length-words_of, bytes_of-words_of, words_of-fit, fit_take, fit_drop}
 
@@ -68,18 +66,13 @@ unfolding with_sum is_summed
 framed kind size n words form long =
     let place : limb_count n + 5 ≡ 5 + limb_count n = omega arith in
     let front : take (limb_count n + 5) words ≡ head kind.number (get_or words 4 0) (get_or words 3 0) ++ words_among n words =
-    sym (take-append-drop 5 (take (limb_count n + 5) words))
-    ∙ ap (λ l. l ++ drop 5 (take (limb_count n + 5) words))
-    (take-take 5 (limb_count n + 5) words (omega arith) ∙ first_five kind.number words (omega arith) form.ours form.version form.kind_is)
-    ∙ ap (λ l. head kind.number (get_or words 4 0) (get_or words 3 0) ++ l)
-    (ap (λ m. drop 5 (take m words)) place ∙ drop-take 5 (limb_count n) words) in
-    let last : drop (limb_count n + 5) words ≡ get_or words (limb_count n + 5) 0 ∷ [] =
-    drop_more words (limb_count n + 5) 0 (omega arith) ∙ ap (λ l. get_or words (limb_count n + 5) 0 ∷ l) (drop_all (limb_count n + 5 + 1) words (omega arith)) in
+    ap (λ m. take m words) place ∙ take-add 5 (limb_count n) words
+    ∙ ap (λ l. l ++ words_among n words) (first_five kind.number words (omega arith) form.ours form.version form.kind_is) in
     let sum : get_or words (limb_count n + 5) 0 ≡ check_sum (head kind.number (get_or words 4 0) (get_or words 3 0) ++ words_among n words) =
     eqb-true _ _ form.summed ∙ ap check_sum front in
-    sym (take-append-drop (limb_count n + 5) words)
-    ∙ ap (λ l. l ++ drop (limb_count n + 5) words) front
-    ∙ ap (λ l. (head kind.number (get_or words 4 0) (get_or words 3 0) ++ words_among n words) ++ l) (last ∙ ap (λ w. w ∷ []) sum)
+    sym (take_all (limb_count n + 5 + 1) words (omega arith)) ∙ take_more words (limb_count n + 5) 0 (omega arith)
+    ∙ ap (λ l. l ++ get_or words (limb_count n + 5) 0 ∷ []) front
+    ∙ ap (λ w. (head kind.number (get_or words 4 0) (get_or words 3 0) ++ words_among n words) ++ w ∷ []) sum
 
 -- what is made of words with no fault
 pub loaded_words : (kind : Kind) (count width n : ℕ) (all words : List ℕ) → AreWords all → first_failing (tests_of kind (8 * length all) all) ≡ None

@@ -1,18 +1,16 @@
 -- Words in an order.
-use Rattle.vers_saved.proofs.Names.{◌≡◌, ℕ, zero, suc, ◌+◌, ◌-◌, ◌/◌, ◌<◌, ◌&&◌, Bool, true, List, [], ◌∷◌, ◌++◌, length, get_or, take, drop, refl, sym, ap, ◌∙◌, arith, take_more, get_or-take, get_or-drop, length-take, length-drop, take_all, limb_count, each_next, words_among, stands, in_order}
+use Rattle.vers_saved.proofs.Names.{◌≡◌, ℕ, zero, suc, ◌+◌, ◌-◌, ◌/◌, ◌<◌, ◌&&◌, Bool, true, List, [], ◌∷◌, ◌++◌, length, get_or, take, drop, refl, sym, ap, ◌∙◌, arith, take_more, get_or-take, get_or-drop, length-take, length-drop, take_all, limb_count, each_next, words_among, stands, in_order, ordered_words}
 use Rattle.std.proofs.Math.Bool.{and_assoc, and_comm}
 use Rattle.vers_saved.specs.declared.kind.Order.{Order}
-use Rattle.vers_saved.specs.Faults.{ordered_words}
 
 -- one word more stands in the order where it does to the last one before it
 pub each_next-more : (o : ℕ → ℕ → Bool) (xs : List ℕ) (j : ℕ) → suc j < length xs
     → each_next o (take (suc (suc j)) xs) ≡ (each_next o (take (suc j) xs) && o (get_or xs j 0) (get_or xs (suc j) 0))
-each_next-more o [] j h = absurd (omega arith)
-each_next-more o (x ∷ []) j h = absurd (omega arith)
 each_next-more o (x ∷ y ∷ xs) zero h = and_comm (o x y) true
 each_next-more o (x ∷ y ∷ xs) (suc j) h =
     ap (λ b. o x y && b) (each_next-more o (y ∷ xs) j (omega arith))
     ∙ sym (and_assoc (o x y) (each_next o (take (suc j) (y ∷ xs))) (o (get_or (y ∷ xs) j 0) (get_or (y ∷ xs) (suc j) 0)))
+each_next-more o _ j h = absurd (omega arith)
 
 -- one word alone stands in any order
 pub each_next-one : (o : ℕ → ℕ → Bool) (xs : List ℕ) → each_next o (take 1 xs) ≡ true

@@ -14,7 +14,7 @@ none_yet bits p = let none : p - p ≡ 0 = omega arith in ap (λ m. number (take
 
 pub whole_tree : (size : ℕ) (bits : List Bool) → 1 ≤ size → size ≤ 4294967296 → length bits ≤ 9223372036854775807 → IsWhole (tree_kind size) (length bits) size (limbs bits)
 whole_tree size bits some few small =
-    whole_bits (tree_kind size) (length bits) size bits (within_bounds (tree_kind size) (length bits) size (omega arith) (omega arith) (omega arith) small (omega arith)) (omega arith) refl
+    whole_bits (tree_kind size) (length bits) size bits (within_bounds (tree_kind size) (length bits) size (omega (arith, some, few, small))) (omega arith) refl
 
 pub tree_size : (size count width : ℕ) (words : List ℕ) → IsWhole (tree_kind size) count width words → (1 ≤ size) × (size ≤ 4294967296) × (size ≡ width)
 tree_size size count width words whole =

@@ -1,6 +1,5 @@
 -- Saved forms of documents with costs.
-use Rattle.vers_saved.proofs.Names.{◌≡◌, ℕ, ◌-◌, ◌*◌, ◌/◌, ◌<◌, ◌≤◌, List, ◌++◌, length, get_or, take, drop, sym, ap, subst, ◌∙◌, inl, inr, arith, All, IsStrictlyIncreasing, cases_lt, get_or_append_left, get_or-append_right, get_or_past, take_at, take-append-drop, length-append, length-take, each_next-rising, POSTING_LISTS, posting_words, IsWhole}
-use Rattle.std.proofs.lemmas.List.Elements.{All-get_or}
+use Rattle.vers_saved.proofs.Names.{◌≡◌, ℕ, ◌-◌, ◌*◌, ◌/◌, ◌<◌, ◌≤◌, List, ◌++◌, length, get_or, take, drop, sym, ap, ◌∙◌, inl, inr, arith, All, cases_lt, get_or_append_left, get_or-append_right, get_or_past, take_at, take-append-drop, length-append, length-take, each_next-rising, POSTING_LISTS, posting_words, IsWhole, All-get_or}
 use Rattle.postings.specs.Posted.{Posted, ArePaired}
 use Rattle.vers_saved.proofs.WordBytes.{AreWords, fit_append}
 use Rattle.vers_saved.proofs.Shapes.{bounds_are, within_bounds}
@@ -22,21 +21,18 @@ documents_fit documents all k = elim (cases_lt k (length documents)) [
   | inr past ↦ rw (get_or_past documents k 0 past) (omega arith)
 ]
 
--- the first half of the words are the documents
-first_half : (posted : Posted) → ArePaired posted → take (length (posting_words posted) / 2) (posting_words posted) ≡ posted.documents
-first_half posted paired = take_at posted.documents posted.costs (length (posting_words posted) / 2) (omega (arith, length-posting posted paired))
-
 pub whole_postings : (posted : Posted) → length posted.documents ≤ 549755813760 → ArePaired posted → AreWords posted.costs
     → IsWhole POSTING_LISTS (length posted.documents) 128 (posting_words posted)
 whole_postings posted few paired fit =
     let long : length (posting_words posted) ≡ 2 * length posted.documents = length-posting posted paired in
+    let first = take_at posted.documents posted.costs (length (posting_words posted) / 2) (omega (arith, long)) in
     record {
-      may = within_bounds POSTING_LISTS (length posted.documents) 128 (omega arith) (omega arith) (omega arith) few (omega arith);
+      may = within_bounds POSTING_LISTS (length posted.documents) 128 (omega (arith, few));
       counted = omega (arith, long);
       fit = fit_append posted.documents posted.costs (documents_fit posted.documents paired.numbers) fit;
       padded = inl (omega arith);
       ordered = (each_next-rising (take (length (posting_words posted) / 2) (posting_words posted))).1
-          (subst IsStrictlyIncreasing (sym (first_half posted paired)) paired.ascending);
+          (rw first paired.ascending);
     }
 
 pub postings_shape : (c w : ℕ) (words : List ℕ) → IsWhole POSTING_LISTS c w words → (length words ≡ 2 * c) × (c ≤ 549755813760) × (128 ≡ w)

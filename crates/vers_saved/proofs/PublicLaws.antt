@@ -30,39 +30,39 @@ bounds_are = Shapes.bounds_are
 
 pub bits_go_round : Laws.BitsGoRound
 bits_go_round =
-    goes_round BIT_LISTS _ length (λ bits. 1) limbs (omega arith, omega arith, omega arith) whole_limbs (λ x y mx my. bits_tell 1 x y tt tt)
+    goes_round BIT_LISTS _ length (λ bits. 1) limbs (omega arith) whole_limbs (λ x y mx my. bits_tell 1 x y tt tt)
 
 pub sorted_go_round : Laws.SortedGoRound
 sorted_go_round =
-    goes_round SORTED_LISTS _ length (λ members. 64) (λ members. members) (omega arith, omega arith, omega arith) (λ x may. whole_sorted x may.0 may.1 may.2)
+    goes_round SORTED_LISTS _ length (λ members. 64) (λ members. members) (omega arith) (λ x may. whole_sorted x may.0 may.1 may.2)
     (λ x y mx my. numbers_tell 64 x y tt tt)
 
 pub symbols_go_round : Laws.SymbolsGoRound
 symbols_go_round width some few =
-    goes_round SYMBOL_LISTS _ length (λ items. width) (λ items. limbs (pack items width)) (omega arith, omega arith, omega arith)
+    goes_round SYMBOL_LISTS _ length (λ items. width) (λ items. limbs (pack items width)) (omega arith)
     (λ x may. whole_symbols width x some few may.0) (λ x y mx my. same_symbols width width x y mx.1 my.1)
 
 pub sparse_go_round : Laws.SparseGoRound
 sparse_go_round =
-    goes_round SPARSE_LISTS _ (λ bits. length (sparse_words bits)) (λ bits. 64) sparse_words (omega arith, omega arith, omega arith)
+    goes_round SPARSE_LISTS _ (λ bits. length (sparse_words bits)) (λ bits. 64) sparse_words (omega arith)
     (λ x may. whole_sparse x may.0 may.1) (λ x y mx my. sparse_tell x y tt tt)
 
 pub table_values_go_round : Laws.TableValuesGoRound
 table_values_go_round =
-    goes_round TABLE_VALUES _ length (λ items. 64) (λ items. items) (omega arith, omega arith, omega arith) (λ x may. whole_table x may.0 may.1)
+    goes_round TABLE_VALUES _ length (λ items. 64) (λ items. items) (omega arith) (λ x may. whole_table x may.0 may.1)
     (λ x y mx my. numbers_tell 64 x y tt tt)
 
 pub block_values_go_round : Laws.BlockValuesGoRound
 block_values_go_round =
-    goes_round BLOCK_VALUES _ length (λ items. 64) (λ items. items) (omega arith, omega arith, omega arith) (λ x may. whole_blocks x may.0 may.1)
+    goes_round BLOCK_VALUES _ length (λ items. 64) (λ items. items) (omega arith) (λ x may. whole_blocks x may.0 may.1)
     (λ x y mx my. numbers_tell 64 x y tt tt)
 
 pub parentheses_go_round : Laws.ParenthesesGoRound
 parentheses_go_round size some few =
-    goes_round (tree_kind size) _ length (λ bits. size) limbs (omega arith, omega arith, omega arith) (λ x may. whole_tree size x some few may)
+    goes_round (tree_kind size) _ length (λ bits. size) limbs (omega arith) (λ x may. whole_tree size x some few may)
     (λ x y mx my. bits_tell size x y tt tt)
 
 pub postings_go_round : Laws.PostingsGoRound
 postings_go_round =
-    goes_round POSTING_LISTS _ (λ posted. length posted.documents) (λ posted. 128) posting_words (omega arith, omega arith, omega arith)
+    goes_round POSTING_LISTS _ (λ posted. length posted.documents) (λ posted. 128) posting_words (omega arith)
     (λ x may. whole_postings x may.0 may.1 may.2) (λ x y mx my. postings_tell x y mx.1 my.1)

@@ -1,36 +1,30 @@
 -- What a reader had at first, by what was read of it.
-use Rattle.vers_saved.proofs.Names.{◌≡◌, ℕ, ◌+◌, ◌*◌, ◌<◌, ◌≤◌, List, [], ◌∷◌, ◌++◌, length, get_or, take, drop, Option, Some, None, refl, sym, ap, subst, ◌∙◌, inl, inr, append_assoc, arith, Consumes, prepend_known, set, take-add, append-nil, length-append, get_or_append_left, limb_count, Kind, LoadError, TooShort, BadLength, bytes_of, words_of, saved, saved_size, first_failing, head_tests, body_tests, tests_of, fault_of, bits_said, item_bits, words_among, IsWhole, IsRefused, Consumes-trans}
-use Rattle.std.specs.Prelude.{IfSome, ◌⊎◌}
-use Rattle.std.specs.Io.KnownBytes.{IsAtEnd}
-use Rattle.vers_saved.specs.declared.fault.LoadError.TheVariants.{Read, Memory}
+use Rattle.vers_saved.proofs.Names.{◌≡◌, ℕ, ◌+◌, ◌*◌, ◌<◌, ◌≤◌, List, [], ◌∷◌, ◌++◌, length, get_or, take, drop, Option, Some, None, refl, sym, ap, subst, ◌∙◌, inl, inr, append_assoc, arith, Consumes, prepend_known, set, take-add, append-nil, length-append, get_or_append_left, limb_count, Kind, LoadError, TooShort, BadLength, bytes_of, words_of, saved, saved_size, first_failing, head_tests, body_tests, tests_of, fault_of, bits_said, item_bits, words_among, IsWhole, IsRefused, Consumes-trans, IfSome, ◌⊎◌, IsAtEnd, Read, Memory}
 use Rattle.vers_saved.proofs.WordBytes.{AreWords, length-bytes_of, words_of-bytes_of, words_first, fit_append}
 use Rattle.vers_saved.proofs.Forms.{loaded_words}
 use Rattle.vers_saved.proofs.Tests.{fault_is, few_bytes, bad_head, too_short, too_long, by_body}
 use Rattle.vers_saved.proofs.Sums.{bytes_of-append}
-
--- what was read is a beginning of what there was
-pub known : (old new : Option (List ℕ)) (text : List ℕ) (P : List ℕ → Type 0) → Consumes old new text → ((rest : List ℕ) → P (text ++ rest)) → IfSome old P
-known None new text P h f = tt
-known (Some xs) None text P h f = absurd h
-known (Some xs) (Some ys) text P h f = subst P (sym h) (f ys)
-
--- and at the end all of it
-pub known_end : (old new : Option (List ℕ)) (text : List ℕ) (P : List ℕ → Type 0) → Consumes old new text → IsAtEnd new → P text → IfSome old P
-known_end None new text P h e p = tt
-known_end (Some xs) None text P h e p = absurd h
-known_end (Some xs) (Some ys) text P h e p = subst P (sym (h ∙ ap (λ l. text ++ l) e ∙ append-nil text)) p
-
--- the words of a head, and the one behind them
-pub six_words : (ws rest : List ℕ) (a b c d e f : ℕ) → length ws ≡ 6 → a ≡ get_or ws 0 a → b ≡ get_or ws 1 b → c ≡ get_or ws 2 c → d ≡ get_or ws 3 d → e ≡ get_or ws 4 e
-    → f ≡ get_or ws 5 f → rest ≡ take 1 (set ws 0 f) → a ∷ b ∷ c ∷ d ∷ e ∷ rest ≡ ws
-six_words (u ∷ v ∷ w ∷ x ∷ y ∷ z ∷ []) rest a b c d e f six p q r s t o is = cc
-six_words _ rest a b c d e f six p q r s t o is = absurd (omega arith)
 
 -- what there was before a first part was read
 pub before : (old new : Option (List ℕ)) (text : List ℕ) (P : List ℕ → Type 0) → Consumes old new text → IfSome (prepend_known text new) P → IfSome old P
 before None new text P h p = tt
 before (Some xs) None text P h p = absurd h
 before (Some xs) (Some ys) text P h p = subst P (sym h) p
+
+-- what was read is a beginning of it
+pub known : (old new : Option (List ℕ)) (text : List ℕ) (P : List ℕ → Type 0) → Consumes old new text → ((rest : List ℕ) → P (text ++ rest)) → IfSome old P
+known old new text P h f = before old new text P h (elim new as (λ o. IfSome (prepend_known text o) P) [ None ↦ tt | Some ys ↦ f ys ])
+
+-- and at the end all of it
+pub known_end : (old new : Option (List ℕ)) (text : List ℕ) (P : List ℕ → Type 0) → Consumes old new text → IsAtEnd new → P text → IfSome old P
+known_end old None text P h e p = before old None text P h tt
+known_end old (Some ys) text P h e p = before old (Some ys) text P h (subst P (sym (ap (λ l. text ++ l) e ∙ append-nil text)) p)
+
+-- the words of a head, and the one behind them
+pub six_words : (ws rest : List ℕ) (a b c d e f : ℕ) → length ws ≡ 6 → a ≡ get_or ws 0 a → b ≡ get_or ws 1 b → c ≡ get_or ws 2 c → d ≡ get_or ws 3 d → e ≡ get_or ws 4 e
+    → f ≡ get_or ws 5 f → rest ≡ take 1 (set ws 0 f) → a ∷ b ∷ c ∷ d ∷ e ∷ rest ≡ ws
+six_words (u ∷ v ∷ w ∷ x ∷ y ∷ z ∷ []) rest a b c d e f six p q r s t o is = cc
+six_words _ rest a b c d e f six p q r s t o is = absurd (omega arith)
 
 -- what holds of what comes after a first part
 behind : (old : Option (List ℕ)) (first : List ℕ) (P : List ℕ → Type 0) → IfSome old (λ l. P (first ++ l)) → IfSome (prepend_known first old) P
@@ -45,19 +39,13 @@ filled_more old mid new first after filled n c front d =
     (Consumes-trans old mid new (take filled first) (take n (drop filled after)) c d)
 
 -- what a head says is said by its words alone
-same_head : (kind : Kind) (ws more : List ℕ) → 5 ≤ length ws → head_tests kind (ws ++ more) ≡ head_tests kind ws
-same_head kind (a ∷ b ∷ c ∷ d ∷ e ∷ ws) more h = refl
+same_head : (kind : Kind) (ws more : List ℕ) → 5 ≤ length ws → (head_tests kind (ws ++ more) ≡ head_tests kind ws) × (bits_said kind (ws ++ more) ≡ bits_said kind ws)
+same_head kind (a ∷ b ∷ c ∷ d ∷ e ∷ ws) more h = (refl, refl)
 same_head kind _ more h = absurd (omega arith)
 
-same_said : (kind : Kind) (ws more : List ℕ) → 5 ≤ length ws → bits_said kind (ws ++ more) ≡ bits_said kind ws
-same_said kind (a ∷ b ∷ c ∷ d ∷ e ∷ ws) more h = refl
-same_said kind _ more h = absurd (omega arith)
-
-head_holds : (kind : Kind) (ws rest : List ℕ) → AreWords ws → 5 ≤ length ws → first_failing (head_tests kind (words_of (bytes_of ws ++ rest))) ≡ first_failing (head_tests kind ws)
-head_holds kind ws rest fit long = ap (λ l. first_failing (head_tests kind l)) (words_first ws rest fit) ∙ ap first_failing (same_head kind ws (words_of rest) long)
-
-said_holds : (kind : Kind) (ws rest : List ℕ) → AreWords ws → 5 ≤ length ws → bits_said kind (words_of (bytes_of ws ++ rest)) ≡ bits_said kind ws
-said_holds kind ws rest fit long = ap (bits_said kind) (words_first ws rest fit) ∙ same_said kind ws (words_of rest) long
+head_holds : (kind : Kind) (ws rest : List ℕ) → AreWords ws → 5 ≤ length ws
+    → (first_failing (head_tests kind (words_of (bytes_of ws ++ rest))) ≡ first_failing (head_tests kind ws)) × (bits_said kind (words_of (bytes_of ws ++ rest)) ≡ bits_said kind ws)
+head_holds kind ws rest fit long = let same = same_head kind ws (words_of rest) long in rw (words_first ws rest fit) (ap first_failing same.0, same.1)
 
 -- a reader that had fewer bytes than a head and a sum
 pub ended_early : (kind : Kind) (old new : Option (List ℕ)) (text : List ℕ) → Consumes old new text → IsAtEnd new → length text < 48
@@ -72,7 +60,7 @@ head_fault kind old new ws e fit long c bad =
     known old new (bytes_of ws) (λ bytes. fault_of kind bytes ≡ Some e) c (λ rest.
     let all : List ℕ = bytes_of ws ++ rest in
     let many : 48 ≤ length (bytes_of ws ++ rest) = omega (arith, length-append (bytes_of ws) rest, length-bytes_of ws) in
-    fault_is kind all ∙ bad_head kind (length all) (words_of all) e many (head_holds kind ws rest fit (omega arith) ∙ bad))
+    fault_is kind all ∙ bad_head kind (length all) (words_of all) e many ((head_holds kind ws rest fit (omega arith)).0 ∙ bad))
 
 -- one that had fewer bytes than its head says
 pub ended_short : (kind : Kind) (n : ℕ) (old new : Option (List ℕ)) (ws text : List ℕ) → AreWords ws → length ws ≡ 6 → first_failing (head_tests kind ws) ≡ None
@@ -81,9 +69,9 @@ pub ended_short : (kind : Kind) (n : ℕ) (old new : Option (List ℕ)) (ws text
 ended_short kind n old new ws text fit long none said c e few =
     let all : List ℕ = bytes_of ws ++ text in
     let many : length (bytes_of ws ++ text) ≡ 8 * length ws + length text = omega (arith, length-append (bytes_of ws) text, length-bytes_of ws) in
-    let size : saved_size (bits_said kind (words_of (bytes_of ws ++ text))) ≡ saved_size n = ap saved_size (said_holds kind ws text fit (omega arith) ∙ sym said) in
+    let size : saved_size (bits_said kind (words_of (bytes_of ws ++ text))) ≡ saved_size n = ap saved_size ((head_holds kind ws text fit (omega arith)).1 ∙ sym said) in
     behind old (bytes_of ws) (λ bytes. fault_of kind bytes ≡ Some TooShort) (known_end old new text (λ l. fault_of kind (bytes_of ws ++ l) ≡ Some TooShort) c e
-    (fault_is kind all ∙ too_short kind (length all) (words_of all) (omega arith) (head_holds kind ws text fit (omega arith) ∙ none) (omega arith)))
+    (fault_is kind all ∙ too_short kind (length all) (words_of all) (omega arith) ((head_holds kind ws text fit (omega arith)).0 ∙ none) (omega arith)))
 
 -- one that had more
 pub goes_on : (kind : Kind) (n : ℕ) (old mid new : Option (List ℕ)) (ws more text : List ℕ) → AreWords ws → length ws ≡ 6 → first_failing (head_tests kind ws) ≡ None
@@ -94,19 +82,20 @@ goes_on kind n old mid new ws more text fit long none said c exact d some =
     let tail : List ℕ = (bytes_of more ++ text) ++ rest in
     let all : List ℕ = bytes_of ws ++ ((bytes_of more ++ text) ++ rest) in
     let size : saved_size (bits_said kind (words_of (bytes_of ws ++ ((bytes_of more ++ text) ++ rest)))) ≡ saved_size n =
-    ap saved_size (said_holds kind ws ((bytes_of more ++ text) ++ rest) fit (omega arith) ∙ sym said) in
+    ap saved_size ((head_holds kind ws ((bytes_of more ++ text) ++ rest) fit (omega arith)).1 ∙ sym said) in
     let many : 8 * (length ws + length more) + length text ≤ length (bytes_of ws ++ ((bytes_of more ++ text) ++ rest)) =
     omega (arith, length-append (bytes_of ws) ((bytes_of more ++ text) ++ rest), length-append (bytes_of more ++ text) rest, length-append (bytes_of more) text, length-bytes_of ws, length-bytes_of more) in
-    fault_is kind all ∙ too_long kind (length all) (words_of all) (omega (arith, length-append ws more)) (head_holds kind ws tail fit (omega arith) ∙ none) (omega (arith, length-append ws more))))
+    fault_is kind all ∙ too_long kind (length all) (words_of all) (omega (arith, length-append ws more))
+    ((head_holds kind ws tail fit (omega arith)).0 ∙ none) (omega (arith, length-append ws more))))
 
 -- bytes that are as many as the head says have the fault of what comes after it
 rest_tells : (kind : Kind) (n : ℕ) (ws more : List ℕ) → AreWords (ws ++ more) → 5 ≤ length ws → first_failing (head_tests kind ws) ≡ None
     → n ≡ bits_said kind ws → length (ws ++ more) ≡ limb_count n + 6 → fault_of kind (bytes_of (ws ++ more)) ≡ first_failing (body_tests kind.order n (ws ++ more))
 rest_tells kind n ws more fit long none said exact =
     let words : words_of (bytes_of (ws ++ more)) ≡ ws ++ more = words_of-bytes_of (ws ++ more) fit in
-    let is : bits_said kind (ws ++ more) ≡ n = same_said kind ws more long ∙ sym said in
+    let is : bits_said kind (ws ++ more) ≡ n = (same_head kind ws more long).1 ∙ sym said in
     fault_is kind (bytes_of (ws ++ more)) ∙ ap (λ l. first_failing (tests_of kind (length (bytes_of (ws ++ more))) l)) words
-    ∙ by_body kind (length (bytes_of (ws ++ more))) (ws ++ more) (ap first_failing (same_head kind ws more long) ∙ none)
+    ∙ by_body kind (length (bytes_of (ws ++ more))) (ws ++ more) (ap first_failing (same_head kind ws more long).0 ∙ none)
     (omega (arith, length-bytes_of (ws ++ more), ap saved_size is))
     ∙ ap (λ m. first_failing (body_tests kind.order m (ws ++ more))) is
 
@@ -119,21 +108,12 @@ refused_none kind left bytes e is none (inl read) = inl read
 refused_none kind left bytes e is none (inr (inl memory)) = inr memory
 refused_none kind left bytes e is none (inr (inr some)) = let here : fault_of kind bytes ≡ Some e = at_some left bytes (λ b. fault_of kind b ≡ Some e) is some in cc
 
--- why a reader of which a part was to be gathered did not give it
-pub stopped_early : (kind : Kind) (left : Option (List ℕ)) (e : LoadError) → (e ≡ TooShort) ⊎ ((e ≡ Memory) ⊎ (e ≡ Read))
-    → (e ≡ TooShort → IfSome left (λ bytes. fault_of kind bytes ≡ Some TooShort)) → IsRefused kind left e
-stopped_early kind left e (inl is) short = inr (inr (subst (λ f. IfSome left (λ bytes. fault_of kind bytes ≡ Some f)) (sym is) (short is)))
-stopped_early kind left e (inr (inl memory)) short = inr (inl memory)
-stopped_early kind left e (inr (inr read)) short = inl read
-
-pub not_ended : (kind : Kind) (left : Option (List ℕ)) (e : LoadError) → (e ≡ BadLength) ⊎ (e ≡ Read)
-    → (e ≡ BadLength → IfSome left (λ bytes. fault_of kind bytes ≡ Some BadLength)) → IsRefused kind left e
-not_ended kind left e (inl is) long = inr (inr (subst (λ f. IfSome left (λ bytes. fault_of kind bytes ≡ Some f)) (sym is) (long is)))
-not_ended kind left e (inr read) long = inl read
-
--- nothing was read at the end
-pub then_none : (old mid new : Option (List ℕ)) (text : List ℕ) → Consumes old mid text → Consumes mid new [] → Consumes old new text
-then_none old mid new text c d = subst (Consumes old new) (append-nil text) (Consumes-trans old mid new text [] c d)
+-- why a reader of which a part was to be gathered did not give it: the bytes have that fault, or memory or the reader failed
+pub not_gathered : (kind : Kind) (left : Option (List ℕ)) (e f : LoadError) → (e ≡ f) ⊎ ((e ≡ Memory) ⊎ (e ≡ Read))
+    → (e ≡ f → IfSome left (λ bytes. fault_of kind bytes ≡ Some f)) → IsRefused kind left e
+not_gathered kind left e f (inl is) bad = inr (inr (subst (λ f. IfSome left (λ bytes. fault_of kind bytes ≡ Some f)) (sym is) (bad is)))
+not_gathered kind left e f (inr (inl memory)) bad = inr (inl memory)
+not_gathered kind left e f (inr (inr read)) bad = inl read
 
 -- what a head and the words after it tell, of which one was read with the head
 pub parts_tell : (kind : Kind) (n : ℕ) (head first more after rest : List ℕ) → rest ≡ after → AreWords head → AreWords rest → length head ≡ 5 → length first ≡ 1
@@ -163,21 +143,16 @@ refused_before kind old new text e c (inl read) = inl read
 refused_before kind old new text e c (inr (inl memory)) = inr (inl memory)
 refused_before kind old new text e c (inr (inr some)) = inr (inr (before old new text (λ bytes. fault_of kind bytes ≡ Some e) c some))
 
--- what was gathered, where it has no fault
-pub gathered_is : (kind : Kind) (count width n : ℕ) (all words : List ℕ) → AreWords all → fault_of kind (bytes_of all) ≡ None → count ≡ get_or all 4 0 → width ≡ get_or all 3 0
-    → n ≡ count * item_bits kind width → words ≡ words_among n all → (bytes_of all ≡ saved kind.number count width words) × IsWhole kind count width words
-gathered_is kind count width n all words fit none is_count is_width is_n are_words =
-    loaded_words kind count width n all words fit
-    (ap (λ m. first_failing (tests_of kind m all)) (sym (length-bytes_of all)) ∙ ap (λ l. first_failing (tests_of kind (length (bytes_of all)) l)) (sym (words_of-bytes_of all fit)) ∙ sym (fault_is kind (bytes_of all)) ∙ none)
-    is_count is_width is_n are_words
-
 -- a reader of a head and of what comes after it, up to its end
 pub form_gathered : (kind : Kind) (count width n : ℕ) (old mid new : Option (List ℕ)) (ws more all words : List ℕ) → Consumes old mid (bytes_of ws) → length ws ≡ 6
     → Consumes mid new (bytes_of more) → IsAtEnd new → all ≡ ws ++ more → AreWords all → fault_of kind (bytes_of all) ≡ None → count ≡ get_or ws 4 0 → width ≡ get_or ws 3 0
     → n ≡ count * item_bits kind width → words ≡ words_among n all
     → IfSome old (λ bytes. bytes ≡ saved kind.number count width words) × IsWhole kind count width words
 form_gathered kind count width n old mid new ws more all words c long d end is fit none is_count is_width is_n are_words =
-    let p = gathered_is kind count width n all words fit none (is_count ∙ sym (ap (λ l. get_or l 4 0) is ∙ get_or_append_left ws more 0 4 (omega arith)))
+    let passed = sym (ap (λ m. first_failing (tests_of kind m all)) (length-bytes_of all))
+    ∙ ap (λ l. first_failing (tests_of kind (length (bytes_of all)) l)) (sym (words_of-bytes_of all fit))
+    ∙ sym (fault_is kind (bytes_of all)) ∙ none in
+    let p = loaded_words kind count width n all words fit passed (is_count ∙ sym (ap (λ l. get_or l 4 0) is ∙ get_or_append_left ws more 0 4 (omega arith)))
     (is_width ∙ sym (ap (λ l. get_or l 3 0) is ∙ get_or_append_left ws more 0 3 (omega arith))) is_n are_words in (
       known_end old new (bytes_of ws ++ bytes_of more) (λ bytes. bytes ≡ saved kind.number count width words) (Consumes-trans old mid new (bytes_of ws) (bytes_of more) c d) end
           (sym (bytes_of-append ws more) ∙ ap bytes_of (sym is) ∙ p.0),

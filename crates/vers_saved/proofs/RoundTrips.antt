@@ -8,25 +8,23 @@ use Rattle.vers_saved.proofs.SavedForms.{all_words, length-all_words, saved_has_
 abbrev pub AreBounds : Kind → Type 0
 AreBounds kind = (kind.number < 2 ^ 64) × (kind.greatest_width < 2 ^ 64) × (kind.greatest_count < 2 ^ 64)
 
-pub width_lt : (kind : Kind) (count width : ℕ) (words : List ℕ) → AreBounds kind → IsWhole kind count width words → width < 2 ^ 64
-width_lt kind count width words bounds whole = omega (arith, bounds.1, (bounds_are kind count width words whole).1)
-
-pub count_lt : (kind : Kind) (count width : ℕ) (words : List ℕ) → AreBounds kind → IsWhole kind count width words → count < 2 ^ 64
-count_lt kind count width words bounds whole = omega (arith, bounds.2, (bounds_are kind count width words whole).3)
+shape_fits : (kind : Kind) (count width : ℕ) (words : List ℕ) → AreBounds kind → IsWhole kind count width words → (count < 2 ^ 64) × (width < 2 ^ 64)
+shape_fits kind count width words bounds whole = omega (arith, bounds, bounds_are kind count width words whole)
 
 -- a form has no fault
 pub no_fault_back : (kind : Kind) (bytes : List ℕ) (count width : ℕ) (words : List ℕ) → AreBounds kind → IsWhole kind count width words
     → bytes ≡ saved kind.number count width words → fault_of kind bytes ≡ None
 no_fault_back kind bytes count width words bounds whole e =
-    ap (fault_of kind) e
-    ∙ saved_has_no_fault kind count width words bounds.0 (count_lt kind count width words bounds whole) (width_lt kind count width words bounds whole) whole
+    let fits = shape_fits kind count width words bounds whole in
+    ap (fault_of kind) e ∙ saved_has_no_fault kind count width words bounds.0 fits.0 fits.1 whole
 
 -- one form is of one shape and the same words
 pub one_form : (kind : Kind) (bytes : List ℕ) (c w c' w' : ℕ) (xs ys : List ℕ) → AreBounds kind → IsWhole kind c w xs → IsWhole kind c' w' ys
     → bytes ≡ saved kind.number c w xs → bytes ≡ saved kind.number c' w' ys → (c ≡ c') × (w ≡ w') × (xs ≡ ys)
 one_form kind bytes c w c' w' xs ys bounds hx hy e f =
-    same_words kind.number c w kind.number c' w' xs ys bounds.0 (count_lt kind c w xs bounds hx) (width_lt kind c w xs bounds hx)
-    bounds.0 (count_lt kind c' w' ys bounds hy) (width_lt kind c' w' ys bounds hy) hx.fit hy.fit (sym e ∙ f)
+    let x = shape_fits kind c w xs bounds hx in
+    let y = shape_fits kind c' w' ys bounds hy in
+    same_words kind.number c w c' w' xs ys bounds.0 x.0 x.1 y.0 y.1 hx.fit hy.fit (sym e ∙ f)
 
 -- how long a form is
 pub length-saved : (kind count width : ℕ) (words : List ℕ) → length (saved kind count width words) ≡ 8 * (length words + 6)

@@ -1,8 +1,6 @@
 -- Saved forms have no fault, and tell what they are of.
-use Rattle.vers_saved.proofs.Names.{◌≡◌, ℕ, ◌+◌, ◌-◌, ◌*◌, ◌%◌, ◌^◌, ◌<◌, Bool, true, List, [], ◌∷◌, ◌++◌, length, get_or, refl, sym, ap, ◌∙◌, inl, inr, arith, None, cases_eq, le-leb, nat_tests, take_at, get_or_push, get_or-append_right, get_or_append_left, length-append, limb_count, MAGIC, VERSION, LoadError, bytes_of, words_of, check_sum, head, with_sum, saved, saved_size, Kind, first_failing, item_bits, is_padded, is_summed, in_order, words_among, tests_of, fault_of, EndsPadded, IsWhole}
-use Rattle.std.proofs.lemmas.Bool.{eq-eqb}
-use Rattle.std.proofs.lemmas.List.{same_from_push}
-use Rattle.vers_saved.proofs.WordBytes.{AreWords, length-bytes_of, words_of-bytes_of, fit_cons, fit_append, fit_none}
+use Rattle.vers_saved.proofs.Names.{◌≡◌, ℕ, ◌+◌, ◌-◌, ◌*◌, ◌%◌, ◌^◌, ◌<◌, Bool, true, List, [], ◌∷◌, ◌++◌, length, get_or, refl, sym, ap, ◌∙◌, inl, inr, arith, None, cases_eq, le-leb, nat_tests, take_at, get_or_push, get_or-append_right, get_or_append_left, length-append, limb_count, MAGIC, VERSION, LoadError, bytes_of, words_of, check_sum, head, with_sum, saved, saved_size, Kind, first_failing, item_bits, is_padded, is_summed, in_order, words_among, tests_of, fault_of, EndsPadded, IsWhole, eq-eqb, same_from_push}
+use Rattle.vers_saved.proofs.WordBytes.{AreWords, length-bytes_of, words_of-bytes_of, fit_cons, fit_append}
 use Rattle.vers_saved.proofs.Sums.{check_sum-lt}
 use Rattle.vers_saved.proofs.Forms.{AllPassed}
 use Rattle.vers_saved.proofs.Shapes.{parts_of}
@@ -23,7 +21,7 @@ all_fit kind count width words k c w fit =
     fit_append (head kind count width ++ words) (check_sum (head kind count width ++ words) ∷ [])
     (fit_cons MAGIC (VERSION ∷ kind ∷ width ∷ count ∷ words) (omega arith) (fit_cons VERSION (kind ∷ width ∷ count ∷ words) (omega arith)
     (fit_cons kind (width ∷ count ∷ words) k (fit_cons width (count ∷ words) w (fit_cons count words c fit)))))
-    (fit_cons (check_sum (head kind count width ++ words)) [] (check_sum-lt (head kind count width ++ words)) fit_none)
+    (fit_cons (check_sum (head kind count width ++ words)) [] (check_sum-lt (head kind count width ++ words)) (λ k. omega arith))
 
 pub length-all_words : (kind count width : ℕ) (words : List ℕ) → length (all_words kind count width words) ≡ length words + 6
 unfolding with_sum
@@ -47,17 +45,13 @@ last_word kind count width n words e some =
     ∙ get_or-append_right (head kind count width) words 5 (limb_count n + 4) 0 refl (omega arith)
     ∙ ap (λ m. get_or words m 0) place
 
-small_end : (n : ℕ) (words : List ℕ) → EndsPadded n words → (n % 64 ≡ 0 → ⊥) → get_or words (limb_count n - 1) 0 < 2 ^ (n % 64)
-small_end n words (inl whole) part = absurd (part whole)
-small_end n words (inr small) part = small
-
 all_padded : (kind count width n : ℕ) (words : List ℕ) → length words ≡ limb_count n → EndsPadded n words → is_padded n (all_words kind count width words) ≡ true
 unfolding is_padded
 all_padded kind count width n words e padded = elim (cases_eq (n % 64) 0) [
   | inl whole ↦ grind (arith, nat_tests)
   | inr part ↦
       let small : get_or (all_words kind count width words) (limb_count n + 4) 0 < 2 ^ (n % 64) =
-      rw (last_word kind count width n words e (omega arith)) (small_end n words padded part) in
+      rw (last_word kind count width n words e (omega arith)) (elim padded [ inl whole ↦ absurd (part whole) | inr small ↦ small ]) in
       grind (arith, nat_tests)
 ]
 
@@ -94,16 +88,13 @@ saved_has_no_fault kind count width words k c w whole =
     ∙ ap (λ m. first_failing (tests_of kind m (all_words kind.number count width words))) size
     ∙ none_failing (tests_of kind (saved_size (count * item_bits kind width)) (all_words kind.number count width words)) (all_pass kind count width words whole summed padded ordered)
 
-unsummed : (xs ys : List ℕ) → with_sum xs ≡ with_sum ys → xs ≡ ys
-unfolding with_sum
-unsummed xs ys e = (same_from_push xs ys (check_sum xs) (check_sum ys) e).0
-
 -- what one saved form is of
-pub same_words : (k c w k' c' w' : ℕ) (xs ys : List ℕ) → k < 2 ^ 64 → c < 2 ^ 64 → w < 2 ^ 64 → k' < 2 ^ 64 → c' < 2 ^ 64 → w' < 2 ^ 64 → AreWords xs → AreWords ys
-    → saved k c w xs ≡ saved k' c' w' ys → (c ≡ c') × (w ≡ w') × (xs ≡ ys)
-unfolding saved
-same_words k c w k' c' w' xs ys hk hc hw hk' hc' hw' fx fy e =
-    let words : all_words k c w xs ≡ all_words k' c' w' ys =
-    sym (words_of-bytes_of (all_words k c w xs) (all_fit k c w xs hk hc hw fx)) ∙ ap words_of e ∙ words_of-bytes_of (all_words k' c' w' ys) (all_fit k' c' w' ys hk' hc' hw' fy) in
-    let same : head k c w ++ xs ≡ head k' c' w' ++ ys = unsummed (head k c w ++ xs) (head k' c' w' ++ ys) words in
+pub same_words : (k c w c' w' : ℕ) (xs ys : List ℕ) → k < 2 ^ 64 → c < 2 ^ 64 → w < 2 ^ 64 → c' < 2 ^ 64 → w' < 2 ^ 64 → AreWords xs → AreWords ys
+    → saved k c w xs ≡ saved k c' w' ys → (c ≡ c') × (w ≡ w') × (xs ≡ ys)
+unfolding saved with_sum
+same_words k c w c' w' xs ys hk hc hw hc' hw' fx fy e =
+    let words : all_words k c w xs ≡ all_words k c' w' ys =
+    sym (words_of-bytes_of (all_words k c w xs) (all_fit k c w xs hk hc hw fx)) ∙ ap words_of e ∙ words_of-bytes_of (all_words k c' w' ys) (all_fit k c' w' ys hk hc' hw' fy) in
+    let same : head k c w ++ xs ≡ head k c' w' ++ ys =
+    (same_from_push (head k c w ++ xs) (head k c' w' ++ ys) (check_sum (head k c w ++ xs)) (check_sum (head k c' w' ++ ys)) words).0 in
     (cc, cc, cc)

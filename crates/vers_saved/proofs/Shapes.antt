@@ -1,6 +1,5 @@
 -- The shapes of lists that have a saved form.
-use Rattle.vers_saved.proofs.Names.{◌≡◌, ℕ, ◌*◌, ◌≤◌, true, List, length, ap, arith, nat_tests, le-leb, Kind, item_bits, takes_width, takes_count, may_be_saved, IsWhole}
-use Rattle.std.proofs.lemmas.Bool.{and_from, and_parts, leb-true}
+use Rattle.vers_saved.proofs.Names.{◌≡◌, ℕ, ◌*◌, ◌≤◌, true, List, length, ap, arith, nat_tests, le-leb, Kind, item_bits, takes_width, takes_count, may_be_saved, IsWhole, and_from, and_parts, leb-true}
 
 -- what a shape has to meet, test by test
 pub parts_of : (kind : Kind) (count width : ℕ) → may_be_saved kind count width ≡ true
@@ -11,16 +10,18 @@ parts_of kind count width may =
     (p.0, q.0, leb-true _ _ q.1)
 
 -- and bound by bound
-pub bounds_are : (kind : Kind) (count width : ℕ) (words : List ℕ) → IsWhole kind count width words
-    → (kind.least_width ≤ width) × (width ≤ kind.greatest_width) × (kind.least_count ≤ count) × (count ≤ kind.greatest_count) × (count * item_bits kind width ≤ 18446744073709551552)
+abbrev pub InBounds : Kind → (count width : ℕ) → Type 0
+InBounds kind count width =
+    (kind.least_width ≤ width) × (width ≤ kind.greatest_width) × (kind.least_count ≤ count) × (count ≤ kind.greatest_count) × (count * item_bits kind width ≤ 18446744073709551552)
+
+pub bounds_are : (kind : Kind) (count width : ℕ) (words : List ℕ) → IsWhole kind count width words → InBounds kind count width
 bounds_are kind count width words whole =
     let p = parts_of kind count width whole.may in
     (grind (arith, nat_tests, p.0), grind (arith, nat_tests, p.0), grind (arith, nat_tests, p.1), grind (arith, nat_tests, p.1), p.2)
 
-pub within_bounds : (kind : Kind) (count width : ℕ) → kind.least_width ≤ width → width ≤ kind.greatest_width → kind.least_count ≤ count → count ≤ kind.greatest_count
-    → count * item_bits kind width ≤ 18446744073709551552 → may_be_saved kind count width ≡ true
-within_bounds kind count width low high some few small =
-    and_from _ _ (and_from _ _ (le-leb _ _ low) (le-leb _ _ high)) (and_from _ _ (and_from _ _ (le-leb _ _ some) (le-leb _ _ few)) (le-leb _ _ small))
+pub within_bounds : (kind : Kind) (count width : ℕ) → InBounds kind count width → may_be_saved kind count width ≡ true
+within_bounds kind count width b =
+    and_from _ _ (and_from _ _ (le-leb _ _ b.0) (le-leb _ _ b.1)) (and_from _ _ (and_from _ _ (le-leb _ _ b.2) (le-leb _ _ b.3)) (le-leb _ _ b.4))
 
 -- of items of 64 bits there are as many as words
 pub as_many : (kind : Kind) (count width : ℕ) (words : List ℕ) → item_bits kind width ≡ 64 → IsWhole kind count width words → count ≡ length words

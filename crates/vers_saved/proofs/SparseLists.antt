@@ -1,9 +1,7 @@
 -- Saved forms of lists of bits with few ones.
-use Rattle.vers_saved.proofs.Names.{◌≡◌, ℕ, ◌+◌, ◌-◌, ◌^◌, ◌<◌, ◌≤◌, Bool, true, List, [], ◌∷◌, ◌++◌, length, get_or, take, refl, sym, ap, subst, ◌∙◌, inl, inr, arith, All, IsStrictlyIncreasing, cases_lt, get_or_push, get_or_append_left, get_or_past, get_or-take, length-append, length-take, take_more, take_all, count, each_next-rising, SPARSE_LISTS, sparse_words, IsWhole}
-use Rattle.std.proofs.lemmas.List.{get_or_default}
+use Rattle.vers_saved.proofs.Names.{◌≡◌, ℕ, ◌+◌, ◌-◌, ◌^◌, ◌<◌, ◌≤◌, Bool, true, List, [], ◌∷◌, ◌++◌, length, get_or, take, refl, sym, ap, subst, ◌∙◌, inl, inr, arith, All, IsStrictlyIncreasing, cases_lt, get_or_push, get_or_append_left, get_or_past, get_or-take, length-append, length-take, take_more, take_all, count, each_next-rising, SPARSE_LISTS, sparse_words, IsWhole, get_or_default, length-places, count_at_select, select_up, select_past, any_default}
 use Rattle.std.proofs.lemmas.List.Kept.{AllPairs-from_increasing}
 use Rattle.vers_bits.specs.Bits.{places, select}
-use Rattle.vers_bits.proofs.PublicLaws.{length-places, count_at_select, select_up, select_past, any_default}
 use Rattle.vers_saved.proofs.WordBytes.{AreWords}
 use Rattle.vers_saved.proofs.Shapes.{bounds_are, within_bounds, as_many}
 use Rattle.vers_saved.proofs.WordLists.{whole_numbers}
@@ -44,8 +42,8 @@ sparse_fit bits small k = elim (cases_lt k (length (sparse_words bits))) [
 pub whole_sparse : (bits : List Bool) → length bits < 2 ^ 64 → count true bits (length bits) < 288230376151711743 → IsWhole SPARSE_LISTS (length (sparse_words bits)) 64 (sparse_words bits)
 whole_sparse bits small few =
     let long = length-sparse bits in
-    whole_numbers SPARSE_LISTS (sparse_words bits) refl
-    (within_bounds SPARSE_LISTS (length (sparse_words bits)) 64 (omega arith) (omega arith) (omega (arith, long)) (omega (arith, long)) (omega (arith, long))) (sparse_fit bits small) ((each_next-rising (sparse_words bits)).1 (sparse_rises bits))
+    whole_numbers SPARSE_LISTS (sparse_words bits) refl (within_bounds SPARSE_LISTS (length (sparse_words bits)) 64 (omega (arith, long)))
+    (sparse_fit bits small) ((each_next-rising (sparse_words bits)).1 (sparse_rises bits))
 
 pub sparse_shape : (c w : ℕ) (words : List ℕ) → IsWhole SPARSE_LISTS c w words → (c ≡ length words) × (1 ≤ length words) × (64 ≡ w) × (c ≤ 288230376151711743)
 sparse_shape c w words whole =

@@ -1,20 +1,15 @@
 -- The sum of words.
-use Rattle.vers_saved.proofs.Names.{◌≡◌, ℕ, ◌+◌, ◌*◌, ◌/◌, ◌%◌, ◌^◌, ◌<◌, ◌≤◌, drop, List, [], ◌∷◌, ◌++◌, length, get_or, take, refl, sym, ap, ◌∙◌, arith, fold, map, bit_xor, mod_below, pow_pos, fold-append, append_assoc, append-nil, take_more, take_all, take-add, START, MAGIC, VERSION, FACTOR, first_chunks, mix, check_sum, words_of, bytes_word, word_bytes, bytes_of, head, saved, with_sum}
-use Rattle.std.proofs.lemmas.Nat.{or_lt, shr_le}
-use Rattle.std.proofs.lemmas.Grind.{flat_map-append}
-use Rattle.std.proofs.lemmas.List.{take-map, drop-map, flat_map_more}
+use Rattle.vers_saved.proofs.Names.{◌≡◌, ℕ, ◌+◌, ◌*◌, ◌/◌, ◌%◌, ◌^◌, ◌<◌, ◌≤◌, drop, List, [], ◌∷◌, ◌++◌, length, get_or, take, refl, sym, ap, ◌∙◌, arith, fold, map, bit_xor, mod_below, pow_pos, fold-append, append_assoc, append-nil, take_more, take_all, take-add, START, MAGIC, VERSION, FACTOR, first_chunks, mix, check_sum, words_of, bytes_word, word_bytes, bytes_of, head, saved, with_sum, or_lt, shr_le, flat_map-append, take-map, drop-map, flat_map_more}
+use Rattle.std.proofs.lemmas.List.Sums.{fold_more}
 
 pub check_sum-none : check_sum [] ≡ START
 unfolding check_sum
 check_sum-none = refl
 
-pub check_sum-push : (ws : List ℕ) (w : ℕ) → check_sum (ws ++ w ∷ []) ≡ mix (check_sum ws) w
-unfolding check_sum
-check_sum-push ws w = fold-append mix START ws (w ∷ [])
-
 -- the sum of one more word
 pub check_sum-more : (words : List ℕ) (i : ℕ) → i < length words → check_sum (take (i + 1) words) ≡ mix (check_sum (take i words)) (get_or words i 0)
-check_sum-more words i h = ap check_sum (take_more words i 0 h) ∙ check_sum-push (take i words) (get_or words i 0)
+unfolding check_sum
+check_sum-more words i h = fold_more mix START words i 0 h
 
 pub ruleset sums = (check_sum-none, check_sum-more)
 
@@ -41,7 +36,7 @@ pub bytes_of-take_more : (out ws : List ℕ) (k : ℕ) → k < length ws → (ou
 bytes_of-take_more out ws k h = flat_map_more word_bytes out (take k ws) (get_or ws k 0) ∙ ap (λ l. out ++ bytes_of l) (sym (take_more ws k 0 h))
 
 pub fold-take_more : (sum : ℕ) (ws : List ℕ) (k : ℕ) → k < length ws → mix (fold mix sum (take k ws)) (get_or ws k 0) ≡ fold mix sum (take (k + 1) ws)
-fold-take_more sum ws k h = sym (ap (fold mix sum) (take_more ws k 0 h) ∙ fold-append mix sum (take k ws) (get_or ws k 0 ∷ []))
+fold-take_more sum ws k h = sym (fold_more mix sum ws k 0 h)
 
 pub bytes_of-take_all : (out ws : List ℕ) (k : ℕ) → length ws ≤ k → out ++ bytes_of (take k ws) ≡ out ++ bytes_of ws
 bytes_of-take_all out ws k h = ap (λ l. out ++ bytes_of l) (take_all k ws h)
@@ -79,14 +74,13 @@ written_all out kind count width k sum words h e =
     ∙ ap (λ s. out ++ bytes_of ((head kind count width ++ take k words) ++ s ∷ [])) e
     ∙ ap (λ l. out ++ bytes_of ((head kind count width ++ l) ++ check_sum (head kind count width ++ l) ∷ [])) all
 
-turned : (m : ℕ) → (m % 2 ^ 64) / 2 ^ 35 < 2 ^ 64
-turned m = omega (arith, shr_le (m % 2 ^ 64) 35, mod_below m (2 ^ 64) (pow_pos 64))
-
 -- a sum is a word
 pub mix-lt : (sum word : ℕ) → mix sum word < 2 ^ 64
 unfolding mix
 mix-lt sum word =
-    or_lt 64 _ _ (mod_below _ (2 ^ 64) (pow_pos 64)) (turned (bit_xor sum word * FACTOR))
+    let m : ℕ = bit_xor sum word * FACTOR in
+    let turned : (m % 2 ^ 64) / 2 ^ 35 < 2 ^ 64 = omega (arith, shr_le (m % 2 ^ 64) 35, mod_below m (2 ^ 64) (pow_pos 64)) in
+    or_lt 64 _ _ (mod_below _ (2 ^ 64) (pow_pos 64)) turned
 
 pub sums_fit : (ws : List ℕ) (sum : ℕ) → sum < 2 ^ 64 → fold mix sum ws < 2 ^ 64
 sums_fit [] sum h = h

@@ -1,46 +1,32 @@
 -- Saved forms of lists of symbols.
-use Rattle.vers_saved.proofs.Names.{◌≡◌, ℕ, zero, suc, ◌+◌, ◌-◌, ◌*◌, ◌/◌, ◌%◌, ◌^◌, ◌<◌, ◌≤◌, Bool, List, [], ◌∷◌, ◌++◌, length, get_or, take, drop, refl, sym, ap, subst, ◌∙◌, inl, inr, append_assoc, arith, map, All, Option, None, Result, Ok, Err, nat_le, slice_get, unwrap_or, take-add, mod-eq_of_lt, set, cases_lt, le-leb, drop-drop, drop_more, take_all, take_at, drop_at, take-take, drop-take, length-take, length-map, get_or_past, slice_get-get_or, slice_get_past, mod_below, number, low_bits, part, limbs, limb_count, pack, length-low_bits, number-low_bits, number-take, length-packed, SYMBOL_LISTS, IsWhole}
-use Rattle.std.proofs.Common.{pow-add, below_more, get_or-set_same, get_or-set_other, ◌≢◌}
-use Rattle.std.specs.Prelude.{IfOk, if◌then◌else◌}
+use Rattle.vers_saved.proofs.Names.{number_below, ◌≡◌, ℕ, zero, suc, ◌+◌, ◌-◌, ◌*◌, ◌/◌, ◌%◌, ◌^◌, ◌<◌, ◌≤◌, Bool, List, [], ◌∷◌, ◌++◌, length, get_or, take, drop, refl, sym, ap, ◌∙◌, inl, inr, arith, map, All, Option, None, Result, Ok, Err, nat_le, slice_get, unwrap_or, take-add, mod-eq_of_lt, set, cases_lt, le-leb, drop-drop, take_all, take_at, drop_at, take-take, drop-take, length-take, length-map, get_or_past, slice_get-get_or, slice_get_past, mod_below, number, low_bits, part, limbs, limb_count, pack, length-low_bits, number-low_bits, number-take, length-packed, SYMBOL_LISTS, IsWhole, pow-add, below_more, get_or-set_same, get_or-set_other, ◌≢◌, IfOk, if◌then◌else◌, pow-le-pow_right, mul-le-mul_left, mul-le-mul_right, mul-div_cancel, mul-mod_left, le-mul_of_pos_right, lt_of_mul-lt-mul_right, mod-eq-sub-div-mul, div-mul-le_self, map-set, get_or-map, All-map, element, low_bits-add, number-drop, low_bits_of_part, low_symbols, packed_symbols}
 use Rattle.std.specs.List.{range_with_len}
-use Rattle.std.proofs.Math.Nat.{pow-le-pow_right, mul-le-mul_left, mod-eq-sub-div-mul, div-mul-le_self}
-use Rattle.std.proofs.lemmas.List.{map-set, get_or-map}
-use Rattle.std.proofs.lemmas.List.FromFn.{length-map-range_with_len, get_or-map-range_with_len, map-range_with_len_more}
-use Rattle.std.proofs.lemmas.List.Elements.{All-from_get_or}
-use Rattle.std.proofs.lemmas.Nat.{div-mul-add, mod-mul-add}
-use Rattle.vers_bits.proofs.PublicLaws.{low_bits-add, number-drop, number-lt, low_bits_of_part}
+use Rattle.std.proofs.lemmas.List.FromFn.{length-map-range_with_len, map-range_with_len_more}
 use Rattle.vers_wavelet.specs.Symbols.{Symbols}
 use Rattle.vers_wavelet.specs.declared.wavelet.batch.get.GetQuery.{GetQuery}
-use Rattle.vers_wavelet.specs.Makers.{low_symbols, packed_symbols}
 use Rattle.vers_wavelet.proofs.PublicLaws.{small_numbers_stay}
 use Rattle.vers_saved.proofs.Shapes.{bounds_are, within_bounds}
 use Rattle.vers_saved.proofs.BitLists.{whole_bits}
-use Rattle.vers_saved.proofs.LimbLists.{drop-packed}
 
 pub length-packed_items : (items : List ℕ) (k : ℕ) → length (pack items k) ≡ length items * k
 length-packed_items items k = length-packed (λ v. v) k items
 
-times_le : (n q w : ℕ) → n ≤ q → n * w ≤ q * w
-times_le n q w h = grind (arith, h)
-
 -- ---- bits of packed symbols
 
 -- n of the bits of a symbol, from one of them on
-symbol_part : (symbol r n m : ℕ) (rest : List Bool) → take n (drop r (low_bits symbol (r + (n + m)) ++ rest)) ≡ low_bits (symbol / 2 ^ r) n
-symbol_part symbol r n m rest =
-    ap (λ l. take n (drop r (l ++ rest))) (low_bits-add symbol r (n + m))
-    ∙ ap (λ l. take n (drop r l)) (append_assoc (low_bits symbol r) (low_bits (symbol / 2 ^ r) (n + m)) rest)
-    ∙ ap (take n) (drop_at (low_bits symbol r) (low_bits (symbol / 2 ^ r) (n + m) ++ rest) r (length-low_bits symbol r))
-    ∙ ap (λ l. take n (l ++ rest)) (low_bits-add (symbol / 2 ^ r) n m)
-    ∙ ap (take n) (append_assoc (low_bits (symbol / 2 ^ r) n) (low_bits (symbol / 2 ^ r / 2 ^ n) m) rest)
-    ∙ take_at (low_bits (symbol / 2 ^ r) n) (low_bits (symbol / 2 ^ r / 2 ^ n) m ++ rest) n (length-low_bits (symbol / 2 ^ r) n)
+symbol_part : (symbol r n m : ℕ) → take n (drop r (low_bits symbol (r + (n + m)))) ≡ low_bits (symbol / 2 ^ r) n
+symbol_part symbol r n m =
+    ap (λ l. take n (drop r l)) (low_bits-add symbol r (n + m))
+    ∙ ap (take n) (drop_at (low_bits symbol r) (low_bits (symbol / 2 ^ r) (n + m)) r (length-low_bits symbol r) ∙ low_bits-add (symbol / 2 ^ r) n m)
+    ∙ take_at (low_bits (symbol / 2 ^ r) n) (low_bits (symbol / 2 ^ r / 2 ^ n) m) n (length-low_bits (symbol / 2 ^ r) n)
 
 part_number : (items : List ℕ) (w q r n m : ℕ) → q < length items → w ≡ r + (n + m) → number (take n (drop (q * w + r) (pack items w))) ≡ get_or items q 0 / 2 ^ r % 2 ^ n
 part_number items w q r n m h is =
-    ap (λ l. number (take n l)) (sym (drop-drop r (q * w) (pack items w)))
-    ∙ ap (λ l. number (take n (drop r l)))
-    (drop-packed w q items ∙ ap (λ l. pack l w) (drop_more items q 0 h) ∙ ap (λ k. low_bits (get_or items q 0) k ++ pack (drop (q + 1) items) w) is)
-    ∙ ap number (symbol_part (get_or items q 0) r n m (pack (drop (q + 1) items) w)) ∙ number-low_bits (get_or items q 0 / 2 ^ r) n
+    let bits : List Bool = drop (q * w) (pack items w) in
+    let all : take (r + (n + m)) bits ≡ low_bits (get_or items q 0) (r + (n + m)) = ap (λ k. take k bits) (sym is) ∙ element items w q h ∙ ap (low_bits (get_or items q 0)) is in
+    ap number (ap (take n) (sym (drop-drop r (q * w) (pack items w))) ∙ sym (take-take n (n + m) (drop r bits) (omega arith))
+    ∙ ap (take n) (sym (drop-take r (n + m) bits))
+    ∙ ap (λ l. take n (drop r l)) all ∙ symbol_part (get_or items q 0) r n m) ∙ number-low_bits (get_or items q 0 / 2 ^ r) n
 
 -- the number of bits, by that of the first of them and that of the others
 number_split : (bits : List Bool) (n k : ℕ) → number (take (n + k) bits) ≡ number (take n bits) + 2 ^ n * number (take k (drop n bits))
@@ -49,29 +35,21 @@ number_split bits n k =
     let rest : number (take k (drop n bits)) ≡ number (take (n + k) bits) / 2 ^ n = ap number (sym (drop-take n k bits)) ∙ number-drop n (take (n + k) bits) in
     omega (arith, first, rest, ap (λ m. 2 ^ n * m) rest, mod-eq-sub-div-mul (number (take (n + k) bits)) (2 ^ n), div-mul-le_self (number (take (n + k) bits)) (2 ^ n))
 
-item_inside : (items : List ℕ) (w item : ℕ) → item * w < length items * w → item < length items
-item_inside items w item h = elim (cases_lt item (length items)) [
-  | inl inside ↦ inside
-  | inr past ↦ absurd (omega (arith, times_le (length items) item w past))
-]
-
 -- the bits of a symbol before those whose number is known
 pub bits_before : (items : List ℕ) (w item place end start word symbol new : ℕ) → item * w < place → place ≤ item * w + w → item * w ≤ start → start < place → place ≤ end
     → end ≤ length (pack items w) → symbol ≡ get_or items item 0 → word ≡ number (take (end - place) (drop place (pack items w)))
     → new ≡ symbol / 2 ^ (start - item * w) % 2 ^ (place - start) + 2 ^ (place - start) * word → new ≡ number (take (end - start) (drop start (pack items w)))
 bits_before items w item place end start word symbol new low high above below inside whole is_symbol is_word is_new =
-    let here : item < length items = item_inside items w item (omega (arith, length-packed_items items w)) in
+    let here : item < length items = lt_of_mul-lt-mul_right w (omega (arith, length-packed_items items w)) in
     let wide : w ≡ start - item * w + (place - start + (item * w + w - place)) = omega arith in
     let from : item * w + (start - item * w) ≡ start = omega arith in
     let to : start + (place - start) ≡ place = omega arith in
     let all : place - start + (end - place) ≡ end - start = omega arith in
-    is_new
-    ∙ ap (λ s. s / 2 ^ (start - item * w) % 2 ^ (place - start) + 2 ^ (place - start) * word) is_symbol
-    ∙ ap (λ v. v + 2 ^ (place - start) * word) (sym (part_number items w item (start - item * w) (place - start) (item * w + w - place) here wide)
-    ∙ ap (λ p. number (take (place - start) (drop p (pack items w)))) from)
-    ∙ ap (λ v. number (take (place - start) (drop start (pack items w))) + 2 ^ (place - start) * v)
-    (is_word ∙ ap (λ p. number (take (end - place) (drop p (pack items w)))) (sym to) ∙ ap (λ l. number (take (end - place) l)) (sym (drop-drop (place - start) start (pack items w))))
-    ∙ sym (number_split (drop start (pack items w)) (place - start) (end - place)) ∙ ap (λ m. number (take m (drop start (pack items w)))) all
+    let first : number (take (place - start) (drop start (pack items w))) ≡ get_or items item 0 / 2 ^ (start - item * w) % 2 ^ (place - start) =
+    rw from at (part_number items w item (start - item * w) (place - start) (item * w + w - place) here wide) in
+    let rest : number (take (end - place) (drop (place - start) (drop start (pack items w)))) ≡ word =
+    rw (drop-drop (place - start) start (pack items w), to) (sym is_word) in
+    rw (is_new, is_symbol, ← first, ← rest, ← all) (sym (number_split (drop start (pack items w)) (place - start) (end - place)))
 
 -- the symbol that the bit before a place lies in
 pub item_of : (p w : ℕ) → 1 ≤ w → 0 < p → ((p - 1) / w * w < p) × (p ≤ (p - 1) / w * w + w)
@@ -80,25 +58,15 @@ item_of p w some h = (omega (arith, div-mul-le_self (p - 1) w), omega (arith, mo
 -- it stands in the group of the word
 pub in_group : (w k item place : ℕ) → 1 ≤ w → item * w < place → place ≤ item * w + w → 64 * k < place → place ≤ 64 * k + 64 → 64 * (k / w) + item % 64 ≡ item
 in_group w k item place some low high above below =
-    let from : 64 * (k / w) * w ≤ 64 * k = omega (arith, div-mul-le_self k w) in
-    let to : 64 * k + 64 ≤ (64 * (k / w) + 64) * w = omega (arith, mod-eq-sub-div-mul k w, mod_below k w (omega arith)) in
-    let first : 64 * (k / w) ≤ item = elim (cases_lt item (64 * (k / w))) [
-      | inl less ↦ absurd (omega (arith, times_le (item + 1) (64 * (k / w)) w (omega arith)))
-      | inr more ↦ more
-    ] in
-    let last : item < 64 * (k / w) + 64 = elim (cases_lt item (64 * (k / w) + 64)) [
-      | inl less ↦ less
-      | inr more ↦ absurd (omega (arith, times_le (64 * (k / w) + 64) item w more))
-    ] in
+    let first : 64 * (k / w) < item + 1 = lt_of_mul-lt-mul_right w (omega (arith, div-mul-le_self k w)) in
+    let last : item < 64 * (k / w) + 64 = lt_of_mul-lt-mul_right w (omega (arith, mod-eq-sub-div-mul k w, mod_below k w (omega arith))) in
     omega arith
 
 -- before the first bit of a symbol stands the last one of the symbol before it
 pub symbol_before : (w item start : ℕ) → 1 ≤ w → start ≡ item * w → 0 < start → ((item - 1) * w < start) × (start ≤ (item - 1) * w + w)
 symbol_before w zero start some is h = absurd (omega arith)
 symbol_before w (suc q) start some is h =
-    let back : suc q - 1 ≡ q = omega arith in
-    let more : suc q * w ≡ q * w + w = grind arith in
-    (omega (arith, ap (λ m. m * w) back), omega (arith, ap (λ m. m * w) back))
+    let back : suc q - 1 ≡ q = omega arith in omega (arith, ap (λ m. m * w) back)
 
 -- ---- symbols that bits hold
 
@@ -107,9 +75,7 @@ packed_from : (bits : List Bool) (k a m : ℕ) → (a + m) * k ≤ length bits
     → pack (map (λ e. number (part bits (e * k) k)) (range_with_len a m)) k ≡ take (m * k) (drop (a * k) bits)
 packed_from bits k a zero h = let none : 0 * k ≡ 0 = omega arith in sym (ap (λ p. take p (drop (a * k) bits)) none)
 packed_from bits k a (suc m) h =
-    let all : (a + suc m) * k ≡ a * k + (k + m * k) = grind arith in
     let next : (a + 1) * k ≡ a * k + k = grind arith in
-    let rest : (a + 1 + m) * k ≡ a * k + (k + m * k) = grind arith in
     let more : suc m * k ≡ k + m * k = grind arith in
     let first : low_bits (number (part bits (a * k) k)) k ≡ take k (drop (a * k) bits) = low_bits_of_part bits (a * k) k (omega arith) in
     let others : pack (map (λ e. number (part bits (e * k) k)) (range_with_len (a + 1) m)) k ≡ take (m * k) (drop k (drop (a * k) bits)) =
@@ -119,50 +85,34 @@ packed_from bits k a (suc m) h =
     ∙ sym (ap (λ p. take p (drop (a * k) bits)) more ∙ take-add k (m * k) (drop (a * k) bits))
 
 whole_many : (n k count : ℕ) → 1 ≤ k → n ≡ count * k → n / k ≡ count
-whole_many n k count some e =
-    let more : n ≡ count * k + 0 = omega arith in
-    ap (λ m. m / k) more ∙ div-mul-add count k 0 some
+whole_many n k count some e = ap (λ m. m / k) e ∙ mul-div_cancel count some
 
 pub pack-packed_symbols : (bits : List Bool) (k count : ℕ) → 1 ≤ k → length bits ≡ count * k → pack (packed_symbols bits k) k ≡ bits
 unfolding packed_symbols
 pack-packed_symbols bits k count some e =
-    let many : length bits / k ≡ count = whole_many (length bits) k count some e in
+    let all : length bits / k * k ≡ length bits = ap (λ m. m * k) (whole_many (length bits) k count some e) ∙ sym e in
     let none : 0 * k ≡ 0 = omega arith in
-    let all : 0 + count ≡ count = omega arith in
-    ap (λ m. pack (map (λ e. number (part bits (e * k) k)) (range_with_len 0 m)) k) many
-    ∙ packed_from bits k 0 count (omega (arith, ap (λ m. m * k) all))
-    ∙ ap (λ p. take (count * k) (drop p bits)) none ∙ take_all (count * k) bits (omega arith)
+    packed_from bits k 0 (length bits / k) (omega (arith, all))
+    ∙ ap (λ p. take (length bits / k * k) (drop p bits)) none ∙ take_all (length bits / k * k) bits (omega (arith, all))
 
 pub length-packed_symbols : (bits : List Bool) (k count : ℕ) → 1 ≤ k → length bits ≡ count * k → length (packed_symbols bits k) ≡ count
 unfolding packed_symbols
 length-packed_symbols bits k count some e = length-map-range_with_len (λ e. number (part bits (e * k) k)) 0 (length bits / k) ∙ whole_many (length bits) k count some e
 
-part_short : (bits : List Bool) (p k : ℕ) → length (part bits p k) ≤ k
-part_short bits p k = omega (arith, length-take k (drop p bits))
-
 -- each has so many digits
-part_fits : (bits : List Bool) (p k : ℕ) → number (part bits p k) < 2 ^ k
-part_fits bits p k =
-    omega (arith, number-lt (part bits p k), pow-le-pow_right {n = 2} (omega arith) (part_short bits p k))
-
 symbols_fit : (bits : List Bool) (k : ℕ) → All (λ y. y < 2 ^ k) (packed_symbols bits k)
 unfolding packed_symbols
 symbols_fit bits k =
-    All-from_get_or (λ y. y < 2 ^ k) (map (λ e. number (part bits (e * k) k)) (range_with_len 0 (length bits / k))) 0
-    (λ i h. subst (λ y. y < 2 ^ k)
-    (sym (get_or-map-range_with_len (λ e. number (part bits (e * k) k)) 0 (length bits / k) i i 0
-    (omega (arith, length-map-range_with_len (λ e. number (part bits (e * k) k)) 0 (length bits / k))) (omega arith)))
-    (part_fits bits (i * k) k))
+    All-map (λ y. y < 2 ^ k) (λ e. number (part bits (e * k) k)) (range_with_len 0 (length bits / k))
+    (λ i d h. let p : ℕ = get_or (range_with_len 0 (length bits / k)) i d * k in number_below (part bits p k) k (omega (arith, length-take k (drop p bits))))
 
 -- ---- whole symbols
-
-le_times : (n k : ℕ) → 1 ≤ k → n ≤ n * k
-le_times n k some = grind arith
 
 pub whole_symbols : (k : ℕ) (items : List ℕ) → 1 ≤ k → k ≤ 64 → length items * k ≤ 18446744073709551552 → IsWhole SYMBOL_LISTS (length items) k (limbs (pack items k))
 whole_symbols k items some few small =
     whole_bits SYMBOL_LISTS (length items) k (pack items k)
-    (within_bounds SYMBOL_LISTS (length items) k some few (omega arith) (omega (arith, le_times (length items) k some)) small) (length-packed_items items k) refl
+    (within_bounds SYMBOL_LISTS (length items) k (omega (arith, some, few, le-mul_of_pos_right (length items) some, small)))
+    (length-packed_items items k) refl
 
 pub symbols_shape : (count k : ℕ) (words : List ℕ) → IsWhole SYMBOL_LISTS count k words
     → (1 ≤ k) × (k ≤ 64) × (count * k ≤ 18446744073709551552) × (length words ≡ limb_count (count * k))
@@ -170,8 +120,7 @@ symbols_shape count k words whole =
     let b = bounds_are SYMBOL_LISTS count k words whole in (b.0, b.1, b.4, whole.counted)
 
 pub whole_number : (count k : ℕ) (bits : List Bool) → 1 ≤ k → length bits ≡ count * k → length bits % k ≡ 0
-whole_number count k bits some e =
-    let more : length bits ≡ count * k + 0 = omega arith in ap (λ m. m % k) more ∙ mod-mul-add count k 0 some
+whole_number count k bits some e = ap (λ m. m % k) e ∙ mul-mod_left count k
 
 -- the first n of the numbers of k bits each that bits hold
 abbrev pub first_numbers : List Bool → ℕ → ℕ → List ℕ
@@ -186,8 +135,7 @@ all_numbers bits k n is = ap (first_numbers bits k) is
 
 pub number_inside : (bits : List Bool) (k e : ℕ) → e < length bits / k → e * k + k ≤ length bits
 number_inside bits k e h =
-    let next : (e + 1) * k ≡ e * k + k = grind arith in
-    omega (arith, next, times_le (e + 1) (length bits / k) k (omega arith), div-mul-le_self (length bits) k)
+    omega (arith, mul-le-mul_right {m = e + 1} {n = length bits / k} k (omega arith), div-mul-le_self (length bits) k)
 
 pub ruleset unpacking = (more_numbers, all_numbers, number_inside)
 
@@ -212,7 +160,7 @@ all_bits items k a b is_count is_width = rw (is_count, is_width) (sym (length-pa
 
 pub few_symbols : (n a b w : ℕ) → a ≡ n → b ≡ w → a ≤ 18446744073709551552 / b → n * w ≤ 18446744073709551552
 few_symbols n a b w is_count is_width h =
-    rw (← is_count, ← is_width) (omega (arith, times_le a (18446744073709551552 / b) b h, div-mul-le_self 18446744073709551552 b))
+    rw (← is_count, ← is_width) (omega (arith, mul-le-mul_right {m = a} {n = 18446744073709551552 / b} b h, div-mul-le_self 18446744073709551552 b))
 
 pub if_ok : {E : Type 0} (r : Result Symbols E) (P Q R : Symbols → Type 0) → ((v : Symbols) → P v → Q v → R v) → IfOk r P → IfOk r Q → IfOk r R
 if_ok (Ok v) P Q R f p q = f v p q
@@ -246,7 +194,7 @@ no_query = record { place = 0; answer = None }
 pub place_next : (queries : List GetQuery) (j n : ℕ) (query : GetQuery) → j < length queries → ((i : ℕ) → i < j → get_or (map (λ q. q.place) queries) i 0 ≡ n + i) → query.place ≡ n + j
     → (i : ℕ) → i < j + 1 → get_or (map (λ q. q.place) (set queries j query)) i 0 ≡ n + i
 place_next queries j n query h so_far is =
-    subst (λ l. (i : ℕ) → i < j + 1 → get_or l i 0 ≡ n + i) (sym (map-set (λ (q : GetQuery). q.place) queries j query))
+    rw (map-set (λ (q : GetQuery). q.place) queries j query)
     (below_more _ _ (λ k less. let ne : k ≢ j = omega arith in rw get_or-set_other (so_far k less))
     (let lt : j < length (map (λ (q : GetQuery). q.place) queries) = omega (arith, length-map queries (λ (q : GetQuery). q.place)) in rw get_or-set_same is))
 
@@ -260,8 +208,6 @@ answered items w n j queries answers few h is_place is =
 
 pub answer_at : (queries : List GetQuery) (j : ℕ) (d : GetQuery) → j < length queries → (get_or queries j d).answer ≡ get_or (map (λ q. q.answer) queries) j None
 answer_at queries j d h = sym (get_or-map (λ (q : GetQuery). q.answer) queries j d None h)
-
-pub ruleset reading = (answer_at)
 
 -- the symbol that was found, or zero past the end
 pub given_symbol : (items : List ℕ) (p : ℕ) → unwrap_or (slice_get items p) 0 ≡ get_or items p 0

@@ -1,15 +1,6 @@
 -- The fault of bytes, by the tests in turn.
-use Rattle.vers_saved.proofs.Names.{◌≡◌, ℕ, ◌/◌, ◌<◌, ◌≤◌, Bool, true, false, List, [], ◌∷◌, ◌++◌, length, refl, sym, ap, subst, ◌∙◌, inl, inr, arith, Option, None, Some, nat_le, map, first_chunks, le-leb, nat_tests, Kind, LoadError, TooShort, BadLength, words_of, bytes_word, saved_size, first_failing, head_tests, body_tests, tests_of, fault_of, bits_said}
-use Rattle.std.specs.Prelude.{◌⊎◌}
-use Rattle.vers_saved.specs.declared.fault.LoadError.TheVariants.{Memory}
+use Rattle.vers_saved.proofs.Names.{◌≡◌, ℕ, ◌/◌, ◌<◌, ◌≤◌, Bool, true, false, List, [], ◌∷◌, ◌++◌, length, refl, ◌∙◌, inl, inr, arith, Option, None, Some, nat_le, map, first_chunks, le-leb, nat_tests, Kind, LoadError, TooShort, BadLength, words_of, bytes_word, saved_size, first_failing, head_tests, body_tests, tests_of, fault_of, bits_said, ◌⊎◌, Memory}
 use Rattle.vers_saved.proofs.WordBytes.{length-words_of}
-
--- a test that fails, and one that holds
-fails : (b : Bool) (e : LoadError) (tests : List (Bool × LoadError)) → b ≡ false → first_failing ((b, e) ∷ tests) ≡ Some e
-fails b e tests h = rw h refl
-
-holds : (b : Bool) (e : LoadError) (tests : List (Bool × LoadError)) → b ≡ true → first_failing ((b, e) ∷ tests) ≡ first_failing tests
-holds b e tests h = rw h refl
 
 -- tests, and then others
 fault_first : (xs ys : List (Bool × LoadError)) (e : LoadError) → first_failing xs ≡ Some e → first_failing (xs ++ ys) ≡ Some e
@@ -31,42 +22,31 @@ later_tests kind size words =
     (nat_le (saved_size (bits_said kind words)) size, TooShort) ∷ (nat_le size (saved_size (bits_said kind words)), BadLength) ∷ body_tests kind.order (bits_said kind words) words
 
 pub few_bytes : (kind : Kind) (size : ℕ) (words : List ℕ) → size < 48 → first_failing (tests_of kind size words) ≡ Some TooShort
-few_bytes kind size words h = fails (nat_le 48 size) TooShort (head_tests kind words ++ later_tests kind size words) (not_le 48 size h)
+few_bytes kind size words h = rw (not_le 48 size h) refl
 
 past_head : (kind : Kind) (size : ℕ) (words : List ℕ) → 48 ≤ size → first_failing (head_tests kind words) ≡ None
     → first_failing (tests_of kind size words) ≡ first_failing (later_tests kind size words)
-past_head kind size words h none =
-    holds (nat_le 48 size) TooShort (head_tests kind words ++ later_tests kind size words) (le-leb 48 size h) ∙ fault_then (head_tests kind words) (later_tests kind size words) none
+past_head kind size words h none = rw (le-leb 48 size h) (fault_then (head_tests kind words) (later_tests kind size words) none)
 
 pub bad_head : (kind : Kind) (size : ℕ) (words : List ℕ) (e : LoadError) → 48 ≤ size → first_failing (head_tests kind words) ≡ Some e → first_failing (tests_of kind size words) ≡ Some e
-bad_head kind size words e h bad =
-    holds (nat_le 48 size) TooShort (head_tests kind words ++ later_tests kind size words) (le-leb 48 size h) ∙ fault_first (head_tests kind words) (later_tests kind size words) e bad
+bad_head kind size words e h bad = rw (le-leb 48 size h) (fault_first (head_tests kind words) (later_tests kind size words) e bad)
 
 pub too_short : (kind : Kind) (size : ℕ) (words : List ℕ) → 48 ≤ size → first_failing (head_tests kind words) ≡ None → size < saved_size (bits_said kind words)
     → first_failing (tests_of kind size words) ≡ Some TooShort
-too_short kind size words h none short =
-    past_head kind size words h none
-    ∙ fails (nat_le (saved_size (bits_said kind words)) size) TooShort
-    ((nat_le size (saved_size (bits_said kind words)), BadLength) ∷ body_tests kind.order (bits_said kind words) words) (not_le (saved_size (bits_said kind words)) size short)
+too_short kind size words h none short = past_head kind size words h none ∙ rw (not_le (saved_size (bits_said kind words)) size short) refl
 
 long_enough : (kind : Kind) (size : ℕ) (words : List ℕ) → 48 ≤ size → first_failing (head_tests kind words) ≡ None → saved_size (bits_said kind words) ≤ size
     → first_failing (tests_of kind size words) ≡ first_failing ((nat_le size (saved_size (bits_said kind words)), BadLength) ∷ body_tests kind.order (bits_said kind words) words)
-long_enough kind size words h none long =
-    past_head kind size words h none
-    ∙ holds (nat_le (saved_size (bits_said kind words)) size) TooShort
-    ((nat_le size (saved_size (bits_said kind words)), BadLength) ∷ body_tests kind.order (bits_said kind words) words) (le-leb (saved_size (bits_said kind words)) size long)
+long_enough kind size words h none long = past_head kind size words h none ∙ rw (le-leb (saved_size (bits_said kind words)) size long) refl
 
 pub too_long : (kind : Kind) (size : ℕ) (words : List ℕ) → 48 ≤ size → first_failing (head_tests kind words) ≡ None → saved_size (bits_said kind words) < size
     → first_failing (tests_of kind size words) ≡ Some BadLength
-too_long kind size words h none long =
-    long_enough kind size words h none (omega arith)
-    ∙ fails (nat_le size (saved_size (bits_said kind words))) BadLength (body_tests kind.order (bits_said kind words) words) (not_le size (saved_size (bits_said kind words)) long)
+too_long kind size words h none long = long_enough kind size words h none (omega arith) ∙ rw (not_le size (saved_size (bits_said kind words)) long) refl
 
 pub by_body : (kind : Kind) (size : ℕ) (words : List ℕ) → first_failing (head_tests kind words) ≡ None → size ≡ saved_size (bits_said kind words)
     → first_failing (tests_of kind size words) ≡ first_failing (body_tests kind.order (bits_said kind words) words)
 by_body kind size words none exact =
-    long_enough kind size words (omega arith) none (omega arith)
-    ∙ holds (nat_le size (saved_size (bits_said kind words))) BadLength (body_tests kind.order (bits_said kind words) words) (le-leb size (saved_size (bits_said kind words)) (omega arith))
+    long_enough kind size words (omega arith) none (omega arith) ∙ rw (le-leb size (saved_size (bits_said kind words)) (omega arith)) refl
 
 pub fault_is : (kind : Kind) (bytes : List ℕ) → fault_of kind bytes ≡ first_failing (tests_of kind (length bytes) (words_of bytes))
 unfolding fault_of
@@ -83,17 +63,14 @@ pub ruleset whole = (fault_is, words_are, few_bytes, bad_head, too_short, too_lo
 pub bad_bytes : (kind : Kind) (bytes : List ℕ) (e : LoadError) (chunks : List (List ℕ)) → chunks ≡ first_chunks 8 (length bytes / 8) bytes → 48 ≤ length bytes
     → first_failing (head_tests kind (map bytes_word chunks)) ≡ Some e → fault_of kind bytes ≡ Some e
 bad_bytes kind bytes e chunks same long bad =
-    fault_is kind bytes ∙ bad_head kind (length bytes) (words_of bytes) e long
-    (ap (λ l. first_failing (head_tests kind l)) (sym (ap (map bytes_word) same ∙ words_are bytes)) ∙ bad)
+    fault_is kind bytes ∙ bad_head kind (length bytes) (words_of bytes) e long (rw (← words_are bytes, ← same) bad)
 
 -- where bytes have the fault of what comes after the head, or memory is lacking
 pub told_of : (kind : Kind) (bytes : List ℕ) (n : ℕ) (e : LoadError) (chunks : List (List ℕ)) → chunks ≡ first_chunks 8 (length bytes / 8) bytes
     → fault_of kind bytes ≡ first_failing (body_tests kind.order n (words_of bytes))
     → (first_failing (body_tests kind.order n (map bytes_word chunks)) ≡ Some e) ⊎ ((e ≡ Memory) × (first_failing (body_tests kind.order n (map bytes_word chunks)) ≡ None))
     → (fault_of kind bytes ≡ Some e) ⊎ ((e ≡ Memory) × (fault_of kind bytes ≡ None))
-told_of kind bytes n e chunks same body =
-    subst (λ o. (o ≡ Some e) ⊎ ((e ≡ Memory) × (o ≡ None)) → (fault_of kind bytes ≡ Some e) ⊎ ((e ≡ Memory) × (fault_of kind bytes ≡ None)))
-    (body ∙ ap (λ l. first_failing (body_tests kind.order n l)) (sym (ap (map bytes_word) same ∙ words_are bytes))) (λ told. told)
+told_of kind bytes n e chunks same body told = rw (body, ← words_are bytes, ← same) told
 
 -- where there is no fault, memory alone can be lacking
 pub memory_alone : (fault : Option LoadError) (e : LoadError) → (fault ≡ Some e) ⊎ ((e ≡ Memory) × (fault ≡ None)) → fault ≡ None → e ≡ Memory

@@ -1,6 +1,5 @@
 -- Saved forms of lists of numbers.
-use Rattle.vers_saved.proofs.Names.{◌≡◌, ℕ, ◌-◌, ◌*◌, ◌^◌, ◌<◌, ◌≤◌, true, List, length, get_or, refl, ap, inl, inr, arith, IsNonDecreasing, cases_lt, get_or_past, Kind, SORTED_LISTS, TABLE_VALUES, BLOCK_VALUES, item_bits, in_order, IsWhole, may_be_saved}
-use Rattle.vers_sorted.proofs.PublicLaws.{each_next-ascending}
+use Rattle.vers_saved.proofs.Names.{◌≡◌, ℕ, ◌-◌, ◌*◌, ◌^◌, ◌<◌, ◌≤◌, true, List, length, get_or, refl, ap, inl, inr, arith, IsNonDecreasing, cases_lt, get_or_past, Kind, SORTED_LISTS, TABLE_VALUES, BLOCK_VALUES, item_bits, in_order, IsWhole, may_be_saved, each_next-ascending}
 use Rattle.vers_saved.proofs.WordBytes.{AreWords}
 use Rattle.vers_saved.proofs.Shapes.{bounds_are, within_bounds, as_many}
 
@@ -13,13 +12,13 @@ whole_numbers kind numbers each may fit ordered =
 
 pub whole_sorted : (members : List ℕ) → length members ≤ 288230376151711743 → AreWords members → IsNonDecreasing members → IsWhole SORTED_LISTS (length members) 64 members
 whole_sorted members few fit up =
-    whole_numbers SORTED_LISTS members refl (within_bounds SORTED_LISTS (length members) 64 (omega arith) (omega arith) (omega arith) few (omega arith)) fit ((each_next-ascending members).1 up)
+    whole_numbers SORTED_LISTS members refl (within_bounds SORTED_LISTS (length members) 64 (omega (arith, few))) fit ((each_next-ascending members).1 up)
 
 pub whole_table : (items : List ℕ) → length items ≤ 4294967295 → AreWords items → IsWhole TABLE_VALUES (length items) 64 items
-whole_table items few fit = whole_numbers TABLE_VALUES items refl (within_bounds TABLE_VALUES (length items) 64 (omega arith) (omega arith) (omega arith) few (omega arith)) fit refl
+whole_table items few fit = whole_numbers TABLE_VALUES items refl (within_bounds TABLE_VALUES (length items) 64 (omega (arith, few))) fit refl
 
 pub whole_blocks : (items : List ℕ) → length items ≤ 549755813760 → AreWords items → IsWhole BLOCK_VALUES (length items) 64 items
-whole_blocks items few fit = whole_numbers BLOCK_VALUES items refl (within_bounds BLOCK_VALUES (length items) 64 (omega arith) (omega arith) (omega arith) few (omega arith)) fit refl
+whole_blocks items few fit = whole_numbers BLOCK_VALUES items refl (within_bounds BLOCK_VALUES (length items) 64 (omega (arith, few))) fit refl
 
 -- members that ascend to a word are words
 pub words_to_last : (members : List ℕ) (last : ℕ) → IsNonDecreasing members → last ≡ get_or members (length members - 1) 0 → last < 2 ^ 64 → AreWords members
@@ -34,7 +33,7 @@ no_words members none k = rw (get_or_past members k 0 (omega arith)) (omega arit
 -- how many words there may be, and how wide they are
 pub sorted_few : (members : List ℕ) (count width : ℕ) → IsWhole SORTED_LISTS count width members → (count ≡ length members) × (count ≤ 288230376151711743) × (64 ≡ width)
 sorted_few members count width whole =
-    let b = bounds_are SORTED_LISTS count width members whole in (as_many SORTED_LISTS count width members refl whole, b.3, omega (arith, b.0, b.1))
+    let b = bounds_are SORTED_LISTS count width members whole in (as_many SORTED_LISTS count width members refl whole, b.3, omega (arith, b))
 
 pub table_few : (items : List ℕ) (count width : ℕ) → IsWhole TABLE_VALUES count width items → (count ≡ length items) × (count ≤ 4294967295) × (64 ≡ width)
 table_few items count width whole =

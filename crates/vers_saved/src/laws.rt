@@ -3,7 +3,7 @@
 ghost use Rattle.vers_saved.specs.Laws.{SumTellsOneWord, BitsGoRound, SortedGoRound, SymbolsGoRound, SparseGoRound, TableValuesGoRound, BlockValuesGoRound, ParenthesesGoRound, PostingsGoRound};
 
 /// Where two lists of words differ in one word alone, their sums differ.
-#[tactic(auto, using(crate::proofs::SumTells::laws))]
+#[tactic(auto, using(crate::proofs::SumTells::sum_tells_one_word))]
 pub fn sum_tells_one_word()
     ensures { SumTellsOneWord }
 {}

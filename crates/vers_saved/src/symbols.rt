@@ -32,7 +32,7 @@ fn ask_group<A: Allocator + Copy>(list: &WaveletMatrix<A>, group: usize, queries
 
 // The symbol that a query was answered, or 0 where there is none.
 #[inline(always)]
-#[tactic(auto, using(crate::proofs::SymbolLists::reading))]
+#[tactic(auto, using(crate::proofs::SymbolLists::answer_at))]
 fn answer_of(queries: &[GetQuery], j: usize) -> u64
     requires { j < length queries.now }
     ensures { result ≡ unwrap_or (slice_index_or (map (λ q. q.answer) queries.now) j None) 0 }

@@ -6,7 +6,7 @@ use Rattle.vers_saved.proofs.form.form_of.Goals as goal
 
 pub returns-in_err-head-clause-back : goal.returns-in_err-head-clause-back
 returns-in_err-head-clause-back g c = λ count width words whole e.
-    let none = no_fault_back c.args.kind c.args.bytes.now count width words (omega arith, omega arith, omega arith) whole e in
+    let none = no_fault_back c.args.kind c.args.bytes.now count width words (omega arith) whole e in
     cc (c.in_err-head.ensures.fault)
 
 pub tested_words-requires : goal.tested_words-requires
@@ -15,30 +15,27 @@ tested_words-requires g c =
 
 pub returns-in_err-words-clause-err : goal.returns-in_err-words-clause-err
 returns-in_err-words-clause-err g c =
-    let refused = told_of c.args.kind c.args.bytes.now c.in_ok-head.head.bits c.in_err-words.field-0.0 c.as_chunks.result.0.now c.as_chunks.ensures.front c.in_ok-head.ensures.body c.in_err-words.ensures.refused in
-    search (rules, refused)
+    search (rules, told_of c.args.kind c.args.bytes.now c.in_ok-head.head.bits _ _ c.as_chunks.ensures.front c.in_ok-head.ensures.body c.in_err-words.ensures.refused)
 
 pub returns-in_err-words-clause-back : goal.returns-in_err-words-clause-back
 returns-in_err-words-clause-back g c = λ count width words whole e.
-    let refused = told_of c.args.kind c.args.bytes.now c.in_ok-head.head.bits c.in_err-words.field-0.0 c.as_chunks.result.0.now c.as_chunks.ensures.front c.in_ok-head.ensures.body c.in_err-words.ensures.refused in
+    let refused = told_of c.args.kind c.args.bytes.now c.in_ok-head.head.bits _ _ c.as_chunks.ensures.front c.in_ok-head.ensures.body c.in_err-words.ensures.refused in
     let memory = memory_alone (fault_of c.args.kind c.args.bytes.now) c.in_err-words.field-0.0 refused
-    (no_fault_back c.args.kind c.args.bytes.now count width words (omega arith, omega arith, omega arith) whole e) in
+    (no_fault_back c.args.kind c.args.bytes.now count width words (omega arith) whole e) in
     search (rules, memory)
 
 pub returns : goal.returns
 returns g c =
-    let h = c.in_ok-head.head.shape in
-    let n = c.in_ok-head.head.bits in
     let said = c.in_ok-head.ensures.said in
     let all : map bytes_word c.as_chunks.result.0.now ≡ words_of c.args.bytes.now = ap (map bytes_word) c.as_chunks.ensures.front ∙ words_are c.args.bytes.now in
     let none : fault_of c.args.kind c.args.bytes.now ≡ None =
-    c.in_ok-head.ensures.body ∙ ap (λ l. first_failing (body_tests c.args.kind.order n l)) (sym all) ∙ c.in_ok-words.ensures.none in
-    let p = loaded_is c.args.kind h.count h.width n c.args.bytes.now c.in_ok-words.words.items (λ i. omega (arith, c.type_inv.bytes i))
-    none said.1 said.2 said.3 (c.in_ok-words.ensures.words ∙ ap (words_among n) all) in
+    c.in_ok-head.ensures.body ∙ ap (λ l. first_failing (body_tests c.args.kind.order c.in_ok-head.head.bits l)) (sym all) ∙ c.in_ok-words.ensures.none in
+    let p = loaded_is c.args.kind _ _ c.in_ok-head.head.bits c.args.bytes.now _ (λ i. omega (arith, c.type_inv.bytes i))
+    none said.1 said.2 said.3 (c.in_ok-words.ensures.words ∙ ap (words_among c.in_ok-head.head.bits) all) in
     record {
       ok = (p.0, p.1, said.0);
       none = none;
       err = tt;
       back = λ count width words whole e.
-          one_form c.args.kind c.args.bytes.now h.count h.width count width c.in_ok-words.words.items words (omega arith, omega arith, omega arith) p.1 whole p.0 e;
+          one_form c.args.kind c.args.bytes.now _ _ count width _ words (omega arith) p.1 whole p.0 e;
     }

@@ -1,6 +1,4 @@
-use Rattle.std.proofs.Common.{◌≡◌, ◌+◌, ◌*◌, ◌≤◌, ◌++◌, take, vec_len, vec_capacity}
-use Rattle.std.specs.Prelude.{fold}
-use Rattle.vers_saved.specs.Format.{bytes_of, mix}
+use Rattle.vers_saved.proofs.Names.{◌≡◌, ◌+◌, ◌*◌, ◌≤◌, ◌++◌, take, vec_len, vec_capacity, fold, bytes_of, mix}
 use Rattle.vers_saved.proofs.form.put_words.Given as goal
 
 -- the words so far were appended and mixed in

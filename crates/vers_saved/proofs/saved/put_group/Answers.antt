@@ -1,4 +1,4 @@
-use Rattle.vers_saved.proofs.Names.{◌≡◌, ◌+◌, ◌*◌, ◌<◌, ◌++◌, length, take, drop, sym, ap, subst, ◌∙◌, fold, vec_len, length-take-le, bytes_of, mix}
+use Rattle.vers_saved.proofs.Names.{arith, ◌≡◌, ◌+◌, ◌*◌, ◌++◌, length, take, drop, ap, ◌∙◌, fold, vec_len, length-take-le, bytes_of, mix}
 use Rattle.vers_saved.proofs.Copies.{copied}
 use Rattle.vers_saved.proofs.saved.put_group.Goals as goal
 
@@ -7,7 +7,7 @@ returns g c =
     let long : length c.copy_words.new.out ≡ c.args.n = c.copy_words.auto.out ∙ length-take-le c.args.n _ c.requires.few in
     let same : c.copy_words.new.out ≡ take c.args.n (drop c.args.from (g.S.Saved.words c.args.list.now)) =
     copied (g.S.Saved.words c.args.list.now) c.copy_words.new.out c.args.from c.args.n long c.requires.within
-    (λ j h. c.copy_words.ensures j (subst (λ m. j < m) (sym long ∙ c.copy_words.auto.out) h)) in
+    (λ j h. c.copy_words.ensures j (omega (arith, h, long, c.copy_words.auto.out))) in
     let put = c.put_words.ensures in
     record {
       items = put.items ∙ ap (λ l. c.args.out.now.items ++ bytes_of l) same;

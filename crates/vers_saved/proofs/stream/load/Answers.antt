@@ -3,8 +3,7 @@ use Rattle.vers_saved.proofs.stream.load.Goals as goal
 
 pub returns-in_err-shape-clause-back : goal.returns-in_err-shape-clause-back
 returns-in_err-shape-clause-back g c = λ x whole fits e.
-    let p = (rw c.kind.ensures at c.in_err-shape.ensures.back) (g.S.Saved.count x) (g.S.Saved.width x) (g.S.Saved.words x) whole e in
-    search (rules, p)
+    search (rules, (rw c.kind.ensures at c.in_err-shape.ensures.back) (g.S.Saved.count x) (g.S.Saved.width x) (g.S.Saved.words x) whole e)
 
 pub returns-clause-back : goal.returns-clause-back
 returns-clause-back g c = λ x whole fits e.

@@ -1,4 +1,4 @@
-use Rattle.vers_saved.proofs.Names.{◌++◌, take, drop, sym, ap, ◌∙◌, arith, fold, mix, head, Appends-trans}
+use Rattle.vers_saved.proofs.Names.{◌++◌, sym, ◌∙◌, arith, head, Appends-trans}
 use Rattle.vers_saved.proofs.Sums.{summed_more}
 use Rattle.vers_saved.proofs.Streams.{left_of, stopped, went_on, ended}
 use Rattle.vers_saved.proofs.stream.write_words.Goals as goal
@@ -25,8 +25,8 @@ loop-done-preserved g c =
         went_on (head c.args.shape.kind c.args.shape.count c.args.shape.width) (g.S.Saved.words c.args.list.now) i.0 c.loop-done.buffer.items m.0 m.1 c.make_room.new.buffer.items
             c.put_group-sum.new.out.items c.loop-done.done c.min-n.result i.2 m.3 m.4 c.put_group-sum.ensures.items,
       );
-      summed = c.put_group-sum.ensures.sum ∙ ap (λ s. fold mix s (take c.min-n.result (drop c.loop-done.done (g.S.Saved.words c.args.list.now)))) c.loop-done.invariant.summed
-          ∙ summed_more (head c.args.shape.kind c.args.shape.count c.args.shape.width) (g.S.Saved.words c.args.list.now) c.loop-done.done c.min-n.result;
+      summed = rw (c.put_group-sum.ensures.sum, c.loop-done.invariant.summed)
+          (summed_more (head c.args.shape.kind c.args.shape.count c.args.shape.width) (g.S.Saved.words c.args.list.now) c.loop-done.done c.min-n.result);
       capacity = omega arith;
       room = omega (arith, c.in_default.ensures.room);
       within = omega arith;

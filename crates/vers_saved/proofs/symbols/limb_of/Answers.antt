@@ -1,4 +1,4 @@
-use Rattle.vers_saved.proofs.Names.{◌≡◌, ◌-◌, ◌+◌, ◌*◌, ◌/◌, ◌%◌, ◌<◌, ◌≤◌, min, max, length, get_or, take, drop, refl, ap, subst, sym, ◌∙◌, arith, length-take, number, limbs, pack, length-limbs, number_below}
+use Rattle.vers_saved.proofs.Names.{◌≡◌, ◌-◌, ◌+◌, ◌*◌, ◌%◌, min, length, get_or, take, drop, refl, ap, sym, ◌∙◌, arith, length-take, number, limbs, pack, length-limbs, number_below}
 use Rattle.vers_saved.proofs.Parentheses.{last_limb, none_yet}
 use Rattle.vers_saved.proofs.SymbolLists.{symbols_shape, item_of, in_group, bits_before, symbol_before}
 use Rattle.vers_saved.proofs.symbols.limb_of.Goals as goal
@@ -11,15 +11,12 @@ pub loop-place-init : goal.loop-place-init
 loop-place-init g c =
     let bits = pack c.args.list.now.items c.args.list.now.width in
     let s = symbols_shape (length c.args.list.now.items) c.args.list.now.width (limbs bits) c.requires.whole in
-    let is : c.min-place.result ≡ min (length (pack c.args.list.now.items c.args.list.now.width)) (64 * c.args.k + 64) =
-    c.min-place.ensures ∙ ap (λ n. min n (64 * c.args.k + 64)) c.count_bits.ensures.value in
+    let is = rw c.count_bits.ensures.value at c.min-place.ensures in
     record {
       word = sym (ap (λ e. number (take (e - c.min-place.result) (drop c.min-place.result bits))) (sym is) ∙ none_yet bits c.min-place.result);
       above = omega (arith, is, length-limbs bits, c.requires.within);
       below = omega (arith, is);
-      item = λ some. subst (λ w. ((c.min-place.result - 1) / w * c.args.list.now.width < c.min-place.result)
-          × (c.min-place.result ≤ (c.min-place.result - 1) / w * c.args.list.now.width + c.args.list.now.width))
-          (sym c.bits_per_element-width.ensures.value) (item_of c.min-place.result c.args.list.now.width s.0 (omega (arith, some)));
+      item = λ some. rw c.bits_per_element-width.ensures.value (item_of c.min-place.result c.args.list.now.width s.0 (omega (arith, some)));
     }
 
 pub joined-word-requires-clause-room : goal.joined-word-requires-clause-room
@@ -33,8 +30,7 @@ pub loop-place-preserved : goal.loop-place-preserved
 loop-place-preserved g c =
     let s = symbols_shape (length c.args.list.now.items) c.args.list.now.width (limbs (pack c.args.list.now.items c.args.list.now.width)) c.requires.whole in
     let at = c.loop-place.invariant.item c.loop-place-test.true in
-    let first : c.max-start.result ≡ max (c.loop-place.item * c.args.list.now.width) (64 * c.args.k) =
-    c.max-start.ensures ∙ ap (λ v. max (c.loop-place.item * v) (64 * c.args.k)) c.bits_per_element-width.ensures.value in
+    let first = rw c.bits_per_element-width.ensures.value at c.max-start.ensures in
     let symbol = c.requires.group (c.loop-place.item % 64) (omega arith)
     ∙ ap (λ p. get_or c.args.list.now.items p 0) (in_group c.args.list.now.width c.args.k c.loop-place.item c.loop-place.place s.0 at.0 at.1 (omega arith) (omega (arith, c.loop-place.invariant.below))) in
     record {
@@ -43,8 +39,7 @@ loop-place-preserved g c =
           symbol c.loop-place.invariant.word (rw c.bits_per_element-width.ensures.value at c.joined-word.ensures);
       above = omega (arith, first);
       below = omega (arith, first, at.0, c.loop-place.invariant.below);
-      item = λ more. subst (λ q. (q * c.args.list.now.width < c.max-start.result) × (c.max-start.result ≤ q * c.args.list.now.width + c.args.list.now.width))
-          (sym c.saturating_sub-item.ensures)
+      item = λ more. rw c.saturating_sub-item.ensures
           (symbol_before c.args.list.now.width c.loop-place.item c.max-start.result s.0 (omega (arith, first, more)) (omega (arith, more)));
     }
 

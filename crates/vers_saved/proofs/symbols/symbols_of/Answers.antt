@@ -1,5 +1,4 @@
-use Rattle.vers_saved.proofs.Names.{◌∙◌}
-use Rattle.std.proofs.lemmas.Result.{IfOk-weaker}
+use Rattle.vers_saved.proofs.Names.{◌∙◌, IfOk-weaker}
 use Rattle.vers_saved.proofs.SymbolLists.{symbols_shape, loaded_symbols}
 use Rattle.vers_saved.proofs.symbols.symbols_of.Goals as goal
 

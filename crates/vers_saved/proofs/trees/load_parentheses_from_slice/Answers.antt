@@ -3,8 +3,7 @@ use Rattle.vers_saved.proofs.trees.load_parentheses_from_slice.Goals as goal
 
 pub returns-in_err-shape-clause-back : goal.returns-in_err-shape-clause-back
 returns-in_err-shape-clause-back g c = λ x whole e.
-    let p = (rw c.tree_kind.ensures at c.in_err-shape.ensures.back) (length x) c.args.size (limbs x) whole e in
-    search (rules, p)
+    search (rules, (rw c.tree_kind.ensures at c.in_err-shape.ensures.back) (length x) c.args.size (limbs x) whole e)
 
 pub returns-clause-back : goal.returns-clause-back
 returns-clause-back g c = λ x whole e.

@@ -1,4 +1,4 @@
-use Rattle.vers_saved.proofs.Names.{◌≡◌, ◌+◌, ◌∙◌, ap, sym, arith, check_sum, limb_count, mix, take, take_all, words_among}
+use Rattle.vers_saved.proofs.Names.{◌≡◌, ◌+◌, ◌∙◌, ap, sym, arith, check_sum, limb_count, take, take_all, words_among}
 use Rattle.vers_saved.proofs.Orders.{length-words_among, copied_more}
 use Rattle.vers_saved.proofs.Sums.{check_sum-more}
 use Rattle.vers_saved.proofs.words.copy_summed.Goals as goal
@@ -11,8 +11,8 @@ loop-k-preserved g c =
     record {
       items = c.push_reserved.ensures.items
           ∙ copied_more c.args.n ws c.loop-k.k c.loop-k.kept.items c.word-word.result c.requires.long (omega (arith, c.div_ceil-k-end.ensures)) i.items c.word-word.ensures;
-      summed = c.mixed-sum.ensures ∙ ap (λ s. mix s c.word-word.result) i.summed ∙ ap (mix (check_sum (take (c.loop-k.k + 5) ws))) c.word-word.ensures
-          ∙ (sym (check_sum-more ws (c.loop-k.k + 5) (omega (arith, c.requires.long, c.div_ceil-k-end.ensures))) ∙ ap (λ m. check_sum (take m ws)) next);
+      summed = rw (c.mixed-sum.ensures, i.summed, c.word-word.ensures, ← next)
+          (sym (check_sum-more ws (c.loop-k.k + 5) (omega (arith, c.requires.long, c.div_ceil-k-end.ensures))));
       len = omega (arith, c.push_reserved.ensures.len, i.len);
       capacity = c.push_reserved.ensures.capacity ∙ i.capacity;
     }

@@ -1,6 +1,5 @@
-use Rattle.vers_saved.proofs.Names.{◌∙◌, ap, arith}
+use Rattle.vers_saved.proofs.Names.{◌∙◌, ap, arith, low_symbols}
 use Rattle.vers_saved.proofs.SymbolLists.{if_ok, symbols_shape, loaded_matrix}
-use Rattle.vers_wavelet.specs.Makers.{low_symbols}
 use Rattle.vers_saved.proofs.symbols.WaveletMatrixLoaded.make.Goals as goal
 
 pub returns : goal.returns
