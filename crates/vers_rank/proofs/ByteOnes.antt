@@ -1,6 +1,5 @@
 -- The ones of all bytes of a word at once.
-use Rattle.vers_rank.proofs.Names.{◌&&◌, Bool, and_parts, zero, suc, ap, sym, ◌∙◌, ◌+◌, ◌/◌, inl, inr, ◌≡◌, ℕ, ◌-◌, ◌*◌, ◌%◌, ◌^◌, ◌<◌, ◌≤◌, true, refl, arith, eqb, leb, count_ones, bit_and, and_mask, and_block, and_le_l, and_le_r, ones_cat, mod-mul-add, pow-add, cases_lt, agree_below_at, eqb-true, leb-true}
-use Rattle.std.proofs.Math.Nat.{div-div-eq-div-mul}
+use Rattle.vers_rank.proofs.Names.{◌&&◌, Bool, and_parts, zero, suc, ap, sym, ◌∙◌, ◌+◌, ◌/◌, inl, inr, ◌≡◌, ℕ, ◌-◌, ◌*◌, ◌%◌, ◌^◌, ◌<◌, ◌≤◌, true, refl, arith, eqb, leb, count_ones, bit_and, and_mask, and_block, and_le_l, and_le_r, ones_cat, mod-mul-add, shr-shr, cases_lt, ◌⊎◌, cases_eq, agree_below_at, eqb-true, leb-true}
 use lib.Count.{ones}
 use Rattle.vers_rank.specs.inside.ByteOnes.{byte_ones, ones_below_byte, ones_through_bytes}
 use Rattle.vers_rank.proofs.Words.{ones_few, ones_split}
@@ -115,49 +114,6 @@ packed : (ℕ → ℕ) → ℕ → ℕ → ℕ
 packed f a zero = 0
 packed f a (suc n) = packed f (a + 1) n * 256 + f a
 
--- sums that don't fall, and a number r
-module _ (p : ℕ → ℕ) (r : ℕ) (small : r < 64) (few : (i : ℕ) → i ≤ 8 → p i ≤ 64) (up : (i : ℕ) → p i ≤ p (i + 1)) where
-  abbrev below : ℕ → ℕ
-  below i = 128 + r - p i
-
-  -- how many of n sums from number a on the number reaches
-  reaching : ℕ → ℕ → ℕ
-  reaching a zero = 0
-  reaching a (suc n) = reaching (a + 1) n + below a / 128
-
-  minus_sums : (a n : ℕ) → a + n ≤ 9 → packed below a n + packed p a n ≡ bytes_of n (128 + r)
-  unfolding packed bytes_of
-  minus_sums a zero h = refl
-  minus_sums a (suc n) h = omega (arith, minus_sums (a + 1) n (omega arith), few a (omega arith))
-
-  top_bits : (a n : ℕ) → count_ones (bit_and (packed below a n) (bytes_of n 128)) ≡ reaching a n
-  unfolding packed bytes_of reaching ones
-  top_bits a zero = refl
-  top_bits a (suc n) =
-      ap count_ones (and_block 8 (packed below (a + 1) n) (bytes_of n 128) (below a) 128 (omega arith) (omega arith))
-      ∙ ones_cat 8 (bit_and (packed below (a + 1) n) (bytes_of n 128)) (bit_and (below a) 128) (omega (arith, and_le_r (below a) 128))
-      ∙ omega (arith, top_bits (a + 1) n, top_bit (below a) (omega arith))
-
-  none_reached : (a n : ℕ) → a + n ≤ 9 → r < p a → reaching a n ≡ 0
-  unfolding reaching
-  none_reached a zero h high = refl
-  none_reached a (suc n) h high = omega (arith, none_reached (a + 1) n (omega arith) (omega (arith, up a)), few a (omega arith))
-
-  -- after number a as many are reached as there are up to s, and the next one is not
-  reached_up_to : (a n s : ℕ) → a + n ≤ 8 → p a ≤ r → a + reaching (a + 1) n ≡ s → (p s ≤ r) × (r < p (a + n) → (s < a + n) × (r < p (s + 1)))
-  unfolding reaching
-  reached_up_to a zero s h low is =
-      let e : s ≡ a + 0 = omega arith in
-      let f : a ≡ a + 0 = omega arith in
-      (omega (arith, ap p e, ap p f), λ high. absurd (omega (arith, ap p f)))
-  reached_up_to a (suc n) s h low is = elim (cases_lt r (p (a + 1))) [
-    | inl high ↦ (let e : s ≡ a = omega (arith, none_reached (a + 1) (suc n) (omega arith) high) in rw e (low, λ _. (omega arith, high)))
-    | inr next ↦
-        let rest = reached_up_to (a + 1) n s (omega arith) next (omega arith) in
-        let e : a + 1 + n ≡ a + suc n = omega arith in
-        (rest.0, λ high. rw (← e) (rest.1 (omega (arith, ap p e))))
-  ]
-
 -- byte number s has one number r of a word
 abbrev pub IsByteWith : ℕ → ℕ → ℕ → Type 0
 IsByteWith w r s = (s < 8) × (count_ones (w % 2 ^ (8 * s)) ≤ r) × (r < count_ones (w % 2 ^ (8 * s + 8)))
@@ -167,32 +123,64 @@ few_below : (w i : ℕ) → i ≤ 8 → ones_below_byte w i ≤ 64
 few_below w i h = omega (arith, ones_few w (8 * i))
 
 more_below : (w i : ℕ) → ones_below_byte w i ≤ ones_below_byte w (i + 1)
-more_below w i = let e : 8 * (i + 1) ≡ 8 * i + 8 = omega arith in omega (arith, ap (λ n. count_ones (w % 2 ^ n)) e, ones_split w (8 * i) 8)
+more_below w i = let e : 8 * (i + 1) ≡ 8 * i + 8 = omega arith in rw e (omega (arith, ones_split w (8 * i) 8))
 
-through_packed : (w : ℕ) → ones_through_bytes w ≡ packed (ones_below_byte w) 1 8
-unfolding ones_through_bytes packed
-through_packed w = omega arith
+module _ (w r : ℕ) (inside : r < count_ones (w % 2 ^ 64)) where
+  pub small_number : r < 64
+  small_number = omega (arith, ones_few w 64)
+
+  abbrev below : ℕ → ℕ
+  below i = 128 + r - ones_below_byte w i
+
+  -- how many of n sums from number a on the number reaches
+  reaching : ℕ → ℕ → ℕ
+  reaching a zero = 0
+  reaching a (suc n) = reaching (a + 1) n + below a / 128
+
+  minus_sums : (a n : ℕ) → a + n ≤ 9 → packed below a n + packed (ones_below_byte w) a n ≡ bytes_of n (128 + r)
+  unfolding packed bytes_of
+  minus_sums a zero h = refl
+  minus_sums a (suc n) h = omega (arith, minus_sums (a + 1) n (omega arith), few_below w a (omega arith))
+
+  top_bits : (a n : ℕ) → count_ones (bit_and (packed below a n) (bytes_of n 128)) ≡ reaching a n
+  unfolding packed bytes_of reaching ones
+  top_bits a zero = refl
+  top_bits a (suc n) =
+      let low : below a < 256 = omega (arith, small_number) in
+      rw (and_block 8 (packed below (a + 1) n) (bytes_of n 128) (below a) 128 low (omega arith))
+      (omega (arith, ones_cat 8 (bit_and (packed below (a + 1) n) (bytes_of n 128)) (bit_and (below a) 128) (omega (arith, and_le_r)), top_bits (a + 1) n, top_bit (below a) low))
+
+  -- those that are reached come first
+  reached_first : (a n : ℕ) → a + n ≤ 9 → (reaching a n ≤ n) × ((i : ℕ) → a ≤ i → i < a + n → (i < a + reaching a n → ones_below_byte w i ≤ r) × (a + reaching a n ≤ i → r < ones_below_byte w i))
+  unfolding reaching
+  reached_first a zero h = (omega arith, λ i from to. absurd (omega arith))
+  reached_first a (suc n) h =
+      let rest = reached_first (a + 1) n (omega arith) in
+      let next : (reaching (a + 1) n ≡ 0) ⊎ (ones_below_byte w (a + 1) ≤ r) =
+      elim (cases_lt 0 (reaching (a + 1) n)) [ inl some ↦ inr ((rest.1 (a + 1) (omega arith) (omega (arith, rest.0))).0 (omega arith)) | inr none ↦ inl (omega arith) ] in
+      (omega (arith, small_number, rest.0), λ i from to. elim (cases_eq i a) [
+        | inl same ↦ rw same (λ low. omega (arith, more_below w a), λ high. omega (arith, small_number))
+        | inr other ↦ (λ low. (rest.1 i (omega arith) (omega arith)).0 (omega (arith, small_number)), λ high. (rest.1 i (omega arith) (omega arith)).1 (omega (arith, more_below w a)))
+      ])
 
 pub reached : (w r : ℕ) → r < count_ones (w % 2 ^ 64) → IsByteWith w r (count_ones (bit_and (r * 72340172838076673 + 9259542123273814144 - ones_through_bytes w) 9259542123273814144))
-unfolding bytes_of
+unfolding bytes_of ones_through_bytes packed
 reached w r h =
-    let p = ones_below_byte w in
-    let small : r < 64 = omega (arith, ones_few w 64) in
-    let s = reaching p r small (few_below w) (more_below w) 1 8 in
-    let minus : r * 72340172838076673 + 9259542123273814144 - ones_through_bytes w ≡ packed (λ i. 128 + r - p i) 1 8 =
-    omega (arith, minus_sums p r small (few_below w) (more_below w) 1 8 (omega arith), through_packed w) in
-    let is : count_ones (bit_and (r * 72340172838076673 + 9259542123273814144 - ones_through_bytes w) 9259542123273814144) ≡ s =
-    ap (λ n. count_ones (bit_and n 9259542123273814144)) minus ∙ top_bits p r small (few_below w) (more_below w) 1 8 in
-    let found = reached_up_to p r small (few_below w) (more_below w) 0 8 s (omega arith) (omega (arith, ones_few w 0)) (omega arith) in
+    let s = reaching w r h 1 8 in
+    let minus : r * 72340172838076673 + 9259542123273814144 - ones_through_bytes w ≡ packed (below w r h) 1 8 = omega (arith, minus_sums w r h 1 8 (omega arith)) in
+    let is : count_ones (bit_and (r * 72340172838076673 + 9259542123273814144 - ones_through_bytes w) 9259542123273814144) ≡ s = rw minus (top_bits w r h 1 8) in
+    let first = reached_first w r h 1 8 (omega arith) in
+    let some : s < 8 = elim (cases_lt s 8) [ inl some ↦ some | inr all ↦ absurd (omega (arith, h, (first.1 8 (omega arith) (omega arith)).0 (omega arith))) ] in
     let next : 8 * (s + 1) ≡ 8 * s + 8 = omega arith in
-    rw is ((found.1 h).0, found.0, rw (← next) (found.1 h).1)
+    rw is (
+      some,
+      elim (cases_lt 0 s) [ inl from ↦ (first.1 s from (omega arith)).0 (omega arith) | inr none ↦ (let e : s ≡ 0 = omega arith in rw e (omega (arith, ones_few w 0))) ],
+      rw (← next) ((first.1 (s + 1) (omega arith) (omega arith)).1 (omega arith)),
+    )
 
 pub through_few : (w : ℕ) → ones_through_bytes w ≤ 4629771061636907072
 unfolding ones_through_bytes
 through_few w = omega (arith, few_below w)
-
-pub small_number : (w r : ℕ) → r < count_ones (w % 2 ^ 64) → r < 64
-small_number w r h = omega (arith, ones_few w 64)
 
 pub ruleset bytes = (reached, through_few, small_number)
 
@@ -202,22 +190,19 @@ pub ruleset bytes = (reached, through_few, small_number)
 byte_at : (f : ℕ → ℕ) (a n k : ℕ) → ((i : ℕ) → i ≤ 8 → f i ≤ 64) → k < n → a + n ≤ 9 → packed f a n / 2 ^ (8 * k) % 256 ≡ f (a + k)
 unfolding packed
 byte_at f a zero k few h within = absurd (omega arith)
-byte_at f a (suc n) zero few h within =
-    let place : a + 0 ≡ a = omega arith in
-    let whole : (packed f (a + 1) n * 256 + f a) / 1 % 256 ≡ f a = omega (arith, few a (omega arith)) in whole ∙ ap f (sym place)
+byte_at f a (suc n) zero few h within = let place : a + 0 ≡ a = omega arith in rw place (omega (arith, few a (omega arith)))
 byte_at f a (suc n) (suc k) few h within =
-    let e : 8 * suc k ≡ 8 + 8 * k = omega arith in
-    let power : 2 ^ (8 * suc k) ≡ 256 * 2 ^ (8 * k) = ap (λ m. 2 ^ m) e ∙ pow-add 2 8 (8 * k) in
+    let power : 8 * suc k ≡ 8 + 8 * k = omega arith in
     let rest : (packed f (a + 1) n * 256 + f a) / 256 ≡ packed f (a + 1) n = omega (arith, few a (omega arith)) in
-    let next : a + 1 + k ≡ a + suc k = omega arith in
-    ap (λ m. (packed f (a + 1) n * 256 + f a) / m % 256) power ∙ ap (λ m. m % 256) (sym (div-div-eq-div-mul (packed f (a + 1) n * 256 + f a) 256 (2 ^ (8 * k))))
-    ∙ ap (λ m. m / 2 ^ (8 * k) % 256) rest ∙ byte_at f (a + 1) n k few (omega arith) (omega arith) ∙ ap f next
+    let next : a + suc k ≡ a + 1 + k = omega arith in
+    rw (power, ← shr-shr _ 8 (8 * k), rest, next) (byte_at f (a + 1) n k few (omega arith) (omega arith))
 
 pub part_of : (w k : ℕ) → k < 8 → ones_through_bytes w * 256 % 18446744073709551616 / 2 ^ (8 * k) % 256 ≡ count_ones (w % 2 ^ (8 * k))
 unfolding ones_through_bytes packed
 part_of w k h =
     let shifted : ones_through_bytes w * 256 % 18446744073709551616 ≡ packed (ones_below_byte w) 0 8 = omega (arith, few_below w, ones_few w 0) in
-    ap (λ n. n / 2 ^ (8 * k) % 256) shifted ∙ byte_at (ones_below_byte w) 0 8 k (few_below w) h (omega arith) ∙ ap (ones_below_byte w) (let e : 0 + k ≡ k = omega arith in e)
+    let place : 0 + k ≡ k = omega arith in
+    rw shifted (rw place at (byte_at (ones_below_byte w) 0 8 k (few_below w) h (omega arith)))
 
 pub masked_byte : (n : ℕ) → bit_and n 255 ≡ n % 256
 masked_byte n = and_mask n 8

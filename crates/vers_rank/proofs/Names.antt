@@ -1,5 +1,5 @@
 -- The names of specs/ and of other crates that many proofs use.
-pub use Rattle.std.proofs.Common.{Bool, List, None, Some, [], add_comm, ap, arith, bytes_eq, cond, drop, eqb, false, filter, get_or, inl, inr, leb, length, ltb, map, max, min, ne_eqb, not, pow-suc, pow_mono, refl, replicate, rules, set, slice_get, slice_index_or, subst, suc, sym, take, true, w16, w64, zero, ℕ, ◌%◌, ◌&&◌, ◌*◌, ◌++◌, ◌+◌, ◌-◌, ◌/◌, ◌<◌, ◌^◌, ◌||◌, ◌∙◌, ◌∷◌, ◌≡◌, ◌≢◌, ◌≤◌}
+pub use Rattle.std.proofs.Common.{Bool, List, None, Some, [], add_comm, ap, arith, bytes_eq, cond, drop, eqb, false, filter, get_or, inl, inr, leb, length, ltb, map, max, min, ne_eqb, not, pow-suc, pow_mono, refl, replicate, rules, set, slice_get, slice_index_or, subst, suc, sym, take, true, w16, w64, zero, ℕ, ◌%◌, ◌&&◌, ◌*◌, ◌++◌, ◌+◌, ◌-◌, ◌/◌, ◌<◌, ◌^◌, ◌||◌, ◌∙◌, ◌∷◌, ◌≡◌, ◌≢◌, ◌≤◌, ◌⊎◌}
 pub use Rattle.std.proofs.lemmas.Bool.{agree_below_at, and_parts, cases_Bool, cases_eq, cases_lt, eqb-true, le-leb, leb-false, leb-true, lt-ltb, ltb-true}
 pub use Rattle.std.proofs.lemmas.List.{drop_all, drop_more, get_or-set_other, get_or-set_same, get_or_append_left, get_or_past, get_or_push, length-map, length-set, length-take, length_push, map-id, same_lists}
 pub use Rattle.std.proofs.lemmas.Nat.{and-not, and_block, and_le_l, and_le_r, and_mask, mod-mul-add, mod-pow-add, mod_below, one_shl, ones-le, ones_cat, pow-add, pow_pos, shr-shr}
