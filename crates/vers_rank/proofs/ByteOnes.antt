@@ -84,22 +84,14 @@ pub ruleset steps = (counted_bytes, shifted_few, and_le_r)
 
 -- ---- the sums of the bytes up to each
 
--- sums by one multiplication: c are the digits, p their sums
-sums_of : (c0 c1 c2 c3 c4 c5 c6 c7 p1 p2 p3 p4 p5 p6 p7 p8 : ℕ)
-    → p1 ≡ c0 → p2 ≡ p1 + c1 → p3 ≡ p2 + c2 → p4 ≡ p3 + c3 → p5 ≡ p4 + c4 → p6 ≡ p5 + c5 → p7 ≡ p6 + c6 → p8 ≡ p7 + c7 → p8 ≤ 64
-    → (((((((c7 * 256 + c6) * 256 + c5) * 256 + c4) * 256 + c3) * 256 + c2) * 256 + c1) * 256 + c0) * 72340172838076673 % 18446744073709551616
-    ≡ ((((((p8 * 256 + p7) * 256 + p6) * 256 + p5) * 256 + p4) * 256 + p3) * 256 + p2) * 256 + p1
-sums_of c0 c1 c2 c3 c4 c5 c6 c7 p1 p2 p3 p4 p5 p6 p7 p8 e1 e2 e3 e4 e5 e6 e7 e8 few = omega arith
-
+-- the ones of one byte more
 next_sum : (w i b : ℕ) → b ≡ w / 2 ^ i → count_ones (w % 2 ^ (i + 8)) ≡ count_ones (w % 2 ^ i) + count_ones (b % 256)
-next_sum w i b e = ones_split w i 8 ∙ ap (λ n. count_ones (w % 2 ^ i) + count_ones (n % 256)) (sym e)
+next_sum w i b e = rw e (ones_split w i 8)
 
 pub spread_sums : (w : ℕ) → byte_ones 8 w * 72340172838076673 % 18446744073709551616 ≡ ones_through_bytes w
 unfolding byte_ones ones_through_bytes
 spread_sums w =
-    sums_of _ _ _ _ _ _ _ (0 + count_ones (w / 256 / 256 / 256 / 256 / 256 / 256 / 256 % 256)) _ _ _ _ _ _ (count_ones (w % 2 ^ 56)) (count_ones (w % 2 ^ 64)) refl (next_sum w 8 (w / 256) refl) (next_sum w 16 (w / 256 / 256) (omega arith)) (next_sum w 24 (w / 256 / 256 / 256) (omega arith))
-    (next_sum w 32 (w / 256 / 256 / 256 / 256) (omega arith)) (next_sum w 40 (w / 256 / 256 / 256 / 256 / 256) (omega arith)) (next_sum w 48 (w / 256 / 256 / 256 / 256 / 256 / 256) (omega arith))
-    (omega (arith, next_sum w 56 (w / 256 / 256 / 256 / 256 / 256 / 256 / 256) (omega arith))) (ones_few w 64)
+    omega (arith, next_sum w 8 (w / 256) (omega arith), next_sum w 16 (w / 256 / 256) (omega arith), next_sum w 24 (w / 256 / 256 / 256) (omega arith), next_sum w 32 (w / 256 / 256 / 256 / 256) (omega arith), next_sum w 40 (w / 256 / 256 / 256 / 256 / 256) (omega arith), next_sum w 48 (w / 256 / 256 / 256 / 256 / 256 / 256) (omega arith), next_sum w 56 (w / 256 / 256 / 256 / 256 / 256 / 256 / 256) (omega arith), ones_few w 64)
 
 pub ruleset sums = (spread_sums)
 
