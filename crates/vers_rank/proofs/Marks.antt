@@ -1,5 +1,5 @@
 -- Words whose ones are places of a limb.
-use Rattle.vers_rank.proofs.Names.{zero, suc, ◌≡◌, ℕ, ◌+◌, ◌-◌, ◌*◌, ◌/◌, ◌%◌, ◌^◌, ◌<◌, ◌≤◌, min, max, Bool, true, false, List, length, get_or, take, drop, pow_mono, refl, sym, ap, ◌∙◌, arith, inl, inr, eqb, w64, count_ones, bit_and, bit_at, bit_not, trailing_zeros, cases_lt, cases_eq, cases_Bool, agree_below_at, eqb-true, length-take, and_le_l, bit_at-zero, bit_at-lt, bit_at_and, bit_at_not, bit_at-trailing_zeros, bit_at_clear_same, bit_at_clear_other, ones_shl, ones_shr, bit_at_ones, bit_at_ones_above, bit_at_mask_inside, bit_at_mask_below, bit_value, is_bit, count, count_up, count_past, count_more_yes, count_more_no, highest_bit, limb_bit, number-lt, value_one, IsMarked, marked}
+use Rattle.vers_rank.proofs.Names.{zero, suc, ◌≡◌, ℕ, ◌+◌, ◌-◌, ◌*◌, ◌/◌, ◌%◌, ◌^◌, ◌<◌, ◌≤◌, min, max, Bool, true, false, List, length, get_or, take, drop, pow_mono, refl, sym, ap, ◌∙◌, arith, inl, inr, eqb, w64, count_ones, bit_and, bit_at, bit_not, trailing_zeros, cases_lt, cases_eq, cases_Bool, agree_below_at, eqb-true, length-take, and_le_l, bit_at-zero, bit_at-lt, bit_at_and, bit_at_not, bit_at-trailing_zeros, ones_shl, one_shl, pow_below, bit_at-pow_other, bit_at-pow_same, ◌⊎◌, ◌≢◌, ones_shr, bit_at_ones, bit_at_ones_above, bit_at_mask_inside, bit_at_mask_below, bit_value, is_bit, count, count_up, count_past, count_more_yes, count_more_no, highest_bit, limb_bit, number-lt, value_one, IsMarked, marked}
 use Rattle.std.specs.Int.Count.{count_leading_zeros}
 use lib.Count.{ones}
 use Rattle.vers_bits.specs.Bits.{limb}
@@ -32,57 +32,51 @@ pub record IsCut (w v s t : ℕ) : Type 0 where
   pub only : (i : ℕ) → i < 64 → bit_at v i ≡ 1 → (bit_at w i ≡ 1) × (s ≤ i) × (i < t)
   pub all : (i : ℕ) → i < 64 → s ≤ i → i < t → bit_at w i ≡ 1 → bit_at v i ≡ 1
 
+-- the mask has the bits from s on and below t, and no other of those that w has
+cut_by : (w mask s t : ℕ) → ((i : ℕ) → i < 64 → s ≤ i → i < t → bit_at mask i ≡ 1) → ((i : ℕ) → i < 64 → bit_at w i ≡ 1 → (i < s) ⊎ (t ≤ i) → bit_at mask i ≡ 0) → IsCut w (bit_and w mask) s t
+cut_by w mask s t inside outside = record {
+  less = and_le_l w mask;
+  only = λ i h on.
+      let was : bit_at w i ≡ 1 = omega (arith, on, bit_at_and w mask i, bit_at-lt w i) in (
+        was,
+        elim (cases_lt i s) [ inl below ↦ absurd (omega (arith, on, bit_at_and w mask i, outside i h was (inl below))) | inr from ↦ from ],
+        elim (cases_lt i t) [ inl to ↦ to | inr past ↦ absurd (omega (arith, on, bit_at_and w mask i, outside i h was (inr past))) ],
+      );
+  all = λ i h from to on. omega (arith, on, bit_at_and w mask i, inside i h from to);
+}
+
 pub cut_from : (w q : ℕ) → q < 64 → IsCut w (bit_and w (18446744073709551615 * 2 ^ q % 18446744073709551616)) q 64
 cut_from w q small =
-    let mask = 18446744073709551615 * 2 ^ q % 18446744073709551616 in
-    let is : mask ≡ 2 ^ 64 - 2 ^ q = ones_shl 64 q (omega arith) in
-    record {
-      less = and_le_l w mask;
-      only = λ i h on. elim (cases_lt i q) [
-        | inl below ↦ absurd (omega (arith, on, bit_at_and w mask i, ap (λ m. bit_at m i) is, bit_at_mask_below q 64 i below))
-        | inr from ↦ (omega (arith, on, bit_at_and w mask i, bit_at-lt w i), from, h)
-      ];
-      all = λ i h from _ on. omega (arith, on, bit_at_and w mask i, ap (λ m. bit_at m i) is, bit_at_mask_inside q 64 i from h);
-    }
+    rw (ones_shl 64 q (omega arith))
+    (cut_by w (2 ^ 64 - 2 ^ q) q 64 (λ i h from _. bit_at_mask_inside q 64 i from h) (λ i h _ out. elim out [ inl below ↦ bit_at_mask_below q 64 i below | inr past ↦ absurd (omega arith) ]))
 
 pub cut_to : (w q : ℕ) → q < 64 → IsCut w (bit_and w (18446744073709551615 / 2 ^ (63 - q))) 0 (q + 1)
 cut_to w q small =
-    let mask = 18446744073709551615 / 2 ^ (63 - q) in
-    let is : mask ≡ 2 ^ (q + 1) - 1 = ones_shr 64 (63 - q) (omega arith) ∙ (let e : 64 - (63 - q) ≡ q + 1 = omega arith in ap (λ n. 2 ^ n - 1) e) in
-    record {
-      less = and_le_l w mask;
-      only = λ i h on. elim (cases_lt q i) [
-        | inl above ↦ absurd (omega (arith, on, bit_at_and w mask i, ap (λ m. bit_at m i) is, bit_at_ones_above (q + 1) i (omega arith)))
-        | inr to ↦ (omega (arith, on, bit_at_and w mask i, bit_at-lt w i), omega arith, omega arith)
-      ];
-      all = λ i h _ to on. omega (arith, on, bit_at_and w mask i, ap (λ m. bit_at m i) is, bit_at_ones (q + 1) i to);
-    }
+    let size : 64 - (63 - q) ≡ q + 1 = omega arith in
+    rw (ones_shr 64 (63 - q) (omega arith), size)
+    (cut_by w (2 ^ (q + 1) - 1) 0 (q + 1) (λ i h _ to. bit_at_ones (q + 1) i to) (λ i h _ out. elim out [ inl below ↦ absurd (omega arith) | inr past ↦ bit_at_ones_above (q + 1) i past ]))
 
--- one bit is cleared, on one side of which all are
-cut_clear : (w q s t : ℕ) → q < 64 → ((i : ℕ) → s ≤ i → i < t → (i ≡ q → ⊥)) → ((i : ℕ) → i < 64 → (i ≡ q → ⊥) → bit_at w i ≡ 1 → (s ≤ i) × (i < t)) → IsCut w (bit_and w (bit_not w64 (1 * 2 ^ q % 18446744073709551616))) s t
-cut_clear w q s t small without others = record {
-  less = and_le_l w (bit_not w64 (1 * 2 ^ q % 18446744073709551616));
-  only = λ i h on. elim (cases_eq i q) [
-    | inl same ↦ absurd (omega (arith, on, ap (bit_at (bit_and w (bit_not w64 (1 * 2 ^ q % 18446744073709551616)))) same, bit_at_clear_same w64 w q small))
-    | inr other ↦ (let was : bit_at w i ≡ 1 = sym (bit_at_clear_other w64 w q small i h other) ∙ on in let rest = others i h other was in (was, rest.0, rest.1))
-  ];
-  all = λ i h from to on. bit_at_clear_other w64 w q small i h (without i from to) ∙ on;
-}
+-- a word without bit q, on one side of which it has no other
+cut_clear : (w q s t : ℕ) → q < 64 → ((i : ℕ) → s ≤ i → i < t → i ≢ q) → ((i : ℕ) → i < 64 → bit_at w i ≡ 1 → (i < s) ⊎ (t ≤ i) → i ≡ q) → IsCut w (bit_and w (bit_not w64 (1 * 2 ^ q % 18446744073709551616))) s t
+cut_clear w q s t small without others =
+    let bit = λ (i : ℕ) (h : i < 64). bit_at_not w64 (2 ^ q) i (pow_below q 64 small) h in
+    rw (one_shl q 64 small)
+    (cut_by w (bit_not w64 (2 ^ q)) s t (λ i h from to. omega (arith, bit i h, bit_at-pow_other q i (without i from to))) (λ i h on out. rw (others i h on out) (omega (arith, bit q small, bit_at-pow_same q))))
 
 pub cut_lowest : (w : ℕ) → 0 < w → w < 18446744073709551616 → IsCut w (bit_and w (bit_not w64 (1 * 2 ^ trailing_zeros w64 w % 18446744073709551616))) (trailing_zeros w64 w + 1) 64
 cut_lowest w some fits =
     let at = bit_at-trailing_zeros w64 w some fits in
-    cut_clear w (trailing_zeros w64 w) (trailing_zeros w64 w + 1) 64 at.0 (λ i from _ e. absurd (omega arith)) (λ i h other on. elim (cases_lt i (trailing_zeros w64 w)) [
+    cut_clear w (trailing_zeros w64 w) _ 64 at.0 (λ i from _ e. absurd (omega arith)) (λ i h on out. elim (cases_lt i (trailing_zeros w64 w)) [
       | inl below ↦ absurd (omega (arith, on, at.2 i below))
-      | inr from ↦ (omega (arith, other), h)
+      | inr from ↦ omega (arith, out)
     ])
 
 pub cut_highest : (w : ℕ) → 0 < w → w < 18446744073709551616 → IsCut w (bit_and w (bit_not w64 (1 * 2 ^ (63 - count_leading_zeros 64 w) % 18446744073709551616))) 0 (63 - count_leading_zeros 64 w)
 cut_highest w some fits =
     let at = highest_bit w some fits in
-    cut_clear w (63 - count_leading_zeros 64 w) 0 (63 - count_leading_zeros 64 w) (omega (arith, at.0)) (λ i _ to e. absurd (omega arith)) (λ i h other on. elim (cases_lt (63 - count_leading_zeros 64 w) i) [
+    cut_clear w (63 - count_leading_zeros 64 w) 0 _ (omega (arith, at.0)) (λ i _ to e. absurd (omega arith)) (λ i h on out. elim (cases_lt (63 - count_leading_zeros 64 w) i) [
       | inl above ↦ absurd (omega (arith, on, at.2 i above))
-      | inr to ↦ (omega arith, omega (arith, other))
+      | inr to ↦ omega (arith, out)
     ])
 
 -- ---- the places of a limb
@@ -157,37 +151,32 @@ module _ {b : Bool} {l : List Bool} {k w lo hi : ℕ} (is : IsMarked b l k w lo 
 
 -- ---- the ones of a word are as many as the places
 module _ {b : Bool} {l : List Bool} {k w lo hi : ℕ} (is : IsMarked b l k w lo hi) (order : lo ≤ hi) where
-  within : ℕ → ℕ
+  abbrev within : ℕ → ℕ
   within n = min (max n lo) hi
 
-  off_bit : (i : ℕ) → i < 64 → (bit_at w i ≡ 1 → 64 * k + i < length l) → (IsWithin b l lo hi (64 * k + i) → ⊥) → bit_at w i ≡ 0
-  off_bit i h inside none = elim (cases_eq (bit_at w i) 1) [
-    | inl on ↦ absurd (none (is.sound i h on (inside on)))
-    | inr other ↦ omega (arith, other, bit_at-lt w i)
-  ]
-
   within_next : (i : ℕ) → i < 64 → (bit_at w i ≡ 1 → 64 * k + i < length l) → within (count b l (64 * k + i)) + bit_at w i ≡ within (count b l (64 * k + i + 1))
-  unfolding within
   within_next i h inside =
       let p = 64 * k + i in
-      elim (cases_lt p (length l)) [
-        | inl here ↦ elim (cases_Bool (is_bit b (get_or l p false))) [
-          | inl on ↦
-              let more = count_more_yes b l p here on in
-              elim (cases_lt (count b l p) lo) [
-                | inl less ↦ omega (arith, more, off_bit i h inside (λ at. omega (arith, at.low)))
-                | inr low ↦ elim (cases_lt (count b l p) hi) [
-                  | inl high ↦ omega (arith, more, is.complete i h (record { inside = here; holds = on; low = low; high = high }))
-                  | inr past ↦ omega (arith, more, off_bit i h inside (λ at. omega (arith, at.high)))
+      elim (cases_eq (bit_at w i) 1) [
+        | inl on ↦ (let at = is.sound i h on (inside on) in omega (arith, on, at.low, at.high, count_more_yes b l p at.inside at.holds))
+        | inr none ↦ elim (cases_lt p (length l)) [
+          | inl here ↦ elim (cases_Bool (is_bit b (get_or l p false))) [
+            | inl holds ↦
+                let more = count_more_yes b l p here holds in
+                elim (cases_lt (count b l p) lo) [
+                  | inl less ↦ omega (arith, none, bit_at-lt w i)
+                  | inr low ↦ elim (cases_lt (count b l p) hi) [
+                    | inl high ↦ absurd (none (is.complete i h (record { inside = here; holds = holds; low = low; high = high })))
+                    | inr past ↦ omega (arith, none, bit_at-lt w i)
+                  ]
                 ]
-              ]
-          | inr off ↦ omega (arith, count_more_no b l p here off, off_bit i h inside (λ at. let e : true ≡ false = sym at.holds ∙ off in absurd (cc)))
+            | inr off ↦ omega (arith, none, bit_at-lt w i, count_more_no b l p here off)
+          ]
+          | inr past ↦ omega (arith, none, bit_at-lt w i, count_past b l p past, count_past b l (p + 1) (omega arith))
         ]
-        | inr past ↦ omega (arith, count_past b l p past, count_past b l (p + 1) (omega arith), off_bit i h inside (λ at. omega (arith, at.inside)))
       ]
 
   pub ones_within : (j : ℕ) → j ≤ 64 → ((i : ℕ) → i < j → bit_at w i ≡ 1 → 64 * k + i < length l) → min (max (count b l (64 * k)) lo) hi + count_ones (w % 2 ^ j) ≡ min (max (count b l (64 * k + j)) lo) hi
-  unfolding within
   ones_within zero h inside = let start : 64 * k + 0 ≡ 64 * k = omega arith in omega (arith, ones_few w 0, ap (count b l) start)
   ones_within (suc j) h inside =
       let size : suc j ≡ j + 1 = omega arith in
