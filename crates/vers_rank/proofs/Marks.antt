@@ -159,21 +159,11 @@ module _ {b : Bool} {l : List Bool} {k w lo hi : ℕ} (is : IsMarked b l k w lo 
       let p = 64 * k + i in
       elim (cases_eq (bit_at w i) 1) [
         | inl on ↦ (let at = is.sound i h on (inside on) in omega (arith, on, at.low, at.high, count_more_yes b l p at.inside at.holds))
-        | inr none ↦ elim (cases_lt p (length l)) [
-          | inl here ↦ elim (cases_Bool (is_bit b (get_or l p false))) [
-            | inl holds ↦
-                let more = count_more_yes b l p here holds in
-                elim (cases_lt (count b l p) lo) [
-                  | inl less ↦ omega (arith, none, bit_at-lt w i)
-                  | inr low ↦ elim (cases_lt (count b l p) hi) [
-                    | inl high ↦ absurd (none (is.complete i h (record { inside = here; holds = holds; low = low; high = high })))
-                    | inr past ↦ omega (arith, none, bit_at-lt w i)
-                  ]
-                ]
-            | inr off ↦ omega (arith, none, bit_at-lt w i, count_more_no b l p here off)
-          ]
-          | inr past ↦ omega (arith, none, bit_at-lt w i, count_past b l p past, count_past b l (p + 1) (omega arith))
-        ]
+        | inr none ↦
+            let no : bit_at w i ≡ 0 = omega (arith, bit_at-lt w i) in
+            let out : p < length l → is_bit b (get_or l p false) ≡ true → lo ≤ count b l p → count b l p < hi → ⊥ =
+            λ here holds low high. none (is.complete i h (record { inside = here; holds = holds; low = low; high = high })) in
+            grind (arith, cases_lt p (length l), cases_Bool (is_bit b (get_or l p false)), cases_lt (count b l p) lo, cases_lt (count b l p) hi, count_more_yes b l p, count_more_no b l p, count_past b l p, count_past b l (p + 1))
       ]
 
   pub ones_within : (j : ℕ) → j ≤ 64 → ((i : ℕ) → i < j → bit_at w i ≡ 1 → 64 * k + i < length l) → min (max (count b l (64 * k)) lo) hi + count_ones (w % 2 ^ j) ≡ min (max (count b l (64 * k + j)) lo) hi
