@@ -23,7 +23,7 @@ pub one_between : (w q n : ℕ) → count_ones (w % 2 ^ q) ≤ n → n < count_o
 one_between w q n low high = (omega (arith, one_more w q, bit_at-lt w q), omega (arith, one_more w q, bit_at-lt w q))
 
 pub some_word : (w i : ℕ) → bit_at w i ≡ 1 → 0 < w
-some_word w i on = elim (cases_lt 0 w) [ inl h ↦ h | inr none ↦ (let e : w ≡ 0 = omega arith in absurd (omega (arith, on, ap (λ n. bit_at n i) e, bit_at-zero i))) ]
+some_word w i on = grind (arith, bit_at-zero i)
 
 -- ---- parts of a word
 -- the ones of v are those of w from place s on and below place t
@@ -37,11 +37,8 @@ cut_by : (w mask s t : ℕ) → ((i : ℕ) → i < 64 → s ≤ i → i < t → 
 cut_by w mask s t inside outside = record {
   less = and_le_l w mask;
   only = λ i h on.
-      let was : bit_at w i ≡ 1 = omega (arith, on, bit_at_and w mask i, bit_at-lt w i) in (
-        was,
-        elim (cases_lt i s) [ inl below ↦ absurd (omega (arith, on, bit_at_and w mask i, outside i h was (inl below))) | inr from ↦ from ],
-        elim (cases_lt i t) [ inl to ↦ to | inr past ↦ absurd (omega (arith, on, bit_at_and w mask i, outside i h was (inr past))) ],
-      );
+      let was : bit_at w i ≡ 1 = omega (arith, on, bit_at_and w mask i, bit_at-lt w i) in
+      (was, grind (arith, bit_at_and w mask i, outside i h was), grind (arith, bit_at_and w mask i, outside i h was));
   all = λ i h from to on. omega (arith, on, bit_at_and w mask i, inside i h from to);
 }
 
@@ -66,18 +63,12 @@ cut_clear w q s t small without others =
 pub cut_lowest : (w : ℕ) → 0 < w → w < 18446744073709551616 → IsCut w (bit_and w (bit_not w64 (1 * 2 ^ trailing_zeros w64 w % 18446744073709551616))) (trailing_zeros w64 w + 1) 64
 cut_lowest w some fits =
     let at = bit_at-trailing_zeros w64 w some fits in
-    cut_clear w (trailing_zeros w64 w) _ 64 at.0 (λ i from _ e. absurd (omega arith)) (λ i h on out. elim (cases_lt i (trailing_zeros w64 w)) [
-      | inl below ↦ absurd (omega (arith, on, at.2 i below))
-      | inr from ↦ omega (arith, out)
-    ])
+    cut_clear w (trailing_zeros w64 w) _ 64 at.0 (λ i from _ e. absurd (omega arith)) (λ i h on out. grind (arith, at.2 i))
 
 pub cut_highest : (w : ℕ) → 0 < w → w < 18446744073709551616 → IsCut w (bit_and w (bit_not w64 (1 * 2 ^ (63 - count_leading_zeros 64 w) % 18446744073709551616))) 0 (63 - count_leading_zeros 64 w)
 cut_highest w some fits =
     let at = highest_bit w some fits in
-    cut_clear w (63 - count_leading_zeros 64 w) 0 _ (omega (arith, at.0)) (λ i _ to e. absurd (omega arith)) (λ i h on out. elim (cases_lt (63 - count_leading_zeros 64 w) i) [
-      | inl above ↦ absurd (omega (arith, on, at.2 i above))
-      | inr to ↦ omega (arith, out)
-    ])
+    cut_clear w (63 - count_leading_zeros 64 w) 0 _ (omega (arith, at.0)) (λ i _ to e. absurd (omega arith)) (λ i h on out. grind (arith, at.2 i))
 
 -- ---- the places of a limb
 pub limb_fits : (l : List Bool) (k : ℕ) → limb l k < 18446744073709551616
@@ -129,10 +120,7 @@ module _ {b : Bool} {l : List Bool} {k w lo hi : ℕ} (is : IsMarked b l k w lo 
         let at = is.sound i h was.0 inside in
         record { inside = inside; holds = at.holds; low = omega (arith, count_up b l (64 * k + s) (64 * k + i) (omega (arith, was.1))); high = at.high };
     complete = λ i h at.
-        let from : s ≤ i = elim (cases_lt i s) [
-          | inl below ↦ absurd (omega (arith, at.low, count_more_yes b l (64 * k + i) at.inside at.holds, count_up b l (64 * k + i + 1) (64 * k + s) (omega arith)))
-          | inr from ↦ from
-        ] in
+        let from : s ≤ i = grind (arith, at.low, count_more_yes b l (64 * k + i) at.inside at.holds, count_up b l (64 * k + i + 1) (64 * k + s)) in
         cut.all i h from h (is.complete i h (record { inside = at.inside; holds = at.holds; low = omega (arith, at.low); high = at.high }));
   }
 
@@ -145,7 +133,7 @@ module _ {b : Bool} {l : List Bool} {k w lo hi : ℕ} (is : IsMarked b l k w lo 
         let at = is.sound i h was.0 inside in
         record { inside = inside; holds = at.holds; low = at.low; high = omega (arith, count_more_yes b l (64 * k + i) inside at.holds, count_up b l (64 * k + i + 1) (64 * k + t) (omega (arith, was.2))) };
     complete = λ i h at.
-        let to : i < t = elim (cases_lt i t) [ inl to ↦ to | inr past ↦ absurd (omega (arith, at.high, count_up b l (64 * k + t) (64 * k + i) (omega arith))) ] in
+        let to : i < t = grind (arith, at.high, count_up b l (64 * k + t) (64 * k + i)) in
         cut.all i h (omega arith) to (is.complete i h (record { inside = at.inside; holds = at.holds; low = at.low; high = omega (arith, at.high) }));
   }
 
