@@ -80,16 +80,10 @@ limb_fits l k =
     omega (arith, number-lt part, few)
 
 pub marked_fits : (b : Bool) (l : List Bool) (k : ℕ) → marked b (limb l k) < 18446744073709551616
-marked_fits true l k = limb_fits l k
-marked_fits false l k = omega arith
-
-not_value : (x : Bool) → 1 - bit_value x ≡ bit_value (is_bit false x)
-not_value true = refl
-not_value false = refl
+marked_fits b l k = grind (arith, cases_Bool b, limb_fits l k)
 
 pub marked_bit : (b : Bool) (l : List Bool) (k i : ℕ) → i < 64 → bit_at (marked b (limb l k)) i ≡ bit_value (is_bit b (get_or l (64 * k + i) false))
-marked_bit true l k i h = limb_bit l k i h
-marked_bit false l k i h = bit_at_not w64 (limb l k) i (limb_fits l k) h ∙ ap (λ x. 1 - x) (limb_bit l k i h) ∙ not_value (get_or l (64 * k + i) false)
+marked_bit b l k i h = grind (arith, cases_Bool b, cases_Bool (get_or l (64 * k + i) false), limb_bit l k i h, bit_at_not w64 (limb l k) i (limb_fits l k) h)
 
 -- the word that a limb's marks are read from
 pub marks_are : (b : Bool) (l m : List Bool) (k v w : ℕ) → w ≡ marked b v → v ≡ limb m k → m ≡ l → w ≡ marked b (limb l k)
