@@ -66,14 +66,7 @@ pub record IsBetween (b : Bool) (l : List Bool) (r first last : ℕ) : Type 0 wh
 pub samples_bound : (b : Bool) (l : List Bool) (r first last : ℕ) → r < count b l (length l)
     → IsSample b l (r / 8192) first → IsSample b l (r / 8192 + 1) last → IsBetween b l r first last
 samples_bound b l r first last some before after =
-    let low : count b l (8192 * first) ≤ r = omega (arith, before.low) in
-    let high : r < count b l (8192 * (last + 1)) = omega (arith, after.high) in
-    record {
-      order = grind (arith, count_up b l (8192 * (last + 1)) (8192 * first));
-      within = omega (arith, after.inside, (count_le b l (length l)).1);
-      from = low;
-      to = high;
-    }
+    grind (arith, before, after, count_le b l (length l), count_up b l (8192 * (last + 1)) (8192 * first))
 
 -- a superblock has at most 8192 places
 pub superblock_few : (b : Bool) (l : List Bool) (s r : ℕ) → r < count b l (8192 * (s + 1)) → r < count b l (8192 * s) + 8192
@@ -98,48 +91,18 @@ held_among b l i n ones counts few = grind (arith, cases_Bool b, count_le true l
 pub half_of : (b : Bool) (l : List Bool) (block r n limb before ones : ℕ) → IsAmongLimbs b l block r (2 * n) limb before → count true l (64 * limb) + ones ≡ count true l (64 * (limb + n)) → ones ≤ 64 * n
     → (before + held_of b ones (64 * n) ≤ r → IsAmongLimbs b l block r n (limb + n) (before + held_of b ones (64 * n))) × (r < before + held_of b ones (64 * n) → IsAmongLimbs b l block r n limb before)
 half_of b l block r n limb before ones is counts few =
-    let there : ℕ = held_of b ones (64 * n) in
     let next : 64 * limb + 64 * n ≡ 64 * (limb + n) = omega arith in
-    let among = held_among b l (64 * limb) (64 * n) ones (counts ∙ ap (count true l) (sym next)) few in
-    let more : held b l (64 * limb) + there ≡ held b l (64 * (limb + n)) = among.0 ∙ ap (held b l) next in (
-      λ low. record {
-        start = omega (arith, is.start);
-        inside = omega (arith, is.inside);
-        counted = omega (arith, is.counted, more);
-        from = low;
-        few = omega (arith, is.few, is.start, among.1);
-        to = λ h. let end : 64 * (limb + n + n) ≡ 64 * (limb + 2 * n) = omega arith in omega (arith, is.to (omega arith), ap (held b l) end);
-      },
-      λ high. record {
-        start = is.start;
-        inside = omega (arith, is.inside);
-        counted = is.counted;
-        from = is.from;
-        few = is.few;
-        to = λ _. omega (arith, is.counted, more, high);
-      },
-    )
+    let end : 64 * (limb + n + n) ≡ 64 * (limb + 2 * n) = omega arith in
+    let among = rw next at (held_among b l (64 * limb) (64 * n) ones (rw next counts) few) in
+    (λ low. grind (arith, is, among, ap (held b l) end), λ high. grind (arith, is, among))
 
 -- the limb that is left
 pub one_limb : (b : Bool) (l : List Bool) (block r limb before : ℕ) → IsAmongLimbs b l block r 1 limb before → IsLimbWith b l block r (8 * block + 7) limb before
-one_limb b l block r limb before is = record {
-  start = is.start;
-  inside = omega (arith, is.inside);
-  counted = is.counted;
-  from = is.from;
-  to = λ h. is.to (omega arith);
-}
+one_limb b l block r limb before is = grind (arith, is)
 
 -- all 8 limbs of a block
 pub all_limbs : (b : Bool) (l : List Bool) (block r : ℕ) → IsAmongLimbs b l block r 8 (8 * block) 0
-all_limbs b l block r = record {
-  start = omega arith;
-  inside = omega arith;
-  counted = let e : 512 * block ≡ 64 * (8 * block) = omega arith in omega (arith, ap (held b l) e);
-  from = omega arith;
-  few = omega arith;
-  to = λ h. absurd (omega arith);
-}
+all_limbs b l block r = grind arith
 
 -- half of a block: the second where the places of the first don't pass number r, and else the first
 pub block_half : (b : Bool) (l : List Bool) (block r ones : ℕ) → count true l (64 * (8 * block)) + ones ≡ count true l (64 * (8 * block + 4)) → ones ≤ 256
