@@ -9,18 +9,13 @@ use Rattle.vers_rank.proofs.Marks.{IsCut, ones_stay, one_between, some_word, cut
 module _ (b : Bool) (l : List Bool) (reader : Reader) (is : IsReading b l reader) (known : 0 < reader.edge) where
   -- the ones from one of the word's places on
   reading_from : (v s r : ℕ) → IsCut reader.word v s 64 → s ≤ 64 → count b l (64 * reader.limb + s) ≡ r → reader.next ≤ r → IsReading b l (record reader { word = v; next = r })
-  reading_from v s r cut small start up = record {
-    before = omega (arith, is.before);
-    after = omega (arith, count_up b l (64 * reader.limb + s) (64 * reader.limb + 64) (omega arith));
-    begun = λ _. known;
-    marks = λ _. marked_from (is.marks known) v s r cut start up;
-    in_block = is.in_block;
-  }
+  reading_from v s r cut small start up =
+      grind (arith, is, known, count_up b l (64 * reader.limb + s) (64 * reader.limb + 64) (omega arith), marked_from (is.marks known) v s r cut start up)
 
   module _ (r : ℕ) (from : reader.next ≤ r) (some : r < count b l (length l)) where
     -- the limb starts inside the list
     starts_inside : 64 * reader.limb < length l
-    starts_inside = elim (cases_lt (64 * reader.limb) (length l)) [ inl h ↦ h | inr past ↦ absurd (omega (arith, count_past b l (64 * reader.limb) past, is.before)) ]
+    starts_inside = grind (arith, is.before, count_past b l (64 * reader.limb))
 
     place_at : (q : ℕ) → q < 64 → bit_at reader.word q ≡ 1 → reader.next + count_ones (reader.word % 2 ^ q) ≡ r → (IsWithin b l reader.next (count b l (length l)) (64 * reader.limb + q)) × (count b l (64 * reader.limb + q) ≡ r)
     place_at q small on number = place_of (is.marks known) (omega arith) q r small (omega arith) (omega (arith, starts_inside)) on (omega (arith, is.before)) some
@@ -41,13 +36,8 @@ module _ (b : Bool) (l : List Bool) (reader : Reader) (is : IsReading b l reader
 
     pub passed_inside : r < reader.edge → count_ones reader.word ≤ r - reader.next → (64 * (reader.limb + 1) < length l) × ((reader.limb + 1) / 8 ≡ reader.limb / 8)
     passed_inside to few =
-        let end = passed few in (
-          omega (arith, end.0),
-          elim (cases_lt (64 * reader.limb + 64) (512 * (reader.limb / 8) + 512)) [
-            | inl h ↦ omega arith
-            | inr past ↦ absurd (omega (arith, end.1, is.in_block, count_up b l (512 * (reader.limb / 8) + 512) (64 * reader.limb + 64) past))
-          ],
-        )
+        let end = passed few in
+        (omega (arith, end.0), grind (arith, end.1, is.in_block, count_up b l (512 * (reader.limb / 8) + 512) (64 * reader.limb + 64)))
 
     pub onward : (q : ℕ) → q < 64 → held_in true reader.word q ≤ r - reader.next → r - reader.next < held_in true reader.word (q + 1)
         → (IsReading b l (record reader { word = bit_and reader.word (18446744073709551615 * 2 ^ q % 18446744073709551616); next = r })) × (0 < bit_and reader.word (18446744073709551615 * 2 ^ q % 18446744073709551616))
@@ -59,13 +49,8 @@ module _ (b : Bool) (l : List Bool) (reader : Reader) (is : IsReading b l reader
 
 -- a limb whole
 whole_reading : (b : Bool) (l : List Bool) (k n edge : ℕ) → count b l (64 * k) ≡ n → 0 < edge → edge ≤ count b l (512 * (k / 8) + 512) → IsReading b l (record { word = marked b (limb l k); limb = k; next = n; edge = edge })
-whole_reading b l k n edge start known within = record {
-  before = omega (arith, start);
-  after = omega (arith, start, count_up b l (64 * k) (64 * k + 64) (omega arith));
-  begun = λ _. known;
-  marks = λ _. whole_marked b l k n (count b l (length l)) (omega (arith, start)) (count_le_all b l (64 * k + 64));
-  in_block = within;
-}
+whole_reading b l k n edge start known within =
+    grind (arith, count_up b l (64 * k) (64 * k + 64) (omega arith), whole_marked b l k n (count b l (length l)) (omega arith) (count_le_all b l (64 * k + 64)))
 
 pub next_limb : (b : Bool) (l : List Bool) (reader : Reader) → IsReading b l reader → 0 < reader.edge → (r : ℕ) → reader.next ≤ r → r < count b l (length l) → r < reader.edge → (v ones : ℕ) → ones ≡ count_ones reader.word → ones ≤ r - reader.next
     → v ≡ marked b (limb l (reader.limb + 1)) → IsReading b l (record reader { word = v; limb = reader.limb + 1; next = reader.next + ones })
@@ -121,10 +106,4 @@ new_reading b l r k q edge some place small end =
     (reading_from b l _ whole known _ q r cut (omega arith) at.before (omega (arith, at.before)), some_word _ q (cut.all q small (omega arith) small on))
 
 pub no_reading : (b : Bool) (l : List Bool) → IsReading b l (record { word = 0; limb = 0; next = 0; edge = 0 })
-no_reading b l = record {
-  before = omega (arith, count_none b l);
-  after = omega arith;
-  begun = λ some. absurd (omega arith);
-  marks = λ known. absurd (omega arith);
-  in_block = omega arith;
-}
+no_reading b l = grind (arith, count_none b l)

@@ -12,24 +12,17 @@ module _ (b : Bool) (l : List Bool) (reader : Reader) (is : IsReadingBack b l re
 
   -- the ones up to one of the word's places
   reading_to : (v t r : ℕ) → IsCut reader.word v 0 t → count b l (64 * reader.limb + t) ≡ r → r ≤ reader.next → IsReadingBack b l (record reader { word = v; next = r })
-  reading_to v t r cut end down = record {
-    inside = is.inside;
-    before = omega (arith, count_up b l (64 * reader.limb) (64 * reader.limb + t) (omega arith));
-    after = omega (arith, is.after);
-    marks = marked_to is.marks v t r cut end down;
-    within = λ i h on. is.within i h (cut.only i h on).0;
-    in_block = is.in_block;
-  }
+  reading_to v t r cut end down =
+      grind (arith, is, count_up b l (64 * reader.limb) (64 * reader.limb + t) (omega arith), marked_to is.marks v t r cut end down, cut.only)
 
   place_at : (q r : ℕ) → q < 64 → bit_at reader.word q ≡ 1 → count b l (64 * reader.limb) + count_ones (reader.word % 2 ^ q) ≡ r → r < reader.next → (IsWithin b l 0 reader.next (64 * reader.limb + q)) × (count b l (64 * reader.limb + q) ≡ r)
   place_at q r small on number some = place_of is.marks (omega arith) q r small (omega (arith, is.after, count_le_all b l (64 * reader.limb + 64))) is.inside on (omega (arith, is.before)) some
 
   module _ (end : ℕ) (from : reader.edge < end) (to : end ≤ reader.next) where
     pub passed_back : count_ones reader.word ≤ reader.next - end → (0 < reader.limb) × (64 * (reader.limb - 1) < length l) × ((reader.limb - 1) / 8 ≡ reader.limb / 8)
-    passed_back few = elim (cases_lt (512 * (reader.limb / 8)) (64 * reader.limb)) [
-      | inl h ↦ (omega arith, omega (arith, is.inside), omega arith)
-      | inr start ↦ (let e : 512 * (reader.limb / 8) ≡ 64 * reader.limb = omega arith in absurd (omega (arith, ones_back, is.in_block, ap (count b l) e)))
-    ]
+    passed_back few =
+        let inside : 512 * (reader.limb / 8) < 64 * reader.limb = grind (arith, ones_back, is.in_block) in
+        (omega arith, omega (arith, is.inside), omega arith)
 
     pub limb_before : (v ones : ℕ) → ones ≡ count_ones reader.word → ones ≤ reader.next - end → v ≡ marked b (limb l (reader.limb - 1)) → IsReadingBack b l (record reader { word = v; limb = reader.limb - 1; next = reader.next - ones })
     limb_before v ones all few word =
@@ -105,11 +98,4 @@ new_back b l r k q edge some place small begin =
     )
 
 pub no_reading_back : (b : Bool) (l : List Bool) → IsReadingBack b l (record { word = 0; limb = 0; next = 0; edge = 0 })
-no_reading_back b l = record {
-  inside = omega arith;
-  before = omega (arith, count_none b l);
-  after = omega arith;
-  marks = record { fits = omega arith; sound = λ i h on. absurd (omega (arith, on, bit_at-zero i)); complete = λ i h at. absurd (omega (arith, at.high)) };
-  within = λ i h on. absurd (omega (arith, on, bit_at-zero i));
-  in_block = omega (arith, count_none b l);
-}
+no_reading_back b l = grind (arith, count_none b l, bit_at-zero)
