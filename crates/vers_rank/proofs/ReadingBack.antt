@@ -30,15 +30,7 @@ module _ (b : Bool) (l : List Bool) (reader : Reader) (is : IsReadingBack b l re
         let back = passed_back (omega arith) in
         let start : 64 * k + 64 ≡ 64 * reader.limb = omega (arith, back.0) in
         let same : count b l (64 * k + 64) ≡ reader.next - ones = omega (arith, ap (count b l) start, ones_back) in
-        let block : 512 * (k / 8) ≡ 512 * (reader.limb / 8) = omega (arith, back.2) in
-        record {
-          inside = omega (arith, is.inside);
-          before = omega (arith, same, count_up b l (64 * k) (64 * k + 64) (omega arith));
-          after = omega (arith, same);
-          marks = rw word (whole_marked b l k 0 _ (omega arith) (omega (arith, same)));
-          within = λ i h _. omega (arith, is.inside, start);
-          in_block = omega (arith, is.in_block, ap (count b l) block);
-        }
+        grind (arith, is, back, count_up b l (64 * k) (64 * k + 64) (omega arith), rw (← word) at (whole_marked b l k 0 (reader.next - ones) (omega arith) (omega (arith, same))))
 
     pub backward : (q : ℕ) → q < 64 → held_in true reader.word q ≤ count_ones reader.word - 1 - (reader.next - end) → count_ones reader.word - 1 - (reader.next - end) < held_in true reader.word (q + 1) → reader.next - end < count_ones reader.word
         → (IsReadingBack b l (record reader { word = bit_and reader.word (18446744073709551615 / 2 ^ (63 - q)); next = end })) × (0 < bit_and reader.word (18446744073709551615 / 2 ^ (63 - q)))
@@ -85,17 +77,10 @@ new_back b l r k q edge some place small begin =
     let more : count b l (64 * k + (q + 1)) ≡ r + 1 = omega (arith, ap (count b l) e, count_more_yes b l (64 * k + q) at.within at.holds, at.before) in
     let whole = whole_marked b l k 0 (count b l (length l)) (omega arith) (count_le_all b l (64 * k + 64)) in
     let cut = cut_to (marked b (limb l k)) q small in
-    let on = whole.complete q small (record { inside = at.within; holds = at.holds; low = omega arith; high = omega (arith, at.before) }) in (
-      record {
-        inside = omega (arith, at.within);
-        before = omega (arith, at.before, count_up b l (64 * k) (64 * k + q) (omega arith));
-        after = omega (arith, more, count_up b l (64 * k + (q + 1)) (64 * k + 64) (omega arith));
-        marks = marked_to whole _ (q + 1) (r + 1) cut more (omega arith);
-        within = λ i h one. omega (arith, at.within, (cut.only i h one).2);
-        in_block = omega (arith, begin);
-      },
-      some_word _ q (cut.all q small (omega arith) (omega arith) on),
-    )
+    let on = whole.complete q small (record { inside = at.within; holds = at.holds; low = omega arith; high = omega (arith, at.before) }) in
+    let up = count_up b l (64 * k) (64 * k + q) (omega arith) in
+    let end = count_up b l (64 * k + (q + 1)) (64 * k + 64) (omega arith) in
+    (grind (arith, at, up, end, more, begin, cut.only, marked_to whole _ (q + 1) (r + 1) cut more (omega arith)), some_word _ q (cut.all q small (omega arith) (omega arith) on))
 
 pub no_reading_back : (b : Bool) (l : List Bool) → IsReadingBack b l (record { word = 0; limb = 0; next = 0; edge = 0 })
 no_reading_back b l = grind (arith, count_none b l, bit_at-zero)
