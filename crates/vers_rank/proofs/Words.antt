@@ -1,5 +1,5 @@
 -- How many bits of a part of a word are ones or zeros.
-use Rattle.vers_rank.proofs.Names.{zero, suc, sym, subst, pow-suc, pow_mono, ap, ◌∙◌, ◌+◌, ◌/◌, inl, inr, add_comm, ◌≡◌, ℕ, ◌-◌, ◌*◌, ◌%◌, ◌^◌, ◌<◌, ◌≤◌, Bool, true, false, refl, arith, count_ones, bit_and, and-not, and_mask, ones-le, mod_below, pow_pos, mod-pow-add, ones_cat, cases_lt, marked}
+use Rattle.vers_rank.proofs.Names.{zero, suc, sym, subst, pow-suc, pow_mono, ap, ◌∙◌, ◌+◌, ◌/◌, inl, inr, add_comm, ◌≡◌, ℕ, ◌-◌, ◌*◌, ◌%◌, ◌^◌, ◌<◌, ◌≤◌, Bool, true, false, refl, arith, count_ones, bit_and, and-not, and_mask, ones-le, mod_below, pow_pos, mod-pow-add, ones_cat, cases_lt, cases_Bool, marked}
 use lib.Count.{ones}
 use Rattle.vers_rank.specs.inside.Index.{held_in}
 
@@ -10,12 +10,11 @@ ones_few w j = ones-le j (w % 2 ^ j) (mod_below w (2 ^ j) (pow_pos j))
 pub ones_split : (w i d : ℕ) → count_ones (w % 2 ^ (i + d)) ≡ count_ones (w % 2 ^ i) + count_ones (w / 2 ^ i % 2 ^ d)
 ones_split w i d =
     let parts : w % 2 ^ (i + d) ≡ w / 2 ^ i % 2 ^ d * 2 ^ i + w % 2 ^ i = ap (λ n. w % 2 ^ n) (add_comm i d) ∙ mod-pow-add w d i in
-    ap count_ones parts ∙ ones_cat i (w / 2 ^ i % 2 ^ d) (w % 2 ^ i) (mod_below w (2 ^ i) (pow_pos i)) ∙ add_comm _ _
+    rw (parts, ones_cat i (w / 2 ^ i % 2 ^ d) (w % 2 ^ i) (mod_below w (2 ^ i) (pow_pos i))) (add_comm _ _)
 
 pub held_in_split : (b : Bool) (w i d : ℕ) → held_in b w (i + d) ≡ held_in b w i + held_in b (w / 2 ^ i) d
 unfolding held_in
-held_in_split true w i d = ones_split w i d
-held_in_split false w i d = omega (arith, ones_split w i d, ones_few w i, ones_few (w / 2 ^ i) d)
+held_in_split b w i d = grind (arith, cases_Bool b, ones_split w i d, ones_few w i, ones_few (w / 2 ^ i) d)
 
 pub held_in_split_next : (b : Bool) (w i d : ℕ) → held_in b w (i + d + 1) ≡ held_in b w i + held_in b (w / 2 ^ i) (d + 1)
 held_in_split_next b w i d = ap (held_in b w) (omega arith) ∙ held_in_split b w i (d + 1)
@@ -54,7 +53,6 @@ held_in_turned w j h hj =
 
 -- where the places that hold the bit are ones
 pub held_in_marked : (b : Bool) (w j : ℕ) → w < 18446744073709551616 → j ≤ 64 → held_in true (marked b w) j ≡ held_in b w j
-held_in_marked true w j h hj = refl
-held_in_marked false w j h hj = held_in_turned w j h hj
+held_in_marked b w j h hj = grind (arith, cases_Bool b, held_in_turned w j h hj)
 
 pub ruleset turns = (held_in_marked)

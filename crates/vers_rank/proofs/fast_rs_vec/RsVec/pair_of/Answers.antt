@@ -1,7 +1,7 @@
 use Rattle.vers_rank.proofs.Names.{select_past, ◌≡◌, ℕ, ◌+◌, ◌/◌, ◌<◌, ap, sym, ◌∙◌, arith, rules, count, length, limb, marked, select_reads, adds_then, digits, plus, times}
 use Rattle.vers_tally.specs.Reads.{Reads, IsWithin, no_reads, only_rank_calls}
 use Rattle.vers_tally.proofs.PublicLaws.{adds_weaker}
-use Rattle.vers_rank.proofs.Pairs.{none_after, no_places, place_after}
+use Rattle.vers_rank.proofs.Pairs.{none_after, place_after}
 use Rattle.vers_rank.proofs.Selects.{select_le}
 use Rattle.vers_rank.proofs.fast_rs_vec.RsVec.pair_of.Goals as goal
 
@@ -19,11 +19,11 @@ two_places m = search rules
 
 pub returns-then-r-total-clause-first : goal.returns-then-r-total-clause-first
 returns-then-r-total-clause-first g c =
-    c.len-len.ensures.value ∙ sym (no_places c.args.bit c.args.self.now c.args.r (omega (arith, c.total-total.ensures, c.if-r-total.true))).0
+    c.len-len.ensures.value ∙ sym (select_past c.args.bit c.args.self.now c.args.r (omega (arith, c.total-total.ensures, c.if-r-total.true)))
 
 pub returns-then-r-total-clause-second : goal.returns-then-r-total-clause-second
 returns-then-r-total-clause-second g c =
-    c.len-len.ensures.value ∙ sym (no_places c.args.bit c.args.self.now c.args.r (omega (arith, c.total-total.ensures, c.if-r-total.true))).1
+    c.len-len.ensures.value ∙ sym (select_past c.args.bit c.args.self.now (c.args.r + 1) (omega (arith, c.total-total.ensures, c.if-r-total.true)))
 
 pub returns-then-r-total-clause-adds : goal.returns-then-r-total-clause-adds
 returns-then-r-total-clause-adds g c = adds_weaker c.add_rank_call.ensures.adds (call_alone _)
@@ -66,7 +66,7 @@ returns-then-after-ne0-clause-second g c =
     let word : c.marks.result ≡ marked c.args.bit (limb c.args.self.now c.locate-at.result.limb) = c.marks.ensures ∙ ap (marked c.args.bit) at.word in
     let some = rw is at c.loop-number.invariant.some in
     let after = rw word at c.if-after-ne0.true in
-    c.min.ensures ∙ rw (c.len-len.ensures.value, word) (place_after c.args.bit c.args.self.now c.args.r c.locate-at.result.limb c.locate-at.result.place some (rw is at at.value) (omega (arith, after)))
+    c.min.ensures ∙ rw (c.len-len.ensures.value, word) (place_after c.args.bit c.args.self.now _ _ (omega (arith, after)) c.args.r some (rw is at at.value))
 
 pub returns-then-after-ne0-clause-within : goal.returns-then-after-ne0-clause-within
 returns-then-after-ne0-clause-within g c =
