@@ -84,7 +84,7 @@ loop-number-preserved g c =
     let at = c.locate-at.ensures in
     let is : c.loop-number.number ≡ c.args.r = omega (arith, c.loop-number.invariant.from, c.if-number-r.false) in
     let place = rw is at at.value in
-    let word : c.marks.result ≡ marked c.args.bit (limb c.args.self.now c.locate-at.result.limb) = c.marks.ensures ∙ ap (marked c.args.bit) at.word in
+    let word = rw at.word at c.marks.ensures in
     let more : c.args.r + 1 < count c.args.bit c.args.self.now (length c.args.self.now) = omega (arith, c.total-total.ensures, c.if-number-total.false) in
     let begun = c.loop-number.invariant.begun (omega (arith, is)) in
     record {

@@ -12,11 +12,9 @@ overflow_mul-result g c = omega (arith, lowest_fits c.args.bit c.args.bits.now c
 pub overflow_add-result : goal.overflow_add-result
 overflow_add-result g c = omega (arith, lowest_fits c.args.bit c.args.bits.now c.seek.new.self c.args.r c.seek.ensures.next c.requires.some c.seek.ensures.reading c.seek.ensures.some c.bits.invariant.bounded c.bits.view_is)
 
-pub returns-clause-reading : goal.returns-clause-reading
-returns-clause-reading g c = rest_at c.args.bit c.args.bits.now c.seek.new.self c.args.r c.seek.ensures.next c.requires.some c.seek.ensures.reading c.seek.ensures.some
-
-pub returns-clause-value : goal.returns-clause-value
-returns-clause-value g c = lowest_at c.args.bit c.args.bits.now c.seek.new.self c.args.r c.seek.ensures.next c.requires.some c.seek.ensures.reading c.seek.ensures.some
-
-pub returns-clause-adds : goal.returns-clause-adds
-returns-clause-adds g c = c.seek.ensures.adds
+pub returns : goal.returns
+returns g c = record {
+  reading = rest_at c.args.bit c.args.bits.now c.seek.new.self c.args.r c.seek.ensures.next c.requires.some c.seek.ensures.reading c.seek.ensures.some;
+  value = lowest_at c.args.bit c.args.bits.now c.seek.new.self c.args.r c.seek.ensures.next c.requires.some c.seek.ensures.reading c.seek.ensures.some;
+  adds = c.seek.ensures.adds;
+}

@@ -16,17 +16,12 @@ loop-ones-smaller g c = omega (arith, (passed_back c.args.bit c.args.bits.now c.
 pub place_in_word-place-requires : goal.place_in_word-place-requires
 place_in_word-place-requires g c = whole_word c.loop-ones.self.word _ c.loop-ones.invariant.reading.marks.fits (omega (arith, c.loop-ones.invariant.ones))
 
-pub returns-then-end-self-clause-reading : goal.returns-then-end-self-clause-reading
-returns-then-end-self-clause-reading g c =
+pub returns-then-end-self : goal.returns-then-end-self
+returns-then-end-self g c =
     let known = c.loop-ones.invariant in
     let place = c.place_in_word-place.ensures in
-    (backward c.args.bit c.args.bits.now c.loop-ones.self known.reading c.args.end (omega (arith, c.requires.from, known.edge)) known.to _ place.within (omega (arith, place.from, known.ones)) (omega (arith, place.to, known.ones)) (omega (arith, known.ones))).0
-
-pub returns-then-end-self-clause-some : goal.returns-then-end-self-clause-some
-returns-then-end-self-clause-some g c =
-    let known = c.loop-ones.invariant in
-    let place = c.place_in_word-place.ensures in
-    (backward c.args.bit c.args.bits.now c.loop-ones.self known.reading c.args.end (omega (arith, c.requires.from, known.edge)) known.to _ place.within (omega (arith, place.from, known.ones)) (omega (arith, place.to, known.ones)) (omega (arith, known.ones))).1
+    let found = backward c.args.bit c.args.bits.now c.loop-ones.self known.reading c.args.end (omega (arith, c.requires.from, known.edge)) known.to _ place.within (omega (arith, place.from, known.ones)) (omega (arith, place.to, known.ones)) (omega (arith, known.ones)) in
+    record { reading = found.0; next = search rules; some = found.1; adds = search rules }
 
 pub loop-ones-preserved : goal.loop-ones-preserved
 loop-ones-preserved g c =

@@ -18,17 +18,12 @@ place_in_word-place-requires g c =
     let known = c.loop-ones.invariant in
     whole_word c.loop-ones.self.word _ (known.reading.marks (omega (arith, c.requires.to, known.edge))).fits (omega (arith, known.ones))
 
-pub returns-then-self-r-clause-reading : goal.returns-then-self-r-clause-reading
-returns-then-self-r-clause-reading g c =
+pub returns-then-self-r : goal.returns-then-self-r
+returns-then-self-r g c =
     let known = c.loop-ones.invariant in
     let place = c.place_in_word-place.ensures in
-    (onward c.args.bit c.args.bits.now c.loop-ones.self known.reading (omega (arith, c.requires.to, known.edge)) c.args.r known.from c.requires.some _ place.within place.from place.to).0
-
-pub returns-then-self-r-clause-some : goal.returns-then-self-r-clause-some
-returns-then-self-r-clause-some g c =
-    let known = c.loop-ones.invariant in
-    let place = c.place_in_word-place.ensures in
-    (onward c.args.bit c.args.bits.now c.loop-ones.self known.reading (omega (arith, c.requires.to, known.edge)) c.args.r known.from c.requires.some _ place.within place.from place.to).1
+    let found = onward c.args.bit c.args.bits.now c.loop-ones.self known.reading (omega (arith, c.requires.to, known.edge)) c.args.r known.from c.requires.some _ place.within place.from place.to in
+    record { reading = found.0; next = search rules; some = found.1; adds = search rules }
 
 pub loop-ones-preserved : goal.loop-ones-preserved
 loop-ones-preserved g c =
