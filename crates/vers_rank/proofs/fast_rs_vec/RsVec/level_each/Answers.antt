@@ -8,11 +8,10 @@ changed_more : (R : ℕ → ℕ → Type 0) (from n y : ℕ) (xs ys : List ℕ) 
 changed_more R from n y xs ys old inside becomes = record {
   long = length-set ys (from + n) y ∙ old.long;
   each = λ j h. elim (cases_lt j n) [
-    | inl lower ↦ subst (λ (z : ℕ). R (get_or xs (from + j) 0) z) (sym (get_or-set_other ys (from + n) (from + j) y 0 (omega arith))) (old.each j lower)
+    | inl lower ↦ rw (get_or-set_other ys (from + n) (from + j) y 0 (omega arith)) (old.each j lower)
     | inr last ↦
-        let e : n ≡ j = omega arith in
-        let to = subst (λ (z : ℕ). R (get_or ys (from + n) 0) z) (sym (get_or-set_same ys (from + n) y 0 (omega (arith, old.long)))) becomes in
-        subst (λ (i : ℕ). R (get_or xs (from + i) 0) (get_or (set ys (from + n) y) (from + i) 0)) e (subst (λ (x : ℕ). R x (get_or (set ys (from + n) y) (from + n) 0)) (old.after (from + n) (omega arith)) to)
+        let e : j ≡ n = omega arith in
+        rw (e, get_or-set_same ys (from + n) y 0 (omega (arith, old.long)), ← old.after (from + n) (omega arith)) becomes
   ];
   before = λ j h. get_or-set_other ys (from + n) j y 0 (omega arith) ∙ old.before j h;
   after = λ j h. get_or-set_other ys (from + n) j y 0 (omega arith) ∙ old.after j (omega arith);

@@ -6,17 +6,10 @@ reads : (d e : ℕ) → d ≤ e → IsWithin (plus (only_superblock_entries 1) (
 reads d e h = search rules
 
 pub superblock_from-requires-clause-to : goal.superblock_from-requires-clause-to
-superblock_from-requires-clause-to g c =
-    let e : c.args.first + c.guessed-guess.result + (c.args.n - c.guessed-guess.result) ≡ c.args.first + c.args.n = omega arith in
-    rw e c.requires.to
+superblock_from-requires-clause-to g c = grind (arith, c.requires.to)
 
 pub superblock_before-requires-clause-some : goal.superblock_before-requires-clause-some
-superblock_before-requires-clause-some g c = elim (cases_lt 0 c.guessed-guess.result) [
-  | inl some ↦ some
-  | inr none ↦
-      let e : c.args.first + c.guessed-guess.result ≡ c.args.first = omega arith in
-      absurd (omega (arith, c.requires.from, c.count_at_superblock.ensures.value, ap (λ k. count c.args.bit c.args.self.now (8192 * k)) e))
-]
+superblock_before-requires-clause-some g c = grind (arith, c.requires.from, c.count_at_superblock.ensures.value)
 
 pub returns-then-count_at_superblock-r-clause-adds : goal.returns-then-count_at_superblock-r-clause-adds
 returns-then-count_at_superblock-r-clause-adds g c =
