@@ -82,13 +82,7 @@ module _ (bits : List Bool) (walk : ChunkWalk) (n count : ℕ) (buffer : List �
   loaded = record walk { start = walk.end; end = walk.end + n; left = count; offsets = buffer }
 
   pub chunk_loaded : IsChunkWalkOf bits loaded
-  chunk_loaded = record {
-    room = room;
-    few = few;
-    within = within;
-    whole = whole;
-    inside = λ j h. omega (arith, offset_below buffer count n w listed j h, within);
-  }
+  chunk_loaded = grind (arith, offset_below buffer count n w listed)
 
   pub left_stays : chunk_places_left bits loaded ≡ chunk_places_left bits walk
   left_stays =

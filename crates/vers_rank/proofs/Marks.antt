@@ -4,13 +4,9 @@ use Rattle.std.specs.Int.Count.{count_leading_zeros}
 use lib.Count.{ones}
 use Rattle.vers_bits.specs.Bits.{limb}
 use Rattle.vers_rank.specs.inside.Walks.{IsWithin}
-use Rattle.vers_rank.proofs.Words.{ones_few, ones_split}
+use Rattle.vers_rank.proofs.Words.{ones_few, ones_split, one_more}
 
--- ---- the ones of a word, bit by bit
-pub one_more : (w i : ℕ) → count_ones (w % 2 ^ (i + 1)) ≡ count_ones (w % 2 ^ i) + bit_at w i
-unfolding ones
-one_more w i = ones_split w i 1 ∙ ap (λ n. count_ones (w % 2 ^ i) + n) (eqb-true _ _ (agree_below_at (λ b. eqb (count_ones b) b) (λ _. true) 2 (w / 2 ^ i % 2) refl (omega arith)))
-
+-- ---- the ones of a word
 -- where a stretch of bits has no ones, the count stays
 pub ones_stay : (w a d : ℕ) → ((i : ℕ) → a ≤ i → i < a + d → bit_at w i ≡ 0) → count_ones (w % 2 ^ (a + d)) ≡ count_ones (w % 2 ^ a)
 ones_stay w a zero none = ap (λ n. count_ones (w % 2 ^ n)) (let e : a + 0 ≡ a = omega arith in e)

@@ -4,7 +4,8 @@ use Rattle.std.specs.Int.Count.{count_leading_zeros}
 use Rattle.vers_rank.specs.declared.fast_rs_vec.reader.Reader.{Reader}
 use Rattle.vers_rank.specs.inside.Index.{held_in}
 use Rattle.vers_rank.specs.inside.Walks.{IsWithin}
-use Rattle.vers_rank.proofs.Marks.{IsCut, one_more, ones_stay, one_between, some_word, cut_to, cut_highest, whole_marked, marked_to, ones_within, place_of}
+use Rattle.vers_rank.proofs.Words.{one_more}
+use Rattle.vers_rank.proofs.Marks.{IsCut, ones_stay, one_between, some_word, cut_to, cut_highest, whole_marked, marked_to, ones_within, place_of}
 
 module _ (b : Bool) (l : List Bool) (reader : Reader) (is : IsReadingBack b l reader) where
   ones_back : count b l (64 * reader.limb) + count_ones reader.word ≡ reader.next

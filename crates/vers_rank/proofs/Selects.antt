@@ -21,11 +21,6 @@ held_limb b l k j h = grind (arith, cases_Bool b, count_limb l k j h, count_le t
 pub count_le_held : (b : Bool) (l : List Bool) (i : ℕ) → count b l i ≤ held b l i
 count_le_held b l i = grind (arith, cases_lt i (length l), held_is b l i, held_is b l (length l), count_past b l i, held_up b l (length l) i)
 
--- the place between two counts
-pub place_is : (b : Bool) (l : List Bool) (r p : ℕ) → r < count b l (length l) → held b l p ≤ r → r < held b l (p + 1) → select b l r ≡ p
-place_is b l r p some from to =
-    grind (arith, cases_lt p (length l), count_le_held b l p, held_is b l (p + 1), count_past b l (p + 1), select_not_below b l r p, select_below b l r (p + 1))
-
 -- every place that a select gives is within the list, or its end
 pub select_le : (b : Bool) (l : List Bool) (r : ℕ) → select b l r ≤ length l
 select_le b l r = grind (arith, cases_lt r (count b l (length l)), count_at_select b l r, select_past b l r)
@@ -38,9 +33,8 @@ held_more b l k = ap (held b l) (let e : 64 * (k + 1) ≡ 64 * k + 64 = omega ar
 pub place_found : (b : Bool) (l : List Bool) (r k p seen : ℕ) → r < count b l (length l) → seen ≡ held b l (64 * k) → seen ≤ r → p < 64
     → held_in b (limb l k) p ≤ r - seen → r - seen < held_in b (limb l k) (p + 1) → select b l r ≡ 64 * k + p
 place_found b l r k p seen some counted before small from to =
-    place_is b l r (64 * k + p) some
-    (omega (arith, held_limb b l k p (omega arith)))
-    (let next : held b l (64 * k + p + 1) ≡ held b l (64 * k + (p + 1)) = ap (held b l) (omega arith) in omega (arith, held_limb b l k (p + 1) (omega arith)))
+    let q = 64 * k + p in
+    grind (arith, cases_lt q (length l), count_le_held b l q, held_is b l (q + 1), count_past b l (q + 1), select_not_below b l r q, select_below b l r (q + 1), held_limb b l k p, held_limb b l k (p + 1))
 
 -- after the last limb of a block nothing of the block is left
 pub block_end : (b : Bool) (l : List Bool) (block end : ℕ) → end ≡ min (8 * block + 8) (limb_count (length l)) → count b l (512 * (block + 1)) ≤ held b l (64 * end)
