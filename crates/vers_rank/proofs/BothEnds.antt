@@ -1,8 +1,7 @@
 -- The items of the iterators over an indexed list.
-use Rattle.vers_rank.proofs.Names.{◌≡◌, ℕ, ◌<◌, Bool, true, false, List, Some, length, get_or, map, refl, sym, ap, cases_Bool, arith, ◌∙◌, slice_get, bit_value, places, length-places, yields_first, goes_first, length-bits, bit_item}
+use Rattle.vers_rank.proofs.Names.{◌≡◌, ℕ, ◌<◌, Bool, true, false, List, Some, length, get_or, map, refl, sym, ap, cases_Bool, arith, ◌∙◌, slice_get, bit_value, places, length-places, yields_first, goes_first, length-bits, bit_item, select}
 use Rattle.std.proofs.lemmas.Option.{slice_get-get_or}
 use mir.Val.{bool_byte}
-use Rattle.vers_bits.specs.Bits.{select}
 use Rattle.vers_rank.proofs.Reading.{no_reading}
 use Rattle.vers_rank.proofs.ReadingBack.{no_reading_back}
 

@@ -1,6 +1,5 @@
 -- The ones of all bytes of a word at once.
-use Rattle.vers_rank.proofs.Names.{◌&&◌, Bool, and_parts, zero, suc, ap, sym, ◌∙◌, ◌+◌, ◌/◌, inl, inr, ◌≡◌, ℕ, ◌-◌, ◌*◌, ◌%◌, ◌^◌, ◌<◌, ◌≤◌, true, refl, arith, eqb, leb, count_ones, bit_and, and_mask, and_block, and_le_l, and_le_r, ones_cat, mod-mul-add, shr-shr, cases_lt, ◌⊎◌, cases_eq, agree_below_at, eqb-true, leb-true}
-use lib.Count.{ones}
+use Rattle.vers_rank.proofs.Names.{◌&&◌, Bool, and_parts, zero, suc, ap, sym, ◌∙◌, ◌+◌, ◌/◌, inl, inr, ◌≡◌, ℕ, ◌-◌, ◌*◌, ◌%◌, ◌^◌, ◌<◌, ◌≤◌, true, refl, arith, eqb, leb, count_ones, bit_and, and_mask, and_block, and_le_l, and_le_r, ones_cat, mod-mul-add, shr-shr, cases_lt, ◌⊎◌, cases_eq, agree_below_at, eqb-true, leb-true, ones}
 use Rattle.vers_rank.specs.inside.ByteOnes.{byte_ones, ones_below_byte, ones_through_bytes}
 use Rattle.vers_rank.proofs.Words.{ones_few, ones_split}
 

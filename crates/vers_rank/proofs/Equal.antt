@@ -1,6 +1,5 @@
 -- Lists of bits with the same places are equal.
-use Rattle.vers_rank.proofs.Names.{◌≡◌, ℕ, ◌+◌, ◌<◌, Bool, true, false, List, length, get_or, refl, sym, ap, cases_Bool, ◌∙◌, arith, same_lists, is_bit, count, select, count_le_all, any_default, select_at, select_is_place, count_more_yes}
-use Rattle.vers_bits.proofs.PublicLaws.{IsPlace}
+use Rattle.vers_rank.proofs.Names.{◌≡◌, ℕ, ◌+◌, ◌<◌, Bool, true, false, List, length, get_or, refl, sym, ap, cases_Bool, ◌∙◌, arith, same_lists, is_bit, count, select, count_le_all, any_default, select_at, select_is_place, count_more_yes, IsPlace}
 
 -- each place of l is one of m
 module _ (b : Bool) (l m : List Bool) (long : length l ≡ length m) (many : count b l (length l) ≡ count b m (length m))

@@ -1,7 +1,5 @@
 -- The word that a walk over places is reading.
-use Rattle.vers_rank.proofs.Names.{◌≡◌, ℕ, ◌+◌, ◌-◌, ◌*◌, ◌/◌, ◌%◌, ◌^◌, ◌<◌, ◌≤◌, Bool, true, List, length, sym, ap, refl, arith, inl, inr, w64, count_ones, bit_and, bit_at, bit_not, trailing_zeros, cases_lt, bit_at-trailing_zeros, count, limb, select, count_up, count_past, count_none, count_le_all, select_at, select_is_place, count_more_yes, IsReading, marked}
-use Rattle.vers_rank.specs.declared.fast_rs_vec.reader.Reader.{Reader}
-use Rattle.vers_rank.specs.inside.Index.{held_in}
+use Rattle.vers_rank.proofs.Names.{◌≡◌, ℕ, ◌+◌, ◌-◌, ◌*◌, ◌/◌, ◌%◌, ◌^◌, ◌<◌, ◌≤◌, Bool, true, List, length, sym, ap, refl, arith, inl, inr, w64, count_ones, bit_and, bit_at, bit_not, trailing_zeros, cases_lt, bit_at-trailing_zeros, count, limb, select, count_up, count_past, count_none, count_le_all, select_at, select_is_place, count_more_yes, IsReading, marked, Reader, held_in}
 use Rattle.vers_rank.specs.inside.Walks.{IsWithin}
 use Rattle.vers_rank.proofs.Words.{ones_few, ones_split}
 use Rattle.vers_rank.proofs.Marks.{IsCut, ones_stay, one_between, some_word, cut_from, cut_lowest, whole_marked, marked_from, ones_within, place_of}

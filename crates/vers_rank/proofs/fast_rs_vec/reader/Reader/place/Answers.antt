@@ -1,5 +1,4 @@
-use Rattle.std.proofs.Common.{length, ap, arith}
-use Rattle.vers_rank.proofs.Names.{count_le}
+use Rattle.vers_rank.proofs.Names.{count_le, length, ap, arith}
 use Rattle.vers_rank.proofs.Reading.{lowest_at, lowest_fits, rest_at}
 use Rattle.vers_rank.proofs.fast_rs_vec.reader.Reader.place.Goals as goal
 
