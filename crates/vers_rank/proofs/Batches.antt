@@ -1,5 +1,5 @@
 -- Numbers that are looked for level by level.
-use Rattle.vers_rank.proofs.Names.{◌≡◌, ℕ, ◌+◌, ◌*◌, ◌/◌, ◌%◌, ◌<◌, ◌≤◌, Bool, List, length, sym, ◌∙◌, inl, inr, arith, rules, cases_lt, count, limb, select, count_le_all, count_near, count_past, select_past, held, held_in, plus, times, only_block_entries, only_data_words, select_reads, number_of, IsIn, StandsFor, superblock_reads, IsWithin}
+use Rattle.vers_rank.proofs.Names.{◌≡◌, ℕ, ◌+◌, ◌*◌, ◌/◌, ◌%◌, ◌<◌, ◌≤◌, Bool, List, length, arith, rules, cases_lt, count, limb, select, count_le_all, count_near, count_past, select_past, held, held_in, plus, times, only_block_entries, only_data_words, select_reads, number_of, IsIn, StandsFor, superblock_reads, IsWithin}
 use Rattle.vers_rank.proofs.Selects.{held_is, held_more, count_le_held}
 
 -- a number that is reached before place j stands before the end, and so do as many places as it lies past place i

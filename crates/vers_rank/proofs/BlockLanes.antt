@@ -1,5 +1,5 @@
 -- The entries of 16 blocks, looked at by lanes.
-use Rattle.vers_rank.proofs.Names.{◌≡◌, ℕ, zero, suc, ◌+◌, ◌-◌, ◌*◌, ◌%◌, ◌<◌, ◌≤◌, Bool, true, false, cond, List, [], ◌∷◌, length, get_or, take, drop, replicate, eqb, leb, refl, sym, ap, ◌∙◌, inl, inr, arith, count_by, zip2, agree_below_at, eqb-true, cases_lt, cases_Bool, leb-true, leb-false, le-leb, get_or-zip2, get_or-replicate, get_or-chunk, length-zip2, count, count_up, IsIndexed, held_before}
+use Rattle.vers_rank.proofs.Names.{◌≡◌, ℕ, zero, suc, ◌+◌, ◌-◌, ◌*◌, ◌%◌, ◌<◌, ◌≤◌, Bool, true, false, cond, List, [], ◌∷◌, length, get_or, take, drop, replicate, eqb, leb, refl, sym, ap, ◌∙◌, inl, inr, arith, count_by, zip2, agree_below_at, eqb-true, cases_Bool, leb-true, leb-false, le-leb, get_or-zip2, get_or-replicate, get_or-chunk, length-zip2, count, count_up, IsIndexed, held_before}
 use Rattle.std.proofs.lemmas.List.Sums.{sum_by-cons, count_by-le-length}
 use Rattle.vers_rank.proofs.Ranks.{block_entry}
 

@@ -148,11 +148,13 @@ module _ (w r : ℕ) (inside : r < count_ones (w % 2 ^ 64)) where
   reached_first a (suc n) h =
       let rest = reached_first (a + 1) n (omega arith) in
       let next : (reaching (a + 1) n ≡ 0) ⊎ (ones_below_byte w (a + 1) ≤ r) =
-      elim (cases_lt 0 (reaching (a + 1) n)) [ inl some ↦ inr ((rest.1 (a + 1) (omega arith) (omega (arith, rest.0))).0 (omega arith)) | inr none ↦ inl (omega arith) ] in
-      (omega (arith, small_number, rest.0), λ i from to. elim (cases_eq i a) [
-        | inl same ↦ rw same (λ low. omega (arith, more_below w a), λ high. omega (arith, small_number))
-        | inr other ↦ (λ low. (rest.1 i (omega arith) (omega arith)).0 (omega (arith, small_number)), λ high. (rest.1 i (omega arith) (omega arith)).1 (omega (arith, more_below w a)))
-      ])
+      elim (cases_lt 0 (reaching (a + 1) n)) [ inl some ↦ inr ((rest.1 (a + 1) (omega arith) (omega (arith, rest.0))).0 (omega arith)) | inr none ↦ inl (omega arith) ] in (
+        omega (arith, small_number, rest.0),
+        λ i from to. elim (cases_eq i a) [
+          | inl same ↦ rw same (λ low. omega (arith, more_below w a), λ high. omega (arith, small_number))
+          | inr other ↦ (λ low. (rest.1 i (omega arith) (omega arith)).0 (omega (arith, small_number)), λ high. (rest.1 i (omega arith) (omega arith)).1 (omega (arith, more_below w a)))
+        ],
+      )
 
 pub reached : (w r : ℕ) → r < count_ones (w % 2 ^ 64) → IsByteWith w r (count_ones (bit_and (r * 72340172838076673 + 9259542123273814144 - ones_through_bytes w) 9259542123273814144))
 unfolding bytes_of ones_through_bytes packed

@@ -1,5 +1,5 @@
 -- Walks by chunks of bits.
-use Rattle.vers_rank.proofs.Names.{zero, suc, ◌≡◌, ℕ, ◌+◌, ◌-◌, ◌*◌, ◌/◌, ◌%◌, ◌^◌, ◌<◌, ◌≤◌, Bool, true, false, List, [], ◌∷◌, ◌++◌, map, filter, eqb, replicate, Some, None, length, get_or, drop, refl, sym, ap, ◌∙◌, arith, inl, inr, bit_and, bit_at, range_with_len, cases_Bool, drop_more, drop_all, and_mask, bit_at_cat_low, bit_value, is_bit, count, limb, places, count_past, count_none, count_le_all, length-places, select_at, count_more_yes, count_more_no, Reads, AddsAtMost, adds_then, last_first, ones_below, chunk_places_left, marked, IsChunkWalkOf, select, chunk_reads, places_from}
+use Rattle.vers_rank.proofs.Names.{zero, suc, ◌≡◌, ℕ, ◌+◌, ◌-◌, ◌*◌, ◌/◌, ◌%◌, ◌^◌, ◌<◌, ◌≤◌, Bool, true, false, List, [], ◌∷◌, ◌++◌, map, filter, eqb, replicate, Some, None, length, get_or, refl, sym, ap, ◌∙◌, arith, inl, inr, bit_and, bit_at, range_with_len, cases_Bool, drop_more, drop_all, and_mask, bit_value, is_bit, count, limb, places, count_past, count_none, count_le_all, length-places, select_at, count_more_yes, count_more_no, Reads, AddsAtMost, adds_then, last_first, ones_below, chunk_places_left, marked, IsChunkWalkOf, select, chunk_reads, places_from}
 use Rattle.vers_bits.specs.Walk.{TakesFirst}
 use Rattle.vers_rank.specs.declared.fast_rs_vec.bit_set_iter.ChunkWalk.{ChunkWalk}
 use Rattle.vers_rank.proofs.OffsetLanes.{last_first_from, offset_below}

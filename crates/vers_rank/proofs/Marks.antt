@@ -1,5 +1,5 @@
 -- Words whose ones are places of a limb.
-use Rattle.vers_rank.proofs.Names.{zero, suc, ◌≡◌, ℕ, ◌+◌, ◌-◌, ◌*◌, ◌/◌, ◌%◌, ◌^◌, ◌<◌, ◌≤◌, min, max, Bool, true, false, List, length, get_or, take, drop, pow_mono, refl, sym, ap, ◌∙◌, arith, inl, inr, eqb, w64, count_ones, bit_and, bit_at, bit_not, trailing_zeros, cases_lt, cases_eq, cases_Bool, agree_below_at, eqb-true, length-take, and_le_l, bit_at-zero, bit_at-lt, bit_at_and, bit_at_not, bit_at-trailing_zeros, ones_shl, one_shl, pow_below, bit_at-pow_other, bit_at-pow_same, ◌⊎◌, ◌≢◌, ones_shr, bit_at_ones, bit_at_ones_above, bit_at_mask_inside, bit_at_mask_below, bit_value, is_bit, count, count_up, count_past, count_more_yes, count_more_no, highest_bit, limb_bit, number-lt, value_one, IsMarked, marked, count_leading_zeros, ones, limb}
+use Rattle.vers_rank.proofs.Names.{zero, suc, ◌≡◌, ℕ, ◌+◌, ◌-◌, ◌*◌, ◌/◌, ◌%◌, ◌^◌, ◌<◌, ◌≤◌, min, max, Bool, true, false, List, length, get_or, take, drop, pow_mono, sym, ap, ◌∙◌, arith, inl, inr, w64, count_ones, bit_and, bit_at, bit_not, trailing_zeros, cases_lt, cases_eq, cases_Bool, length-take, and_le_l, bit_at-zero, bit_at-lt, bit_at_and, bit_at_not, bit_at-trailing_zeros, ones_shl, one_shl, pow_below, bit_at-pow_other, bit_at-pow_same, ◌⊎◌, ◌≢◌, ones_shr, bit_at_ones, bit_at_ones_above, bit_at_mask_inside, bit_at_mask_below, bit_value, is_bit, count, count_up, count_past, count_more_yes, count_more_no, highest_bit, limb_bit, number-lt, value_one, IsMarked, marked, count_leading_zeros, ones, limb}
 use Rattle.vers_rank.specs.inside.Walks.{IsWithin}
 use Rattle.vers_rank.proofs.Words.{ones_few, ones_split, one_more}
 

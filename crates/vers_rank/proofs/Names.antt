@@ -1,9 +1,9 @@
 -- The names of specs/ and of other crates that many proofs use.
-pub use Rattle.std.proofs.Common.{Bool, List, None, Some, [], add_comm, ap, arith, bytes_eq, cond, drop, eqb, false, filter, get_or, inl, inr, leb, length, ltb, map, max, min, ne_eqb, not, pow-suc, pow_mono, refl, replicate, rules, set, slice_get, slice_index_or, subst, suc, sym, take, true, w16, w64, zero, zero-le, ℕ, ◌%◌, ◌&&◌, ◌*◌, ◌++◌, ◌+◌, ◌-◌, ◌/◌, ◌<◌, ◌^◌, ◌||◌, ◌∙◌, ◌∷◌, ◌≡◌, ◌≢◌, ◌≤◌, ◌⊎◌}
+pub use Rattle.std.proofs.Common.{Bool, List, None, Some, [], add_comm, ap, arith, bytes_eq, cond, drop, eqb, false, filter, get_or, inl, inr, leb, length, ltb, map, max, min, ne_eqb, not, pow_mono, refl, replicate, rules, set, slice_get, slice_index_or, subst, suc, sym, take, true, w16, w64, zero, zero-le, ℕ, ◌%◌, ◌&&◌, ◌*◌, ◌++◌, ◌+◌, ◌-◌, ◌/◌, ◌<◌, ◌^◌, ◌||◌, ◌∙◌, ◌∷◌, ◌≡◌, ◌≢◌, ◌≤◌, ◌⊎◌}
 pub use Rattle.std.proofs.lemmas.Bool.{agree_below, agree_below_at, and_parts, cases_Bool, cases_eq, cases_lt, eqb-true, le-leb, leb-false, leb-true, lt-ltb, ltb-true}
-pub use Rattle.std.proofs.lemmas.List.{drop-drop, drop_all, drop_more, get_or-set_other, get_or-set_same, get_or_append_left, get_or_past, get_or_push, length-map, length-set, length-take, length_push, map-id, same_lists}
-pub use Rattle.std.proofs.lemmas.Nat.{and-not, and_block, and_le_l, and_le_r, and_mask, mod-mul-add, mod-pow-add, mod_below, one_shl, ones-le, ones_cat, pow-add, pow_below, pow_pos, shr-shr, shr_split}
-pub use Rattle.std.proofs.lemmas.Nat.Bits.{bit_at-lt, bit_at-pow_other, bit_at-pow_same, bit_at-suc, bit_at-trailing_zeros, bit_at-zero, bit_at_above, bit_at_and, bit_at_cat_low, bit_at_clear_other, bit_at_clear_same, bit_at_mask_below, bit_at_mask_inside, bit_at_not, bit_at_ones, bit_at_ones_above, ones_shl, ones_shr, shr_and_one}
+pub use Rattle.std.proofs.lemmas.List.{drop-drop, drop_all, drop_more, get_or-set_other, get_or-set_same, get_or_append_left, get_or_push, length-map, length-set, length-take, length_push, map-id, same_lists}
+pub use Rattle.std.proofs.lemmas.Nat.{and_block, and_le_l, and_le_r, and_mask, mod-mul-add, mod-pow-add, mod_below, one_shl, ones-le, ones_cat, pow_below, pow_pos, shr-shr, shr_split}
+pub use Rattle.std.proofs.lemmas.Nat.Bits.{bit_at-lt, bit_at-pow_other, bit_at-pow_same, bit_at-suc, bit_at-trailing_zeros, bit_at-zero, bit_at_above, bit_at_and, bit_at_cat_low, bit_at_mask_below, bit_at_mask_inside, bit_at_not, bit_at_ones, bit_at_ones_above, ones_shl, ones_shr, shr_and_one}
 pub use Rattle.std.proofs.lemmas.Simd.{get_or-chunk, get_or-put_chunk_at, get_or-put_chunk_below, get_or-replicate, get_or-zip2, length-chunk, length-put_chunk, length-zip2, mask_l-mod, ones-mask_l, tops_compared, zip2_splat_left}
 pub use Rattle.std.specs.Int.{bit_at, bit_not, trailing_zeros}
 pub use Rattle.std.specs.List.{All, range_with_len}

@@ -1,5 +1,5 @@
 -- Offsets of the ones of a few bits, in a buffer that is read from its end.
-use Rattle.vers_rank.proofs.Names.{zero, suc, ◌≡◌, ℕ, ◌+◌, ◌-◌, ◌*◌, ◌/◌, ◌%◌, ◌^◌, ◌<◌, ◌≤◌, Bool, true, false, cond, List, [], ◌∷◌, ◌++◌, map, filter, range_with_len, bytes_eq, ltb, ◌&&◌, and_parts, set, replicate, length, get_or, eqb, ne_eqb, refl, sym, ap, ◌∙◌, inl, inr, arith, count_ones, bit_and, bit_at, All, ltb-true, cases_eq, cases_Bool, agree_below_at, map-id, length-set, get_or-set_same, get_or-set_other, shr_and_one, length-zip2, length-put_chunk, length-chunk, get_or-zip2, get_or-replicate, get_or-put_chunk_at, get_or-put_chunk_below, chunk, put_chunk, zip2, last_first, ones_below, agree_below, ones}
+use Rattle.vers_rank.proofs.Names.{zero, suc, ◌≡◌, ℕ, ◌+◌, ◌-◌, ◌*◌, ◌/◌, ◌%◌, ◌^◌, ◌<◌, ◌≤◌, Bool, true, false, cond, List, ◌∷◌, ◌++◌, map, filter, range_with_len, bytes_eq, ltb, ◌&&◌, and_parts, set, replicate, length, get_or, eqb, ne_eqb, refl, sym, ap, ◌∙◌, inl, inr, arith, count_ones, bit_and, bit_at, All, ltb-true, cases_eq, cases_Bool, agree_below_at, map-id, length-set, get_or-set_same, get_or-set_other, shr_and_one, length-zip2, length-put_chunk, length-chunk, get_or-zip2, get_or-replicate, get_or-put_chunk_at, get_or-put_chunk_below, chunk, put_chunk, zip2, last_first, ones_below, agree_below, ones}
 use Rattle.std.proofs.lemmas.List.Elements.{All-filter, All-from_get_or, All-head, All-tail, filter-append}
 use Rattle.std.proofs.lemmas.List.FromFn.{length-range_with_len, get_or-range_with_len}
 use Rattle.std.proofs.lemmas.Slice.Eq.{bytes_eq-Decides}

@@ -1,5 +1,5 @@
 -- The place after a place that holds the bit, in the same limb.
-use Rattle.vers_rank.proofs.Names.{◌≡◌, ◌≢◌, ℕ, zero, suc, ◌+◌, ◌-◌, ◌*◌, ◌/◌, ◌%◌, ◌^◌, ◌<◌, ◌≤◌, Bool, true, false, List, length, get_or, refl, sym, ap, ◌∙◌, arith, inl, inr, min, w64, bit_at, trailing_zeros, cases_lt, bit_at-suc, bit_at-zero, bit_at_above, bit_at-trailing_zeros, bit_value, is_bit, count, limb, select, count_more_no, select_at, count_at_select, select_past, select_up, select_holds, value_one, value_none, shr-shr, shr_split, bit_at_cat_low, marked}
+use Rattle.vers_rank.proofs.Names.{◌≡◌, ◌≢◌, ℕ, zero, suc, ◌+◌, ◌-◌, ◌*◌, ◌/◌, ◌%◌, ◌^◌, ◌<◌, ◌≤◌, Bool, true, false, List, length, get_or, refl, sym, ap, ◌∙◌, arith, min, w64, bit_at, trailing_zeros, cases_lt, bit_at-suc, bit_at-zero, bit_at_above, bit_at-trailing_zeros, bit_value, is_bit, count, limb, select, count_more_no, select_at, count_at_select, select_past, select_up, select_holds, value_one, value_none, shr-shr, shr_split, bit_at_cat_low, marked}
 use Rattle.vers_rank.proofs.Marks.{marked_fits, marked_bit}
 
 -- a digit of a number without its lowest q digits
@@ -13,7 +13,6 @@ low_digit k n i h = sym (rw (shr_split n k) at (bit_at_cat_low (n / 2 ^ k) k (n 
 -- the same of the digits past number q
 digit_past : (n q i : ℕ) → bit_at (n / 2 ^ q / 2) i ≡ bit_at n (q + 1 + i)
 digit_past n q i = let e : q + suc i ≡ q + 1 + i = omega arith in rw (← bit_at-suc (n / 2 ^ q) i, digit_after n q (suc i), e) refl
-
 
 module _ (b : Bool) (l : List Bool) (k q : ℕ) (after : 0 < marked b (limb l k) / 2 ^ q / 2) where
   abbrev rest : ℕ

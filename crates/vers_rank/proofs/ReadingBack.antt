@@ -1,5 +1,5 @@
 -- The word that a walk over places from the back is reading.
-use Rattle.vers_rank.proofs.Names.{◌≡◌, ℕ, ◌+◌, ◌-◌, ◌*◌, ◌/◌, ◌%◌, ◌^◌, ◌<◌, ◌≤◌, Bool, true, List, length, sym, ap, arith, inl, inr, w64, count_ones, bit_and, bit_at, bit_not, cases_lt, bit_at-zero, count, limb, select, highest_bit, count_up, count_none, count_le_all, select_at, select_is_place, count_more_yes, IsReadingBack, marked, count_leading_zeros, Reader, held_in}
+use Rattle.vers_rank.proofs.Names.{◌≡◌, ℕ, ◌+◌, ◌-◌, ◌*◌, ◌/◌, ◌%◌, ◌^◌, ◌<◌, ◌≤◌, Bool, true, List, length, sym, ap, arith, w64, count_ones, bit_and, bit_at, bit_not, bit_at-zero, count, limb, select, highest_bit, count_up, count_none, count_le_all, select_at, select_is_place, count_more_yes, IsReadingBack, marked, count_leading_zeros, Reader, held_in}
 use Rattle.vers_rank.specs.inside.Walks.{IsWithin}
 use Rattle.vers_rank.proofs.Words.{one_more}
 use Rattle.vers_rank.proofs.Marks.{IsCut, ones_stay, one_between, some_word, cut_to, cut_highest, whole_marked, marked_to, ones_within, place_of}

@@ -1,5 +1,5 @@
 -- A table of 8 entries for each number, tried from its front to its end.
-use Rattle.vers_rank.proofs.Names.{zero, suc, ap, subst, ◌∙◌, ◌+◌, ◌*◌, ◌≡◌, ◌<◌, ℕ, Bool, true, List, drop, take, arith, ◌&&◌, and_parts, chunk, drop-drop}
+use Rattle.vers_rank.proofs.Names.{zero, suc, ◌+◌, ◌*◌, ◌≡◌, ◌<◌, ℕ, Bool, true, List, drop, take, arith, ◌&&◌, and_parts, chunk, drop-drop}
 
 -- n numbers from v on pass a test, each with its entries
 unfoldable pub tries : (ℕ → List ℕ → Bool) → ℕ → ℕ → List ℕ → Bool

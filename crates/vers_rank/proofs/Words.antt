@@ -1,5 +1,5 @@
 -- How many bits of a part of a word are ones or zeros.
-use Rattle.vers_rank.proofs.Names.{zero, suc, sym, subst, pow-suc, pow_mono, ap, ◌∙◌, ◌+◌, ◌/◌, inl, inr, add_comm, ◌≡◌, ℕ, ◌-◌, ◌*◌, ◌%◌, ◌^◌, ◌<◌, ◌≤◌, Bool, true, false, refl, arith, count_ones, bit_and, and-not, and_mask, ones-le, mod_below, pow_pos, mod-pow-add, ones_cat, cases_Bool, eqb, eqb-true, agree_below_at, w64, bit_at, bit_at_not, bit_at-lt, marked, ones, held_in}
+use Rattle.vers_rank.proofs.Names.{zero, suc, ap, ◌∙◌, ◌+◌, ◌/◌, add_comm, ◌≡◌, ℕ, ◌-◌, ◌*◌, ◌%◌, ◌^◌, ◌<◌, ◌≤◌, Bool, true, refl, arith, count_ones, ones-le, mod_below, pow_pos, mod-pow-add, ones_cat, cases_Bool, eqb, eqb-true, agree_below_at, w64, bit_at, bit_at_not, bit_at-lt, marked, ones, held_in}
 
 pub ones_few : (w j : ℕ) → count_ones (w % 2 ^ j) ≤ j
 ones_few w j = ones-le j (w % 2 ^ j) (mod_below w (2 ^ j) (pow_pos j))

@@ -1,4 +1,4 @@
-use Rattle.vers_rank.proofs.Names.{◌≡◌, ◌+◌, ◌*◌, ◌/◌, false, length, ap, ◌∙◌, arith, sym, count, block_count, count_none, count_le, count_past}
+use Rattle.vers_rank.proofs.Names.{◌≡◌, ◌+◌, ◌*◌, ◌/◌, false, length, ap, ◌∙◌, arith, sym, block_count, count_none, count_le, count_past}
 use Rattle.vers_rank.proofs.Builds.{no_entries}
 use Rattle.vers_rank.proofs.build.add_entries.Goals as goal
 

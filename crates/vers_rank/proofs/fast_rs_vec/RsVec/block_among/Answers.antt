@@ -1,4 +1,4 @@
-use Rattle.vers_rank.proofs.Names.{◌≡◌, ◌+◌, ◌*◌, ap, arith, count}
+use Rattle.vers_rank.proofs.Names.{◌+◌, arith}
 use Rattle.vers_rank.proofs.BlockLanes.{entry_within, held_counts, held_rising}
 use Rattle.vers_rank.proofs.fast_rs_vec.RsVec.block_among.Goals as goal
 

@@ -1,4 +1,4 @@
-use Rattle.vers_rank.proofs.Names.{◌≡◌, ℕ, ◌+◌, ◌<◌, List, length, set, get_or, sym, subst, ◌∙◌, inl, inr, arith, rules, cases_lt, get_or-set_other, get_or-set_same, length-set, adds_then, plus, times, Reads, IsWithin, Changed}
+use Rattle.vers_rank.proofs.Names.{◌≡◌, ℕ, ◌+◌, ◌<◌, List, length, set, get_or, ◌∙◌, inl, inr, arith, rules, cases_lt, get_or-set_other, get_or-set_same, length-set, adds_then, plus, times, Reads, IsWithin, Changed}
 use Rattle.vers_rank.proofs.fast_rs_vec.RsVec.level_each.Goals as goal
 
 -- one item more

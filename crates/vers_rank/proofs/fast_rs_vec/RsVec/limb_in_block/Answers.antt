@@ -1,4 +1,4 @@
-use Rattle.vers_rank.proofs.Names.{◌≡◌, ◌*◌, arith, count, held}
+use Rattle.vers_rank.proofs.Names.{◌*◌, arith}
 use Rattle.vers_rank.proofs.Selects.{rest_in_limb, held_is}
 use Rattle.vers_rank.proofs.fast_rs_vec.RsVec.limb_in_block.Goals as goal
 

@@ -1,4 +1,4 @@
-use Rattle.vers_rank.proofs.Names.{select_past, ◌≡◌, ℕ, ◌+◌, ◌/◌, ◌<◌, ◌≤◌, ap, sym, ◌∙◌, arith, rules, count, length, limb, marked, select_reads, adds_then, digits, plus, times, Reads, IsWithin, no_reads, only_rank_calls, adds_weaker}
+use Rattle.vers_rank.proofs.Names.{select_past, ◌≡◌, ℕ, ◌+◌, ◌/◌, ◌<◌, ◌≤◌, ap, sym, ◌∙◌, arith, rules, count, length, select_reads, adds_then, digits, plus, times, Reads, IsWithin, no_reads, only_rank_calls, adds_weaker}
 use Rattle.vers_rank.proofs.Pairs.{none_after, place_after}
 use Rattle.vers_rank.proofs.Selects.{select_le}
 use Rattle.vers_rank.proofs.fast_rs_vec.RsVec.pair_of.Goals as goal

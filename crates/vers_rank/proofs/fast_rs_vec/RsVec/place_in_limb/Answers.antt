@@ -1,4 +1,4 @@
-use Rattle.vers_rank.proofs.Names.{◌≡◌, ◌+◌, ◌-◌, ◌*◌, refl, arith, sym, ap, ◌∙◌, limb, held}
+use Rattle.vers_rank.proofs.Names.{◌≡◌, ◌+◌, ◌-◌, ◌*◌, refl, arith, sym, limb, held}
 use Rattle.vers_rank.proofs.Selects.{place_found}
 use Rattle.vers_rank.proofs.fast_rs_vec.RsVec.place_in_limb.Goals as goal
 

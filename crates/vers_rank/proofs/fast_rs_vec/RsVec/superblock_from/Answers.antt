@@ -1,4 +1,4 @@
-use Rattle.vers_rank.proofs.Names.{◌≡◌, ℕ, ◌+◌, ◌-◌, ◌*◌, ◌<◌, ◌≤◌, ap, arith, rules, count, adds_then, digits_up, plus, only_superblock_entries, IsWithin}
+use Rattle.vers_rank.proofs.Names.{ℕ, ◌+◌, ◌-◌, ◌<◌, ◌≤◌, arith, rules, adds_then, digits_up, plus, only_superblock_entries, IsWithin}
 use Rattle.vers_rank.proofs.fast_rs_vec.RsVec.superblock_from.Goals as goal
 
 step_reads : (s : ℕ) → 0 < s → IsWithin (plus (only_superblock_entries (s - 1)) (only_superblock_entries 1)) (only_superblock_entries (s + 1 - 1))

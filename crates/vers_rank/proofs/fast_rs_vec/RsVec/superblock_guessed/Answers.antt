@@ -1,4 +1,4 @@
-use Rattle.vers_rank.proofs.Names.{◌≡◌, ℕ, ◌+◌, ◌-◌, ◌*◌, ◌≤◌, ap, inl, inr, arith, rules, cases_lt, count, adds_then, digits_up, plus, only_superblock_entries, IsWithin}
+use Rattle.vers_rank.proofs.Names.{ℕ, ◌+◌, ◌-◌, ◌≤◌, arith, rules, adds_then, digits_up, plus, only_superblock_entries, IsWithin}
 use Rattle.vers_rank.proofs.fast_rs_vec.RsVec.superblock_guessed.Goals as goal
 
 reads : (d e : ℕ) → d ≤ e → IsWithin (plus (only_superblock_entries 1) (only_superblock_entries (d + 7))) (only_superblock_entries (e + 8))

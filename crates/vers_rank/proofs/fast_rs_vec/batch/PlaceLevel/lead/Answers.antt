@@ -1,4 +1,4 @@
-use Rattle.vers_rank.proofs.Names.{◌≡◌, ◌+◌, ◌*◌, ◌/◌, ◌%◌, ◌<◌, arith, length, ap, ◌∙◌, inl, inr, cases_lt, count, select, count_le_all, held}
+use Rattle.vers_rank.proofs.Names.{◌+◌, ◌*◌, ◌/◌, ◌%◌, ◌<◌, arith, length, cases_lt, count, count_le_all}
 use Rattle.vers_rank.proofs.Batches.{ends, few_in_limb}
 use Rattle.vers_rank.proofs.fast_rs_vec.batch.PlaceLevel.lead.Goals as goal
 
