@@ -88,12 +88,7 @@ whole_marked b l k lo hi low high = record {
   fits = marked_fits b l k;
   sound = λ i h on inside.
       let holds = value_one (is_bit b (get_or l (64 * k + i) false)) (sym (marked_bit b l k i h) ∙ on) in
-      record {
-        inside = inside;
-        holds = holds;
-        low = omega (arith, count_up b l (64 * k) (64 * k + i) (omega arith));
-        high = omega (arith, count_more_yes b l (64 * k + i) inside holds, count_up b l (64 * k + i + 1) (64 * k + 64) (omega arith));
-      };
+      grind (arith, count_up b l (64 * k) (64 * k + i), count_more_yes b l (64 * k + i) inside holds, count_up b l (64 * k + i + 1) (64 * k + 64));
   complete = λ i h at. marked_bit b l k i h ∙ ap bit_value at.holds;
 }
 
@@ -148,16 +143,17 @@ module _ {b : Bool} {l : List Bool} {k w lo hi : ℕ} (is : IsMarked b l k w lo 
       let place : 64 * k + suc j ≡ 64 * k + j + 1 = omega arith in
       omega (arith, ap (λ n. count_ones (w % 2 ^ n)) size, one_more w j, ones_within j (omega arith) (λ i less. inside i (omega arith)), within_next j (omega arith) (inside j (omega arith)), ap (count b l) place)
 
+  -- the word has all the ones up to the end of the list
+  pub ones_past : (n : ℕ) → n ≤ 64 → 64 * k ≤ length l → length l ≤ 64 * k + n → hi ≤ count b l (length l) → hi ≤ min (max (count b l (64 * k)) lo) hi + count_ones (w % 2 ^ n)
+  ones_past n few start past all =
+      let j = length l - 64 * k in
+      let end : 64 * k + j ≡ length l = omega arith in
+      let rest : j + (n - j) ≡ n = omega arith in
+      omega (arith, rw end at (ones_within j (omega arith) (λ i less _. omega arith)), rw rest at (ones_split w j (n - j)))
+
   -- the number of a one's place, by the ones below it
   pub place_of : (q r : ℕ) → q < 64 → hi ≤ count b l (length l) → 64 * k ≤ length l → bit_at w q ≡ 1 → min (max (count b l (64 * k)) lo) hi + count_ones (w % 2 ^ q) ≡ r → r < hi → (IsWithin b l lo hi (64 * k + q)) × (count b l (64 * k + q) ≡ r)
   place_of q r small all start on number some =
-      let inside : 64 * k + q < length l = elim (cases_lt (64 * k + q) (length l)) [
-        | inl h ↦ h
-        | inr past ↦
-            let j = length l - 64 * k in
-            let end : 64 * k + j ≡ length l = omega arith in
-            let rest : j + (q - j) ≡ q = omega arith in
-            absurd (omega (arith, ones_within j (omega arith) (λ i less _. omega arith), ap (count b l) end, ones_split w j (q - j), ap (λ n. count_ones (w % 2 ^ n)) rest))
-      ] in
+      let inside : 64 * k + q < length l = grind (arith, ones_past q (omega arith) start) in
       let at = is.sound q small on inside in
       (at, omega (arith, ones_within q (omega arith) (λ i less _. omega arith), at.low))

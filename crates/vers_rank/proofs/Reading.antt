@@ -1,8 +1,8 @@
 -- The word that a walk over places is reading.
-use Rattle.vers_rank.proofs.Names.{◌≡◌, ℕ, ◌+◌, ◌-◌, ◌*◌, ◌/◌, ◌%◌, ◌^◌, ◌<◌, ◌≤◌, Bool, true, List, length, sym, ap, refl, arith, inl, inr, w64, count_ones, bit_and, bit_at, bit_not, trailing_zeros, cases_lt, bit_at-trailing_zeros, count, limb, select, count_up, count_past, count_none, count_le_all, select_at, select_is_place, count_more_yes, IsReading, marked, Reader, held_in}
+use Rattle.vers_rank.proofs.Names.{◌≡◌, ℕ, ◌+◌, ◌-◌, ◌*◌, ◌/◌, ◌%◌, ◌^◌, ◌<◌, ◌≤◌, Bool, true, List, length, sym, ap, refl, arith, w64, count_ones, bit_and, bit_at, bit_not, trailing_zeros, bit_at-trailing_zeros, count, limb, select, count_up, count_past, count_none, count_le_all, select_at, select_is_place, count_more_yes, IsReading, marked, Reader, held_in}
 use Rattle.vers_rank.specs.inside.Walks.{IsWithin}
-use Rattle.vers_rank.proofs.Words.{ones_few, ones_split}
-use Rattle.vers_rank.proofs.Marks.{IsCut, ones_stay, one_between, some_word, cut_from, cut_lowest, whole_marked, marked_from, ones_within, place_of}
+use Rattle.vers_rank.proofs.Words.{ones_few}
+use Rattle.vers_rank.proofs.Marks.{IsCut, ones_stay, one_between, some_word, cut_from, cut_lowest, whole_marked, marked_from, ones_within, ones_past, place_of}
 
 module _ (b : Bool) (l : List Bool) (reader : Reader) (is : IsReading b l reader) (known : 0 < reader.edge) where
   -- the ones from one of the word's places on
@@ -21,16 +21,11 @@ module _ (b : Bool) (l : List Bool) (reader : Reader) (is : IsReading b l reader
     -- where the word has not so many ones, the limb ends before number r
     passed : count_ones reader.word ≤ r - reader.next → (64 * reader.limb + 64 < length l) × (count b l (64 * reader.limb + 64) ≡ reader.next + count_ones reader.word)
     passed few =
-        let j = length l - 64 * reader.limb in
         let whole : reader.word % 2 ^ 64 ≡ reader.word = omega (arith, (is.marks known).fits) in
-        let sums = ones_within (is.marks known) (omega arith) in
-        elim (cases_lt (64 * reader.limb + 64) (length l)) [
-          | inl inside ↦ (inside, omega (arith, sums 64 (omega arith) (λ i h _. omega arith), ap count_ones whole, is.before, is.after, count_le_all b l (64 * reader.limb + 64)))
-          | inr past ↦
-              let end : 64 * reader.limb + j ≡ length l = omega (arith, starts_inside) in
-              let parts : j + (64 - j) ≡ 64 = omega (arith, starts_inside) in
-              absurd (omega (arith, sums j (omega arith) (λ i h _. omega arith), is.before, ap (count b l) end, ap count_ones whole, ones_split reader.word j (64 - j), ap (λ n. count_ones (reader.word % 2 ^ n)) parts))
-        ]
+        let sums = rw whole at (ones_within (is.marks known) (omega arith) 64 (omega arith)) in
+        let past = rw whole at (ones_past (is.marks known) (omega arith) 64 (omega arith) (omega (arith, starts_inside))) in
+        let inside : 64 * reader.limb + 64 < length l = grind (arith, is.before, past) in
+        (inside, omega (arith, sums (λ i h _. omega arith), is.before, is.after, count_le_all b l (64 * reader.limb + 64)))
 
     pub passed_inside : r < reader.edge → count_ones reader.word ≤ r - reader.next → (64 * (reader.limb + 1) < length l) × ((reader.limb + 1) / 8 ≡ reader.limb / 8)
     passed_inside to few =

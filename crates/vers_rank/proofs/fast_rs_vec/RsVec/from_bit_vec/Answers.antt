@@ -1,4 +1,4 @@
-use Rattle.vers_rank.proofs.Names.{arith, length, ◌∙◌, false, count_le}
+use Rattle.vers_rank.proofs.Names.{arith, length, ◌∙◌}
 use Rattle.vers_rank.proofs.Builds.{superblocks_are, index_is}
 use Rattle.vers_rank.proofs.fast_rs_vec.RsVec.from_bit_vec.Goals as goal
 
@@ -17,12 +17,3 @@ pub samples-requires-2 : goal.samples-requires-2
 samples-requires-2 g c =
     let made = c.in_ok-zeros.ensures.entries in
     rw c.deref-2.ensures.value (record { counted = made.superblocks_counted ∙ superblocks_are (length c.args.bits); entries = made.superblock_at })
-
-pub overflow_sub-len : goal.overflow_sub-len
-overflow_sub-len g c = omega (arith, c.in_ok-zeros.ensures.zeros, c.len.ensures.value, (count_le false c.args.bits (length c.args.bits)).1)
-
-pub overflow_add-n : goal.overflow_add-n
-overflow_add-n g c = omega (arith, c.max.ensures, c.in_ok-zeros.ensures.zeros, c.len.ensures.value, c.len.ensures.bounded, (count_le false c.args.bits (length c.args.bits)).1)
-
-pub returns : goal.returns
-returns g c = c.new.ensures

@@ -2,9 +2,6 @@ use Rattle.vers_rank.proofs.Names.{◌≡◌, ◌+◌, ◌-◌, ◌*◌, refl, a
 use Rattle.vers_rank.proofs.Selects.{place_found}
 use Rattle.vers_rank.proofs.fast_rs_vec.RsVec.place_in_limb.Goals as goal
 
-pub place_in_word-place-requires : goal.place_in_word-place-requires
-place_in_word-place-requires g c = rw (c.limb-word.ensures.value, c.self.view_is) c.requires.few
-
 pub returns-clause-value : goal.returns-clause-value
 returns-clause-value g c =
     let b = c.args.bit in

@@ -14,15 +14,6 @@ loop-step-preserved g c = record {
   adds = adds_then c.loop-step.invariant.adds c.count_at_superblock.ensures.adds (step_reads c.loop-step.step (omega arith));
 }
 
-pub returns-then-step-n-clause-from : goal.returns-then-step-n-clause-from
-returns-then-step-n-clause-from g c = grind (arith, c.loop-step.invariant.from)
-
-pub superblock_among-requires-clause-from : goal.superblock_among-requires-clause-from
-superblock_among-requires-clause-from g c = grind (arith, c.loop-step.invariant.from)
-
-pub superblock_among-requires-clause-to : goal.superblock_among-requires-clause-to
-superblock_among-requires-clause-to g c = grind (arith, c.requires.to)
-
 pub returns-clause-adds : goal.returns-clause-adds
 returns-clause-adds g c =
     adds_then c.loop-step.invariant.adds c.superblock_among.ensures.adds (all_reads c.loop-step.step _ _ (omega arith) (digits_up (c.args.n - 4 - 1) (c.args.n - 1) (omega arith)))

@@ -4,12 +4,6 @@ use Rattle.vers_rank.proofs.fast_rs_vec.RsVec.superblock_guessed.Goals as goal
 reads : (d e : ℕ) → d ≤ e → IsWithin (plus (only_superblock_entries 1) (only_superblock_entries (d + 7))) (only_superblock_entries (e + 8))
 reads d e h = search rules
 
-pub superblock_from-requires-clause-to : goal.superblock_from-requires-clause-to
-superblock_from-requires-clause-to g c = grind (arith, c.requires.to)
-
-pub superblock_before-requires-clause-some : goal.superblock_before-requires-clause-some
-superblock_before-requires-clause-some g c = grind (arith, c.requires.from, c.count_at_superblock.ensures.value)
-
 pub returns-then-count_at_superblock-r-clause-adds : goal.returns-then-count_at_superblock-r-clause-adds
 returns-then-count_at_superblock-r-clause-adds g c =
     adds_then c.count_at_superblock.ensures.adds c.superblock_from.ensures.adds (reads _ _ (digits_up (c.args.n - c.guessed-guess.result - 1) (c.args.n - 1) (omega arith)))
