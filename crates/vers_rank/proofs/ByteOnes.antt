@@ -1,5 +1,6 @@
 -- The ones of all bytes of a word at once.
 use Rattle.vers_rank.proofs.Names.{◌&&◌, Bool, and_parts, zero, suc, ap, sym, ◌∙◌, ◌+◌, ◌/◌, inl, inr, ◌≡◌, ℕ, ◌-◌, ◌*◌, ◌%◌, ◌^◌, ◌<◌, ◌≤◌, true, refl, arith, eqb, leb, count_ones, bit_and, and_mask, and_block, and_le_l, and_le_r, ones_cat, mod-mul-add, shr-shr, cases_lt, ◌⊎◌, cases_eq, agree_below_at, eqb-true, leb-true, ones}
+use Rattle.std.proofs.Math.Nat.{div-div-eq-div-mul}
 use Rattle.vers_rank.specs.inside.ByteOnes.{byte_ones, ones_below_byte, ones_through_bytes}
 use Rattle.vers_rank.proofs.Words.{ones_few, ones_split}
 
@@ -36,7 +37,8 @@ fours_next m a b h =
 eights_next : (m a b : ℕ) → a % 16 ≤ 4 → b ≤ 68 → eights (m * 256 + 15) (a * 256 + b) ≡ eights m a * 256 + eights 15 b
 eights_next m a b ha hb =
     let sum = b + b / 16 in
-    omega (arith, carried 4 (a * 256 + b + (a * 256 + b) / 16) (a + a / 16) (a % 16 + sum / 16) (sum % 16) m 15 (omega arith) (omega arith) (omega arith) (omega arith) (omega arith), and_mask sum 4, and_mask (sum % 16) 4)
+    let low = carried 4 (a * 256 + b + (a * 256 + b) / 16) (a + a / 16) (a % 16 + sum / 16) (sum % 16) m 15 (omega arith) (omega arith) (omega arith) (omega arith) (omega arith) in
+    omega (arith, low, and_mask sum 4, and_mask (sum % 16) 4)
 
 -- the steps at one byte, which are tried at each: half of a byte is at most 4 after two
 of_byte : (b : ℕ) → b < 256 → (eights 15 (fours 51 (pairs 85 b)) ≡ count_ones b) × (fours 51 (pairs 85 b) % 16 ≤ 4) × (fours 51 (pairs 85 b) ≤ 68)
@@ -83,14 +85,11 @@ pub ruleset steps = (counted_bytes, shifted_few, and_le_r)
 
 -- ---- the sums of the bytes up to each
 
--- the ones of one byte more
-next_sum : (w i b : ℕ) → b ≡ w / 2 ^ i → count_ones (w % 2 ^ (i + 8)) ≡ count_ones (w % 2 ^ i) + count_ones (b % 256)
-next_sum w i b e = rw e (ones_split w i 8)
-
 pub spread_sums : (w : ℕ) → byte_ones 8 w * 72340172838076673 % 18446744073709551616 ≡ ones_through_bytes w
 unfolding byte_ones ones_through_bytes
 spread_sums w =
-    omega (arith, next_sum w 8 (w / 256) (omega arith), next_sum w 16 (w / 256 / 256) (omega arith), next_sum w 24 (w / 256 / 256 / 256) (omega arith), next_sum w 32 (w / 256 / 256 / 256 / 256) (omega arith), next_sum w 40 (w / 256 / 256 / 256 / 256 / 256) (omega arith), next_sum w 48 (w / 256 / 256 / 256 / 256 / 256 / 256) (omega arith), next_sum w 56 (w / 256 / 256 / 256 / 256 / 256 / 256 / 256) (omega arith), ones_few w 64)
+    simp div-div-eq-div-mul
+    (omega (arith, ones_split w 8 8, ones_split w 16 8, ones_split w 24 8, ones_split w 32 8, ones_split w 40 8, ones_split w 48 8, ones_split w 56 8, ones_few w 64))
 
 pub ruleset sums = (spread_sums)
 
