@@ -4,7 +4,7 @@ use Rattle.vers_rank.specs.inside.Walks.{IsWithin}
 use Rattle.vers_rank.proofs.Words.{ones_few}
 use Rattle.vers_rank.proofs.Marks.{IsCut, ones_stay, one_between, some_word, cut_from, cut_lowest, whole_marked, marked_from, ones_within, ones_past, place_of}
 
-module _ (b : Bool) (l : List Bool) (reader : Reader) (is : IsReading b l reader) (known : 0 < reader.edge) where
+module _ {b : Bool} {l : List Bool} {reader : Reader} (is : IsReading b l reader) (known : 0 < reader.edge) where
   -- the ones from one of the word's places on
   reading_from : (v s r : ℕ) → IsCut reader.word v s 64 → s ≤ 64 → count b l (64 * reader.limb + s) ≡ r → reader.next ≤ r → IsReading b l (record reader { word = v; next = r })
   reading_from v s r cut small start up =
@@ -45,19 +45,19 @@ whole_reading : (b : Bool) (l : List Bool) (k n edge : ℕ) → count b l (64 * 
 whole_reading b l k n edge start known within =
     grind (arith, count_up b l (64 * k) (64 * k + 64) (omega arith), whole_marked b l k n (count b l (length l)) (omega arith) (count_le_all b l (64 * k + 64)))
 
-pub next_limb : (b : Bool) (l : List Bool) (reader : Reader) → IsReading b l reader → 0 < reader.edge → (r : ℕ) → reader.next ≤ r → r < count b l (length l) → r < reader.edge → (v ones : ℕ) → ones ≡ count_ones reader.word → ones ≤ r - reader.next
+pub next_limb : {b : Bool} {l : List Bool} {reader : Reader} → IsReading b l reader → 0 < reader.edge → (r : ℕ) → reader.next ≤ r → r < count b l (length l) → r < reader.edge → (v ones : ℕ) → ones ≡ count_ones reader.word → ones ≤ r - reader.next
     → v ≡ marked b (limb l (reader.limb + 1)) → IsReading b l (record reader { word = v; limb = reader.limb + 1; next = reader.next + ones })
-next_limb b l reader is known r from some to v ones all few word =
+next_limb {b} {l} {reader} is known r from some to v ones all few word =
     let start : 64 * (reader.limb + 1) ≡ 64 * reader.limb + 64 = omega arith in
-    let block : 512 * ((reader.limb + 1) / 8) + 512 ≡ 512 * (reader.limb / 8) + 512 = omega (arith, (passed_inside b l reader is known r from some to (omega arith)).1) in
-    rw word (whole_reading b l (reader.limb + 1) _ reader.edge (omega (arith, ap (count b l) start, (passed b l reader is known r from some (omega arith)).1)) known (omega (arith, is.in_block, ap (count b l) block)))
+    let block : 512 * ((reader.limb + 1) / 8) + 512 ≡ 512 * (reader.limb / 8) + 512 = omega (arith, (passed_inside is known r from some to (omega arith)).1) in
+    rw word (whole_reading b l (reader.limb + 1) _ reader.edge (omega (arith, ap (count b l) start, (passed is known r from some (omega arith)).1)) known (omega (arith, is.in_block, ap (count b l) block)))
 
 pub whole_word : (w r : ℕ) → w < 18446744073709551616 → r < count_ones w → r < held_in true w 64
 unfolding held_in
 whole_word w r fits h = let e : w % 2 ^ 64 ≡ w = omega arith in omega (arith, ap count_ones e)
 
 -- ---- the lowest one of the word
-module _ (b : Bool) (l : List Bool) (reader : Reader) (r : ℕ) (here : reader.next ≡ r) (some : r < count b l (length l)) (is : IsReading b l reader) (left : 0 < reader.word) where
+module _ {b : Bool} {l : List Bool} {reader : Reader} {r : ℕ} (here : reader.next ≡ r) (some : r < count b l (length l)) (is : IsReading b l reader) (left : 0 < reader.word) where
   abbrev lowest : ℕ
   lowest = trailing_zeros w64 reader.word
 
@@ -68,7 +68,7 @@ module _ (b : Bool) (l : List Bool) (reader : Reader) (r : ℕ) (here : reader.n
   at_lowest =
       let low = bit_at-trailing_zeros w64 reader.word left fits in
       let e : 0 + lowest ≡ lowest = omega arith in
-      place_at b l reader is (is.begun left) r (omega arith) some lowest low.0 low.1 (omega (arith, ones_stay reader.word 0 lowest (λ i _ h. low.2 i (omega arith)), ap (λ n. count_ones (reader.word % 2 ^ n)) e, ones_few reader.word 0))
+      place_at is (is.begun left) r (omega arith) some lowest low.0 low.1 (omega (arith, ones_stay reader.word 0 lowest (λ i _ h. low.2 i (omega arith)), ap (λ n. count_ones (reader.word % 2 ^ n)) e, ones_few reader.word 0))
 
   pub lowest_at : 64 * reader.limb + trailing_zeros w64 reader.word ≡ select b l r
   lowest_at = sym (select_at b l r (64 * reader.limb + lowest) at_lowest.0.inside at_lowest.0.holds at_lowest.1)
@@ -76,7 +76,7 @@ module _ (b : Bool) (l : List Bool) (reader : Reader) (r : ℕ) (here : reader.n
   pub rest_at : IsReading b l (record reader { word = bit_and reader.word (bit_not w64 (1 * 2 ^ trailing_zeros w64 reader.word % 18446744073709551616)); next = reader.next + 1 })
   rest_at =
       let e : 64 * reader.limb + (lowest + 1) ≡ 64 * reader.limb + lowest + 1 = omega arith in
-      reading_from b l reader is (is.begun left) _ (lowest + 1) (reader.next + 1) (cut_lowest reader.word left fits) (omega (arith, (bit_at-trailing_zeros w64 reader.word left fits).0))
+      reading_from is (is.begun left) _ (lowest + 1) (reader.next + 1) (cut_lowest reader.word left fits) (omega (arith, (bit_at-trailing_zeros w64 reader.word left fits).0))
       (omega (arith, ap (count b l) e, count_more_yes b l (64 * reader.limb + lowest) at_lowest.0.inside at_lowest.0.holds, at_lowest.1)) (omega arith)
 
   -- the place lies in a list, and a list is not as long as a word can count
@@ -96,7 +96,7 @@ new_reading b l r k q edge some place small end =
     let whole = whole_reading b l k (count b l (64 * k)) edge refl known (omega (arith, ap (count b l) block)) in
     let cut = cut_from (marked b (limb l k)) q small in
     let on = (whole.marks known).complete q small (record { inside = at.within; holds = at.holds; low = up; high = omega (arith, at.before) }) in
-    (reading_from b l _ whole known _ q r cut (omega arith) at.before (omega (arith, at.before)), some_word _ q (cut.all q small (omega arith) small on))
+    (reading_from whole known _ q r cut (omega arith) at.before (omega (arith, at.before)), some_word _ q (cut.all q small (omega arith) small on))
 
 pub no_reading : (b : Bool) (l : List Bool) → IsReading b l (record { word = 0; limb = 0; next = 0; edge = 0 })
 no_reading b l = grind (arith, count_none b l)

@@ -4,7 +4,7 @@ use Rattle.vers_rank.specs.inside.Walks.{IsWithin}
 use Rattle.vers_rank.proofs.Words.{one_more}
 use Rattle.vers_rank.proofs.Marks.{IsCut, ones_stay, one_between, some_word, cut_to, cut_highest, whole_marked, marked_to, ones_within, place_of}
 
-module _ (b : Bool) (l : List Bool) (reader : Reader) (is : IsReadingBack b l reader) where
+module _ {b : Bool} {l : List Bool} {reader : Reader} (is : IsReadingBack b l reader) where
   ones_back : count b l (64 * reader.limb) + count_ones reader.word ≡ reader.next
   ones_back = let e : reader.word % 2 ^ 64 ≡ reader.word = omega (arith, is.marks.fits) in omega (arith, ones_within is.marks (omega arith) 64 (omega arith) (λ i h. is.within i h), ap count_ones e, is.after, is.before)
 
@@ -51,14 +51,14 @@ module _ (b : Bool) (l : List Bool) (reader : Reader) (r : ℕ) (here : reader.n
       let e : highest + 1 + (63 - highest) ≡ 64 = omega (arith, top.0) in
       let whole : reader.word % 2 ^ 64 ≡ reader.word = omega (arith, is.marks.fits) in
       let all = ap (λ n. count_ones (reader.word % 2 ^ n)) e in
-      place_at b l reader is highest r (omega (arith, top.0)) top.1 (omega (arith, ones_back b l reader is, ones_stay reader.word (highest + 1) (63 - highest) (λ i low _. top.2 i (omega arith)), all, ap count_ones whole, one_more reader.word highest, top.1)) (omega arith)
+      place_at is highest r (omega (arith, top.0)) top.1 (omega (arith, ones_back is, ones_stay reader.word (highest + 1) (63 - highest) (λ i low _. top.2 i (omega arith)), all, ap count_ones whole, one_more reader.word highest, top.1)) (omega arith)
 
   pub highest_at : 64 * reader.limb + highest ≡ select b l r
   highest_at = sym (select_at b l r (64 * reader.limb + highest) at_highest.0.inside at_highest.0.holds at_highest.1)
 
   -- the word without its highest one
   pub rest_back_at : IsReadingBack b l (record reader { word = bit_and reader.word (bit_not w64 (1 * 2 ^ (63 - count_leading_zeros 64 reader.word) % 18446744073709551616)); next = r })
-  rest_back_at = reading_to b l reader is _ highest r (cut_highest reader.word left is.marks.fits) at_highest.1 (omega arith)
+  rest_back_at = reading_to is _ highest r (cut_highest reader.word left is.marks.fits) at_highest.1 (omega arith)
 
   -- the place lies in a list, and a list is not as long as a word can count
   pub highest_fits : {m : List Bool} → length m ≤ 18446744073709551552 → m ≡ l → 64 * reader.limb + highest < 18446744073709551552
