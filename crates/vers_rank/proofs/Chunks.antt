@@ -78,14 +78,14 @@ module _ (bits : List Bool) (walk : ChunkWalk) (n count : ℕ) (buffer : List �
   abbrev loaded : ChunkWalk
   loaded = record walk { start = walk.end; end = walk.end + n; left = count; offsets = buffer }
 
-  pub chunk_loaded : IsChunkWalkOf bits loaded
-  chunk_loaded = grind (arith, offset_below buffer count n w listed)
-
-  pub left_stays : chunk_places_left bits loaded ≡ chunk_places_left bits walk
+  left_stays : chunk_places_left bits loaded ≡ chunk_places_left bits walk
   left_stays =
       let here : walk.end + 0 ≡ walk.end = omega arith in
       let all = places_and walk.bit bits walk.end w 0 n (omega arith) (λ i low high. holds i (omega arith)) in
       rw (last_first_from walk.end buffer count, listed, at_end bits walk is done) (sym (rw here at all))
+
+  pub chunk_loaded : (IsChunkWalkOf bits loaded) × (chunk_places_left bits loaded ≡ chunk_places_left bits walk)
+  chunk_loaded = (grind (arith, offset_below buffer count n w listed), left_stays)
 
 -- 16 bits from place p on
 pub chunk_bits : (b : Bool) (bits : List Bool) (p w : ℕ) → w ≡ marked b (limb bits (p / 64)) → p % 16 ≡ 0 → (i : ℕ) → i < 16 → bit_at (bit_and (w / 2 ^ (p % 64)) 65535) i ≡ bit_value (is_bit b (get_or bits (p + i) false))

@@ -1,4 +1,4 @@
-use Rattle.vers_rank.proofs.Names.{◌≡◌, ◌+◌, ◌*◌, ◌/◌, false, ap, ◌∙◌, arith, sym, count_none, count_le, count_past}
+use Rattle.vers_rank.proofs.Names.{◌≡◌, ◌+◌, ◌*◌, ◌/◌, false, length, ap, ◌∙◌, arith, sym, block_count, count_none, count_le, count_past}
 use Rattle.vers_rank.proofs.Builds.{no_entries}
 use Rattle.vers_rank.proofs.build.add_entries.Goals as goal
 
@@ -11,6 +11,9 @@ loop-block-init g c = record {
 
 pub overflow_add-zeros : goal.overflow_add-zeros
 overflow_add-zeros g c = omega (arith, count_le)
+
+pub returns-clause-entries : goal.returns-clause-entries
+returns-clause-entries g c = let all : c.loop-block.block ≡ block_count 512 (length c.args.bits.now) = omega arith in rw all at c.loop-block.invariant.entries
 
 pub returns-clause-zeros : goal.returns-clause-zeros
 returns-clause-zeros g c = c.loop-block.invariant.zeros ∙ count_past false c.args.bits.now (512 * c.loop-block.block) (omega arith)

@@ -1,4 +1,4 @@
-use Rattle.vers_rank.proofs.Names.{length, ap, arith, count_none, zero-le}
+use Rattle.vers_rank.proofs.Names.{◌≡◌, length, ap, arith, count_none, zero-le}
 use Rattle.vers_rank.proofs.Builds.{add_sample}
 use Rattle.vers_rank.proofs.build.samples.Goals as goal
 
@@ -8,6 +8,9 @@ loop-j-init g c = record {
   inside = zero-le;
   low = omega (arith, count_none);
 }
+
+pub returns : goal.returns
+returns g c = let all : c.loop-j.j ≡ c.args.n = omega arith in rw all at c.loop-j.invariant.made
 
 pub loop-j-preserved : goal.loop-j-preserved
 loop-j-preserved g c = record {

@@ -17,3 +17,6 @@ pub samples-requires-2 : goal.samples-requires-2
 samples-requires-2 g c =
     let made = c.in_ok-zeros.ensures.entries in
     rw c.deref-2.ensures.value (record { counted = made.superblocks_counted ∙ superblocks_are (length c.args.bits); entries = made.superblock_at })
+
+pub returns : goal.returns
+returns g c = c.new.ensures
