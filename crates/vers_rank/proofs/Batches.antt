@@ -1,17 +1,11 @@
 -- Numbers that are looked for level by level.
-use Rattle.vers_rank.proofs.Names.{◌≡◌, ℕ, ◌+◌, ◌*◌, ◌/◌, ◌%◌, ◌<◌, ◌≤◌, Bool, List, length, sym, ◌∙◌, inl, inr, arith, rules, cases_lt, count, limb, select, count_le_all, count_near, count_past, select_past, held, held_in, plus, times, only_block_entries, only_data_words, select_reads, number_of, IsIn, StandsFor, superblock_reads}
-use Rattle.vers_tally.specs.Reads.{IsWithin}
+use Rattle.vers_rank.proofs.Names.{◌≡◌, ℕ, ◌+◌, ◌*◌, ◌/◌, ◌%◌, ◌<◌, ◌≤◌, Bool, List, length, arith, rules, cases_lt, count, limb, select, count_le_all, count_near, count_past, select_past, held, held_in, plus, times, only_block_entries, only_data_words, select_reads, number_of, IsIn, StandsFor, superblock_reads, IsWithin}
 use Rattle.vers_rank.proofs.Selects.{held_is, held_more, count_le_held}
 
 -- a number that is reached before place j stands before the end, and so do as many places as it lies past place i
 pub inside_by : (b : Bool) (l : List Bool) (i d j : ℕ) → count b l i + d < count b l j → i + d < length l
-inside_by b l i d j h = elim (cases_lt (i + d) (length l)) [
-  | inl inside ↦ inside
-  | inr past ↦ elim (cases_lt i (length l)) [
-    | inl from ↦ absurd (omega (arith, count_near b l i (length l) (omega arith), count_le_all b l j))
-    | inr from ↦ absurd (omega (arith, count_past b l i from, count_le_all b l j))
-  ]
-]
+inside_by b l i d j h =
+    grind (arith, cases_lt i (length l), count_near b l i (length l), count_past b l i, count_le_all b l j)
 
 -- the place as far into its stretch as the number in it
 pub stands : (size : ℕ) (b : Bool) (l : List Bool) (r k rest q : ℕ) → q ≡ size * k + rest → q / size ≡ k → q % size ≡ rest → count b l (size * k) + rest ≡ r → r < count b l (size * (k + 1)) → StandsFor size b l r q
@@ -25,51 +19,30 @@ stands size b l r k rest q at stretch within number near = record {
 -- the same for a number that a place in a wider stretch stands for
 pub narrows : (wide size : ℕ) (b : Bool) (l : List Bool) (p k rest q : ℕ) → p < length l → q ≡ size * k + rest → q / size ≡ k → q % size ≡ rest
     → count b l (size * k) + rest ≡ number_of wide b l p → number_of wide b l p < count b l (size * (k + 1)) → (r : ℕ) → StandsFor wide b l r p → StandsFor size b l r q
-narrows wide size b l p k rest q inside at stretch within number near r is = elim (cases_lt r (count b l (length l))) [
-  | inl some ↦ stands size b l r k rest q at stretch within (number ∙ is.number some) (omega (arith, near, is.number some))
-  | inr none ↦ absurd (omega (arith, is.past none))
-]
+narrows wide size b l p k rest q inside at stretch within number near r is =
+    grind (arith, is, cases_lt r (count b l (length l)), stands size b l r k rest q at stretch within)
 
 -- a place past the end stays there
 pub stays : (wide size : ℕ) (b : Bool) (l : List Bool) (p : ℕ) → length l ≤ p → (r : ℕ) → StandsFor wide b l r p → StandsFor size b l r p
-stays wide size b l p past r is = record {
-  inside = λ some. absurd (omega (arith, is.inside some));
-  number = λ some. absurd (omega (arith, is.inside some));
-  near = λ some. absurd (omega (arith, is.inside some));
-  past = is.past;
-}
+stays wide size b l p past r is = grind (arith, is)
 
 -- and is the answer where no place has the number
 pub ends : (wide : ℕ) (b : Bool) (l : List Bool) (p : ℕ) → length l ≤ p → (r : ℕ) → StandsFor wide b l r p → p ≡ select b l r
-ends wide b l p past r is = elim (cases_lt r (count b l (length l))) [
-  | inl some ↦ absurd (omega (arith, is.inside some))
-  | inr none ↦ is.past none ∙ sym (select_past b l r none)
-]
+ends wide b l p past r is = grind (arith, is, cases_lt r (count b l (length l)), select_past b l r)
 
 -- a place that stands for a number is one that the next level takes
 pub takes : (size : ℕ) (b : Bool) (l : List Bool) (r p : ℕ) → StandsFor size b l r p → IsIn size b l p
-takes size b l r p is inside = elim (cases_lt r (count b l (length l))) [
-  | inl some ↦ omega (arith, is.number some, is.near some)
-  | inr none ↦ absurd (omega (arith, is.past none))
-]
+takes size b l r p is inside = grind (arith, is, cases_lt r (count b l (length l)))
 
 -- a number of a limb, among those of the whole list
 pub near_limb : (b : Bool) (l : List Bool) (k rest n j : ℕ) → 64 * k < length l → held b l (64 * k) + rest ≡ n → rest < held_in b (limb l k) 64 → n < count b l j
     → (count b l (64 * k) + rest ≡ n) × (n < count b l (64 * (k + 1)))
 near_limb b l k rest n j inside number few some =
-    let start : held b l (64 * k) ≡ count b l (64 * k) = held_is b l (64 * k) (omega arith) in (
-      omega (arith, start),
-      elim (cases_lt (64 * (k + 1)) (length l)) [
-        | inl whole ↦ omega (arith, held_more b l k, held_is b l (64 * (k + 1)) (omega arith))
-        | inr last ↦ omega (arith, count_past b l (64 * (k + 1)) last, count_le_all b l j)
-      ],
-    )
+    grind (arith, cases_lt (64 * (k + 1)) (length l), held_is b l (64 * k), held_more b l k, held_is b l (64 * (k + 1)), count_past b l (64 * (k + 1)), count_le_all b l j)
 
 -- a number of a limb is one of the limb's own places
 pub few_in_limb : (b : Bool) (l : List Bool) (k rest : ℕ) → 64 * k < length l → count b l (64 * k) + rest < count b l (64 * (k + 1)) → (held b l (64 * k) ≡ count b l (64 * k)) × (rest < held_in b (limb l k) 64)
-few_in_limb b l k rest inside near =
-    let start : held b l (64 * k) ≡ count b l (64 * k) = held_is b l (64 * k) (omega arith) in
-    (start, omega (arith, held_more b l k, count_le_held b l (64 * (k + 1))))
+few_in_limb b l k rest inside near = grind (arith, held_is b l (64 * k), held_more b l k, count_le_held b l (64 * (k + 1)))
 
 -- ---- reads
 

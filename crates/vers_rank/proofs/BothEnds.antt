@@ -1,15 +1,13 @@
 -- The items of the iterators over an indexed list.
-use Rattle.vers_rank.proofs.Names.{◌≡◌, ℕ, ◌<◌, Bool, true, false, List, Some, length, get_or, map, refl, sym, ap, ◌∙◌, slice_get, bit_value, places, length-places, yields_first, goes_first, length-bits, bit_item}
+use Rattle.vers_rank.proofs.Names.{◌≡◌, ℕ, ◌<◌, Bool, true, false, List, Some, length, get_or, map, refl, sym, ap, cases_Bool, arith, ◌∙◌, slice_get, bit_value, places, length-places, yields_first, goes_first, length-bits, bit_item, select}
 use Rattle.std.proofs.lemmas.Option.{slice_get-get_or}
 use mir.Val.{bool_byte}
-use Rattle.vers_bits.specs.Bits.{select}
 use Rattle.vers_rank.proofs.Reading.{no_reading}
 use Rattle.vers_rank.proofs.ReadingBack.{no_reading_back}
 
 -- a truth value as a number
 byte_is_value : (bit : Bool) → bool_byte bit ≡ bit_value bit
-byte_is_value true = refl
-byte_is_value false = refl
+byte_is_value bit = grind (arith, cases_Bool bit)
 
 -- ---- items that are bits, as numbers
 pub number_item : (bits : List Bool) (p x : ℕ) (at : Bool) → p < length (map bit_value bits) → x ≡ bool_byte at → at ≡ get_or bits p false → slice_get (map bit_value bits) p ≡ Some x

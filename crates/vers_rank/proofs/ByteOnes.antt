@@ -1,7 +1,6 @@
 -- The ones of all bytes of a word at once.
-use Rattle.vers_rank.proofs.Names.{zero, suc, ap, sym, ◌∙◌, ◌+◌, ◌/◌, inl, inr, ◌≡◌, ℕ, ◌-◌, ◌*◌, ◌%◌, ◌^◌, ◌<◌, ◌≤◌, true, refl, arith, eqb, leb, count_ones, bit_and, and_mask, and_block, and_le_l, and_le_r, ones_cat, mod-mul-add, pow-add, cases_lt, agree_below_at, eqb-true, leb-true}
+use Rattle.vers_rank.proofs.Names.{◌&&◌, Bool, and_parts, zero, suc, ap, sym, ◌∙◌, ◌+◌, ◌/◌, inl, inr, ◌≡◌, ℕ, ◌-◌, ◌*◌, ◌%◌, ◌^◌, ◌<◌, ◌≤◌, true, refl, arith, eqb, leb, count_ones, bit_and, and_mask, and_block, and_le_l, and_le_r, ones_cat, mod-mul-add, shr-shr, cases_lt, ◌⊎◌, cases_eq, agree_below_at, eqb-true, leb-true, ones}
 use Rattle.std.proofs.Math.Nat.{div-div-eq-div-mul}
-use lib.Count.{ones}
 use Rattle.vers_rank.specs.inside.ByteOnes.{byte_ones, ones_below_byte, ones_through_bytes}
 use Rattle.vers_rank.proofs.Words.{ones_few, ones_split}
 
@@ -11,111 +10,71 @@ bytes_of zero m = 0
 bytes_of (suc n) m = bytes_of n m * 256 + m
 
 -- the three steps, each with its mask
-pairs : ℕ → ℕ → ℕ
+abbrev pairs : ℕ → ℕ → ℕ
 pairs m w = w - bit_and (w / 2) m
 
-fours : ℕ → ℕ → ℕ
+abbrev fours : ℕ → ℕ → ℕ
 fours m w = bit_and w m + bit_and (w / 4) m
 
-eights : ℕ → ℕ → ℕ
+abbrev eights : ℕ → ℕ → ℕ
 eights m w = bit_and (w + w / 16) m
 
--- what comes down from the byte above is masked away
-masked_out : (k c x m : ℕ) → x < 2 ^ k → m < 2 ^ k → bit_and (c * 2 ^ k + x) m ≡ bit_and x m
-masked_out k c x m hx hm =
-    let e : bit_and (c * 2 ^ k + x) (0 * 2 ^ k + m) ≡ bit_and c 0 * 2 ^ k + bit_and x m = and_block k c 0 x m hx hm in
-    let z : bit_and c 0 ≡ 0 = omega (arith, and_le_r c 0) in
-    let all : 0 * 2 ^ k + m ≡ m = omega arith in
-    let none : 0 * 2 ^ k + bit_and x m ≡ bit_and x m = omega arith in
-    ap (bit_and (c * 2 ^ k + x)) (sym all) ∙ e ∙ ap (λ n. n * 2 ^ k + bit_and x m) z ∙ none
-
-and_bytes : (a b r s : ℕ) → r < 256 → s < 256 → bit_and (a * 256 + r) (b * 256 + s) ≡ bit_and a b * 256 + bit_and r s
-and_bytes a b r s hr hs = and_block 8 a b r s hr hs
-
-shifted_2 : (a b m : ℕ) → b < 256 → bit_and ((a * 256 + b) / 2) (m * 256 + 85) ≡ bit_and (a / 2) m * 256 + bit_and (b / 2) 85
-shifted_2 a b m h =
-    let e : (a * 256 + b) / 2 ≡ a / 2 * 256 + (a % 2 * 128 + b / 2) = omega arith in
-    rw e (and_bytes (a / 2) m (a % 2 * 128 + b / 2) 85 (omega arith) (omega arith) ∙ ap (λ x. bit_and (a / 2) m * 256 + x) (masked_out 7 (a % 2) (b / 2) 85 (omega arith) (omega arith)))
-
-shifted_4 : (a b m : ℕ) → b < 256 → bit_and ((a * 256 + b) / 4) (m * 256 + 51) ≡ bit_and (a / 4) m * 256 + bit_and (b / 4) 51
-shifted_4 a b m h =
-    let e : (a * 256 + b) / 4 ≡ a / 4 * 256 + (a % 4 * 64 + b / 4) = omega arith in
-    rw e (and_bytes (a / 4) m (a % 4 * 64 + b / 4) 51 (omega arith) (omega arith) ∙ ap (λ x. bit_and (a / 4) m * 256 + x) (masked_out 6 (a % 4) (b / 4) 51 (omega arith) (omega arith)))
-
-same_nibble : (a b : ℕ) → (a * 16 + b) % 16 ≡ b % 16
-same_nibble a b = omega arith
-
-carried_16 : (a b m : ℕ) → a % 16 ≤ 4 → b ≤ 68 → bit_and (a * 256 + b + (a * 256 + b) / 16) (m * 256 + 15) ≡ bit_and (a + a / 16) m * 256 + bit_and (b + b / 16) 15
-carried_16 a b m ha hb =
-    let e : a * 256 + b + (a * 256 + b) / 16 ≡ (a + a / 16) * 256 + (a % 16 * 16 + (b + b / 16)) = omega arith in
-    let low : bit_and (a % 16 * 16 + (b + b / 16)) 15 ≡ bit_and (b + b / 16) 15 = and_mask (a % 16 * 16 + (b + b / 16)) 4 ∙ same_nibble (a % 16) (b + b / 16) ∙ sym (and_mask (b + b / 16) 4) in
-    rw e (and_bytes (a + a / 16) m (a % 16 * 16 + (b + b / 16)) 15 (omega arith) (omega arith) ∙ ap (λ x. bit_and (a + a / 16) m * 256 + x) low)
+-- what comes down from the byte above, above the low k bits, is masked away
+carried : (k w a c x m s : ℕ) → w ≡ a * 256 + (c * 2 ^ k + x) → c * 2 ^ k + x < 256 → x < 2 ^ k → s < 2 ^ k → s < 256 → bit_and w (m * 256 + s) ≡ bit_and a m * 256 + bit_and x s
+carried k w a c x m s e fits low mask byte =
+    let all : 0 * 2 ^ k + s ≡ s = omega arith in
+    let none : bit_and c 0 ≡ 0 = omega (arith, and_le_r) in
+    omega (arith, rw (← e) at (and_block 8 a m (c * 2 ^ k + x) s fits byte), rw (all, none) at (and_block k c 0 x s low mask))
 
 pairs_next : (m a b : ℕ) → b < 256 → pairs (m * 256 + 85) (a * 256 + b) ≡ pairs m a * 256 + pairs 85 b
-unfolding pairs
-pairs_next m a b h = omega (arith, shifted_2 a b m h, and_le_l (a / 2) m, and_le_l (b / 2) 85)
+pairs_next m a b h =
+    omega (arith, carried 7 ((a * 256 + b) / 2) (a / 2) (a % 2) (b / 2) m 85 (omega arith) (omega arith) (omega arith) (omega arith) (omega arith), and_le_l (a / 2) m, and_le_l (b / 2) 85)
 
 fours_next : (m a b : ℕ) → b < 256 → fours (m * 256 + 51) (a * 256 + b) ≡ fours m a * 256 + fours 51 b
-unfolding fours
-fours_next m a b h = omega (arith, shifted_4 a b m h, and_bytes a m b 51 h (omega arith))
+fours_next m a b h =
+    omega (arith, carried 6 ((a * 256 + b) / 4) (a / 4) (a % 4) (b / 4) m 51 (omega arith) (omega arith) (omega arith) (omega arith) (omega arith), and_block 8 a m b 51 h (omega arith))
 
 eights_next : (m a b : ℕ) → a % 16 ≤ 4 → b ≤ 68 → eights (m * 256 + 15) (a * 256 + b) ≡ eights m a * 256 + eights 15 b
-unfolding eights
-eights_next m a b ha hb = carried_16 a b m ha hb
+eights_next m a b ha hb =
+    let sum = b + b / 16 in
+    let low = carried 4 (a * 256 + b + (a * 256 + b) / 16) (a + a / 16) (a % 16 + sum / 16) (sum % 16) m 15 (omega arith) (omega arith) (omega arith) (omega arith) (omega arith) in
+    omega (arith, low, and_mask sum 4, and_mask (sum % 16) 4)
 
-pairs_few : (b : ℕ) → pairs 85 b ≤ b
-unfolding pairs
-pairs_few b = omega arith
-
--- the steps at one byte, which are tried at each
-of_byte : (b : ℕ) → b < 256 → eights 15 (fours 51 (pairs 85 b)) ≡ count_ones b
-unfolding pairs fours eights ones
-of_byte b h = eqb-true _ _ (agree_below_at (λ b. eqb (eights 15 (fours 51 (pairs 85 b))) (count_ones b)) (λ _. true) 256 b refl h)
-
--- each half of a byte is at most 4 after two steps
-few_of_byte : (b : ℕ) → b < 256 → (fours 51 (pairs 85 b) % 16 ≤ 4) × (fours 51 (pairs 85 b) ≤ 68)
-unfolding pairs fours
-few_of_byte b h =
-    (leb-true _ _ (agree_below_at (λ b. leb (fours 51 (pairs 85 b) % 16) 4) (λ _. true) 256 b refl h), leb-true _ _ (agree_below_at (λ b. leb (fours 51 (pairs 85 b)) 68) (λ _. true) 256 b refl h))
-
-eights_nothing : (x : ℕ) → eights 0 x ≡ 0
-unfolding eights
-eights_nothing x = omega (arith, and_le_r (x + x / 16) 0)
-
-fours_nothing : (x : ℕ) → fours 0 x ≡ 0
-unfolding fours
-fours_nothing x = omega (arith, and_le_r x 0, and_le_r (x / 4) 0)
+-- the steps at one byte, which are tried at each: half of a byte is at most 4 after two
+of_byte : (b : ℕ) → b < 256 → (eights 15 (fours 51 (pairs 85 b)) ≡ count_ones b) × (fours 51 (pairs 85 b) % 16 ≤ 4) × (fours 51 (pairs 85 b) ≤ 68)
+unfolding ones
+of_byte b h =
+    let test : ℕ → Bool = λ b. eqb (eights 15 (fours 51 (pairs 85 b))) (count_ones b) && (leb (fours 51 (pairs 85 b) % 16) 4 && leb (fours 51 (pairs 85 b)) 68) in
+    let passed = and_parts _ _ (agree_below_at test (λ _. true) 256 b refl h) in
+    let few = and_parts _ _ passed.1 in
+    (eqb-true _ _ passed.0, leb-true _ _ few.0, leb-true _ _ few.1)
 
 -- after two steps
-halves_of_bytes : ℕ → ℕ → ℕ
+abbrev halves_of_bytes : ℕ → ℕ → ℕ
 halves_of_bytes n w = fours (bytes_of n 51) (pairs (bytes_of n 85) w)
 
 halves_next : (n w : ℕ) → halves_of_bytes (suc n) w ≡ halves_of_bytes n (w / 256) * 256 + fours 51 (pairs 85 (w % 256))
-unfolding halves_of_bytes bytes_of
+unfolding bytes_of
 halves_next n w =
-    let parts : w ≡ w / 256 * 256 + w % 256 = omega arith in
-    let low : w % 256 < 256 = omega arith in
-    let one : pairs (bytes_of n 85 * 256 + 85) w ≡ pairs (bytes_of n 85) (w / 256) * 256 + pairs 85 (w % 256) =
-    ap (pairs (bytes_of n 85 * 256 + 85)) parts ∙ pairs_next (bytes_of n 85) (w / 256) (w % 256) low in
-    ap (fours (bytes_of n 51 * 256 + 51)) one ∙ fours_next _ _ _ (omega (arith, pairs_few (w % 256)))
+    let parts : w / 256 * 256 + w % 256 ≡ w = omega arith in
+    rw (rw parts at (pairs_next (bytes_of n 85) (w / 256) (w % 256) (omega arith))) (fours_next _ _ _ (omega arith))
 
 halves_few : (n w : ℕ) → halves_of_bytes n w % 16 ≤ 4
-unfolding halves_of_bytes bytes_of
-halves_few zero w = omega (arith, fours_nothing (pairs 0 w))
-halves_few (suc n) w = omega (arith, halves_next n w, (few_of_byte (w % 256) (omega arith)).0)
+unfolding bytes_of
+halves_few zero w = omega (arith, and_le_r)
+halves_few (suc n) w = omega (arith, halves_next n w, of_byte (w % 256) (omega arith))
 
 steps_bytes : (n w : ℕ) → eights (bytes_of n 15) (halves_of_bytes n w) ≡ byte_ones n w
 unfolding bytes_of byte_ones
-steps_bytes zero w = eights_nothing _
+steps_bytes zero w = omega (arith, and_le_r)
 steps_bytes (suc n) w =
-    let low : w % 256 < 256 = omega arith in
-    ap (eights (bytes_of n 15 * 256 + 15)) (halves_next n w) ∙ eights_next (bytes_of n 15) _ _ (halves_few n (w / 256)) (few_of_byte (w % 256) low).1
-    ∙ ap (λ x. x * 256 + eights 15 (fours 51 (pairs 85 (w % 256)))) (steps_bytes n (w / 256)) ∙ ap (λ x. byte_ones n (w / 256) * 256 + x) (of_byte (w % 256) low)
+    let low = of_byte (w % 256) (omega arith) in
+    rw (halves_next n w, eights_next (bytes_of n 15) _ _ (halves_few n (w / 256)) low.2, steps_bytes n (w / 256), low.0) refl
 
 -- the steps as a word's
 pub counted_bytes : (w : ℕ)
     → bit_and (bit_and (w - bit_and (w / 2) 6148914691236517205) 3689348814741910323 + bit_and ((w - bit_and (w / 2) 6148914691236517205) / 4) 3689348814741910323 + (bit_and (w - bit_and (w / 2) 6148914691236517205) 3689348814741910323 + bit_and ((w - bit_and (w / 2) 6148914691236517205) / 4) 3689348814741910323) / 16) 1085102592571150095 ≡ byte_ones 8 w
-unfolding pairs fours eights bytes_of halves_of_bytes
+unfolding bytes_of
 counted_bytes w = steps_bytes 8 w
 
 -- what the steps take off and add
@@ -126,26 +85,11 @@ pub ruleset steps = (counted_bytes, shifted_few, and_le_r)
 
 -- ---- the sums of the bytes up to each
 
--- sums by one multiplication: c are the digits, p their sums
-sums_of : (c0 c1 c2 c3 c4 c5 c6 c7 p1 p2 p3 p4 p5 p6 p7 p8 : ℕ)
-    → p1 ≡ c0 → p2 ≡ p1 + c1 → p3 ≡ p2 + c2 → p4 ≡ p3 + c3 → p5 ≡ p4 + c4 → p6 ≡ p5 + c5 → p7 ≡ p6 + c6 → p8 ≡ p7 + c7 → p8 ≤ 64
-    → (((((((c7 * 256 + c6) * 256 + c5) * 256 + c4) * 256 + c3) * 256 + c2) * 256 + c1) * 256 + c0) * 72340172838076673 % 18446744073709551616
-    ≡ ((((((p8 * 256 + p7) * 256 + p6) * 256 + p5) * 256 + p4) * 256 + p3) * 256 + p2) * 256 + p1
-sums_of c0 c1 c2 c3 c4 c5 c6 c7 p1 p2 p3 p4 p5 p6 p7 p8 e1 e2 e3 e4 e5 e6 e7 e8 few =
-    let over = (((((c7 * 256 + (c7 + c6)) * 256 + (c7 + c6 + c5)) * 256 + (c7 + c6 + c5 + c4)) * 256 + (c7 + c6 + c5 + c4 + c3)) * 256 + (c7 + c6 + c5 + c4 + c3 + c2)) * 256 + (c7 + c6 + c5 + c4 + c3 + c2 + c1) in
-    let low = ((((((p8 * 256 + p7) * 256 + p6) * 256 + p5) * 256 + p4) * 256 + p3) * 256 + p2) * 256 + p1 in
-    let all : (((((((c7 * 256 + c6) * 256 + c5) * 256 + c4) * 256 + c3) * 256 + c2) * 256 + c1) * 256 + c0) * 72340172838076673 ≡ over * 18446744073709551616 + low = omega arith in
-    ap (λ n. n % 18446744073709551616) all ∙ mod-mul-add over 18446744073709551616 low (omega arith)
-
-next_sum : (w i b : ℕ) → b ≡ w / 2 ^ i → count_ones (w % 2 ^ (i + 8)) ≡ count_ones (w % 2 ^ i) + count_ones (b % 256)
-next_sum w i b e = ones_split w i 8 ∙ ap (λ n. count_ones (w % 2 ^ i) + count_ones (n % 256)) (sym e)
-
 pub spread_sums : (w : ℕ) → byte_ones 8 w * 72340172838076673 % 18446744073709551616 ≡ ones_through_bytes w
 unfolding byte_ones ones_through_bytes
 spread_sums w =
-    sums_of _ _ _ _ _ _ _ (0 + count_ones (w / 256 / 256 / 256 / 256 / 256 / 256 / 256 % 256)) _ _ _ _ _ _ (count_ones (w % 2 ^ 56)) (count_ones (w % 2 ^ 64)) refl (next_sum w 8 (w / 256) refl) (next_sum w 16 (w / 256 / 256) (omega arith)) (next_sum w 24 (w / 256 / 256 / 256) (omega arith))
-    (next_sum w 32 (w / 256 / 256 / 256 / 256) (omega arith)) (next_sum w 40 (w / 256 / 256 / 256 / 256 / 256) (omega arith)) (next_sum w 48 (w / 256 / 256 / 256 / 256 / 256 / 256) (omega arith))
-    (omega (arith, next_sum w 56 (w / 256 / 256 / 256 / 256 / 256 / 256 / 256) (omega arith))) (ones_few w 64)
+    simp div-div-eq-div-mul
+    (omega (arith, ones_split w 8 8, ones_split w 16 8, ones_split w 24 8, ones_split w 32 8, ones_split w 40 8, ones_split w 48 8, ones_split w 56 8, ones_few w 64))
 
 pub ruleset sums = (spread_sums)
 
@@ -160,49 +104,6 @@ packed : (ℕ → ℕ) → ℕ → ℕ → ℕ
 packed f a zero = 0
 packed f a (suc n) = packed f (a + 1) n * 256 + f a
 
--- sums that don't fall, and a number r
-module _ (p : ℕ → ℕ) (r : ℕ) (small : r < 64) (few : (i : ℕ) → i ≤ 8 → p i ≤ 64) (up : (i : ℕ) → p i ≤ p (i + 1)) where
-  abbrev below : ℕ → ℕ
-  below i = 128 + r - p i
-
-  -- how many of n sums from number a on the number reaches
-  reaching : ℕ → ℕ → ℕ
-  reaching a zero = 0
-  reaching a (suc n) = reaching (a + 1) n + below a / 128
-
-  minus_sums : (a n : ℕ) → a + n ≤ 9 → packed below a n + packed p a n ≡ bytes_of n (128 + r)
-  unfolding packed bytes_of
-  minus_sums a zero h = refl
-  minus_sums a (suc n) h = omega (arith, minus_sums (a + 1) n (omega arith), few a (omega arith))
-
-  top_bits : (a n : ℕ) → count_ones (bit_and (packed below a n) (bytes_of n 128)) ≡ reaching a n
-  unfolding packed bytes_of reaching ones
-  top_bits a zero = refl
-  top_bits a (suc n) =
-      ap count_ones (and_bytes (packed below (a + 1) n) (bytes_of n 128) (below a) 128 (omega arith) (omega arith))
-      ∙ ones_cat 8 (bit_and (packed below (a + 1) n) (bytes_of n 128)) (bit_and (below a) 128) (omega (arith, and_le_r (below a) 128))
-      ∙ omega (arith, top_bits (a + 1) n, top_bit (below a) (omega arith))
-
-  none_reached : (a n : ℕ) → a + n ≤ 9 → r < p a → reaching a n ≡ 0
-  unfolding reaching
-  none_reached a zero h high = refl
-  none_reached a (suc n) h high = omega (arith, none_reached (a + 1) n (omega arith) (omega (arith, up a)), few a (omega arith))
-
-  -- after number a as many are reached as there are up to s, and the next one is not
-  reached_up_to : (a n s : ℕ) → a + n ≤ 8 → p a ≤ r → a + reaching (a + 1) n ≡ s → (p s ≤ r) × (r < p (a + n) → (s < a + n) × (r < p (s + 1)))
-  unfolding reaching
-  reached_up_to a zero s h low is =
-      let e : s ≡ a + 0 = omega arith in
-      let f : a ≡ a + 0 = omega arith in
-      (omega (arith, ap p e, ap p f), λ high. absurd (omega (arith, ap p f)))
-  reached_up_to a (suc n) s h low is = elim (cases_lt r (p (a + 1))) [
-    | inl high ↦ (let e : s ≡ a = omega (arith, none_reached (a + 1) (suc n) (omega arith) high) in rw e (low, λ _. (omega arith, high)))
-    | inr next ↦
-        let rest = reached_up_to (a + 1) n s (omega arith) next (omega arith) in
-        let e : a + 1 + n ≡ a + suc n = omega arith in
-        (rest.0, λ high. rw (← e) (rest.1 (omega (arith, ap p e))))
-  ]
-
 -- byte number s has one number r of a word
 abbrev pub IsByteWith : ℕ → ℕ → ℕ → Type 0
 IsByteWith w r s = (s < 8) × (count_ones (w % 2 ^ (8 * s)) ≤ r) × (r < count_ones (w % 2 ^ (8 * s + 8)))
@@ -212,32 +113,66 @@ few_below : (w i : ℕ) → i ≤ 8 → ones_below_byte w i ≤ 64
 few_below w i h = omega (arith, ones_few w (8 * i))
 
 more_below : (w i : ℕ) → ones_below_byte w i ≤ ones_below_byte w (i + 1)
-more_below w i = let e : 8 * (i + 1) ≡ 8 * i + 8 = omega arith in omega (arith, ap (λ n. count_ones (w % 2 ^ n)) e, ones_split w (8 * i) 8)
+more_below w i = let e : 8 * (i + 1) ≡ 8 * i + 8 = omega arith in rw e (omega (arith, ones_split w (8 * i) 8))
 
-through_packed : (w : ℕ) → ones_through_bytes w ≡ packed (ones_below_byte w) 1 8
-unfolding ones_through_bytes packed
-through_packed w = omega arith
+module _ (w r : ℕ) (inside : r < count_ones (w % 2 ^ 64)) where
+  pub small_number : r < 64
+  small_number = omega (arith, ones_few w 64)
+
+  abbrev below : ℕ → ℕ
+  below i = 128 + r - ones_below_byte w i
+
+  -- how many of n sums from number a on the number reaches
+  reaching : ℕ → ℕ → ℕ
+  reaching a zero = 0
+  reaching a (suc n) = reaching (a + 1) n + below a / 128
+
+  minus_sums : (a n : ℕ) → a + n ≤ 9 → packed below a n + packed (ones_below_byte w) a n ≡ bytes_of n (128 + r)
+  unfolding packed bytes_of
+  minus_sums a zero h = refl
+  minus_sums a (suc n) h = omega (arith, minus_sums (a + 1) n (omega arith), few_below w a (omega arith))
+
+  top_bits : (a n : ℕ) → count_ones (bit_and (packed below a n) (bytes_of n 128)) ≡ reaching a n
+  unfolding packed bytes_of reaching ones
+  top_bits a zero = refl
+  top_bits a (suc n) =
+      let low : below a < 256 = omega (arith, small_number) in
+      rw (and_block 8 (packed below (a + 1) n) (bytes_of n 128) (below a) 128 low (omega arith))
+      (omega (arith, ones_cat 8 (bit_and (packed below (a + 1) n) (bytes_of n 128)) (bit_and (below a) 128) (omega (arith, and_le_r)), top_bits (a + 1) n, top_bit (below a) low))
+
+  -- those that are reached come first
+  reached_first : (a n : ℕ) → a + n ≤ 9 → (reaching a n ≤ n) × ((i : ℕ) → a ≤ i → i < a + n → (i < a + reaching a n → ones_below_byte w i ≤ r) × (a + reaching a n ≤ i → r < ones_below_byte w i))
+  unfolding reaching
+  reached_first a zero h = (omega arith, λ i from to. absurd (omega arith))
+  reached_first a (suc n) h =
+      let rest = reached_first (a + 1) n (omega arith) in
+      let next : (reaching (a + 1) n ≡ 0) ⊎ (ones_below_byte w (a + 1) ≤ r) =
+      elim (cases_lt 0 (reaching (a + 1) n)) [ inl some ↦ inr ((rest.1 (a + 1) (omega arith) (omega (arith, rest.0))).0 (omega arith)) | inr none ↦ inl (omega arith) ] in (
+        omega (arith, small_number, rest.0),
+        λ i from to. elim (cases_eq i a) [
+          | inl same ↦ rw same (λ low. omega (arith, more_below w a), λ high. omega (arith, small_number))
+          | inr other ↦ (λ low. (rest.1 i (omega arith) (omega arith)).0 (omega (arith, small_number)), λ high. (rest.1 i (omega arith) (omega arith)).1 (omega (arith, more_below w a)))
+        ],
+      )
 
 pub reached : (w r : ℕ) → r < count_ones (w % 2 ^ 64) → IsByteWith w r (count_ones (bit_and (r * 72340172838076673 + 9259542123273814144 - ones_through_bytes w) 9259542123273814144))
-unfolding bytes_of
+unfolding bytes_of ones_through_bytes packed
 reached w r h =
-    let p = ones_below_byte w in
-    let small : r < 64 = omega (arith, ones_few w 64) in
-    let s = reaching p r small (few_below w) (more_below w) 1 8 in
-    let minus : r * 72340172838076673 + 9259542123273814144 - ones_through_bytes w ≡ packed (λ i. 128 + r - p i) 1 8 =
-    omega (arith, minus_sums p r small (few_below w) (more_below w) 1 8 (omega arith), through_packed w) in
-    let is : count_ones (bit_and (r * 72340172838076673 + 9259542123273814144 - ones_through_bytes w) 9259542123273814144) ≡ s =
-    ap (λ n. count_ones (bit_and n 9259542123273814144)) minus ∙ top_bits p r small (few_below w) (more_below w) 1 8 in
-    let found = reached_up_to p r small (few_below w) (more_below w) 0 8 s (omega arith) (omega (arith, ones_few w 0)) (omega arith) in
+    let s = reaching w r h 1 8 in
+    let minus : r * 72340172838076673 + 9259542123273814144 - ones_through_bytes w ≡ packed (below w r h) 1 8 = omega (arith, minus_sums w r h 1 8 (omega arith)) in
+    let is : count_ones (bit_and (r * 72340172838076673 + 9259542123273814144 - ones_through_bytes w) 9259542123273814144) ≡ s = rw minus (top_bits w r h 1 8) in
+    let first = reached_first w r h 1 8 (omega arith) in
+    let some : s < 8 = elim (cases_lt s 8) [ inl some ↦ some | inr all ↦ absurd (omega (arith, h, (first.1 8 (omega arith) (omega arith)).0 (omega arith))) ] in
     let next : 8 * (s + 1) ≡ 8 * s + 8 = omega arith in
-    rw is ((found.1 h).0, found.0, rw (← next) (found.1 h).1)
+    rw is (
+      some,
+      elim (cases_lt 0 s) [ inl from ↦ (first.1 s from (omega arith)).0 (omega arith) | inr none ↦ (let e : s ≡ 0 = omega arith in rw e (omega (arith, ones_few w 0))) ],
+      rw (← next) ((first.1 (s + 1) (omega arith) (omega arith)).1 (omega arith)),
+    )
 
 pub through_few : (w : ℕ) → ones_through_bytes w ≤ 4629771061636907072
 unfolding ones_through_bytes
 through_few w = omega (arith, few_below w)
-
-pub small_number : (w r : ℕ) → r < count_ones (w % 2 ^ 64) → r < 64
-small_number w r h = omega (arith, ones_few w 64)
 
 pub ruleset bytes = (reached, through_few, small_number)
 
@@ -247,22 +182,19 @@ pub ruleset bytes = (reached, through_few, small_number)
 byte_at : (f : ℕ → ℕ) (a n k : ℕ) → ((i : ℕ) → i ≤ 8 → f i ≤ 64) → k < n → a + n ≤ 9 → packed f a n / 2 ^ (8 * k) % 256 ≡ f (a + k)
 unfolding packed
 byte_at f a zero k few h within = absurd (omega arith)
-byte_at f a (suc n) zero few h within =
-    let place : a + 0 ≡ a = omega arith in
-    let whole : (packed f (a + 1) n * 256 + f a) / 1 % 256 ≡ f a = omega (arith, few a (omega arith)) in whole ∙ ap f (sym place)
+byte_at f a (suc n) zero few h within = let place : a + 0 ≡ a = omega arith in rw place (omega (arith, few a (omega arith)))
 byte_at f a (suc n) (suc k) few h within =
-    let e : 8 * suc k ≡ 8 + 8 * k = omega arith in
-    let power : 2 ^ (8 * suc k) ≡ 256 * 2 ^ (8 * k) = ap (λ m. 2 ^ m) e ∙ pow-add 2 8 (8 * k) in
+    let power : 8 * suc k ≡ 8 + 8 * k = omega arith in
     let rest : (packed f (a + 1) n * 256 + f a) / 256 ≡ packed f (a + 1) n = omega (arith, few a (omega arith)) in
-    let next : a + 1 + k ≡ a + suc k = omega arith in
-    ap (λ m. (packed f (a + 1) n * 256 + f a) / m % 256) power ∙ ap (λ m. m % 256) (sym (div-div-eq-div-mul (packed f (a + 1) n * 256 + f a) 256 (2 ^ (8 * k))))
-    ∙ ap (λ m. m / 2 ^ (8 * k) % 256) rest ∙ byte_at f (a + 1) n k few (omega arith) (omega arith) ∙ ap f next
+    let next : a + suc k ≡ a + 1 + k = omega arith in
+    rw (power, ← shr-shr _ 8 (8 * k), rest, next) (byte_at f (a + 1) n k few (omega arith) (omega arith))
 
 pub part_of : (w k : ℕ) → k < 8 → ones_through_bytes w * 256 % 18446744073709551616 / 2 ^ (8 * k) % 256 ≡ count_ones (w % 2 ^ (8 * k))
 unfolding ones_through_bytes packed
 part_of w k h =
     let shifted : ones_through_bytes w * 256 % 18446744073709551616 ≡ packed (ones_below_byte w) 0 8 = omega (arith, few_below w, ones_few w 0) in
-    ap (λ n. n / 2 ^ (8 * k) % 256) shifted ∙ byte_at (ones_below_byte w) 0 8 k (few_below w) h (omega arith) ∙ ap (ones_below_byte w) (let e : 0 + k ≡ k = omega arith in e)
+    let place : 0 + k ≡ k = omega arith in
+    rw shifted (rw place at (byte_at (ones_below_byte w) 0 8 k (few_below w) h (omega arith)))
 
 pub masked_byte : (n : ℕ) → bit_and n 255 ≡ n % 256
 masked_byte n = and_mask n 8

@@ -1,31 +1,26 @@
 -- Walks by chunks of bits.
-use Rattle.vers_rank.proofs.Names.{zero, suc, ◌≡◌, ℕ, ◌+◌, ◌-◌, ◌*◌, ◌/◌, ◌%◌, ◌^◌, ◌<◌, ◌≤◌, Bool, true, false, List, [], ◌∷◌, ◌++◌, map, filter, eqb, replicate, Some, None, length, get_or, drop, refl, sym, ap, ◌∙◌, arith, inl, inr, bit_and, bit_at, range_with_len, cases_Bool, drop_more, drop_all, and_mask, bit_at_cat_low, bit_value, is_bit, count, limb, places, count_past, count_none, count_le_all, length-places, select_at, count_more_yes, count_more_no, Reads, AddsAtMost, adds_then, last_first, ones_below, chunk_places_left, marked, IsChunkWalkOf}
-use Rattle.vers_bits.specs.Bits.{select}
+use Rattle.vers_rank.proofs.Names.{zero, suc, ◌≡◌, ℕ, ◌+◌, ◌-◌, ◌*◌, ◌/◌, ◌%◌, ◌^◌, ◌<◌, ◌≤◌, Bool, true, false, List, [], ◌∷◌, ◌++◌, map, filter, eqb, replicate, Some, None, length, get_or, refl, sym, ap, ◌∙◌, arith, inl, inr, bit_and, bit_at, range_with_len, cases_Bool, drop_more, drop_all, and_mask, bit_value, is_bit, count, limb, places, count_past, count_none, count_le_all, length-places, select_at, count_more_yes, count_more_no, Reads, AddsAtMost, adds_then, last_first, ones_below, chunk_places_left, marked, IsChunkWalkOf, select, chunk_reads, places_from}
 use Rattle.vers_bits.specs.Walk.{TakesFirst}
 use Rattle.vers_rank.specs.declared.fast_rs_vec.bit_set_iter.ChunkWalk.{ChunkWalk}
-use Rattle.vers_rank.specs.Walks.{chunk_reads}
-use Rattle.vers_rank.specs.inside.Walks.{places_from}
 use Rattle.vers_rank.proofs.OffsetLanes.{last_first_from, offset_below}
-use Rattle.vers_rank.proofs.Pairs.{digit_after}
+use Rattle.vers_rank.proofs.Pairs.{digit_after, low_digit}
 use Rattle.vers_rank.proofs.Marks.{marked_bit}
 
 -- ---- the places that are left
 pub places_from_start : (b : Bool) (bits : List Bool) → places_from b bits 0 ≡ places b bits
 unfolding places_from
-places_from_start b bits = ap (λ n. drop n (places b bits)) (count_none b bits)
+places_from_start b bits = rw count_none refl
 
 pub places_from_yes : (b : Bool) (bits : List Bool) (p : ℕ) → p < length bits → is_bit b (get_or bits p false) ≡ true → places_from b bits p ≡ p ∷ places_from b bits (p + 1)
 unfolding places_from select
 places_from_yes b bits p h on =
     let more : count b bits (p + 1) ≡ count b bits p + 1 = count_more_yes b bits p h on in
     let some : count b bits p < length (places b bits) = omega (arith, length-places b bits, count_le_all b bits (p + 1)) in
-    drop_more (places b bits) (count b bits p) (length bits) some
-    ∙ ap (λ x. x ∷ drop (count b bits p + 1) (places b bits)) (select_at b bits (count b bits p) p h on refl)
-    ∙ ap (λ n. p ∷ drop n (places b bits)) (sym more)
+    rw (more, drop_more (places b bits) (count b bits p) (length bits) some, select_at b bits (count b bits p) p h on refl) refl
 
 pub places_from_no : (b : Bool) (bits : List Bool) (p : ℕ) → p < length bits → is_bit b (get_or bits p false) ≡ false → places_from b bits p ≡ places_from b bits (p + 1)
 unfolding places_from
-places_from_no b bits p h off = ap (λ n. drop n (places b bits)) (sym (count_more_no b bits p h off))
+places_from_no b bits p h off = rw (count_more_no b bits p h off) refl
 
 pub places_from_past : (b : Bool) (bits : List Bool) (p : ℕ) → length bits ≤ p → places_from b bits p ≡ []
 unfolding places_from
@@ -38,16 +33,11 @@ places_and b bits start w a zero within holds = ap (places_from b bits) (let e :
 places_and b bits start w a (suc n) within holds =
     let next : start + a + 1 ≡ start + (a + 1) = omega arith in
     let end : start + (a + 1) + n ≡ start + a + suc n = omega arith in
-    let rest = ap (places_from b bits) next ∙ places_and b bits start w (a + 1) n (omega (arith, within)) (λ i low high. holds i (omega (arith, low)) (omega (arith, high)))
-    ∙ ap (λ p. map (λ i. start + i) (filter (λ i. eqb (bit_at w i) 1) (range_with_len (a + 1) n)) ++ places_from b bits p) end in
+    let rest = rw end at (places_and b bits start w (a + 1) n (omega arith) (λ i low high. holds i (omega arith) (omega arith))) in
     let here = holds a (omega arith) (omega arith) in
     elim (cases_Bool (is_bit b (get_or bits (start + a) false))) [
-      | inl on ↦
-          let one : bit_at w a ≡ 1 = here ∙ ap bit_value on in
-          rw one (places_from_yes b bits (start + a) (omega (arith, within)) on ∙ ap (λ l. (start + a) ∷ l) rest)
-      | inr off ↦
-          let none : bit_at w a ≡ 0 = here ∙ ap bit_value off in
-          rw none (places_from_no b bits (start + a) (omega (arith, within)) off ∙ rest)
+      | inl on ↦ rw (here, on, places_from_yes b bits (start + a) (omega arith) on, next, rest) refl
+      | inr off ↦ rw (here, off, places_from_no b bits (start + a) (omega arith) off, next, rest) refl
     ]
 
 -- ---- steps
@@ -60,13 +50,7 @@ module _ (bits : List Bool) (walk : ChunkWalk) (is : IsChunkWalkOf bits walk) wh
     offset_inside = is.inside (walk.left - 1) (omega (arith, some))
 
     pub offset_passed : IsChunkWalkOf bits next
-    offset_passed = record {
-      room = is.room;
-      few = omega (arith, is.few);
-      within = is.within;
-      whole = is.whole;
-      inside = λ j h. is.inside j (omega (arith, h));
-    }
+    offset_passed = grind (arith, is)
 
     handed : chunk_places_left bits walk ≡ (walk.start + get_or walk.offsets (walk.left - 1) 0) ∷ chunk_places_left bits next
     handed = let e : walk.left ≡ suc (walk.left - 1) = omega (arith, some) in ap (λ n. last_first walk.start walk.offsets n ++ places_from walk.bit bits walk.end) e
@@ -88,37 +72,25 @@ module _ (bits : List Bool) (walk : ChunkWalk) (is : IsChunkWalkOf bits walk) wh
 word_bit : (b : Bool) (bits : List Bool) (p i w : ℕ) → w ≡ marked b (limb bits (p / 64)) → p % 64 + i < 64 → bit_at (w / 2 ^ (p % 64)) i ≡ bit_value (is_bit b (get_or bits (p + i) false))
 word_bit b bits p i w word small =
     let e : 64 * (p / 64) + (p % 64 + i) ≡ p + i = omega arith in
-    ap (λ v. bit_at (v / 2 ^ (p % 64)) i) word ∙ digit_after (marked b (limb bits (p / 64))) (p % 64) i
-    ∙ marked_bit b bits (p / 64) (p % 64 + i) small ∙ ap (λ q. bit_value (is_bit b (get_or bits q false))) e
+    rw (word, digit_after (marked b (limb bits (p / 64))) (p % 64) i, marked_bit b bits (p / 64) (p % 64 + i) small, e) refl
 
 module _ (bits : List Bool) (walk : ChunkWalk) (n count : ℕ) (buffer : List ℕ) (w : ℕ) (is : IsChunkWalkOf bits walk) (done : walk.left ≡ 0) (within : walk.end + n ≤ length bits) (room : length buffer ≡ 16) (few : count ≤ 16) (listed : last_first 0 buffer count ≡ ones_below n w) (holds : (i : ℕ) → i < n → bit_at w i ≡ bit_value (is_bit walk.bit (get_or bits (walk.end + i) false))) (whole : walk.end + n < length bits → (walk.end + n) % 16 ≡ 0) where
   abbrev loaded : ChunkWalk
   loaded = record walk { start = walk.end; end = walk.end + n; left = count; offsets = buffer }
 
-  pub chunk_loaded : IsChunkWalkOf bits loaded
-  chunk_loaded = record {
-    room = room;
-    few = few;
-    within = within;
-    whole = whole;
-    inside = λ j h. omega (arith, offset_below buffer count n w listed j h, within);
-  }
-
-  pub left_stays : chunk_places_left bits loaded ≡ chunk_places_left bits walk
+  left_stays : chunk_places_left bits loaded ≡ chunk_places_left bits walk
   left_stays =
       let here : walk.end + 0 ≡ walk.end = omega arith in
-      let after : walk.end + 0 + n ≡ walk.end + n = omega arith in
-      ap (λ l. l ++ places_from walk.bit bits (walk.end + n)) (last_first_from walk.end buffer count ∙ ap (map (λ i. walk.end + i)) listed)
-      ∙ sym (at_end bits walk is done ∙ ap (places_from walk.bit bits) (sym here)
-      ∙ places_and walk.bit bits walk.end w 0 n (omega (arith, within)) (λ i low high. holds i (omega (arith, high)))
-      ∙ ap (λ p. map (λ i. walk.end + i) (ones_below n w) ++ places_from walk.bit bits p) after)
+      let all = places_and walk.bit bits walk.end w 0 n (omega arith) (λ i low high. holds i (omega arith)) in
+      rw (last_first_from walk.end buffer count, listed, at_end bits walk is done) (sym (rw here at all))
+
+  pub chunk_loaded : (IsChunkWalkOf bits loaded) × (chunk_places_left bits loaded ≡ chunk_places_left bits walk)
+  chunk_loaded = (grind (arith, offset_below buffer count n w listed), left_stays)
 
 -- 16 bits from place p on
 pub chunk_bits : (b : Bool) (bits : List Bool) (p w : ℕ) → w ≡ marked b (limb bits (p / 64)) → p % 16 ≡ 0 → (i : ℕ) → i < 16 → bit_at (bit_and (w / 2 ^ (p % 64)) 65535) i ≡ bit_value (is_bit b (get_or bits (p + i) false))
 chunk_bits b bits p w word aligned i small =
-    let v = w / 2 ^ (p % 64) in
-    let parts : v ≡ v / 65536 * 2 ^ 16 + v % 65536 = omega arith in
-    ap (λ m. bit_at m i) (and_mask v 16) ∙ sym (ap (λ m. bit_at m i) parts ∙ bit_at_cat_low (v / 65536) 16 (v % 65536) i small) ∙ word_bit b bits p i w word (omega (arith, aligned, small))
+    rw (and_mask (w / 2 ^ (p % 64)) 16, low_digit 16 (w / 2 ^ (p % 64)) i small) (word_bit b bits p i w word (omega arith))
 
 -- the last bits of a list, fewer than 16 from place p on
 pub rest_bits : (b : Bool) (bits : List Bool) (p n w : ℕ) → w ≡ marked b (limb bits (p / 64)) → p % 16 ≡ 0 → n < 16 → (i : ℕ) → i < n → bit_at (w / 2 ^ (p % 64)) i ≡ bit_value (is_bit b (get_or bits (p + i) false))
@@ -127,15 +99,9 @@ rest_bits b bits p n w word aligned few i small = word_bit b bits p i w word (om
 -- ---- the ends
 -- loads, one after another
 pub chunk_reads_then : (a b c : Reads) (m n k : ℕ) → AddsAtMost a b (chunk_reads (m - n)) → AddsAtMost b c (chunk_reads (n - k)) → n ≤ m → k ≤ n → AddsAtMost a c (chunk_reads (m - k))
-chunk_reads_then a b c m n k s t up down = adds_then s t (record { data_words = omega arith; block_entries = omega arith; superblock_entries = omega arith; low_parts = omega arith; rank_calls = omega arith; items = omega arith; blocks = omega arith; nodes = omega arith; chunks = omega arith })
+chunk_reads_then a b c m n k s t up down = adds_then s t (grind arith)
 
 pub no_chunk : (bits : List Bool) (b : Bool) → IsChunkWalkOf bits (record { bit = b; start = 0; end = 0; left = 0; offsets = replicate 16 0 })
-no_chunk bits b = record {
-  room = refl;
-  few = omega arith;
-  within = omega arith;
-  whole = λ _. refl;
-  inside = λ j h. absurd (omega (arith, h));
-}
+no_chunk bits b = grind arith
 
 pub ruleset makers = (places_from_start, no_chunk)

@@ -1,6 +1,5 @@
 -- Lists of bits with the same places are equal.
-use Rattle.vers_rank.proofs.Names.{◌≡◌, ℕ, ◌+◌, ◌<◌, Bool, true, false, List, length, get_or, refl, sym, ap, ◌∙◌, arith, same_lists, is_bit, count, select, count_le_all, any_default, select_at, select_is_place, count_more_yes}
-use Rattle.vers_bits.proofs.PublicLaws.{IsPlace}
+use Rattle.vers_rank.proofs.Names.{◌≡◌, ℕ, ◌+◌, ◌<◌, Bool, true, false, List, length, get_or, refl, sym, ap, cases_Bool, ◌∙◌, arith, same_lists, is_bit, count, select, count_le_all, any_default, select_at, select_is_place, count_more_yes, IsPlace}
 
 -- each place of l is one of m
 module _ (b : Bool) (l m : List Bool) (long : length l ≡ length m) (many : count b l (length l) ≡ count b m (length m))
@@ -13,12 +12,7 @@ module _ (b : Bool) (l m : List Bool) (long : length l ≡ length m) (many : cou
       ap (λ q. is_bit b (get_or m q false)) (sym here) ∙ at.holds
 
 same_bit : (b x y : Bool) → (is_bit b x ≡ true → is_bit b y ≡ true) → (is_bit b y ≡ true → is_bit b x ≡ true) → x ≡ y
-same_bit b true true f g = refl
-same_bit b false false f g = refl
-same_bit true true false f g = sym (f refl)
-same_bit true false true f g = g refl
-same_bit false true false f g = sym (g refl)
-same_bit false false true f g = f refl
+same_bit b x y f g = grind (arith, cases_Bool b, cases_Bool x, cases_Bool y)
 
 -- lists of one length with the same places of a bit
 pub same_places : (b : Bool) (l m : List Bool) → length l ≡ length m → count b l (length l) ≡ count b m (length m)

@@ -1,16 +1,9 @@
 -- Words whose ones are places of a limb.
-use Rattle.vers_rank.proofs.Names.{zero, suc, ◌≡◌, ℕ, ◌+◌, ◌-◌, ◌*◌, ◌/◌, ◌%◌, ◌^◌, ◌<◌, ◌≤◌, min, max, Bool, true, false, List, length, get_or, take, drop, pow_mono, refl, sym, ap, ◌∙◌, arith, inl, inr, eqb, w64, count_ones, bit_and, bit_at, bit_not, trailing_zeros, cases_lt, cases_eq, cases_Bool, agree_below_at, eqb-true, length-take, and_le_l, bit_at-zero, bit_at-lt, bit_at_and, bit_at_not, bit_at-trailing_zeros, bit_at_clear_same, bit_at_clear_other, ones_shl, ones_shr, bit_at_ones, bit_at_ones_above, bit_at_mask_inside, bit_at_mask_below, bit_value, is_bit, count, count_up, count_past, count_more_yes, count_more_no, highest_bit, limb_bit, number-lt, value_one, IsMarked, marked}
-use Rattle.std.specs.Int.Count.{count_leading_zeros}
-use lib.Count.{ones}
-use Rattle.vers_bits.specs.Bits.{limb}
+use Rattle.vers_rank.proofs.Names.{zero, suc, ◌≡◌, ℕ, ◌+◌, ◌-◌, ◌*◌, ◌/◌, ◌%◌, ◌^◌, ◌<◌, ◌≤◌, min, max, Bool, true, false, List, length, get_or, take, drop, pow_mono, sym, ap, ◌∙◌, arith, inl, inr, w64, count_ones, bit_and, bit_at, bit_not, trailing_zeros, cases_lt, cases_eq, cases_Bool, length-take, and_le_l, bit_at-zero, bit_at-lt, bit_at_and, bit_at_not, bit_at-trailing_zeros, ones_shl, one_shl, pow_below, bit_at-pow_other, bit_at-pow_same, ◌⊎◌, ◌≢◌, ones_shr, bit_at_ones, bit_at_ones_above, bit_at_mask_inside, bit_at_mask_below, bit_value, is_bit, count, count_up, count_past, count_more_yes, count_more_no, highest_bit, limb_bit, number-lt, value_one, IsMarked, marked, count_leading_zeros, ones, limb}
 use Rattle.vers_rank.specs.inside.Walks.{IsWithin}
-use Rattle.vers_rank.proofs.Words.{ones_few, ones_split}
+use Rattle.vers_rank.proofs.Words.{ones_few, ones_split, one_more}
 
--- ---- the ones of a word, bit by bit
-pub one_more : (w i : ℕ) → count_ones (w % 2 ^ (i + 1)) ≡ count_ones (w % 2 ^ i) + bit_at w i
-unfolding ones
-one_more w i = ones_split w i 1 ∙ ap (λ n. count_ones (w % 2 ^ i) + n) (eqb-true _ _ (agree_below_at (λ b. eqb (count_ones b) b) (λ _. true) 2 (w / 2 ^ i % 2) refl (omega arith)))
-
+-- ---- the ones of a word
 -- where a stretch of bits has no ones, the count stays
 pub ones_stay : (w a d : ℕ) → ((i : ℕ) → a ≤ i → i < a + d → bit_at w i ≡ 0) → count_ones (w % 2 ^ (a + d)) ≡ count_ones (w % 2 ^ a)
 ones_stay w a zero none = ap (λ n. count_ones (w % 2 ^ n)) (let e : a + 0 ≡ a = omega arith in e)
@@ -23,7 +16,7 @@ pub one_between : (w q n : ℕ) → count_ones (w % 2 ^ q) ≤ n → n < count_o
 one_between w q n low high = (omega (arith, one_more w q, bit_at-lt w q), omega (arith, one_more w q, bit_at-lt w q))
 
 pub some_word : (w i : ℕ) → bit_at w i ≡ 1 → 0 < w
-some_word w i on = elim (cases_lt 0 w) [ inl h ↦ h | inr none ↦ (let e : w ≡ 0 = omega arith in absurd (omega (arith, on, ap (λ n. bit_at n i) e, bit_at-zero i))) ]
+some_word w i on = grind (arith, bit_at-zero i)
 
 -- ---- parts of a word
 -- the ones of v are those of w from place s on and below place t
@@ -32,58 +25,43 @@ pub record IsCut (w v s t : ℕ) : Type 0 where
   pub only : (i : ℕ) → i < 64 → bit_at v i ≡ 1 → (bit_at w i ≡ 1) × (s ≤ i) × (i < t)
   pub all : (i : ℕ) → i < 64 → s ≤ i → i < t → bit_at w i ≡ 1 → bit_at v i ≡ 1
 
+-- the mask has the bits from s on and below t, and no other of those that w has
+cut_by : (w mask s t : ℕ) → ((i : ℕ) → i < 64 → s ≤ i → i < t → bit_at mask i ≡ 1) → ((i : ℕ) → i < 64 → bit_at w i ≡ 1 → (i < s) ⊎ (t ≤ i) → bit_at mask i ≡ 0) → IsCut w (bit_and w mask) s t
+cut_by w mask s t inside outside = record {
+  less = and_le_l w mask;
+  only = λ i h on.
+      let was : bit_at w i ≡ 1 = omega (arith, on, bit_at_and w mask i, bit_at-lt w i) in
+      (was, grind (arith, bit_at_and w mask i, outside i h was), grind (arith, bit_at_and w mask i, outside i h was));
+  all = λ i h from to on. omega (arith, on, bit_at_and w mask i, inside i h from to);
+}
+
 pub cut_from : (w q : ℕ) → q < 64 → IsCut w (bit_and w (18446744073709551615 * 2 ^ q % 18446744073709551616)) q 64
 cut_from w q small =
-    let mask = 18446744073709551615 * 2 ^ q % 18446744073709551616 in
-    let is : mask ≡ 2 ^ 64 - 2 ^ q = ones_shl 64 q (omega arith) in
-    record {
-      less = and_le_l w mask;
-      only = λ i h on. elim (cases_lt i q) [
-        | inl below ↦ absurd (omega (arith, on, bit_at_and w mask i, ap (λ m. bit_at m i) is, bit_at_mask_below q 64 i below))
-        | inr from ↦ (omega (arith, on, bit_at_and w mask i, bit_at-lt w i), from, h)
-      ];
-      all = λ i h from _ on. omega (arith, on, bit_at_and w mask i, ap (λ m. bit_at m i) is, bit_at_mask_inside q 64 i from h);
-    }
+    rw (ones_shl 64 q (omega arith))
+    (cut_by w (2 ^ 64 - 2 ^ q) q 64 (λ i h from _. bit_at_mask_inside q 64 i from h) (λ i h _ out. elim out [ inl below ↦ bit_at_mask_below q 64 i below | inr past ↦ absurd (omega arith) ]))
 
 pub cut_to : (w q : ℕ) → q < 64 → IsCut w (bit_and w (18446744073709551615 / 2 ^ (63 - q))) 0 (q + 1)
 cut_to w q small =
-    let mask = 18446744073709551615 / 2 ^ (63 - q) in
-    let is : mask ≡ 2 ^ (q + 1) - 1 = ones_shr 64 (63 - q) (omega arith) ∙ (let e : 64 - (63 - q) ≡ q + 1 = omega arith in ap (λ n. 2 ^ n - 1) e) in
-    record {
-      less = and_le_l w mask;
-      only = λ i h on. elim (cases_lt q i) [
-        | inl above ↦ absurd (omega (arith, on, bit_at_and w mask i, ap (λ m. bit_at m i) is, bit_at_ones_above (q + 1) i (omega arith)))
-        | inr to ↦ (omega (arith, on, bit_at_and w mask i, bit_at-lt w i), omega arith, omega arith)
-      ];
-      all = λ i h _ to on. omega (arith, on, bit_at_and w mask i, ap (λ m. bit_at m i) is, bit_at_ones (q + 1) i to);
-    }
+    let size : 64 - (63 - q) ≡ q + 1 = omega arith in
+    rw (ones_shr 64 (63 - q) (omega arith), size)
+    (cut_by w (2 ^ (q + 1) - 1) 0 (q + 1) (λ i h _ to. bit_at_ones (q + 1) i to) (λ i h _ out. elim out [ inl below ↦ absurd (omega arith) | inr past ↦ bit_at_ones_above (q + 1) i past ]))
 
--- one bit is cleared, on one side of which all are
-cut_clear : (w q s t : ℕ) → q < 64 → ((i : ℕ) → s ≤ i → i < t → (i ≡ q → ⊥)) → ((i : ℕ) → i < 64 → (i ≡ q → ⊥) → bit_at w i ≡ 1 → (s ≤ i) × (i < t)) → IsCut w (bit_and w (bit_not w64 (1 * 2 ^ q % 18446744073709551616))) s t
-cut_clear w q s t small without others = record {
-  less = and_le_l w (bit_not w64 (1 * 2 ^ q % 18446744073709551616));
-  only = λ i h on. elim (cases_eq i q) [
-    | inl same ↦ absurd (omega (arith, on, ap (bit_at (bit_and w (bit_not w64 (1 * 2 ^ q % 18446744073709551616)))) same, bit_at_clear_same w64 w q small))
-    | inr other ↦ (let was : bit_at w i ≡ 1 = sym (bit_at_clear_other w64 w q small i h other) ∙ on in let rest = others i h other was in (was, rest.0, rest.1))
-  ];
-  all = λ i h from to on. bit_at_clear_other w64 w q small i h (without i from to) ∙ on;
-}
+-- a word without bit q, on one side of which it has no other
+cut_clear : (w q s t : ℕ) → q < 64 → ((i : ℕ) → s ≤ i → i < t → i ≢ q) → ((i : ℕ) → i < 64 → bit_at w i ≡ 1 → (i < s) ⊎ (t ≤ i) → i ≡ q) → IsCut w (bit_and w (bit_not w64 (1 * 2 ^ q % 18446744073709551616))) s t
+cut_clear w q s t small without others =
+    let bit = λ (i : ℕ) (h : i < 64). bit_at_not w64 (2 ^ q) i (pow_below q 64 small) h in
+    rw (one_shl q 64 small)
+    (cut_by w (bit_not w64 (2 ^ q)) s t (λ i h from to. omega (arith, bit i h, bit_at-pow_other q i (without i from to))) (λ i h on out. rw (others i h on out) (omega (arith, bit q small, bit_at-pow_same q))))
 
 pub cut_lowest : (w : ℕ) → 0 < w → w < 18446744073709551616 → IsCut w (bit_and w (bit_not w64 (1 * 2 ^ trailing_zeros w64 w % 18446744073709551616))) (trailing_zeros w64 w + 1) 64
 cut_lowest w some fits =
     let at = bit_at-trailing_zeros w64 w some fits in
-    cut_clear w (trailing_zeros w64 w) (trailing_zeros w64 w + 1) 64 at.0 (λ i from _ e. absurd (omega arith)) (λ i h other on. elim (cases_lt i (trailing_zeros w64 w)) [
-      | inl below ↦ absurd (omega (arith, on, at.2 i below))
-      | inr from ↦ (omega (arith, other), h)
-    ])
+    cut_clear w (trailing_zeros w64 w) _ 64 at.0 (λ i from _ e. absurd (omega arith)) (λ i h on out. grind (arith, at.2 i))
 
 pub cut_highest : (w : ℕ) → 0 < w → w < 18446744073709551616 → IsCut w (bit_and w (bit_not w64 (1 * 2 ^ (63 - count_leading_zeros 64 w) % 18446744073709551616))) 0 (63 - count_leading_zeros 64 w)
 cut_highest w some fits =
     let at = highest_bit w some fits in
-    cut_clear w (63 - count_leading_zeros 64 w) 0 (63 - count_leading_zeros 64 w) (omega (arith, at.0)) (λ i _ to e. absurd (omega arith)) (λ i h other on. elim (cases_lt (63 - count_leading_zeros 64 w) i) [
-      | inl above ↦ absurd (omega (arith, on, at.2 i above))
-      | inr to ↦ (omega arith, omega (arith, other))
-    ])
+    cut_clear w (63 - count_leading_zeros 64 w) 0 _ (omega (arith, at.0)) (λ i _ to e. absurd (omega arith)) (λ i h on out. grind (arith, at.2 i))
 
 -- ---- the places of a limb
 pub limb_fits : (l : List Bool) (k : ℕ) → limb l k < 18446744073709551616
@@ -95,16 +73,10 @@ limb_fits l k =
     omega (arith, number-lt part, few)
 
 pub marked_fits : (b : Bool) (l : List Bool) (k : ℕ) → marked b (limb l k) < 18446744073709551616
-marked_fits true l k = limb_fits l k
-marked_fits false l k = omega arith
-
-not_value : (x : Bool) → 1 - bit_value x ≡ bit_value (is_bit false x)
-not_value true = refl
-not_value false = refl
+marked_fits b l k = grind (arith, cases_Bool b, limb_fits l k)
 
 pub marked_bit : (b : Bool) (l : List Bool) (k i : ℕ) → i < 64 → bit_at (marked b (limb l k)) i ≡ bit_value (is_bit b (get_or l (64 * k + i) false))
-marked_bit true l k i h = limb_bit l k i h
-marked_bit false l k i h = bit_at_not w64 (limb l k) i (limb_fits l k) h ∙ ap (λ x. 1 - x) (limb_bit l k i h) ∙ not_value (get_or l (64 * k + i) false)
+marked_bit b l k i h = grind (arith, cases_Bool b, cases_Bool (get_or l (64 * k + i) false), limb_bit l k i h, bit_at_not w64 (limb l k) i (limb_fits l k) h)
 
 -- the word that a limb's marks are read from
 pub marks_are : (b : Bool) (l m : List Bool) (k v w : ℕ) → w ≡ marked b v → v ≡ limb m k → m ≡ l → w ≡ marked b (limb l k)
@@ -116,12 +88,7 @@ whole_marked b l k lo hi low high = record {
   fits = marked_fits b l k;
   sound = λ i h on inside.
       let holds = value_one (is_bit b (get_or l (64 * k + i) false)) (sym (marked_bit b l k i h) ∙ on) in
-      record {
-        inside = inside;
-        holds = holds;
-        low = omega (arith, count_up b l (64 * k) (64 * k + i) (omega arith));
-        high = omega (arith, count_more_yes b l (64 * k + i) inside holds, count_up b l (64 * k + i + 1) (64 * k + 64) (omega arith));
-      };
+      grind (arith, count_up b l (64 * k) (64 * k + i), count_more_yes b l (64 * k + i) inside holds, count_up b l (64 * k + i + 1) (64 * k + 64));
   complete = λ i h at. marked_bit b l k i h ∙ ap bit_value at.holds;
 }
 
@@ -135,10 +102,7 @@ module _ {b : Bool} {l : List Bool} {k w lo hi : ℕ} (is : IsMarked b l k w lo 
         let at = is.sound i h was.0 inside in
         record { inside = inside; holds = at.holds; low = omega (arith, count_up b l (64 * k + s) (64 * k + i) (omega (arith, was.1))); high = at.high };
     complete = λ i h at.
-        let from : s ≤ i = elim (cases_lt i s) [
-          | inl below ↦ absurd (omega (arith, at.low, count_more_yes b l (64 * k + i) at.inside at.holds, count_up b l (64 * k + i + 1) (64 * k + s) (omega arith)))
-          | inr from ↦ from
-        ] in
+        let from : s ≤ i = grind (arith, at.low, count_more_yes b l (64 * k + i) at.inside at.holds, count_up b l (64 * k + i + 1) (64 * k + s)) in
         cut.all i h from h (is.complete i h (record { inside = at.inside; holds = at.holds; low = omega (arith, at.low); high = at.high }));
   }
 
@@ -151,59 +115,45 @@ module _ {b : Bool} {l : List Bool} {k w lo hi : ℕ} (is : IsMarked b l k w lo 
         let at = is.sound i h was.0 inside in
         record { inside = inside; holds = at.holds; low = at.low; high = omega (arith, count_more_yes b l (64 * k + i) inside at.holds, count_up b l (64 * k + i + 1) (64 * k + t) (omega (arith, was.2))) };
     complete = λ i h at.
-        let to : i < t = elim (cases_lt i t) [ inl to ↦ to | inr past ↦ absurd (omega (arith, at.high, count_up b l (64 * k + t) (64 * k + i) (omega arith))) ] in
+        let to : i < t = grind (arith, at.high, count_up b l (64 * k + t) (64 * k + i)) in
         cut.all i h (omega arith) to (is.complete i h (record { inside = at.inside; holds = at.holds; low = at.low; high = omega (arith, at.high) }));
   }
 
 -- ---- the ones of a word are as many as the places
 module _ {b : Bool} {l : List Bool} {k w lo hi : ℕ} (is : IsMarked b l k w lo hi) (order : lo ≤ hi) where
-  within : ℕ → ℕ
+  abbrev within : ℕ → ℕ
   within n = min (max n lo) hi
 
-  off_bit : (i : ℕ) → i < 64 → (bit_at w i ≡ 1 → 64 * k + i < length l) → (IsWithin b l lo hi (64 * k + i) → ⊥) → bit_at w i ≡ 0
-  off_bit i h inside none = elim (cases_eq (bit_at w i) 1) [
-    | inl on ↦ absurd (none (is.sound i h on (inside on)))
-    | inr other ↦ omega (arith, other, bit_at-lt w i)
-  ]
-
   within_next : (i : ℕ) → i < 64 → (bit_at w i ≡ 1 → 64 * k + i < length l) → within (count b l (64 * k + i)) + bit_at w i ≡ within (count b l (64 * k + i + 1))
-  unfolding within
   within_next i h inside =
       let p = 64 * k + i in
-      elim (cases_lt p (length l)) [
-        | inl here ↦ elim (cases_Bool (is_bit b (get_or l p false))) [
-          | inl on ↦
-              let more = count_more_yes b l p here on in
-              elim (cases_lt (count b l p) lo) [
-                | inl less ↦ omega (arith, more, off_bit i h inside (λ at. omega (arith, at.low)))
-                | inr low ↦ elim (cases_lt (count b l p) hi) [
-                  | inl high ↦ omega (arith, more, is.complete i h (record { inside = here; holds = on; low = low; high = high }))
-                  | inr past ↦ omega (arith, more, off_bit i h inside (λ at. omega (arith, at.high)))
-                ]
-              ]
-          | inr off ↦ omega (arith, count_more_no b l p here off, off_bit i h inside (λ at. let e : true ≡ false = sym at.holds ∙ off in absurd (cc)))
-        ]
-        | inr past ↦ omega (arith, count_past b l p past, count_past b l (p + 1) (omega arith), off_bit i h inside (λ at. omega (arith, at.inside)))
+      elim (cases_eq (bit_at w i) 1) [
+        | inl on ↦ (let at = is.sound i h on (inside on) in omega (arith, on, at.low, at.high, count_more_yes b l p at.inside at.holds))
+        | inr none ↦
+            let no : bit_at w i ≡ 0 = omega (arith, bit_at-lt w i) in
+            let out : p < length l → is_bit b (get_or l p false) ≡ true → lo ≤ count b l p → count b l p < hi → ⊥ =
+            λ here holds low high. none (is.complete i h (record { inside = here; holds = holds; low = low; high = high })) in
+            grind (arith, cases_lt p (length l), cases_Bool (is_bit b (get_or l p false)), cases_lt (count b l p) lo, cases_lt (count b l p) hi, count_more_yes b l p, count_more_no b l p, count_past b l p, count_past b l (p + 1))
       ]
 
   pub ones_within : (j : ℕ) → j ≤ 64 → ((i : ℕ) → i < j → bit_at w i ≡ 1 → 64 * k + i < length l) → min (max (count b l (64 * k)) lo) hi + count_ones (w % 2 ^ j) ≡ min (max (count b l (64 * k + j)) lo) hi
-  unfolding within
   ones_within zero h inside = let start : 64 * k + 0 ≡ 64 * k = omega arith in omega (arith, ones_few w 0, ap (count b l) start)
   ones_within (suc j) h inside =
       let size : suc j ≡ j + 1 = omega arith in
       let place : 64 * k + suc j ≡ 64 * k + j + 1 = omega arith in
       omega (arith, ap (λ n. count_ones (w % 2 ^ n)) size, one_more w j, ones_within j (omega arith) (λ i less. inside i (omega arith)), within_next j (omega arith) (inside j (omega arith)), ap (count b l) place)
 
+  -- the word has all the ones up to the end of the list
+  pub ones_past : (n : ℕ) → n ≤ 64 → 64 * k ≤ length l → length l ≤ 64 * k + n → hi ≤ count b l (length l) → hi ≤ min (max (count b l (64 * k)) lo) hi + count_ones (w % 2 ^ n)
+  ones_past n few start past all =
+      let j = length l - 64 * k in
+      let end : 64 * k + j ≡ length l = omega arith in
+      let rest : j + (n - j) ≡ n = omega arith in
+      omega (arith, rw end at (ones_within j (omega arith) (λ i less _. omega arith)), rw rest at (ones_split w j (n - j)))
+
   -- the number of a one's place, by the ones below it
   pub place_of : (q r : ℕ) → q < 64 → hi ≤ count b l (length l) → 64 * k ≤ length l → bit_at w q ≡ 1 → min (max (count b l (64 * k)) lo) hi + count_ones (w % 2 ^ q) ≡ r → r < hi → (IsWithin b l lo hi (64 * k + q)) × (count b l (64 * k + q) ≡ r)
   place_of q r small all start on number some =
-      let inside : 64 * k + q < length l = elim (cases_lt (64 * k + q) (length l)) [
-        | inl h ↦ h
-        | inr past ↦
-            let j = length l - 64 * k in
-            let end : 64 * k + j ≡ length l = omega arith in
-            let rest : j + (q - j) ≡ q = omega arith in
-            absurd (omega (arith, ones_within j (omega arith) (λ i less _. omega arith), ap (count b l) end, ones_split w j (q - j), ap (λ n. count_ones (w % 2 ^ n)) rest))
-      ] in
+      let inside : 64 * k + q < length l = grind (arith, ones_past q (omega arith) start) in
       let at = is.sound q small on inside in
       (at, omega (arith, ones_within q (omega arith) (λ i less _. omega arith), at.low))

@@ -1,11 +1,10 @@
 -- Offsets of the ones of a few bits, in a buffer that is read from its end.
-use Rattle.vers_rank.proofs.Names.{zero, suc, ◌≡◌, ℕ, ◌+◌, ◌-◌, ◌*◌, ◌/◌, ◌%◌, ◌^◌, ◌<◌, ◌≤◌, Bool, true, false, cond, List, [], ◌∷◌, ◌++◌, map, filter, range_with_len, bytes_eq, ltb, ◌&&◌, and_parts, set, replicate, length, get_or, eqb, ne_eqb, refl, sym, ap, ◌∙◌, inl, inr, arith, count_ones, bit_and, bit_at, All, ltb-true, cases_eq, cases_Bool, agree_below_at, map-id, length-set, get_or-set_same, get_or-set_other, bit_at-zero, bit_at_cat_low, shr_and_one, length-zip2, length-put_chunk, length-chunk, get_or-zip2, get_or-replicate, get_or-put_chunk_at, get_or-put_chunk_below, chunk, put_chunk, zip2, last_first, ones_below, shr-shr}
+use Rattle.vers_rank.proofs.Names.{zero, suc, ◌≡◌, ℕ, ◌+◌, ◌-◌, ◌*◌, ◌/◌, ◌%◌, ◌^◌, ◌<◌, ◌≤◌, Bool, true, false, cond, List, ◌∷◌, ◌++◌, map, filter, range_with_len, bytes_eq, ltb, ◌&&◌, and_parts, set, replicate, length, get_or, eqb, ne_eqb, refl, sym, ap, ◌∙◌, inl, inr, arith, count_ones, bit_and, bit_at, All, ltb-true, cases_eq, cases_Bool, agree_below_at, map-id, length-set, get_or-set_same, get_or-set_other, shr_and_one, length-zip2, length-put_chunk, length-chunk, get_or-zip2, get_or-replicate, get_or-put_chunk_at, get_or-put_chunk_below, chunk, put_chunk, zip2, last_first, ones_below, agree_below, ones}
 use Rattle.std.proofs.lemmas.List.Elements.{All-filter, All-from_get_or, All-head, All-tail, filter-append}
 use Rattle.std.proofs.lemmas.List.FromFn.{length-range_with_len, get_or-range_with_len}
 use Rattle.std.proofs.lemmas.Slice.Eq.{bytes_eq-Decides}
-use Rattle.std.proofs.lemmas.Bool.{agree_below}
-use lib.Count.{ones}
 use Rattle.vers_rank.proofs.Tables.{tried, tries}
+use Rattle.vers_rank.proofs.Pairs.{digit_after, low_digit}
 use Rattle.vers_rank.specs.declared.offsets.TheConstants.{OFFSETS}
 
 -- ---- numbers that are read from the end
@@ -14,21 +13,16 @@ pub last_first_more : (s t : ℕ) (xs ys : List ℕ) (k m : ℕ) → ((j : ℕ) 
 last_first_more s t xs ys k zero same = ap (last_first s xs) (let e : k + zero ≡ k = omega arith in e)
 last_first_more s t xs ys k (suc m) same =
     let e : k + suc m ≡ suc (k + m) = omega arith in
-    ap (last_first s xs) e
-    ∙ ap (λ x. x ∷ last_first s xs (k + m)) (same m (omega arith))
-    ∙ ap (λ l. (t + get_or ys m 0) ∷ l) (last_first_more s t xs ys k m (λ j h. same j (omega (arith, h))))
+    rw (e, same m (omega arith), last_first_more s t xs ys k m (λ j h. same j (omega arith))) refl
 
 pub last_first_same : (s t : ℕ) (xs ys : List ℕ) (m : ℕ) → ((j : ℕ) → j < m → s + get_or xs j 0 ≡ t + get_or ys j 0) → last_first s xs m ≡ last_first t ys m
 last_first_same s t xs ys zero same = refl
-last_first_same s t xs ys (suc m) same =
-    ap (λ x. x ∷ last_first s xs m) (same m (omega arith))
-    ∙ ap (λ l. (t + get_or ys m 0) ∷ l) (last_first_same s t xs ys m (λ j h. same j (omega (arith, h))))
+last_first_same s t xs ys (suc m) same = rw (same m (omega arith), last_first_same s t xs ys m (λ j h. same j (omega arith))) refl
 
 pub last_first_from : (s : ℕ) (xs : List ℕ) (n : ℕ) → last_first s xs n ≡ map (λ x. s + x) (last_first 0 xs n)
 last_first_from s xs zero = refl
 last_first_from s xs (suc n) =
-    let e : s + get_or xs n 0 ≡ s + (0 + get_or xs n 0) = omega arith in
-    ap (λ x. x ∷ last_first s xs n) e ∙ ap (λ l. (s + (0 + get_or xs n 0)) ∷ l) (last_first_from s xs n)
+    let e : s + get_or xs n 0 ≡ s + (0 + get_or xs n 0) = omega arith in rw (last_first_from s xs n, e) refl
 
 each_last_first : (P : ℕ → Type 0) (xs : List ℕ) (n : ℕ) → All P (last_first 0 xs n) → (j : ℕ) → j < n → P (0 + get_or xs j 0)
 each_last_first P xs zero all j h = absurd (omega (arith, h))
@@ -52,36 +46,17 @@ passing_from : (p q : ℕ → Bool) (f : ℕ → ℕ) (d a n : ℕ) → ((i : �
 passing_from p q f d a zero shift same = refl
 passing_from p q f d a (suc n) shift same =
     let next : d + a + 1 ≡ d + (a + 1) = omega arith in
-    let rest : filter p (range_with_len (d + a + 1) n) ≡ map f (filter q (range_with_len (a + 1) n)) =
-    ap (λ k. filter p (range_with_len k n)) next ∙ passing_from p q f d (a + 1) n shift (λ i low high. same i (omega (arith, low)) (omega (arith, high))) in
+    let rest = passing_from p q f d (a + 1) n shift (λ i low high. same i (omega arith) (omega arith)) in
     let here = same a (omega arith) (omega arith) in
-    elim (cases_Bool (q a)) [
-      | inl on ↦ rw (here, on) (ap (λ x. x ∷ filter p (range_with_len (d + a + 1) n)) (sym (shift a)) ∙ ap (λ l. f a ∷ l) rest)
-      | inr off ↦ rw (here, off) rest
-    ]
-
-none_from : (a n : ℕ) → filter (λ i. eqb (bit_at 0 i) 1) (range_with_len a n) ≡ []
-none_from a zero = refl
-none_from a (suc n) = rw (bit_at-zero a) (none_from (a + 1) n)
-
-pub none_below : (n : ℕ) → ones_below n 0 ≡ []
-none_below n = none_from 0 n
-
-low_digit : (c i : ℕ) → i < 8 → bit_at (c % 256) i ≡ bit_at c i
-low_digit c i h =
-    let parts : c ≡ c / 256 * 2 ^ 8 + c % 256 = omega arith in
-    sym (ap (λ m. bit_at m i) parts ∙ bit_at_cat_low (c / 256) 8 (c % 256) i h)
-
-high_digit : (c i : ℕ) → bit_at c (8 + i) ≡ bit_at (c / 256) i
-high_digit c i = sym (ap (λ m. m % 2) (shr-shr c 8 i))
+    elim (cases_Bool (q a)) [ inl on ↦ rw (here, on, next, rest, shift a) refl | inr off ↦ rw (here, off, next) rest ]
 
 -- the ones of 16 bits are those of the low byte, and those of the high byte 8 places on
 two_bytes : (c : ℕ) → ones_below 16 c ≡ ones_below 8 (c % 256) ++ map (λ i. 8 + i) (ones_below 8 (c / 256))
 two_bytes c =
     let p : ℕ → Bool = λ i. eqb (bit_at c i) 1 in
-    filter-append p (range_with_len 0 8) (range_with_len 8 8)
-    ∙ ap (λ l. l ++ filter p (range_with_len 8 8)) (passing_from p (λ i. eqb (bit_at (c % 256) i) 1) (λ i. i) 0 0 8 (λ i. omega arith) (λ i low high. ap (λ d. eqb d 1) (ap (bit_at c) (let e : 0 + i ≡ i = omega arith in e) ∙ sym (low_digit c i (omega (arith, high))))) ∙ map-id (ones_below 8 (c % 256)))
-    ∙ ap (λ l. ones_below 8 (c % 256) ++ l) (passing_from p (λ i. eqb (bit_at (c / 256) i) 1) (λ i. 8 + i) 8 0 8 (λ i. refl) (λ i low high. ap (λ d. eqb d 1) (high_digit c i)))
+    let low = passing_from p (λ i. eqb (bit_at (c % 256) i) 1) (λ i. i) 0 0 8 (λ i. omega arith) (λ i _ high. let e : 0 + i ≡ i = omega arith in rw (e, low_digit 8 c i high) refl) in
+    let high = passing_from p (λ i. eqb (bit_at (c / 256) i) 1) (λ i. 8 + i) 8 0 8 (λ i. refl) (λ i _ high. rw (digit_after c 8 i) refl) in
+    rw (filter-append p (range_with_len 0 8) (range_with_len 8 8), low, map-id, high) refl
 
 -- ---- the table, of which each entry is tried
 -- what the table holds for the byte v
@@ -128,9 +103,6 @@ module _ (buffer highs lows : List ℕ) (c : ℕ) (room : length buffer ≡ 16) 
   abbrev filled : List ℕ
   filled = put_chunk above first lows
 
-  first_room : length first ≡ 16
-  first_room = length-put_chunk 0 buffer raised ∙ room
-
   high_at : (j : ℕ) → j < above → 0 + get_or filled j 0 ≡ 8 + get_or highs j 0
   high_at j h =
       let within : j < 8 = omega (arith, h, few_high) in
@@ -139,14 +111,12 @@ module _ (buffer highs lows : List ℕ) (c : ℕ) (room : length buffer ≡ 16) 
       omega (arith, get_or-put_chunk_below above first lows j 0 h, at, ap (λ k. get_or first k 0) place, raised_at j within)
 
   low_at : (j : ℕ) → j < count_ones (c % 256) → 0 + get_or filled (above + j) 0 ≡ 0 + get_or lows j 0
-  low_at j h = omega (arith, get_or-put_chunk_at above first lows j 0 (omega (arith, long_low, few_low, h)) (omega (arith, long_low, first_room, few_high)))
+  low_at j h = omega (arith, get_or-put_chunk_at above first lows j 0 (omega arith) (omega (arith, length-put_chunk 0 buffer raised)))
 
   pub both_listed : last_first 0 filled (above + count_ones (c % 256)) ≡ ones_below 16 c
   both_listed =
-      last_first_more 0 0 filled lows above (count_ones (c % 256)) low_at
-      ∙ ap (λ l. l ++ last_first 0 filled above) low_listed
-      ∙ ap (λ l. ones_below 8 (c % 256) ++ l) (last_first_same 0 8 filled highs above high_at ∙ last_first_from 8 highs above ∙ ap (map (λ i. 8 + i)) high_listed)
-      ∙ sym (two_bytes c)
+      rw (last_first_more 0 0 filled lows above (count_ones (c % 256)) low_at, low_listed, last_first_same 0 8 filled highs above high_at, last_first_from 8 highs above, high_listed)
+      (sym (two_bytes c))
 
 -- ---- one by one
 -- the offsets from number i on are in the buffer
@@ -161,23 +131,17 @@ module _ (w n i held : ℕ) (buffer : List ℕ) (some : 0 < i) (is : IsListed w 
   before =
       let more : n - (i - 1) ≡ suc (n - i) = omega (arith, some, is.0) in
       let next : i - 1 + 1 ≡ i = omega (arith, some) in
-      ap (λ m. passing (i - 1) m) more ∙ ap (λ a. cond (eqb (bit_at w (i - 1)) 1) ((i - 1) ∷ passing a (n - i)) (passing a (n - i))) next
+      rw (more, next) refl
 
   pub one_listed : n ≤ 16 → bit_and (w / 2 ^ (i - 1)) 1 ≡ 1 → IsListed w n (i - 1) (held + 1) (set buffer held (i - 1))
   one_listed few on =
       let one : bit_at w (i - 1) ≡ 1 = sym (shr_and_one w (i - 1)) ∙ on in
-      let here : get_or (set buffer held (i - 1)) held 0 ≡ i - 1 = get_or-set_same buffer held (i - 1) 0 (omega (arith, is.1, is.2, few, some)) in
-      let rest : last_first 0 (set buffer held (i - 1)) held ≡ passing i (n - i) =
-      last_first_same 0 0 (set buffer held (i - 1)) buffer held (λ j h. omega (arith, get_or-set_other buffer held j (i - 1) 0 (λ e. absurd (omega (arith, e, h))))) ∙ is.3 in
-      let yes : passing (i - 1) (n - (i - 1)) ≡ (i - 1) ∷ passing i (n - i) = before ∙ ap (λ d. cond (eqb d 1) ((i - 1) ∷ passing i (n - i)) (passing i (n - i))) one in
-      let next : held + 1 ≡ suc held = omega arith in (
-        omega (arith, is.0),
-        omega (arith, is.1, some),
-        length-set buffer held (i - 1) ∙ is.2,
-        ap (last_first 0 (set buffer held (i - 1))) next ∙ ap (λ x. x ∷ last_first 0 (set buffer held (i - 1)) held) (omega (arith, here)) ∙ ap (λ l. (i - 1) ∷ l) rest ∙ sym yes,
-      )
+      let here : 0 + get_or (set buffer held (i - 1)) held 0 ≡ i - 1 = omega (arith, get_or-set_same buffer held (i - 1) 0 (omega (arith, is, few))) in
+      let rest = last_first_same 0 0 (set buffer held (i - 1)) buffer held (λ j h. omega (arith, get_or-set_other buffer held j (i - 1) 0 (λ e. absurd (omega arith)))) in
+      let next : held + 1 ≡ suc held = omega arith in
+      (omega (arith, is.0), omega (arith, is.1), length-set buffer held (i - 1) ∙ is.2, rw (next, before, one, here, rest, is.3) refl)
 
   pub none_listed : (bit_and (w / 2 ^ (i - 1)) 1 ≡ 1 → ⊥) → IsListed w n (i - 1) held buffer
   none_listed off =
       let none : eqb (bit_at w (i - 1)) 1 ≡ false = ne_eqb (bit_at w (i - 1)) 1 (λ e. off (shr_and_one w (i - 1) ∙ e)) in
-      (omega (arith, is.0), omega (arith, is.1), is.2, is.3 ∙ sym (before ∙ ap (λ b. cond b ((i - 1) ∷ passing i (n - i)) (passing i (n - i))) none))
+      (omega (arith, is.0), omega (arith, is.1), is.2, rw (before, none) is.3)

@@ -1,21 +1,18 @@
 -- The place after a place that holds the bit, in the same limb.
-use Rattle.vers_rank.proofs.Names.{◌≡◌, ◌≢◌, ℕ, zero, suc, ◌+◌, ◌-◌, ◌*◌, ◌/◌, ◌%◌, ◌^◌, ◌<◌, ◌≤◌, Bool, true, false, List, length, get_or, sym, ap, ◌∙◌, arith, inl, inr, min, w64, bit_at, trailing_zeros, cases_lt, bit_at-suc, bit_at-zero, bit_at_above, bit_at-trailing_zeros, bit_value, is_bit, count, limb, select, count_more_no, select_at, count_at_select, select_past, select_up, select_holds, value_one, value_none, shr-shr, marked}
+use Rattle.vers_rank.proofs.Names.{◌≡◌, ◌≢◌, ℕ, zero, suc, ◌+◌, ◌-◌, ◌*◌, ◌/◌, ◌%◌, ◌^◌, ◌<◌, ◌≤◌, Bool, true, false, List, length, get_or, refl, sym, ap, ◌∙◌, arith, min, w64, bit_at, trailing_zeros, cases_lt, bit_at-suc, bit_at-zero, bit_at_above, bit_at-trailing_zeros, bit_value, is_bit, count, limb, select, count_more_no, select_at, count_at_select, select_past, select_up, select_holds, value_one, value_none, shr-shr, shr_split, bit_at_cat_low, marked}
 use Rattle.vers_rank.proofs.Marks.{marked_fits, marked_bit}
 
 -- a digit of a number without its lowest q digits
 pub digit_after : (n q i : ℕ) → bit_at (n / 2 ^ q) i ≡ bit_at n (q + i)
-digit_after n q i = ap (λ m. m % 2) (shr-shr n q i)
+digit_after n q i = rw shr-shr refl
+
+-- and without those from number k on
+pub low_digit : (k n i : ℕ) → i < k → bit_at (n % 2 ^ k) i ≡ bit_at n i
+low_digit k n i h = sym (rw (shr_split n k) at (bit_at_cat_low (n / 2 ^ k) k (n % 2 ^ k) i h))
 
 -- the same of the digits past number q
 digit_past : (n q i : ℕ) → bit_at (n / 2 ^ q / 2) i ≡ bit_at n (q + 1 + i)
-digit_past n q i = let e : q + suc i ≡ q + 1 + i = omega arith in sym (bit_at-suc (n / 2 ^ q) i) ∙ digit_after n q (suc i) ∙ ap (bit_at n) e
-
--- where no place of a stretch holds the bit, the count stays
-count_stays : (b : Bool) (l : List Bool) (p d : ℕ) → p + d ≤ length l → ((i : ℕ) → i < d → is_bit b (get_or l (p + i) false) ≡ false) → count b l (p + d) ≡ count b l p
-count_stays b l p zero h off = ap (count b l) (let e : p + 0 ≡ p = omega arith in e)
-count_stays b l p (suc d) h off =
-    let e : p + suc d ≡ p + d + 1 = omega arith in
-    ap (count b l) e ∙ count_more_no b l (p + d) (omega arith) (off d (omega arith)) ∙ count_stays b l p d (omega arith) (λ i small. off i (omega arith))
+digit_past n q i = let e : q + suc i ≡ q + 1 + i = omega arith in rw (← bit_at-suc (n / 2 ^ q) i, digit_after n q (suc i), e) refl
 
 module _ (b : Bool) (l : List Bool) (k q : ℕ) (after : 0 < marked b (limb l k) / 2 ^ q / 2) where
   abbrev rest : ℕ
@@ -31,40 +28,28 @@ module _ (b : Bool) (l : List Bool) (k q : ℕ) (after : 0 < marked b (limb l k)
   far_is = bit_at-trailing_zeros w64 rest after (omega (arith, marked_fits b l k))
 
   in_word : q + 1 + far < 64
-  in_word = elim (cases_lt (q + 1 + far) 64) [
-    | inl h ↦ h
-    | inr h ↦ absurd (omega (arith, far_is.1, digit_past (marked b (limb l k)) q far, bit_at_above (marked b (limb l k)) 64 (q + 1 + far) (marked_fits b l k) h))
-  ]
+  in_word = grind (arith, far_is.1, digit_past (marked b (limb l k)) q far, bit_at_above (marked b (limb l k)) 64 (q + 1 + far) (marked_fits b l k))
 
   bit_after : (i : ℕ) → i < 64 - (q + 1) → bit_at rest i ≡ bit_value (is_bit b (get_or l (64 * k + q + 1 + i) false))
   bit_after i h =
       let e : 64 * k + (q + 1 + i) ≡ 64 * k + q + 1 + i = omega arith in
-      digit_past (marked b (limb l k)) q i ∙ marked_bit b l k (q + 1 + i) (omega arith) ∙ ap (λ p. bit_value (is_bit b (get_or l p false))) e
+      rw (digit_past (marked b (limb l k)) q i, marked_bit b l k (q + 1 + i) (omega arith), e) refl
 
   on : is_bit b (get_or l next false) ≡ true
   on = value_one (is_bit b (get_or l next false)) (sym (bit_after far (omega (arith, in_word))) ∙ far_is.1)
 
   stays : (r d : ℕ) → r < count b l (length l) → 64 * k + q ≡ select b l r → d ≤ far → 64 * k + q + 1 + d ≤ length l → count b l (64 * k + q + 1 + d) ≡ r + 1
-  stays r d some place less inside =
-      let off : (i : ℕ) → i < d → is_bit b (get_or l (64 * k + q + 1 + i) false) ≡ false =
-      λ i h. value_none (is_bit b (get_or l (64 * k + q + 1 + i) false)) (sym (bit_after i (omega (arith, in_word))) ∙ far_is.2 i (omega arith)) in
-      count_stays b l (64 * k + q + 1) d inside off ∙ ap (λ p. count b l (p + 1)) place ∙ (count_at_select b l r some).2
+  stays r zero some place less inside = let e : 64 * k + q + 1 + 0 ≡ 64 * k + q + 1 = omega arith in rw (e, place) (count_at_select b l r some).2
+  stays r (suc d) some place less inside =
+      let e : 64 * k + q + 1 + suc d ≡ 64 * k + q + 1 + d + 1 = omega arith in
+      let off = value_none (is_bit b (get_or l (64 * k + q + 1 + d) false)) (sym (bit_after d (omega (arith, in_word))) ∙ far_is.2 d (omega arith)) in
+      rw (e, count_more_no b l (64 * k + q + 1 + d) (omega arith) off) (stays r d some place (omega arith) (omega arith))
 
-  next_is : (r : ℕ) → r < count b l (length l) → 64 * k + q ≡ select b l r → min next (length l) ≡ select b l (r + 1)
-  next_is r some place =
-      elim (cases_lt next (length l)) [
-        | inl inside ↦ omega (arith, inside, select_at b l (r + 1) next inside on (stays r far some place (omega arith) (omega (arith, inside))))
-        | inr past ↦
-            let begin : 64 * k + q + 1 ≤ length l = omega (arith, place, (count_at_select b l r some).0) in
-            let d = length l - (64 * k + q + 1) in
-            let end : 64 * k + q + 1 + d ≡ length l = omega (arith, begin) in
-            omega (arith, past, select_past b l (r + 1) (omega (arith, stays r d some place (omega (arith, past, begin)) (omega (arith, end)), ap (count b l) end)))
-      ]
-
--- the place after that of number r, where the word of number r holds another past it
-pub place_after : (b : Bool) (l : List Bool) (r k q : ℕ) → r < count b l (length l) → 64 * k + q ≡ select b l r → 0 < marked b (limb l k) / 2 ^ q / 2
-    → min (64 * k + q + 1 + trailing_zeros w64 (marked b (limb l k) / 2 ^ q / 2)) (length l) ≡ select b l (r + 1)
-place_after b l r k q some place after = next_is b l k q after r some place
+  -- the place after that of number r, where the word of number r holds another past it
+  pub place_after : (r : ℕ) → r < count b l (length l) → 64 * k + q ≡ select b l r → min next (length l) ≡ select b l (r + 1)
+  place_after r some place =
+      let d = length l - (64 * k + q + 1) in
+      grind (arith, cases_lt next (length l), on, select_at b l (r + 1) next, select_past b l (r + 1), stays r far some place, stays r d some place, count_at_select b l r some)
 
 -- where the word of number r holds no other past it, the next stands in another word
 pub none_after : (b : Bool) (l : List Bool) (r k q : ℕ) → q < 64 → r + 1 < count b l (length l) → 64 * k + q ≡ select b l r → marked b (limb l k) / 2 ^ q / 2 ≡ 0
@@ -78,6 +63,3 @@ none_after b l r k q small more place none same =
     let inside : q + 1 + i < 64 = omega (arith, there, same, small) in
     let one : bit_at (marked b (limb l k)) (q + 1 + i) ≡ 1 = marked_bit b l k (q + 1 + i) inside ∙ ap (λ n. bit_value (is_bit b (get_or l n false))) there ∙ ap bit_value holds in
     absurd (omega (arith, one, digit_past (marked b (limb l k)) q i, ap (λ n. bit_at n i) none, bit_at-zero i))
-
-pub no_places : (b : Bool) (l : List Bool) (r : ℕ) → count b l (length l) ≤ r → (select b l r ≡ length l) × (select b l (r + 1) ≡ length l)
-no_places b l r h = (select_past b l r h, select_past b l (r + 1) (omega arith))

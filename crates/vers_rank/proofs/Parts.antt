@@ -1,8 +1,6 @@
 -- Numbers of parts of a list.
-use Rattle.std.proofs.Common.{◌≡◌, ℕ, ◌+◌, ◌<◌, ◌≤◌, Bool, List, length, take, drop, arith, Some, None}
+use Rattle.vers_rank.proofs.Names.{◌≡◌, ℕ, ◌+◌, ◌<◌, ◌≤◌, Bool, List, length, take, drop, arith, Some, None, number, part_number, part_number_or_zero}
 use Rattle.std.proofs.lemmas.Bool.Decides.{nat_tests}
-use Rattle.vers_bits.specs.Bits.{number, part_number}
-use Rattle.vers_rank.specs.Queries.{part_number_or_zero}
 
 pub no_part : (l : List Bool) (p : ℕ) → p ≤ length l → part_number_or_zero l p 0 ≡ Some 0
 unfolding part_number_or_zero

@@ -1,5 +1,5 @@
 -- The laws that proofs of other crates may cite. A crate above imports this file and no other of this folder.
-use Rattle.std.proofs.Common.{◌≡◌, ℕ, ◌+◌, ◌-◌, ◌<◌, ◌≤◌, List, length, map, get_or, sym, subst, ◌∙◌, inl, inr, arith, rules}
+use Rattle.std.proofs.Common.{◌≡◌, ℕ, ◌+◌, ◌-◌, ◌<◌, ◌≤◌, List, length, map, get_or, sym, ◌∙◌, inl, inr, arith, rules}
 use Rattle.std.proofs.lemmas.Bool.{cases_lt}
 use Rattle.std.proofs.lemmas.List.{length-map, get_or-map, ext_get_or}
 use Rattle.vers_tally.specs.Reads.{Reads, AddsAtMost, IsWithin, plus, times}
@@ -22,18 +22,17 @@ module _ {X : Type 0} {d : X} where
   pub each_at : {R : X → X → Type 0} {from n : ℕ} {xs ys : List X} → Changed d R from n xs ys → (i : ℕ) → from ≤ i → i < from + n → R (get_or xs i d) (get_or ys i d)
   each_at {R} {from} {n} {xs} {ys} is i low high =
       let e : from + (i - from) ≡ i = omega arith in
-      subst (λ (k : ℕ). R (get_or xs k d) (get_or ys k d)) e (is.each (i - from) (omega arith))
+      rw e at (is.each (i - from) (omega arith))
 
   -- the next items have changed as well
   pub changed_on : {R : X → X → Type 0} {m n : ℕ} {xs ys zs : List X} → Changed d R 0 m xs ys → Changed d R m n ys zs → Changed d R 0 (m + n) xs zs
   changed_on {R} {m} {n} {xs} {ys} {zs} first next =
-      let here : (i : ℕ) → i < m + n → R (get_or xs i d) (get_or zs i d) = λ i h. elim (cases_lt i m) [
-        | inl lower ↦ subst (λ (z : X). R (get_or xs i d) z) (sym (next.before i lower)) (each_at first i (omega arith) (omega arith))
-        | inr later ↦ subst (λ (x : X). R x (get_or zs i d)) (first.after i (omega arith)) (each_at next i later h)
-      ] in
       record {
         long = next.long ∙ first.long;
-        each = λ j h. let e : j ≡ 0 + j = omega arith in subst (λ (i : ℕ). R (get_or xs i d) (get_or zs i d)) e (here j h);
+        each = λ j h. let e : 0 + j ≡ j = omega arith in rw e (elim (cases_lt j m) [
+          | inl lower ↦ rw (next.before j lower) (each_at first j (omega arith) (omega arith))
+          | inr later ↦ rw (← first.after j (omega arith)) (each_at next j later h)
+        ]);
         before = λ j h. absurd (omega arith);
         after = λ j h. next.after j (omega arith) ∙ first.after j (omega arith);
       }

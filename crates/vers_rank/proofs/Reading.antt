@@ -1,26 +1,19 @@
 -- The word that a walk over places is reading.
-use Rattle.vers_rank.proofs.Names.{◌≡◌, ℕ, ◌+◌, ◌-◌, ◌*◌, ◌/◌, ◌%◌, ◌^◌, ◌<◌, ◌≤◌, Bool, true, List, length, sym, ap, refl, arith, inl, inr, w64, count_ones, bit_and, bit_at, bit_not, trailing_zeros, cases_lt, bit_at-trailing_zeros, count, limb, select, count_up, count_past, count_none, count_le_all, select_at, select_is_place, count_more_yes, IsReading, marked}
-use Rattle.vers_rank.specs.declared.fast_rs_vec.reader.Reader.{Reader}
-use Rattle.vers_rank.specs.inside.Index.{held_in}
+use Rattle.vers_rank.proofs.Names.{◌≡◌, ℕ, ◌+◌, ◌-◌, ◌*◌, ◌/◌, ◌%◌, ◌^◌, ◌<◌, ◌≤◌, Bool, true, List, length, sym, ap, refl, arith, w64, count_ones, bit_and, bit_at, bit_not, trailing_zeros, bit_at-trailing_zeros, count, limb, select, count_up, count_past, count_none, count_le_all, select_at, select_is_place, count_more_yes, IsReading, marked, Reader, held_in}
 use Rattle.vers_rank.specs.inside.Walks.{IsWithin}
-use Rattle.vers_rank.proofs.Words.{ones_few, ones_split}
-use Rattle.vers_rank.proofs.Marks.{IsCut, ones_stay, one_between, some_word, cut_from, cut_lowest, whole_marked, marked_from, ones_within, place_of}
+use Rattle.vers_rank.proofs.Words.{ones_few}
+use Rattle.vers_rank.proofs.Marks.{IsCut, ones_stay, one_between, some_word, cut_from, cut_lowest, whole_marked, marked_from, ones_within, ones_past, place_of}
 
-module _ (b : Bool) (l : List Bool) (reader : Reader) (is : IsReading b l reader) (known : 0 < reader.edge) where
+module _ {b : Bool} {l : List Bool} {reader : Reader} (is : IsReading b l reader) (known : 0 < reader.edge) where
   -- the ones from one of the word's places on
   reading_from : (v s r : ℕ) → IsCut reader.word v s 64 → s ≤ 64 → count b l (64 * reader.limb + s) ≡ r → reader.next ≤ r → IsReading b l (record reader { word = v; next = r })
-  reading_from v s r cut small start up = record {
-    before = omega (arith, is.before);
-    after = omega (arith, count_up b l (64 * reader.limb + s) (64 * reader.limb + 64) (omega arith));
-    begun = λ _. known;
-    marks = λ _. marked_from (is.marks known) v s r cut start up;
-    in_block = is.in_block;
-  }
+  reading_from v s r cut small start up =
+      grind (arith, is, known, count_up b l (64 * reader.limb + s) (64 * reader.limb + 64) (omega arith), marked_from (is.marks known) v s r cut start up)
 
   module _ (r : ℕ) (from : reader.next ≤ r) (some : r < count b l (length l)) where
     -- the limb starts inside the list
     starts_inside : 64 * reader.limb < length l
-    starts_inside = elim (cases_lt (64 * reader.limb) (length l)) [ inl h ↦ h | inr past ↦ absurd (omega (arith, count_past b l (64 * reader.limb) past, is.before)) ]
+    starts_inside = grind (arith, is.before, count_past b l (64 * reader.limb))
 
     place_at : (q : ℕ) → q < 64 → bit_at reader.word q ≡ 1 → reader.next + count_ones (reader.word % 2 ^ q) ≡ r → (IsWithin b l reader.next (count b l (length l)) (64 * reader.limb + q)) × (count b l (64 * reader.limb + q) ≡ r)
     place_at q small on number = place_of (is.marks known) (omega arith) q r small (omega arith) (omega (arith, starts_inside)) on (omega (arith, is.before)) some
@@ -28,26 +21,16 @@ module _ (b : Bool) (l : List Bool) (reader : Reader) (is : IsReading b l reader
     -- where the word has not so many ones, the limb ends before number r
     passed : count_ones reader.word ≤ r - reader.next → (64 * reader.limb + 64 < length l) × (count b l (64 * reader.limb + 64) ≡ reader.next + count_ones reader.word)
     passed few =
-        let j = length l - 64 * reader.limb in
         let whole : reader.word % 2 ^ 64 ≡ reader.word = omega (arith, (is.marks known).fits) in
-        let sums = ones_within (is.marks known) (omega arith) in
-        elim (cases_lt (64 * reader.limb + 64) (length l)) [
-          | inl inside ↦ (inside, omega (arith, sums 64 (omega arith) (λ i h _. omega arith), ap count_ones whole, is.before, is.after, count_le_all b l (64 * reader.limb + 64)))
-          | inr past ↦
-              let end : 64 * reader.limb + j ≡ length l = omega (arith, starts_inside) in
-              let parts : j + (64 - j) ≡ 64 = omega (arith, starts_inside) in
-              absurd (omega (arith, sums j (omega arith) (λ i h _. omega arith), is.before, ap (count b l) end, ap count_ones whole, ones_split reader.word j (64 - j), ap (λ n. count_ones (reader.word % 2 ^ n)) parts))
-        ]
+        let sums = rw whole at (ones_within (is.marks known) (omega arith) 64 (omega arith)) in
+        let past = rw whole at (ones_past (is.marks known) (omega arith) 64 (omega arith) (omega (arith, starts_inside))) in
+        let inside : 64 * reader.limb + 64 < length l = grind (arith, is.before, past) in
+        (inside, omega (arith, sums (λ i h _. omega arith), is.before, is.after, count_le_all b l (64 * reader.limb + 64)))
 
     pub passed_inside : r < reader.edge → count_ones reader.word ≤ r - reader.next → (64 * (reader.limb + 1) < length l) × ((reader.limb + 1) / 8 ≡ reader.limb / 8)
     passed_inside to few =
-        let end = passed few in (
-          omega (arith, end.0),
-          elim (cases_lt (64 * reader.limb + 64) (512 * (reader.limb / 8) + 512)) [
-            | inl h ↦ omega arith
-            | inr past ↦ absurd (omega (arith, end.1, is.in_block, count_up b l (512 * (reader.limb / 8) + 512) (64 * reader.limb + 64) past))
-          ],
-        )
+        let end = passed few in
+        (omega (arith, end.0), grind (arith, end.1, is.in_block, count_up b l (512 * (reader.limb / 8) + 512) (64 * reader.limb + 64)))
 
     pub onward : (q : ℕ) → q < 64 → held_in true reader.word q ≤ r - reader.next → r - reader.next < held_in true reader.word (q + 1)
         → (IsReading b l (record reader { word = bit_and reader.word (18446744073709551615 * 2 ^ q % 18446744073709551616); next = r })) × (0 < bit_and reader.word (18446744073709551615 * 2 ^ q % 18446744073709551616))
@@ -59,27 +42,22 @@ module _ (b : Bool) (l : List Bool) (reader : Reader) (is : IsReading b l reader
 
 -- a limb whole
 whole_reading : (b : Bool) (l : List Bool) (k n edge : ℕ) → count b l (64 * k) ≡ n → 0 < edge → edge ≤ count b l (512 * (k / 8) + 512) → IsReading b l (record { word = marked b (limb l k); limb = k; next = n; edge = edge })
-whole_reading b l k n edge start known within = record {
-  before = omega (arith, start);
-  after = omega (arith, start, count_up b l (64 * k) (64 * k + 64) (omega arith));
-  begun = λ _. known;
-  marks = λ _. whole_marked b l k n (count b l (length l)) (omega (arith, start)) (count_le_all b l (64 * k + 64));
-  in_block = within;
-}
+whole_reading b l k n edge start known within =
+    grind (arith, count_up b l (64 * k) (64 * k + 64) (omega arith), whole_marked b l k n (count b l (length l)) (omega arith) (count_le_all b l (64 * k + 64)))
 
-pub next_limb : (b : Bool) (l : List Bool) (reader : Reader) → IsReading b l reader → 0 < reader.edge → (r : ℕ) → reader.next ≤ r → r < count b l (length l) → r < reader.edge → (v ones : ℕ) → ones ≡ count_ones reader.word → ones ≤ r - reader.next
+pub next_limb : {b : Bool} {l : List Bool} {reader : Reader} → IsReading b l reader → 0 < reader.edge → (r : ℕ) → reader.next ≤ r → r < count b l (length l) → r < reader.edge → (v ones : ℕ) → ones ≡ count_ones reader.word → ones ≤ r - reader.next
     → v ≡ marked b (limb l (reader.limb + 1)) → IsReading b l (record reader { word = v; limb = reader.limb + 1; next = reader.next + ones })
-next_limb b l reader is known r from some to v ones all few word =
+next_limb {b} {l} {reader} is known r from some to v ones all few word =
     let start : 64 * (reader.limb + 1) ≡ 64 * reader.limb + 64 = omega arith in
-    let block : 512 * ((reader.limb + 1) / 8) + 512 ≡ 512 * (reader.limb / 8) + 512 = omega (arith, (passed_inside b l reader is known r from some to (omega arith)).1) in
-    rw word (whole_reading b l (reader.limb + 1) _ reader.edge (omega (arith, ap (count b l) start, (passed b l reader is known r from some (omega arith)).1)) known (omega (arith, is.in_block, ap (count b l) block)))
+    let block : 512 * ((reader.limb + 1) / 8) + 512 ≡ 512 * (reader.limb / 8) + 512 = omega (arith, (passed_inside is known r from some to (omega arith)).1) in
+    rw word (whole_reading b l (reader.limb + 1) _ reader.edge (omega (arith, ap (count b l) start, (passed is known r from some (omega arith)).1)) known (omega (arith, is.in_block, ap (count b l) block)))
 
 pub whole_word : (w r : ℕ) → w < 18446744073709551616 → r < count_ones w → r < held_in true w 64
 unfolding held_in
 whole_word w r fits h = let e : w % 2 ^ 64 ≡ w = omega arith in omega (arith, ap count_ones e)
 
 -- ---- the lowest one of the word
-module _ (b : Bool) (l : List Bool) (reader : Reader) (r : ℕ) (here : reader.next ≡ r) (some : r < count b l (length l)) (is : IsReading b l reader) (left : 0 < reader.word) where
+module _ {b : Bool} {l : List Bool} {reader : Reader} {r : ℕ} (here : reader.next ≡ r) (some : r < count b l (length l)) (is : IsReading b l reader) (left : 0 < reader.word) where
   abbrev lowest : ℕ
   lowest = trailing_zeros w64 reader.word
 
@@ -90,7 +68,7 @@ module _ (b : Bool) (l : List Bool) (reader : Reader) (r : ℕ) (here : reader.n
   at_lowest =
       let low = bit_at-trailing_zeros w64 reader.word left fits in
       let e : 0 + lowest ≡ lowest = omega arith in
-      place_at b l reader is (is.begun left) r (omega arith) some lowest low.0 low.1 (omega (arith, ones_stay reader.word 0 lowest (λ i _ h. low.2 i (omega arith)), ap (λ n. count_ones (reader.word % 2 ^ n)) e, ones_few reader.word 0))
+      place_at is (is.begun left) r (omega arith) some lowest low.0 low.1 (omega (arith, ones_stay reader.word 0 lowest (λ i _ h. low.2 i (omega arith)), ap (λ n. count_ones (reader.word % 2 ^ n)) e, ones_few reader.word 0))
 
   pub lowest_at : 64 * reader.limb + trailing_zeros w64 reader.word ≡ select b l r
   lowest_at = sym (select_at b l r (64 * reader.limb + lowest) at_lowest.0.inside at_lowest.0.holds at_lowest.1)
@@ -98,7 +76,7 @@ module _ (b : Bool) (l : List Bool) (reader : Reader) (r : ℕ) (here : reader.n
   pub rest_at : IsReading b l (record reader { word = bit_and reader.word (bit_not w64 (1 * 2 ^ trailing_zeros w64 reader.word % 18446744073709551616)); next = reader.next + 1 })
   rest_at =
       let e : 64 * reader.limb + (lowest + 1) ≡ 64 * reader.limb + lowest + 1 = omega arith in
-      reading_from b l reader is (is.begun left) _ (lowest + 1) (reader.next + 1) (cut_lowest reader.word left fits) (omega (arith, (bit_at-trailing_zeros w64 reader.word left fits).0))
+      reading_from is (is.begun left) _ (lowest + 1) (reader.next + 1) (cut_lowest reader.word left fits) (omega (arith, (bit_at-trailing_zeros w64 reader.word left fits).0))
       (omega (arith, ap (count b l) e, count_more_yes b l (64 * reader.limb + lowest) at_lowest.0.inside at_lowest.0.holds, at_lowest.1)) (omega arith)
 
   -- the place lies in a list, and a list is not as long as a word can count
@@ -118,13 +96,7 @@ new_reading b l r k q edge some place small end =
     let whole = whole_reading b l k (count b l (64 * k)) edge refl known (omega (arith, ap (count b l) block)) in
     let cut = cut_from (marked b (limb l k)) q small in
     let on = (whole.marks known).complete q small (record { inside = at.within; holds = at.holds; low = up; high = omega (arith, at.before) }) in
-    (reading_from b l _ whole known _ q r cut (omega arith) at.before (omega (arith, at.before)), some_word _ q (cut.all q small (omega arith) small on))
+    (reading_from whole known _ q r cut (omega arith) at.before (omega (arith, at.before)), some_word _ q (cut.all q small (omega arith) small on))
 
 pub no_reading : (b : Bool) (l : List Bool) → IsReading b l (record { word = 0; limb = 0; next = 0; edge = 0 })
-no_reading b l = record {
-  before = omega (arith, count_none b l);
-  after = omega arith;
-  begun = λ some. absurd (omega arith);
-  marks = λ known. absurd (omega arith);
-  in_block = omega arith;
-}
+no_reading b l = grind (arith, count_none b l)

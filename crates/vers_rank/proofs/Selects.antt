@@ -1,71 +1,44 @@
 -- From counts to places.
-use Rattle.vers_rank.proofs.Names.{◌≡◌, ℕ, ◌+◌, ◌-◌, ◌*◌, ◌/◌, ◌<◌, ◌≤◌, Bool, true, false, List, length, get_or, ap, ◌∙◌, refl, sym, inl, inr, arith, min, cases_lt, cases_Bool, is_bit, count, limb, limb_count, select, count_le_all, count_le, count_up, count_near, count_limb, count_both, count_past, select_at, select_past, count_at_select, count_more_yes, count_more_no, digits, digits_up, digits_halved, IsSample, IsLimbWith, IsAmongLimbs}
-use Rattle.vers_rank.specs.inside.Index.{held, held_in, held_of}
+use Rattle.vers_rank.proofs.Names.{◌≡◌, ℕ, ◌+◌, ◌-◌, ◌*◌, ◌/◌, ◌<◌, ◌≤◌, Bool, true, false, List, length, get_or, ap, ◌∙◌, refl, sym, inl, inr, arith, min, cases_lt, cases_Bool, is_bit, count, limb, limb_count, select, count_le_all, count_le, count_up, count_near, count_limb, count_both, count_past, select_at, select_past, select_below, select_not_below, count_at_select, count_more_yes, count_more_no, digits, digits_up, digits_halved, IsSample, IsLimbWith, IsAmongLimbs, held, held_in, held_of}
 use Rattle.vers_rank.proofs.Ranks.{count_at}
 use Rattle.vers_rank.proofs.Words.{ones_few}
 
 -- inside the list it is the count
 pub held_is : (b : Bool) (l : List Bool) (i : ℕ) → i ≤ length l → held b l i ≡ count b l i
 unfolding held
-held_is true l i h = refl
-held_is false l i h = omega (arith, count_both l i, (count_le true l i).0)
+held_is b l i h = grind (arith, cases_Bool b, count_both l i, count_le true l i)
 
 pub held_up : (b : Bool) (l : List Bool) (i j : ℕ) → i ≤ j → held b l i ≤ held b l j
 unfolding held
-held_up true l i j h = count_up true l i j h
-held_up false l i j h = omega (arith, count_near true l i j h, (count_le true l i).0, (count_le true l j).0)
+held_up b l i j h = grind (arith, cases_Bool b, count_up true l i j h, count_near true l i j h, count_le true l i, count_le true l j)
 
 -- inside a limb
 pub held_limb : (b : Bool) (l : List Bool) (k j : ℕ) → j ≤ 64 → held b l (64 * k + j) ≡ held b l (64 * k) + held_in b (limb l k) j
 unfolding held held_in
-held_limb true l k j h = count_limb l k j h
-held_limb false l k j h = omega (arith, count_limb l k j h, (count_le true l (64 * k)).0, ones_few (limb l k) j)
+held_limb b l k j h = grind (arith, cases_Bool b, count_limb l k j h, count_le true l (64 * k), ones_few (limb l k) j)
 
--- the place between two counts
-pub place_is : (b : Bool) (l : List Bool) (r p : ℕ) → r < count b l (length l) → held b l p ≤ r → r < held b l (p + 1) → select b l r ≡ p
-place_is b l r p some from to =
-    let within : p < length l = elim (cases_lt p (length l)) [
-      | inl h ↦ h
-      | inr past ↦ absurd (omega (arith, held_up b l (length l) p past, held_is b l (length l) (omega arith)))
-    ] in
-    let low : count b l p ≤ r = omega (arith, held_is b l p (omega arith)) in
-    let high : r < count b l (p + 1) = omega (arith, held_is b l (p + 1) (omega arith)) in
-    elim (cases_Bool (is_bit b (get_or l p false))) [
-      | inl on ↦ select_at b l r p within on (omega (arith, count_more_yes b l p within on))
-      | inr off ↦ absurd (omega (arith, count_more_no b l p within off))
-    ]
+pub count_le_held : (b : Bool) (l : List Bool) (i : ℕ) → count b l i ≤ held b l i
+count_le_held b l i = grind (arith, cases_lt i (length l), held_is b l i, held_is b l (length l), count_past b l i, held_up b l (length l) i)
 
 -- every place that a select gives is within the list, or its end
 pub select_le : (b : Bool) (l : List Bool) (r : ℕ) → select b l r ≤ length l
-select_le b l r = elim (cases_lt r (count b l (length l))) [
-  | inl some ↦ omega (arith, (count_at_select b l r some).0)
-  | inr none ↦ omega (arith, select_past b l r none)
-]
+select_le b l r = grind (arith, cases_lt r (count b l (length l)), count_at_select b l r, select_past b l r)
 
 -- one limb more
 pub held_more : (b : Bool) (l : List Bool) (k : ℕ) → held b l (64 * (k + 1)) ≡ held b l (64 * k) + held_in b (limb l k) 64
 held_more b l k = ap (held b l) (let e : 64 * (k + 1) ≡ 64 * k + 64 = omega arith in e) ∙ held_limb b l k 64 (omega arith)
 
-pub count_le_held : (b : Bool) (l : List Bool) (i : ℕ) → count b l i ≤ held b l i
-count_le_held b l i = elim (cases_lt i (length l)) [
-  | inl h ↦ omega (arith, held_is b l i (omega arith))
-  | inr h ↦ omega (arith, count_past b l i h, held_is b l (length l) (omega arith), held_up b l (length l) i h)
-]
-
 -- number r is the place that the search in limb k found
 pub place_found : (b : Bool) (l : List Bool) (r k p seen : ℕ) → r < count b l (length l) → seen ≡ held b l (64 * k) → seen ≤ r → p < 64
     → held_in b (limb l k) p ≤ r - seen → r - seen < held_in b (limb l k) (p + 1) → select b l r ≡ 64 * k + p
 place_found b l r k p seen some counted before small from to =
-    place_is b l r (64 * k + p) some
-    (omega (arith, held_limb b l k p (omega arith)))
-    (let next : held b l (64 * k + p + 1) ≡ held b l (64 * k + (p + 1)) = ap (held b l) (omega arith) in omega (arith, held_limb b l k (p + 1) (omega arith)))
+    let q = 64 * k + p in
+    grind (arith, cases_lt q (length l), count_le_held b l q, held_is b l (q + 1), count_past b l (q + 1), select_not_below b l r q, select_below b l r (q + 1), held_limb b l k p, held_limb b l k (p + 1))
 
 -- after the last limb of a block nothing of the block is left
 pub block_end : (b : Bool) (l : List Bool) (block end : ℕ) → end ≡ min (8 * block + 8) (limb_count (length l)) → count b l (512 * (block + 1)) ≤ held b l (64 * end)
-block_end b l block end e = elim (cases_lt (64 * end) (length l)) [
-  | inl inside ↦ let same : 64 * end ≡ 512 * (block + 1) = omega arith in omega (arith, count_le_held b l (64 * end), ap (count b l) same)
-  | inr past ↦ omega (arith, count_le_all b l (512 * (block + 1)), held_is b l (length l) (omega arith), held_up b l (length l) (64 * end) past)
-]
+block_end b l block end e =
+    grind (arith, cases_lt (64 * end) (length l), count_le_held b l (64 * end), count_le_all b l (512 * (block + 1)), held_is b l (length l), held_up b l (length l) (64 * end))
 
 -- number r of a block stands in the limb that the scan has found
 pub rest_in_limb : (b : Bool) (l : List Bool) (block r k before : ℕ) → 512 * block < length l → count b l (512 * block) + r < count b l (512 * (block + 1))
@@ -73,10 +46,7 @@ pub rest_in_limb : (b : Bool) (l : List Bool) (block r k before : ℕ) → 512 *
 rest_in_limb b l block r k before within to found =
     let last : ℕ = min (8 * block + 7) ((length l - 1) / 64) in
     let start : held b l (512 * block) ≡ count b l (512 * block) = held_is b l (512 * block) (omega arith) in
-    let stop : held b l (512 * block) + r < held b l (64 * (k + 1)) = elim (cases_lt k last) [
-      | inl h ↦ found.to h
-      | inr h ↦ let end : 64 * (last + 1) ≡ 64 * (k + 1) = omega (arith, found.inside) in omega (arith, block_end b l block (last + 1) (omega arith), ap (held b l) end)
-    ] in
+    let stop : held b l (512 * block) + r < held b l (64 * (k + 1)) = grind (arith, cases_lt k last, found.to, found.inside, block_end b l block (k + 1)) in
     omega (arith, held_more b l k, found.counted, found.from)
 
 -- the samples before and after number r bound its superblock
@@ -89,14 +59,7 @@ pub record IsBetween (b : Bool) (l : List Bool) (r first last : ℕ) : Type 0 wh
 pub samples_bound : (b : Bool) (l : List Bool) (r first last : ℕ) → r < count b l (length l)
     → IsSample b l (r / 8192) first → IsSample b l (r / 8192 + 1) last → IsBetween b l r first last
 samples_bound b l r first last some before after =
-    let low : count b l (8192 * first) ≤ r = omega (arith, before.low) in
-    let high : r < count b l (8192 * (last + 1)) = omega (arith, after.high) in
-    record {
-      order = elim (cases_lt first (last + 1)) [ inl h ↦ h | inr h ↦ absurd (omega (arith, count_up b l (8192 * (last + 1)) (8192 * first) (omega arith))) ];
-      within = omega (arith, after.inside, (count_le b l (length l)).1);
-      from = low;
-      to = high;
-    }
+    grind (arith, before, after, count_le b l (length l), count_up b l (8192 * (last + 1)) (8192 * first))
 
 -- a superblock has at most 8192 places
 pub superblock_few : (b : Bool) (l : List Bool) (s r : ℕ) → r < count b l (8192 * (s + 1)) → r < count b l (8192 * s) + 8192
@@ -115,55 +78,24 @@ pub ruleset limb_search = (held_more, held_up)
 -- n places more, of which `ones` are ones
 held_among : (b : Bool) (l : List Bool) (i n ones : ℕ) → count true l i + ones ≡ count true l (i + n) → ones ≤ n → (held b l i + held_of b ones n ≡ held b l (i + n)) × (held_of b ones n ≤ n)
 unfolding held
-held_among true l i n ones counts few = (counts, few)
-held_among false l i n ones counts few = (omega (arith, counts, (count_le true l i).0), omega arith)
+held_among b l i n ones counts few = grind (arith, cases_Bool b, count_le true l i)
 
 -- half of twice n limbs: the second where the places of the first don't pass number r, and else the first
 pub half_of : (b : Bool) (l : List Bool) (block r n limb before ones : ℕ) → IsAmongLimbs b l block r (2 * n) limb before → count true l (64 * limb) + ones ≡ count true l (64 * (limb + n)) → ones ≤ 64 * n
     → (before + held_of b ones (64 * n) ≤ r → IsAmongLimbs b l block r n (limb + n) (before + held_of b ones (64 * n))) × (r < before + held_of b ones (64 * n) → IsAmongLimbs b l block r n limb before)
 half_of b l block r n limb before ones is counts few =
-    let there : ℕ = held_of b ones (64 * n) in
     let next : 64 * limb + 64 * n ≡ 64 * (limb + n) = omega arith in
-    let among = held_among b l (64 * limb) (64 * n) ones (counts ∙ ap (count true l) (sym next)) few in
-    let more : held b l (64 * limb) + there ≡ held b l (64 * (limb + n)) = among.0 ∙ ap (held b l) next in (
-      λ low. record {
-        start = omega (arith, is.start);
-        inside = omega (arith, is.inside);
-        counted = omega (arith, is.counted, more);
-        from = low;
-        few = omega (arith, is.few, is.start, among.1);
-        to = λ h. let end : 64 * (limb + n + n) ≡ 64 * (limb + 2 * n) = omega arith in omega (arith, is.to (omega arith), ap (held b l) end);
-      },
-      λ high. record {
-        start = is.start;
-        inside = omega (arith, is.inside);
-        counted = is.counted;
-        from = is.from;
-        few = is.few;
-        to = λ _. omega (arith, is.counted, more, high);
-      },
-    )
+    let end : 64 * (limb + n + n) ≡ 64 * (limb + 2 * n) = omega arith in
+    let among = rw next at (held_among b l (64 * limb) (64 * n) ones (rw next counts) few) in
+    (λ low. grind (arith, is, among, ap (held b l) end), λ high. grind (arith, is, among))
 
 -- the limb that is left
 pub one_limb : (b : Bool) (l : List Bool) (block r limb before : ℕ) → IsAmongLimbs b l block r 1 limb before → IsLimbWith b l block r (8 * block + 7) limb before
-one_limb b l block r limb before is = record {
-  start = is.start;
-  inside = omega (arith, is.inside);
-  counted = is.counted;
-  from = is.from;
-  to = λ h. is.to (omega arith);
-}
+one_limb b l block r limb before is = grind (arith, is)
 
 -- all 8 limbs of a block
 pub all_limbs : (b : Bool) (l : List Bool) (block r : ℕ) → IsAmongLimbs b l block r 8 (8 * block) 0
-all_limbs b l block r = record {
-  start = omega arith;
-  inside = omega arith;
-  counted = let e : 512 * block ≡ 64 * (8 * block) = omega arith in omega (arith, ap (held b l) e);
-  from = omega arith;
-  few = omega arith;
-  to = λ h. absurd (omega arith);
-}
+all_limbs b l block r = grind arith
 
 -- half of a block: the second where the places of the first don't pass number r, and else the first
 pub block_half : (b : Bool) (l : List Bool) (block r ones : ℕ) → count true l (64 * (8 * block)) + ones ≡ count true l (64 * (8 * block + 4)) → ones ≤ 256

@@ -1,6 +1,5 @@
 -- A table of 8 entries for each number, tried from its front to its end.
-use Rattle.vers_rank.proofs.Names.{zero, suc, ap, subst, ◌∙◌, ◌+◌, ◌*◌, ◌≡◌, ◌<◌, ℕ, Bool, true, List, drop, take, arith, ◌&&◌, and_parts, chunk}
-use Rattle.std.proofs.lemmas.List.{drop-drop}
+use Rattle.vers_rank.proofs.Names.{zero, suc, ◌+◌, ◌*◌, ◌≡◌, ◌<◌, ℕ, Bool, true, List, drop, take, arith, ◌&&◌, and_parts, chunk, drop-drop}
 
 -- n numbers from v on pass a test, each with its entries
 unfoldable pub tries : (ℕ → List ℕ → Bool) → ℕ → ℕ → List ℕ → Bool
@@ -11,15 +10,12 @@ from_number : (test : ℕ → List ℕ → Bool) (n v k : ℕ) (xs : List ℕ) �
 unfolding tries
 from_number test zero v k xs passed h = absurd (omega (arith, h))
 from_number test (suc n) v zero xs passed h =
-    let e : v ≡ v + zero = omega arith in
-    subst (λ u. test u (take 8 xs) ≡ true) e (and_parts _ _ passed).0
+    let e : v + zero ≡ v = omega arith in rw e (and_parts _ _ passed).0
 from_number test (suc n) v (suc k) xs passed h =
-    let number : v + 1 + k ≡ v + suc k = omega arith in
-    let place : 8 + 8 * k ≡ 8 * suc k = omega arith in
-    let rest = from_number test n (v + 1) k (drop 8 xs) (and_parts _ _ passed).1 (omega (arith, h)) in
-    subst (λ u. test u (chunk (8 * suc k) 8 xs) ≡ true) number (subst (λ l. test (v + 1 + k) (take 8 l) ≡ true) (drop-drop (8 * k) 8 xs ∙ ap (λ p. drop p xs) place) rest)
+    let number : v + suc k ≡ v + 1 + k = omega arith in
+    let place : 8 * suc k ≡ 8 + 8 * k = omega arith in
+    rw (number, place, ← drop-drop (8 * k) 8 xs) (from_number test n (v + 1) k (drop 8 xs) (and_parts _ _ passed).1 (omega (arith, h)))
 
 pub tried : (test : ℕ → List ℕ → Bool) (n k : ℕ) (xs : List ℕ) → tries test n 0 xs ≡ true → k < n → test k (chunk (8 * k) 8 xs) ≡ true
 tried test n k xs passed h =
-    let e : 0 + k ≡ k = omega arith in
-    subst (λ u. test u (chunk (8 * k) 8 xs) ≡ true) e (from_number test n 0 k xs passed h)
+    let e : 0 + k ≡ k = omega arith in rw e at (from_number test n 0 k xs passed h)

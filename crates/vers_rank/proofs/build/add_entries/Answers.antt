@@ -1,4 +1,4 @@
-use Rattle.vers_rank.proofs.Names.{◌≡◌, ◌+◌, ◌*◌, ◌/◌, false, length, ap, ◌∙◌, arith, sym, count, block_count, count_none, count_le, count_past}
+use Rattle.vers_rank.proofs.Names.{◌≡◌, ◌+◌, ◌*◌, ◌/◌, false, length, ap, ◌∙◌, arith, sym, block_count, count_none, count_le, count_past}
 use Rattle.vers_rank.proofs.Builds.{no_entries}
 use Rattle.vers_rank.proofs.build.add_entries.Goals as goal
 
@@ -24,5 +24,5 @@ loop-block-preserved g c = record {
   zeros = ap (λ z. z + c.zeros_of_block-zeros.result) c.loop-block.invariant.zeros ∙ c.zeros_of_block-zeros.ensures.value;
   base = λ later.
       let same : c.loop-block.block / 16 ≡ (c.loop-block.block + 1) / 16 = omega (arith, later) in
-      c.in_ok-base.ensures.base ∙ ap (λ k. count false c.args.bits.now (8192 * k)) same;
+      rw (← same) c.in_ok-base.ensures.base;
 }

@@ -1,5 +1,4 @@
-use Rattle.std.proofs.Common.{zero-le}
-use Rattle.vers_rank.proofs.Names.{◌≡◌, length, ap, arith, count_none}
+use Rattle.vers_rank.proofs.Names.{◌≡◌, length, ap, arith, count_none, zero-le}
 use Rattle.vers_rank.proofs.Builds.{add_sample}
 use Rattle.vers_rank.proofs.build.samples.Goals as goal
 

@@ -1,5 +1,4 @@
-use Rattle.vers_rank.proofs.Names.{leb, map, replicate, ap, ◌∙◌, ◌%◌, ◌^◌, arith, w16, tops_compared, zip2_splat_left, mask_l-mod, ones-mask_l, length-map, mask_l}
-use lib.Count.{ones}
+use Rattle.vers_rank.proofs.Names.{leb, map, replicate, ap, ◌∙◌, ◌%◌, ◌^◌, arith, w16, tops_compared, zip2_splat_left, mask_l-mod, ones-mask_l, length-map, mask_l, ones}
 use Rattle.vers_rank.proofs.lanes.far_below.Goals as goal
 
 pub returns : goal.returns

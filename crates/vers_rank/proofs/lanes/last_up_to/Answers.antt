@@ -7,12 +7,7 @@ overflow_sub-block c =
     let found = last_block c.args.zeros c.differences-below.result c.args.bit c.args.r c.differences-below.ensures.long c.requires.small c.requires.within c.requires.rising c.differences-below.ensures.up_to c.differences-below.ensures.past in
     omega (arith, found.0, c.far_below-block.ensures)
 
-pub returns-clause-rest : goal.returns-clause-rest
-returns-clause-rest c =
+pub returns : goal.returns
+returns c =
     let found = last_block c.args.zeros c.differences-below.result c.args.bit c.args.r c.differences-below.ensures.long c.requires.small c.requires.within c.requires.rising c.differences-below.ensures.up_to c.differences-below.ensures.past in
-    rw c.far_below-block.ensures found.1
-
-pub returns-clause-last : goal.returns-clause-last
-returns-clause-last c =
-    let found = last_block c.args.zeros c.differences-below.result c.args.bit c.args.r c.differences-below.ensures.long c.requires.small c.requires.within c.requires.rising c.differences-below.ensures.up_to c.differences-below.ensures.past in
-    rw c.far_below-block.ensures found.2
+    rw c.far_below-block.ensures (record { few = omega arith; rest = found.1; last = found.2 })

@@ -1,5 +1,4 @@
-use Rattle.std.proofs.Common.{sym, subst}
-use Rattle.vers_rank.specs.inside.Index.{held_in}
+use Rattle.vers_rank.proofs.Names.{sym, subst, held_in}
 use Rattle.vers_rank.proofs.BytePlaces.{IsPlace, place_found}
 use Rattle.vers_rank.proofs.word.place_in_byte.Goals as goal
 

@@ -1,4 +1,4 @@
-use Rattle.vers_rank.proofs.Names.{◌≡◌, ◌+◌, ◌*◌, ap, arith, count}
+use Rattle.vers_rank.proofs.Names.{◌+◌, arith}
 use Rattle.vers_rank.proofs.BlockLanes.{entry_within, held_counts, held_rising}
 use Rattle.vers_rank.proofs.fast_rs_vec.RsVec.block_among.Goals as goal
 
@@ -20,6 +20,4 @@ returns-clause-counted g c =
 pub returns-clause-to : goal.returns-clause-to
 returns-clause-to g c h =
     let index = rw c.self.view_is at c.self.invariant in
-    let next = c.last_up_to.result.block + 1 in
-    let e : 512 * (16 * c.args.s + c.last_up_to.result.block + 1) ≡ 512 * (16 * c.args.s + next) = omega arith in
-    omega (arith, c.last_up_to.ensures.last h, ap (count c.args.bit c.args.self.now) e, held_counts index c.args.s c.requires.within c.read_16-zeros.result c.read_16-zeros.ensures.value c.args.bit next h)
+    grind (arith, c.last_up_to.ensures.last h, held_counts index c.args.s c.requires.within c.read_16-zeros.result c.read_16-zeros.ensures.value c.args.bit (c.last_up_to.result.block + 1) h)

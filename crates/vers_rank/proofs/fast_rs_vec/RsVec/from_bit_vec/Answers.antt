@@ -1,36 +1,22 @@
-use Rattle.vers_rank.proofs.Names.{arith, length, ◌∙◌, false, count_le}
+use Rattle.vers_rank.proofs.Names.{arith, length, ◌∙◌}
 use Rattle.vers_rank.proofs.Builds.{superblocks_are, index_is}
 use Rattle.vers_rank.proofs.fast_rs_vec.RsVec.from_bit_vec.Goals as goal
 
 pub invariant_of-result : goal.invariant_of-result
 invariant_of-result g c =
-    rw (c.new.ensures, c.new-2.ensures, c.new-3.ensures, c.new-4.ensures, c.new-5.ensures) (
-    index_is _ _ _ _ _ _ _
-    (omega (arith, c.len.ensures.value, c.len.ensures.bounded))
-    c.in_ok-zeros.ensures.entries
-    c.in_ok-zeros.ensures.zeros
-    c.in_ok-zero_samples.ensures
-    c.in_ok-one_samples.ensures
-    (omega (arith, c.max.ensures, c.len.ensures.value))
-    )
+    rw (c.new.ensures, c.new-2.ensures, c.new-3.ensures, c.new-4.ensures, c.new-5.ensures)
+    (index_is _ _ _ _ _ _ _ (omega (arith, c.len.ensures.value, c.len.ensures.bounded)) c.in_ok-zeros.ensures.entries c.in_ok-zeros.ensures.zeros
+    c.in_ok-zero_samples.ensures c.in_ok-one_samples.ensures (omega (arith, c.max.ensures, c.len.ensures.value)))
 
-pub samples-requires-clause-counted : goal.samples-requires-clause-counted
-samples-requires-clause-counted g c = rw c.deref.ensures.value (c.in_ok-zeros.ensures.entries.superblocks_counted ∙ superblocks_are (length c.args.bits))
+pub samples-requires : goal.samples-requires
+samples-requires g c =
+    let made = c.in_ok-zeros.ensures.entries in
+    rw c.deref.ensures.value (record { counted = made.superblocks_counted ∙ superblocks_are (length c.args.bits); entries = made.superblock_at })
 
-pub samples-requires-clause-entries : goal.samples-requires-clause-entries
-samples-requires-clause-entries g c = rw c.deref.ensures.value c.in_ok-zeros.ensures.entries.superblock_at
-
-pub samples-requires-2-clause-counted : goal.samples-requires-2-clause-counted
-samples-requires-2-clause-counted g c = rw c.deref-2.ensures.value (c.in_ok-zeros.ensures.entries.superblocks_counted ∙ superblocks_are (length c.args.bits))
-
-pub samples-requires-2-clause-entries : goal.samples-requires-2-clause-entries
-samples-requires-2-clause-entries g c = rw c.deref-2.ensures.value c.in_ok-zeros.ensures.entries.superblock_at
-
-pub overflow_sub-len : goal.overflow_sub-len
-overflow_sub-len g c = omega (arith, c.in_ok-zeros.ensures.zeros, c.len.ensures.value, (count_le false c.args.bits (length c.args.bits)).1)
-
-pub overflow_add-n : goal.overflow_add-n
-overflow_add-n g c = omega (arith, c.max.ensures, c.in_ok-zeros.ensures.zeros, c.len.ensures.value, c.len.ensures.bounded, (count_le false c.args.bits (length c.args.bits)).1)
+pub samples-requires-2 : goal.samples-requires-2
+samples-requires-2 g c =
+    let made = c.in_ok-zeros.ensures.entries in
+    rw c.deref-2.ensures.value (record { counted = made.superblocks_counted ∙ superblocks_are (length c.args.bits); entries = made.superblock_at })
 
 pub returns : goal.returns
 returns g c = c.new.ensures

@@ -2,21 +2,6 @@ use Rattle.vers_rank.proofs.Names.{arith}
 use Rattle.vers_rank.proofs.Ranks.{size_is, size_fits}
 use Rattle.vers_rank.proofs.fast_rs_vec.RsVec.heap_size.Goals as goal
 
-pub overflow_mul-result : goal.overflow_mul-result
-overflow_mul-result g c = omega (arith, size_fits c.self.invariant)
-
-pub overflow_mul-result-2 : goal.overflow_mul-result-2
-overflow_mul-result-2 g c = omega (arith, size_fits c.self.invariant)
-
-pub overflow_add-result : goal.overflow_add-result
-overflow_add-result g c = omega (arith, size_fits c.self.invariant)
-
-pub overflow_mul-result-3 : goal.overflow_mul-result-3
-overflow_mul-result-3 g c = omega (arith, size_fits c.self.invariant)
-
-pub overflow_add-result-2 : goal.overflow_add-result-2
-overflow_add-result-2 g c = omega (arith, size_fits c.self.invariant)
-
 pub overflow_mul-result-4 : goal.overflow_mul-result-4
 overflow_mul-result-4 g c = omega (arith, size_fits c.self.invariant)
 

@@ -1,6 +1,4 @@
-use Rattle.vers_rank.proofs.Names.{◌≡◌, ℕ, ◌+◌, ◌<◌, List, length, set, get_or, sym, subst, ◌∙◌, inl, inr, arith, rules, cases_lt, get_or-set_other, get_or-set_same, length-set, adds_then, plus, times, Reads}
-use Rattle.vers_tally.specs.Reads.{IsWithin}
-use Rattle.vers_rank.specs.Batches.{Changed}
+use Rattle.vers_rank.proofs.Names.{◌≡◌, ℕ, ◌+◌, ◌<◌, List, length, set, get_or, ◌∙◌, inl, inr, arith, rules, cases_lt, get_or-set_other, get_or-set_same, length-set, adds_then, plus, times, Reads, IsWithin, Changed}
 use Rattle.vers_rank.proofs.fast_rs_vec.RsVec.level_each.Goals as goal
 
 -- one item more
@@ -8,11 +6,10 @@ changed_more : (R : ℕ → ℕ → Type 0) (from n y : ℕ) (xs ys : List ℕ) 
 changed_more R from n y xs ys old inside becomes = record {
   long = length-set ys (from + n) y ∙ old.long;
   each = λ j h. elim (cases_lt j n) [
-    | inl lower ↦ subst (λ (z : ℕ). R (get_or xs (from + j) 0) z) (sym (get_or-set_other ys (from + n) (from + j) y 0 (omega arith))) (old.each j lower)
+    | inl lower ↦ rw (get_or-set_other ys (from + n) (from + j) y 0 (omega arith)) (old.each j lower)
     | inr last ↦
-        let e : n ≡ j = omega arith in
-        let to = subst (λ (z : ℕ). R (get_or ys (from + n) 0) z) (sym (get_or-set_same ys (from + n) y 0 (omega (arith, old.long)))) becomes in
-        subst (λ (i : ℕ). R (get_or xs (from + i) 0) (get_or (set ys (from + n) y) (from + i) 0)) e (subst (λ (x : ℕ). R x (get_or (set ys (from + n) y) (from + n) 0)) (old.after (from + n) (omega arith)) to)
+        let e : j ≡ n = omega arith in
+        rw (e, get_or-set_same ys (from + n) y 0 (omega (arith, old.long)), ← old.after (from + n) (omega arith)) becomes
   ];
   before = λ j h. get_or-set_other ys (from + n) j y 0 (omega arith) ∙ old.before j h;
   after = λ j h. get_or-set_other ys (from + n) j y 0 (omega arith) ∙ old.after j (omega arith);

@@ -1,5 +1,4 @@
-use Rattle.vers_rank.proofs.Names.{AddsAtMost, times, superblock_count, length}
-use Rattle.vers_rank.specs.Batches.{Changed}
+use Rattle.vers_rank.proofs.Names.{AddsAtMost, times, superblock_count, length, Changed}
 use Rattle.vers_rank.proofs.fast_rs_vec.RsVec.level_each.Given as goal
 
 abbrev pub invariant-loop-j : goal.invariant-loop-j

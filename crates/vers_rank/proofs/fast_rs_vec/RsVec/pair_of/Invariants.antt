@@ -1,5 +1,4 @@
-use Rattle.vers_rank.proofs.Names.{◌≡◌, ◌≢◌, ◌+◌, ◌-◌, ◌/◌, ◌<◌, ◌≤◌, length, count, select, AddsAtMost, superblock_count, select_reads}
-use Rattle.vers_tally.specs.Reads.{one_more, only_rank_calls}
+use Rattle.vers_rank.proofs.Names.{◌≡◌, ◌≢◌, ◌+◌, ◌-◌, ◌/◌, ◌<◌, ◌≤◌, length, count, select, AddsAtMost, superblock_count, select_reads, one_more, only_rank_calls}
 use Rattle.vers_rank.proofs.fast_rs_vec.RsVec.pair_of.Given as goal
 
 abbrev pub invariant-loop-number : goal.invariant-loop-number

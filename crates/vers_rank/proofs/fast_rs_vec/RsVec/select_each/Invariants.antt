@@ -1,6 +1,5 @@
 use Rattle.std.specs.Prelude.{nat_eq, not}
-use Rattle.vers_rank.proofs.Names.{◌≡◌, ◌-◌, ◌≤◌, length, select, AddsAtMost, times, superblock_count, select_reads}
-use Rattle.vers_rank.specs.Batches.{Changed}
+use Rattle.vers_rank.proofs.Names.{◌≡◌, ◌-◌, ◌≤◌, length, select, AddsAtMost, times, superblock_count, select_reads, Changed}
 use Rattle.vers_rank.proofs.fast_rs_vec.RsVec.select_each.Given as goal
 
 abbrev pub invariant-loop-from : goal.invariant-loop-from

@@ -1,5 +1,4 @@
-use Rattle.vers_rank.proofs.Names.{◌≡◌, ℕ, ◌+◌, ◌-◌, ◌*◌, ◌<◌, ◌≤◌, ap, arith, rules, count, adds_then, digits_up, plus, only_superblock_entries}
-use Rattle.vers_tally.specs.Reads.{IsWithin}
+use Rattle.vers_rank.proofs.Names.{ℕ, ◌+◌, ◌-◌, ◌<◌, ◌≤◌, arith, rules, adds_then, digits_up, plus, only_superblock_entries, IsWithin}
 use Rattle.vers_rank.proofs.fast_rs_vec.RsVec.superblock_from.Goals as goal
 
 step_reads : (s : ℕ) → 0 < s → IsWithin (plus (only_superblock_entries (s - 1)) (only_superblock_entries 1)) (only_superblock_entries (s + 1 - 1))
@@ -9,28 +8,11 @@ all_reads : (s d e : ℕ) → s ≤ 5 → d ≤ e → IsWithin (plus (only_super
 all_reads s d e few up = search rules
 
 pub loop-step-preserved : goal.loop-step-preserved
-loop-step-preserved g c =
-    let e : c.args.first + (c.loop-step.step + 1 - 1) ≡ c.args.first + c.loop-step.step = omega arith in
-    record {
-      some = omega (arith, c.if-step-n.false);
-      from = omega (arith, c.count_at_superblock.ensures.value, c.if-count_at_superblock-r.false, ap (λ k. count c.args.bit c.args.self.now (8192 * k)) e);
-      adds = adds_then c.loop-step.invariant.adds c.count_at_superblock.ensures.adds (step_reads c.loop-step.step (omega arith));
-    }
-
-pub returns-then-step-n-clause-from : goal.returns-then-step-n-clause-from
-returns-then-step-n-clause-from g c =
-    let e : c.args.first + (c.loop-step.step - 1) ≡ c.args.first + c.loop-step.step - 1 = omega arith in
-    omega (arith, c.loop-step.invariant.from, ap (λ k. count c.args.bit c.args.self.now (8192 * k)) e)
-
-pub superblock_among-requires-clause-from : goal.superblock_among-requires-clause-from
-superblock_among-requires-clause-from g c =
-    let e : c.args.first + (c.loop-step.step - 1) ≡ c.args.first + 4 = omega arith in
-    omega (arith, c.loop-step.invariant.from, ap (λ k. count c.args.bit c.args.self.now (8192 * k)) e)
-
-pub superblock_among-requires-clause-to : goal.superblock_among-requires-clause-to
-superblock_among-requires-clause-to g c =
-    let e : c.args.first + 4 + (c.args.n - 4) ≡ c.args.first + c.args.n = omega arith in
-    rw e c.requires.to
+loop-step-preserved g c = record {
+  some = omega (arith, c.if-step-n.false);
+  from = grind (arith, c.count_at_superblock.ensures.value);
+  adds = adds_then c.loop-step.invariant.adds c.count_at_superblock.ensures.adds (step_reads c.loop-step.step (omega arith));
+}
 
 pub returns-clause-adds : goal.returns-clause-adds
 returns-clause-adds g c =

@@ -1,22 +1,8 @@
-use Rattle.vers_rank.proofs.Names.{◌≡◌, ℕ, ◌+◌, ◌-◌, ◌*◌, ◌≤◌, ap, inl, inr, arith, rules, cases_lt, count, adds_then, digits_up, plus, only_superblock_entries}
-use Rattle.vers_tally.specs.Reads.{IsWithin}
+use Rattle.vers_rank.proofs.Names.{ℕ, ◌+◌, ◌-◌, ◌≤◌, arith, rules, adds_then, digits_up, plus, only_superblock_entries, IsWithin}
 use Rattle.vers_rank.proofs.fast_rs_vec.RsVec.superblock_guessed.Goals as goal
 
 reads : (d e : ℕ) → d ≤ e → IsWithin (plus (only_superblock_entries 1) (only_superblock_entries (d + 7))) (only_superblock_entries (e + 8))
 reads d e h = search rules
-
-pub superblock_from-requires-clause-to : goal.superblock_from-requires-clause-to
-superblock_from-requires-clause-to g c =
-    let e : c.args.first + c.guessed-guess.result + (c.args.n - c.guessed-guess.result) ≡ c.args.first + c.args.n = omega arith in
-    rw e c.requires.to
-
-pub superblock_before-requires-clause-some : goal.superblock_before-requires-clause-some
-superblock_before-requires-clause-some g c = elim (cases_lt 0 c.guessed-guess.result) [
-  | inl some ↦ some
-  | inr none ↦
-      let e : c.args.first + c.guessed-guess.result ≡ c.args.first = omega arith in
-      absurd (omega (arith, c.requires.from, c.count_at_superblock.ensures.value, ap (λ k. count c.args.bit c.args.self.now (8192 * k)) e))
-]
 
 pub returns-then-count_at_superblock-r-clause-adds : goal.returns-then-count_at_superblock-r-clause-adds
 returns-then-count_at_superblock-r-clause-adds g c =

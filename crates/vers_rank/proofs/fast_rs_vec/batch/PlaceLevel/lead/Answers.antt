@@ -1,4 +1,4 @@
-use Rattle.vers_rank.proofs.Names.{◌≡◌, ◌+◌, ◌*◌, ◌/◌, ◌%◌, ◌<◌, arith, length, ap, ◌∙◌, inl, inr, cases_lt, count, select, count_le_all, held}
+use Rattle.vers_rank.proofs.Names.{◌+◌, ◌*◌, ◌/◌, ◌%◌, ◌<◌, arith, length, cases_lt, count, count_le_all}
 use Rattle.vers_rank.proofs.Batches.{ends, few_in_limb}
 use Rattle.vers_rank.proofs.fast_rs_vec.batch.PlaceLevel.lead.Goals as goal
 
@@ -20,9 +20,4 @@ pub returns-clause-value : goal.returns-clause-value
 returns-clause-value g c = λ r is.
     let inside : c.args.place < length c.args.bits.now = omega (arith, c.if-place-len.false, c.len.ensures.value) in
     let start = (few_in_limb c.args.bit c.args.bits.now (c.args.place / 64) (c.args.place % 64) (omega arith) (c.requires inside)).0 in
-    elim (cases_lt r (count c.args.bit c.args.bits.now (length c.args.bits.now))) [
-      | inl some ↦
-          let number : held c.args.bit c.args.bits.now (64 * (c.args.place / 64)) + c.args.place % 64 ≡ r = omega (arith, start, is.number some) in
-          c.place_in_limb-at.ensures.value ∙ ap (select c.args.bit c.args.bits.now) number
-      | inr none ↦ absurd (omega (arith, is.past none))
-    ]
+    grind (arith, is, start, cases_lt r (count c.args.bit c.args.bits.now (length c.args.bits.now)), c.place_in_limb-at.ensures.value)

@@ -1,5 +1,4 @@
-use Rattle.vers_rank.proofs.Names.{◌-◌, ◌≡◌, ◌≤◌, length, AddsAtMost, chunk_places_left, chunks_unread, IsChunkWalkOf}
-use Rattle.vers_rank.specs.Walks.{chunk_reads}
+use Rattle.vers_rank.proofs.Names.{◌-◌, ◌≡◌, ◌≤◌, length, AddsAtMost, chunk_places_left, chunks_unread, IsChunkWalkOf, chunk_reads}
 use Rattle.vers_rank.proofs.fast_rs_vec.bit_set_iter.ChunkWalk.next_counted.Given as goal
 
 abbrev pub invariant-loop-self : goal.invariant-loop-self

@@ -1,5 +1,4 @@
-use Rattle.std.proofs.Common.{◌∙◌}
-use Rattle.vers_bits.specs.Equality.{same_bits-Decides}
+use Rattle.vers_rank.proofs.Names.{◌∙◌, same_bits-Decides}
 use Rattle.vers_rank.proofs.fast_rs_vec.equality.RsVecPartialEq.eq.Goals as goal
 
 pub returns-clause-exact : goal.returns-clause-exact

@@ -1,5 +1,4 @@
-use Rattle.std.proofs.Common.{length, ap, arith}
-use Rattle.vers_rank.proofs.Names.{count_le}
+use Rattle.vers_rank.proofs.Names.{count_le, length, ap, arith}
 use Rattle.vers_rank.proofs.Reading.{lowest_at, lowest_fits, rest_at}
 use Rattle.vers_rank.proofs.fast_rs_vec.reader.Reader.place.Goals as goal
 
@@ -7,16 +6,14 @@ pub overflow_add-self : goal.overflow_add-self
 overflow_add-self g c = omega (arith, c.seek.ensures.next, c.requires.some, c.bits.invariant.bounded, ap length c.bits.view_is, (count_le c.args.bit c.args.bits.now (length c.args.bits.now)).1)
 
 pub overflow_mul-result : goal.overflow_mul-result
-overflow_mul-result g c = omega (arith, lowest_fits c.args.bit c.args.bits.now c.seek.new.self c.args.r c.seek.ensures.next c.requires.some c.seek.ensures.reading c.seek.ensures.some c.bits.invariant.bounded c.bits.view_is)
+overflow_mul-result g c = omega (arith, lowest_fits c.seek.ensures.next c.requires.some c.seek.ensures.reading c.seek.ensures.some c.bits.invariant.bounded c.bits.view_is)
 
 pub overflow_add-result : goal.overflow_add-result
-overflow_add-result g c = omega (arith, lowest_fits c.args.bit c.args.bits.now c.seek.new.self c.args.r c.seek.ensures.next c.requires.some c.seek.ensures.reading c.seek.ensures.some c.bits.invariant.bounded c.bits.view_is)
+overflow_add-result g c = omega (arith, lowest_fits c.seek.ensures.next c.requires.some c.seek.ensures.reading c.seek.ensures.some c.bits.invariant.bounded c.bits.view_is)
 
-pub returns-clause-reading : goal.returns-clause-reading
-returns-clause-reading g c = rest_at c.args.bit c.args.bits.now c.seek.new.self c.args.r c.seek.ensures.next c.requires.some c.seek.ensures.reading c.seek.ensures.some
-
-pub returns-clause-value : goal.returns-clause-value
-returns-clause-value g c = lowest_at c.args.bit c.args.bits.now c.seek.new.self c.args.r c.seek.ensures.next c.requires.some c.seek.ensures.reading c.seek.ensures.some
-
-pub returns-clause-adds : goal.returns-clause-adds
-returns-clause-adds g c = c.seek.ensures.adds
+pub returns : goal.returns
+returns g c = record {
+  reading = rest_at c.seek.ensures.next c.requires.some c.seek.ensures.reading c.seek.ensures.some;
+  value = lowest_at c.seek.ensures.next c.requires.some c.seek.ensures.reading c.seek.ensures.some;
+  adds = c.seek.ensures.adds;
+}
