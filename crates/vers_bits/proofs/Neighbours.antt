@@ -1,5 +1,6 @@
 -- The places next to a place, by counts and selects.
-use Rattle.vers_bits.proofs.Names.{◌≡◌, ℕ, zero, suc, ◌+◌, ◌-◌, ◌<◌, ◌≤◌, Bool, true, false, cond, List, [], ◌∷◌, length, get_or, refl, ap, ◌∙◌, arith, inl, inr, Option, Some, None, nat_lt, filter, find, last_or, cases_lt, cases_Bool, lt-ltb, le-ltb, get_or_default, slice_get-get_or, slice_get_past, is_bit, count, places}
+use Rattle.std.proofs.lemmas.Bool.{false_from_ne_true}
+use Rattle.vers_bits.proofs.Names.{◌≡◌, ℕ, zero, suc, ◌+◌, ◌-◌, ◌<◌, ◌≤◌, Bool, true, false, cond, List, [], ◌∷◌, length, get_or, refl, ap, ◌∙◌, arith, inl, inr, Option, Some, None, nat_lt, filter, find, last_or, cases_lt, lt-ltb, le-ltb, get_or_default, slice_get-get_or, slice_get_past, count, places}
 use Rattle.std.specs.Prelude.{slice_get}
 use Rattle.vers_bits.specs.Bits.{select, place_after, place_before}
 use Rattle.vers_bits.proofs.Count.{count_le_all, count_up, count_past}
@@ -69,10 +70,6 @@ module _ (b : Bool) (l : List Bool) where
       none_passing None (λ q. nat_lt q p) (places b l)
       (λ i small. ap (λ q. nat_lt q p) (place_number i small) ∙ le-ltb (select b l i) p (select_not_below b l i p (omega (arith, length-places b l)) (omega arith)))
 
--- a place holds the bit or does not
-not_held : (b : Bool) (l : List Bool) (q : ℕ) → (is_bit b (get_or l q false) ≡ true → ⊥) → is_bit b (get_or l q false) ≡ false
-not_held b l q none = elim (cases_Bool (is_bit b (get_or l q false))) [ inl on ↦ absurd (none on) | inr off ↦ off ]
-
 -- the first place at or after a place that holds the bit, or the length
 pub next_place : (b : Bool) (l : List Bool) (i : ℕ) → i ≤ length l → IsNextPlace b l i (select b l (count b l i))
 next_place b l i within = elim (cases_lt (count b l i) (count b l (length l))) [
@@ -81,7 +78,7 @@ next_place b l i within = elim (cases_lt (count b l i) (count b l (length l))) [
       record {
         from = select_not_below b l (count b l i) i some (omega arith);
         within = omega (arith, at.within);
-        none_between = λ q h k. not_held b l q (λ on. absurd (omega (arith, count_more_yes b l q (omega (arith, at.within)) on, count_up b l i q h, count_up b l (q + 1) (select b l (count b l i)) (omega arith), at.before)));
+        none_between = λ q h k. false_from_ne_true _ (λ on. absurd (omega (arith, count_more_yes b l q (omega (arith, at.within)) on, count_up b l i q h, count_up b l (q + 1) (select b l (count b l i)) (omega arith), at.before)));
         holds = λ h. at.holds;
       }
   | inr none ↦
@@ -89,7 +86,7 @@ next_place b l i within = elim (cases_lt (count b l i) (count b l (length l))) [
       record {
         from = omega arith;
         within = omega arith;
-        none_between = λ q h k. not_held b l q (λ on. absurd (omega (arith, count_more_yes b l q (omega arith) on, count_up b l i q h, count_le_all b l (q + 1))));
+        none_between = λ q h k. false_from_ne_true _ (λ on. absurd (omega (arith, count_more_yes b l q (omega arith) on, count_up b l i q h, count_le_all b l (q + 1))));
         holds = λ h. absurd (omega arith);
       }
 ]
@@ -103,7 +100,7 @@ none_up b l p = elim (cases_lt (count b l (p + 1)) (count b l (length l))) [
       let next : IsNextPlace b l (p + 1) (select b l (count b l (p + 1))) = next_place b l (p + 1) inside in
       rw (place_after_some b l p some) (omega (arith, next.from), (at.within, at.holds), next.none_between)
   | inr none ↦
-      rw (place_after_none b l p none) (λ q h k. not_held b l q (λ on. absurd (omega (arith, count_more_yes b l q k on, count_up b l (p + 1) q h, count_le_all b l (q + 1)))))
+      rw (place_after_none b l p none) (λ q h k. false_from_ne_true _ (λ on. absurd (omega (arith, count_more_yes b l q k on, count_up b l (p + 1) q h, count_le_all b l (q + 1)))))
 ]
 
 pub none_down : NoneDownToNeighbour
@@ -114,8 +111,8 @@ none_down b l p = elim (cases_lt 0 (count b l p)) [
       rw (place_before_some b l p some) (
         select_below b l (count b l p - 1) p (omega arith),
         (at.within, at.holds),
-        (λ q h k. not_held b l q (λ on. absurd (omega (arith, at.before, count_more_yes b l (select b l (count b l p - 1)) at.within at.holds, count_up b l (select b l (count b l p - 1) + 1) q h, count_more_yes b l q (omega arith) on, count_up b l (q + 1) p (omega arith))))),
+        (λ q h k. false_from_ne_true _ (λ on. absurd (omega (arith, at.before, count_more_yes b l (select b l (count b l p - 1)) at.within at.holds, count_up b l (select b l (count b l p - 1) + 1) q h, count_more_yes b l q (omega arith) on, count_up b l (q + 1) p (omega arith))))),
       )
   | inr none ↦
-      rw (place_before_none b l p (omega arith)) (λ q h k. not_held b l q (λ on. absurd (omega (arith, count_more_yes b l q (omega arith) on, count_up b l (q + 1) p (omega arith)))))
+      rw (place_before_none b l p (omega arith)) (λ q h k. false_from_ne_true _ (λ on. absurd (omega (arith, count_more_yes b l q (omega arith) on, count_up b l (q + 1) p (omega arith)))))
 ]
