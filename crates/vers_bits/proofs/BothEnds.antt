@@ -1,6 +1,6 @@
 -- Steps of iterators from both ends, for items of every type.
-use Rattle.vers_bits.proofs.Names.{◌≡◌, ℕ, ◌+◌, ◌-◌, ◌<◌, ◌≤◌, List, [], ◌∷◌, ◌++◌, Bool, false, map, Option, Some, None, length, get_or, min, take, drop, reverse, refl, sym, ◌∙◌, ap, arith, inl, inr, last_or, YieldsFirst, YieldsLast, MakesProgress, item_count, length-map, length-take, length-drop, get_or-take, get_or-drop, get_or-reverse, length-reverse, drop-drop, drop-take, drop_all, take_all, take_more, take_at, take-take, take-append-drop, length_push, reverse-append, reverse-reverse, append-nil, cases_lt, slice_get-map, slice_get_past, slice_get_cases, slice_get-get_or, get_or_from_slice_get, slice_get_within, bit_value, limb, limbs}
-use Rattle.std.proofs.Common.{option_map, slice_get, append_assoc}
+use Rattle.vers_bits.proofs.Names.{◌≡◌, ℕ, ◌+◌, ◌-◌, ◌<◌, ◌≤◌, List, [], ◌∷◌, ◌++◌, Bool, false, map, Option, Some, None, length, get_or, take, drop, reverse, refl, sym, ◌∙◌, ap, arith, inl, inr, last_or, YieldsFirst, YieldsLast, MakesProgress, item_count, length-map, length-take, length-drop, get_or-take, get_or-drop, get_or-reverse, length-reverse, drop-drop, drop-take, drop_all, take_all, take_more, take_at, take-take, take-append-drop, length_push, reverse-append, reverse-reverse, append-nil, cases_lt, slice_get-map, slice_get_past, slice_get_cases, slice_get-get_or, get_or_from_slice_get, slice_get_within, bit_value, limb, limbs}
+use Rattle.std.proofs.Common.{slice_get, append_assoc}
 use Rattle.std.proofs.lemmas.Slice.{between_from_start}
 use Rattle.vers_bits.proofs.Equal.{length-limbs, get_or-limbs}
 use Rattle.vers_bits.specs.declared.walk.Span.{Span}
@@ -62,7 +62,7 @@ module _ {X : Type 0} where
       let all : length (items_in xs s) - (n + 1) ≡ 0 = omega arith in
       rw (is, ← view) (record {
         given = sym (slice_get_past (reverse (items_in xs s)) n (omega (arith, length-reverse (items_in xs s))));
-        left = items_in_none xs t (omega (arith, none.1, none.2)) ∙ sym (ap (λ k. take k (items_in xs s)) all);
+        left = rw (all, items_in_none xs t (omega (arith, none.1, none.2))) refl;
       })
 
   pub gave_back : (n : ℕ) (xs : List X) (s t : Span) {old : List X} {p : ℕ} {x : X} → items_in xs s ≡ old → s.to ≤ length xs
@@ -110,18 +110,14 @@ module _ {X : Type 0} where
 
   -- the other way round
   takes_first : (old : List X) (taken : Option X) (new : List X) → YieldsFirst (λ (s : List X). s) old taken new → TakesFirst old taken new
-  takes_first old None new h = record { given = sym (ap (λ l. slice_get l 0) h.0); left = h.1 ∙ sym (ap (drop 1) h.0) }
-  takes_first old (Some x) new h = record { given = sym (ap (λ l. slice_get l 0) h); left = sym (ap (drop 1) h) }
+  takes_first old None new h = rw (h.0, h.1) (record { given = refl; left = refl })
+  takes_first old (Some x) new h = rw h (record { given = refl; left = refl })
 
   takes_last : (old : List X) (taken : Option X) (new : List X) → YieldsLast (λ (s : List X). s) old taken new → TakesLast old taken new
-  takes_last old None new h = record { given = sym (ap (λ l. slice_get (reverse l) 0) h.0); left = h.1 ∙ sym (ap (λ l. take (length l - 1) l) h.0) }
+  takes_last old None new h = rw (h.0, h.1) (record { given = refl; left = refl })
   takes_last old (Some x) new h =
-      let turned : reverse old ≡ x ∷ reverse new = ap reverse h ∙ reverse-append new (x ∷ []) in
-      let fewer : length old - 1 ≡ length new = omega (arith, ap length h, length_push new x) in
-      record {
-        given = sym (ap (λ l. slice_get l 0) turned);
-        left = sym (ap (λ k. take k old) fewer ∙ ap (take (length new)) h ∙ take_at new (x ∷ []) (length new) refl);
-      }
+      let fewer : length (new ++ x ∷ []) - 1 ≡ length new = omega (arith, length_push new x) in
+      rw h (record { given = rw reverse-append refl; left = rw (fewer, take_at new (x ∷ []) (length new) refl) refl })
 
   pub next_is_nth_of_zero : NextIsNthOfZero X
   next_is_nth_of_zero old taken new = (takes_first old taken new, yields_first old taken new)
@@ -143,8 +139,7 @@ module _ {X : Type 0} where
   pub goes_last : (can : List X → Type 0) (old : List X) (r : Option X) (new : List X) → can new → TakesLast old r new → MakesProgress can (item_count (λ s. s)) old r new
   goes_last can old r new may h =
       goes_on can old r new may
-      (λ z. h.given ∙ slice_get_past (reverse old) 0 (omega (arith, length-reverse old)))
-      (ap length h.left ∙ length-take (length old - 1) old ∙ (let e : min (length old - 1) (length old) ≡ length old - 1 = omega arith in e))
+      (λ z. h.given ∙ slice_get_past (reverse old) 0 (omega (arith, length-reverse old))) (omega (arith, ap length h.left, length-take (length old - 1) old))
 
   -- ---- the last item
   last_or-push : (o : Option X) (xs : List X) (x : X) → last_or o (xs ++ x ∷ []) ≡ Some x
@@ -152,7 +147,7 @@ module _ {X : Type 0} where
   last_or-push o (y ∷ ys) x = last_or-push (Some y) ys x
 
   pub last_is : (old : List X) (r : Option X) (new : List X) → TakesLast old r new → r ≡ last_or None old
-  last_is old None new h = sym (ap (last_or None) (last_none old h.given))
+  last_is old None new h = rw (last_none old h.given) refl
   last_is old (Some x) new h = sym (ap (last_or None) (last_some old x h.given) ∙ last_or-push None (take (length old - 1) old) x)
 
   -- ---- walks
@@ -177,14 +172,12 @@ module _ {X : Type 0} where
   -- what one call passes and what it leaves make up the list
   step_passes : (old : List X) (taken : Option X) (fronts backs new : List X) → Step old taken fronts backs new → fronts ++ (new ++ reverse backs) ≡ old
   step_passes old None _ _ new (next _ _ _ h) = append-nil new ∙ h.1 ∙ sym h.0
-  step_passes old (Some x) _ _ new (next _ _ _ h) = ap (λ l. x ∷ l) (append-nil new) ∙ sym h
+  step_passes old (Some x) _ _ new (next _ _ _ h) = rw (append-nil, h) refl
   step_passes old None _ _ new (next_back _ _ _ h) = append-nil new ∙ h.1 ∙ sym h.0
   step_passes old (Some x) _ _ new (next_back _ _ _ h) = sym h
-  step_passes old taken _ _ new (nth n _ _ _ h) =
-      ap (λ l. nth_passes n old taken ++ l) (append-nil new ∙ h.left) ∙ ap (λ l. l ++ drop (n + 1) old) (passes_next n old taken h.given) ∙ take-append-drop (n + 1) old
+  step_passes old taken _ _ new (nth n _ _ _ h) = rw (append-nil, h.left, passes_next n old taken h.given) (take-append-drop (n + 1) old)
   step_passes old taken _ _ new (nth_back n _ _ _ h) =
-      ap (λ l. new ++ reverse l) (passes_next n (reverse old) taken h.given) ∙ ap (λ l. new ++ l) (last_turned (n + 1) old)
-      ∙ ap (λ l. l ++ drop (length old - (n + 1)) old) h.left ∙ take-append-drop (length old - (n + 1)) old
+      rw (passes_next n (reverse old) taken h.given, last_turned (n + 1) old, h.left) (take-append-drop (length old - (n + 1)) old)
 
   pub passes_each_once : PassesEachOnce X
   passes_each_once old [] [] new (no_call _) = append-nil old
@@ -207,10 +200,7 @@ pub length-bits : (bits : List Bool) → length (map bit_value bits) ≡ length 
 length-bits bits = length-map bits bit_value
 
 pub bit_item : (bits : List Bool) (p : ℕ) (x : ℕ) → p < length (map bit_value bits) → x ≡ bit_value (get_or bits p false) → slice_get (map bit_value bits) p ≡ Some x
-bit_item bits p x h is =
-    slice_get-map bit_value bits p
-    ∙ ap (option_map bit_value) (slice_get-get_or bits p false (omega (arith, length-bits bits)))
-    ∙ ap Some (sym is)
+bit_item bits p x h is = rw (slice_get-map, slice_get-get_or bits p false (omega (arith, length-bits bits)), is) refl
 
 -- ---- items that are the limbs of a list
 pub limb_item : (bits : List Bool) (k x : ℕ) → k < length (limbs bits) → x ≡ limb bits k → slice_get (limbs bits) k ≡ Some x

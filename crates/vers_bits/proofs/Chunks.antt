@@ -1,5 +1,5 @@
 -- Sums over the chunks of a list, and lists whose chunks are the same.
-use Rattle.vers_bits.proofs.Names.{◌≡◌, ℕ, zero, suc, map, ◌+◌, ◌*◌, ◌≤◌, Bool, true, false, List, [], take, drop, length, get_or, eqb, refl, sym, ap, ◌∙◌, arith, Fits, w64, sum_by, count_ones, range_with_len, first_chunks, Decides, drop-drop, take-append-drop, sum_by-map-range_with_len_more, sum_by-cons, sum_by-take-drop, sum_by-le, ones-le, count, limb, limb_count}
+use Rattle.vers_bits.proofs.Names.{◌≡◌, ℕ, zero, suc, map, ◌+◌, ◌*◌, ◌≤◌, Bool, true, false, List, [], take, drop, length, get_or, eqb, refl, sym, ap, ◌∙◌, arith, Fits, w64, sum_by, count_ones, range_with_len, first_chunks, drop-drop, take-append-drop, sum_by-map-range_with_len_more, sum_by-cons, sum_by-take-drop, sum_by-le, ones-le, count, limb, limb_count}
 use Rattle.std.specs.Cmp.Lexicographic.{pointwise}
 use Rattle.std.proofs.lemmas.List.Elements.{All-from_get_or}
 use Rattle.std.proofs.lemmas.Slice.Eq.{bytes_eq-Decides}
@@ -41,10 +41,6 @@ ones_before l (suc n) =
 pub ones_of_limbs : (l : List Bool) → sum_by count_ones (limbs l) ≡ count true l (length l)
 unfolding limbs
 ones_of_limbs l = ones_before l (limb_count (length l)) ∙ count_past true l (64 * limb_count (length l)) (omega arith)
-
-refuted : (r : Bool) (P : Type 0) → Decides r P → (P → ⊥) → r ≡ false
-refuted true P d h = absurd (h (d.0 refl))
-refuted false P d h = refl
 
 -- the test of two lists
 pub tests_same : (xs ys : List ℕ) → xs ≡ ys → true ≡ pointwise eqb xs ys

@@ -1,5 +1,5 @@
 -- Words that hold a list of bits: what an edit of the words does to the list.
-use Rattle.vers_bits.proofs.Names.{◌≡◌, ℕ, ◌+◌, ◌-◌, ◌*◌, ◌/◌, ◌%◌, ◌^◌, ◌<◌, ◌≤◌, Bool, false, eqb, List, [], ◌∷◌, ◌++◌, length, get_or, set, take, replicate, refl, sym, ap, ◌∙◌, inl, inr, arith, bit_at, bit_or, cases_lt, cases_eq, shr-shr, pow_pos, bit_at-lt, bit_at_or, bit_at_above, bit_at_cat_low, bit_at_cat_high, bit_at-zero, get_or_past, get_or_push, get_or_append_left, get_or-append_right, length-append, length-replicate, get_or-replicate, length_push, length-set, take_all, low_bits, limb_count, word_bit, word_bits, HoldsBits, Holds}
+use Rattle.vers_bits.proofs.Names.{◌≡◌, ℕ, ◌+◌, ◌-◌, ◌*◌, ◌/◌, ◌%◌, ◌^◌, ◌<◌, ◌≤◌, Bool, false, eqb, List, [], ◌∷◌, ◌++◌, length, get_or, set, take, replicate, refl, sym, ◌∙◌, inl, inr, arith, bit_at, bit_or, cases_lt, cases_eq, shr-shr, pow_pos, bit_at-lt, bit_at_or, bit_at_above, bit_at_cat_low, bit_at_cat_high, bit_at-zero, get_or_past, get_or_push, get_or_append_left, get_or-append_right, length-append, length-replicate, get_or-replicate, length_push, length-set, take_all, low_bits, limb_count, word_bit, word_bits, HoldsBits, Holds}
 use Rattle.vers_bits.proofs.Words.{length-word_bits, get_or-word_bits, word_bits_are, past_words, set_here, set_apart}
 use Rattle.vers_bits.proofs.LowBits.{length-low_bits, get_or-low_bits, bit_at_mod, bit_value_test}
 
@@ -15,7 +15,7 @@ held {ws} {n} {l} holds = record {
 
 -- a digit that is 0 makes a zero
 zero_bit : (x i : ℕ) → bit_at x i ≡ 0 → eqb (bit_at x i) 1 ≡ false
-zero_bit x i e = ap (λ m. eqb m 1) e
+zero_bit x i e = rw e refl
 
 same_default : {X : Type 0} (k i : ℕ) (d : X) → get_or (replicate k d) i d ≡ d
 same_default k i d = grind (arith, get_or-replicate, get_or_past, length-replicate)
@@ -153,10 +153,8 @@ added_zeros ws n k holds bounded =
       counted = length-append ws more ∙ omega (arith, length-replicate {A = ℕ} (limb_count (n + k) - length ws) 0, holds.counted);
       bounded = bounded;
       each = λ i. elim (cases_lt i n) [
-        | inl h ↦ ap (λ w. eqb (bit_at w (i % 64)) 1) (get_or_append_left ws more 0 (i / 64) (omega (arith, holds.counted)))
-            ∙ sym (get_or_append_left (word_bits ws n) rest false i (omega (arith, length-word_bits ws n)) ∙ get_or-word_bits ws n i false h)
-        | inr h ↦ zeros_past ws (limb_count (n + k) - length ws) i (holds.padded i h)
-            ∙ sym (get_or-append_right (word_bits ws n) rest n i false (length-word_bits ws n) h ∙ same_default k (i - n) false)
+        | inl h ↦ rw (get_or_append_left ws more 0 (i / 64) (omega (arith, holds.counted)), get_or_append_left (word_bits ws n) rest false i (omega (arith, length-word_bits ws n))) (sym (get_or-word_bits ws n i false h))
+        | inr h ↦ rw (zeros_past ws (limb_count (n + k) - length ws) i (holds.padded i h), get_or-append_right (word_bits ws n) rest n i false (length-word_bits ws n) h) (sym (same_default k (i - n) false))
       ];
     }
 

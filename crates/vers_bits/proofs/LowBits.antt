@@ -1,6 +1,6 @@
 -- The low digits of a number as a list of bits.
 use Rattle.std.proofs.lemmas.Bool.Decides.{nat_tests}
-use Rattle.vers_bits.proofs.Names.{◌≡◌, ℕ, ◌+◌, ◌-◌, ◌/◌, ◌%◌, ◌^◌, ◌<◌, ◌≤◌, Bool, false, eqb, List, [], ◌++◌, length, get_or, replicate, refl, sym, ap, ◌∙◌, arith, bit_at, bit_and, cases_lt, and_mask, mod_below, pow_pos, shr-shr, ones_shr, bit_at-lt, bit_at_and, bit_at_ones, bit_at_above, same_from_bits, ext_get_or, get_or_past, get_or_append_left, get_or-append_right, get_or-replicate, length-append, length-replicate, length-map-range_with_len, get_or-map-range_with_len, bit_value, number}
+use Rattle.vers_bits.proofs.Names.{◌≡◌, ℕ, ◌+◌, ◌-◌, ◌/◌, ◌%◌, ◌^◌, ◌<◌, ◌≤◌, Bool, false, eqb, List, [], ◌++◌, length, get_or, replicate, refl, sym, ◌∙◌, arith, bit_at, bit_and, cases_lt, and_mask, mod_below, pow_pos, shr-shr, ones_shr, bit_at-lt, bit_at_and, bit_at_ones, bit_at_above, same_from_bits, ext_get_or, get_or_past, get_or_append_left, get_or-append_right, get_or-replicate, length-append, length-replicate, length-map-range_with_len, get_or-map-range_with_len, bit_value, number}
 use Rattle.vers_bits.specs.Bits.{low_bits}
 use Rattle.vers_bits.proofs.Num.{bit_at-number}
 
@@ -33,21 +33,15 @@ low_bits_are v n l e each =
     (λ i h. let small : i < n = omega (arith, length-low_bits v n) in get_or-low_bits v n i small ∙ each i small)
 
 pub low_bits_of_number : (l : List Bool) → low_bits (number l) (length l) ≡ l
-low_bits_of_number l =
-    low_bits_are (number l) (length l) l refl (λ i h. ap (λ m. eqb m 1) (bit_at-number l i) ∙ test_bit_value (get_or l i false))
+low_bits_of_number l = low_bits_are (number l) (length l) l refl (λ i h. grind (arith, bit_at-number, test_bit_value))
 
 pub low_bits_of_rest : (v n : ℕ) → low_bits (v % 2 ^ n) n ≡ low_bits v n
-low_bits_of_rest v n =
-    low_bits_are (v % 2 ^ n) n (low_bits v n) (length-low_bits v n) (λ i h. ap (λ m. eqb m 1) (bit_at_mod v n i h) ∙ sym (get_or-low_bits v n i h))
+low_bits_of_rest v n = low_bits_are (v % 2 ^ n) n (low_bits v n) (length-low_bits v n) (λ i h. grind (arith, bit_at_mod, get_or-low_bits))
 
 pub number-low_bits : (v n : ℕ) → number (low_bits v n) ≡ v % 2 ^ n
 number-low_bits v n =
     same_from_bits (number (low_bits v n)) (v % 2 ^ n) (λ i.
     grind (arith, bit_at-number, cases_lt, get_or-low_bits, bit_value_test, bit_at-lt, bit_at_mod, get_or_past, length-low_bits, bit_at_mod_above))
-
--- the digits from j on are the digits of the quotient
-bit_at_shr : (v j i : ℕ) → bit_at (v / 2 ^ j) i ≡ bit_at v (j + i)
-bit_at_shr v j i = ap (λ m. m % 2) (shr-shr v j i)
 
 low_bits_two : (v j k : ℕ) (high : List Bool) → length high ≡ k → ((i : ℕ) → i < k → eqb (bit_at v (j + i)) 1 ≡ get_or high i false) → low_bits v (j + k) ≡ low_bits v j ++ high
 low_bits_two v j k high long each =
@@ -56,11 +50,11 @@ low_bits_two v j k high long each =
     grind (arith, get_or_append_left, length-low_bits, get_or-low_bits, get_or-append_right))
 
 pub low_bits-add : (v j k : ℕ) → low_bits v (j + k) ≡ low_bits v j ++ low_bits (v / 2 ^ j) k
-low_bits-add v j k = low_bits_two v j k (low_bits (v / 2 ^ j) k) (length-low_bits (v / 2 ^ j) k) (λ i h. ap (λ m. eqb m 1) (sym (bit_at_shr v j i)) ∙ sym (get_or-low_bits (v / 2 ^ j) k i h))
+low_bits-add v j k = low_bits_two v j k (low_bits (v / 2 ^ j) k) (length-low_bits (v / 2 ^ j) k) (λ i h. rw (get_or-low_bits (v / 2 ^ j) k i h, shr-shr) refl)
 
 -- past the number's own digits there are zeros
 pub low_bits_past : (v j k : ℕ) → v < 2 ^ j → low_bits v (j + k) ≡ low_bits v j ++ replicate k false
-low_bits_past v j k small = low_bits_two v j k (replicate k false) (length-replicate k false) (λ i h. ap (λ m. eqb m 1) (bit_at_above v j (j + i) small (omega arith)) ∙ sym (get_or-replicate k i false false h))
+low_bits_past v j k small = low_bits_two v j k (replicate k false) (length-replicate k false) (λ i h. grind (arith, bit_at_above v j (j + i) small, get_or-replicate))
 
 pub low_bits_none : (v : ℕ) → low_bits v 0 ≡ []
 unfolding low_bits

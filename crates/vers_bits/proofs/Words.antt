@@ -79,9 +79,8 @@ past_words ws i h = grind (arith, get_or_past, bit_at-zero)
 pub added_bits : {ws vs : List ℕ} {n : ℕ} {b : Bool} → AddsBit ws vs n b → word_bits vs (n + 1) ≡ word_bits ws n ++ b ∷ []
 unfolding word_bits
 added_bits {ws} {vs} {n} {b} adds =
-    (map-range_with_len_more (word_bit vs) 0 n n (omega arith)) ∙ ap (λ x. word_bits vs n ++ x ∷ []) adds.here
-    ∙ ap (λ l. l ++ b ∷ []) (word_bits_are vs n (word_bits ws n) (length-word_bits ws n)
-    (λ i h. grind (arith, get_or-word_bits)))
+    let same : word_bits vs n ≡ word_bits ws n = word_bits_are vs n (word_bits ws n) (length-word_bits ws n) (λ i h. grind (arith, get_or-word_bits)) in
+    rw (map-range_with_len_more (word_bit vs) 0 n n (omega arith), adds.here) (ap (λ l. l ++ b ∷ []) same)
 
 pub added_holds : {ws vs : List ℕ} {n : ℕ} {b : Bool} → AddsBit ws vs n b → HoldsBits ws n → n < 18446744073709551552 → HoldsBits vs (n + 1)
 added_holds {ws} {vs} {n} {b} adds holds small = grind arith
