@@ -85,12 +85,6 @@ pub low_is : {s : List ℕ} {high low : List Bool} {first last width : ℕ} (v :
 unfolding low_of
 low_is {s} {first} {last} {width} v packed = grind (arith, one_shl width 64 packed.narrow, and_mask)
 
-pub upper_steps : (a e : ℕ) → a < e → digits (e - (a + (e - a) / 2 + 1)) + 1 ≤ digits (e - a)
-upper_steps a e h = digits_halved _ _ (omega arith) (omega arith)
-
-pub lower_steps : (a e : ℕ) → a < e → digits (a + (e - a) / 2 - a) + 1 ≤ digits (e - a)
-lower_steps a e h = digits_halved _ _ (omega arith) (omega arith)
-
 -- ---- buckets
 
 -- the zero after that with the high part of v stands among the high parts
@@ -103,7 +97,7 @@ in_bucket i at low high h = omega (arith, at.high, at.start.after i low h, at.en
 
 pub ruleset bucket = (high_below, zeros_from, bucket_is)
 
-pub ruleset search_steps = (start_below, below_end, step_up, step_down, upper_steps, lower_steps, digits_up)
+pub ruleset search_steps = (start_below, below_end, step_up, step_down, digits_halved, digits_up)
 
 pub ruleset members = (in_bucket)
 

@@ -40,12 +40,6 @@ high_at i packed h = packed.high_parts.place i h
 
 -- ---- both
 
-pub get_some : (s : List ℕ) (i : ℕ) → i < length s → slice_get s i ≡ Some (slice_index s i)
-get_some s i h = slice_get-get_or s i 0 h
-
-pub get_none : (s : List ℕ) (i : ℕ) → length s ≤ i → slice_get s i ≡ None
-get_none s i h = slice_get_past s i h
-
 pub in_order : {s : List ℕ} {high low : List Bool} {first last width : ℕ} (i : ℕ) → IsPacked s high low first last width → i < length s
     → (first ≤ slice_index s i) × (slice_index s i ≤ last)
 in_order {s} i packed h = grind (arith)
@@ -71,6 +65,6 @@ pub ruleset low_parts_read = (low_read, low_within)
 
 pub ruleset high_parts_read = (high_at, high_counted)
 
-pub ruleset gets = (get_some, get_none)
+pub ruleset gets = (slice_get-get_or, slice_get_past)
 
 pub ruleset joined_parts = (joined, in_order)
