@@ -1,7 +1,6 @@
 -- Steps of iterators from both ends, for items of every type.
-use Rattle.vers_bits.proofs.Names.{◌≡◌, ℕ, ◌+◌, ◌-◌, ◌<◌, ◌≤◌, List, [], ◌∷◌, ◌++◌, Bool, false, map, Option, Some, None, length, get_or, min, take, drop, reverse, refl, sym, ◌∙◌, ap, arith, inl, inr, last_or, YieldsFirst, YieldsLast, MakesProgress, item_count, length-map, length-take, length-drop, get_or-take, get_or-drop, get_or-reverse, length-reverse, drop-drop, drop-take, drop_all, take_all, take_more, take_at, take-take, take-append-drop, length_push, reverse-append, reverse-reverse, append-nil, cases_lt, slice_get-map, slice_get_past, slice_get_cases, slice_get-get_or, get_or_from_slice_get, slice_get_within, bit_value, limb, limbs}
-use Rattle.std.proofs.Common.{option_map, slice_get, append_assoc}
-use Rattle.std.specs.Option.{option_to_list}
+use Rattle.vers_bits.proofs.Names.{◌≡◌, ℕ, ◌+◌, ◌-◌, ◌<◌, ◌≤◌, List, [], ◌∷◌, ◌++◌, Bool, false, map, Option, Some, None, length, get_or, take, drop, reverse, refl, sym, ◌∙◌, ap, arith, inl, inr, last_or, YieldsFirst, YieldsLast, MakesProgress, item_count, length-map, length-take, length-drop, get_or-take, get_or-drop, get_or-reverse, length-reverse, drop-drop, drop-take, drop_all, take_all, take_more, take_at, take-take, take-append-drop, length_push, reverse-append, reverse-reverse, append-nil, cases_lt, slice_get-map, slice_get_past, slice_get_cases, slice_get-get_or, get_or_from_slice_get, slice_get_within, bit_value, limb, limbs}
+use Rattle.std.proofs.Common.{slice_get, append_assoc}
 use Rattle.std.proofs.lemmas.Slice.{between_from_start}
 use Rattle.vers_bits.proofs.Equal.{length-limbs, get_or-limbs}
 use Rattle.vers_bits.specs.declared.walk.Span.{Span}
@@ -50,8 +49,7 @@ module _ {X : Type 0} where
   pub gave : (n : ℕ) (xs : List X) (s t : Span) {old : List X} {p : ℕ} {x : X} → items_in xs s ≡ old → s.to ≤ length xs
       → (p ≡ s.from + n) × (p < s.to) × (t.from ≡ p + 1) × (t.to ≡ s.to) → slice_get xs p ≡ Some x → TakesNth n old (Some x) (items_in xs t)
   gave n xs s t {p = p} {x = x} view within some is =
-      let at : get_or (items_in xs s) n x ≡ x =
-      get_or-items_in xs s n x (omega (arith, some.0, some.1)) ∙ ap (λ k. get_or xs k x) (sym some.0) ∙ get_or_from_slice_get xs p x x is in
+      let at : get_or (items_in xs s) n x ≡ x = rw (get_or-items_in xs s n x (omega (arith, some.0, some.1)), ← some.0) (get_or_from_slice_get xs p x x is) in
       rw (← view) (record {
         given = sym (slice_get-get_or (items_in xs s) n x (omega (arith, some.0, some.1, length-items_in xs s within)) ∙ ap Some at);
         left = sym (drop-items_in xs s t (n + 1) (s.to - (p + 1)) (omega (arith, some.0, some.1)) (omega (arith, some.0, some.2)) some.3);
@@ -64,7 +62,7 @@ module _ {X : Type 0} where
       let all : length (items_in xs s) - (n + 1) ≡ 0 = omega arith in
       rw (is, ← view) (record {
         given = sym (slice_get_past (reverse (items_in xs s)) n (omega (arith, length-reverse (items_in xs s))));
-        left = items_in_none xs t (omega (arith, none.1, none.2)) ∙ sym (ap (λ k. take k (items_in xs s)) all);
+        left = rw (all, items_in_none xs t (omega (arith, none.1, none.2))) refl;
       })
 
   pub gave_back : (n : ℕ) (xs : List X) (s t : Span) {old : List X} {p : ℕ} {x : X} → items_in xs s ≡ old → s.to ≤ length xs
@@ -77,8 +75,7 @@ module _ {X : Type 0} where
       let kept : length (items_in xs s) - (n + 1) ≡ p - s.from = omega (arith, some.0, some.1) in
       let place : s.from + (p - s.from) ≡ p = omega (arith, some.1) in
       let at : get_or (reverse (items_in xs s)) n x ≡ x =
-      get_or-reverse (items_in xs s) n x inside ∙ ap (λ k. get_or (items_in xs s) k x) number ∙ get_or-items_in xs s (p - s.from) x (omega (arith, some.0, some.1))
-      ∙ ap (λ k. get_or xs k x) place ∙ get_or_from_slice_get xs p x x is in
+      rw (get_or-reverse (items_in xs s) n x inside, number, get_or-items_in xs s (p - s.from) x (omega (arith, some.0, some.1)), place) (get_or_from_slice_get xs p x x is) in
       rw (← view) (record {
         given = sym (slice_get-get_or (reverse (items_in xs s)) n x (omega (arith, length-reverse (items_in xs s))) ∙ ap Some at);
         left = sym (ap (λ k. take k (items_in xs s)) kept ∙ (grind (arith, take-take)));
@@ -101,9 +98,9 @@ module _ {X : Type 0} where
   last_some xs x h =
       let inside : 0 < length (reverse xs) = slice_get_within (reverse xs) 0 x (sym h) in
       let long : 0 < length xs = omega (arith, length-reverse xs) in
-      let same : length xs - 1 - 0 ≡ length xs - 1 = omega arith in
-      let at : get_or xs (length xs - 1) x ≡ x = ap (λ k. get_or xs k x) (sym same) ∙ sym (get_or-reverse xs 0 x long) ∙ get_or_from_slice_get (reverse xs) 0 x x (sym h) in
-      (grind (arith, take_all, take_more)) ∙ ap (λ y. take (length xs - 1) xs ++ y ∷ []) at
+      let same : length xs - 1 ≡ length xs - 1 - 0 = omega arith in
+      let at : get_or xs (length xs - 1) x ≡ x = rw (same, ← get_or-reverse xs 0 x long) (get_or_from_slice_get (reverse xs) 0 x x (sym h)) in
+      grind (arith, take_all, take_more)
 
   pub yields_last : (old : List X) (r : Option X) (new : List X) → TakesLast old r new → YieldsLast (λ (s : List X). s) old r new
   yields_last old None new h =
@@ -113,18 +110,14 @@ module _ {X : Type 0} where
 
   -- the other way round
   takes_first : (old : List X) (taken : Option X) (new : List X) → YieldsFirst (λ (s : List X). s) old taken new → TakesFirst old taken new
-  takes_first old None new h = record { given = sym (ap (λ l. slice_get l 0) h.0); left = h.1 ∙ sym (ap (drop 1) h.0) }
-  takes_first old (Some x) new h = record { given = sym (ap (λ l. slice_get l 0) h); left = sym (ap (drop 1) h) }
+  takes_first old None new h = rw (h.0, h.1) (record { given = refl; left = refl })
+  takes_first old (Some x) new h = rw h (record { given = refl; left = refl })
 
   takes_last : (old : List X) (taken : Option X) (new : List X) → YieldsLast (λ (s : List X). s) old taken new → TakesLast old taken new
-  takes_last old None new h = record { given = sym (ap (λ l. slice_get (reverse l) 0) h.0); left = h.1 ∙ sym (ap (λ l. take (length l - 1) l) h.0) }
+  takes_last old None new h = rw (h.0, h.1) (record { given = refl; left = refl })
   takes_last old (Some x) new h =
-      let turned : reverse old ≡ x ∷ reverse new = ap reverse h ∙ reverse-append new (x ∷ []) in
-      let fewer : length old - 1 ≡ length new = omega (arith, ap length h, length_push new x) in
-      record {
-        given = sym (ap (λ l. slice_get l 0) turned);
-        left = sym (ap (λ k. take k old) fewer ∙ ap (take (length new)) h ∙ take_at new (x ∷ []) (length new) refl);
-      }
+      let fewer : length (new ++ x ∷ []) - 1 ≡ length new = omega (arith, length_push new x) in
+      rw h (record { given = rw reverse-append refl; left = rw (fewer, take_at new (x ∷ []) (length new) refl) refl })
 
   pub next_is_nth_of_zero : NextIsNthOfZero X
   next_is_nth_of_zero old taken new = (takes_first old taken new, yields_first old taken new)
@@ -136,7 +129,7 @@ module _ {X : Type 0} where
   goes_on : (can : List X → Type 0) (old : List X) (r : Option X) (new : List X) → can new → (length old ≡ 0 → r ≡ None) → length new ≡ length old - 1 → MakesProgress can (item_count (λ s. s)) old r new
   goes_on can old None new may ended fewer = record { on = λ _. tt; keeps = tt; rests = λ _. tt }
   goes_on can old (Some x) new may ended fewer =
-      let some : 0 < length old = elim (cases_lt 0 (length old)) [ inl h ↦ h | inr h ↦ (let none : Some x ≡ None = ended (omega arith) in cc) ] in
+      let some : 0 < length old = grind (arith, ended) in
       record { on = λ _. (may, tt, omega arith); keeps = may; rests = λ _. tt }
 
   pub goes_first : (can : List X → Type 0) (old : List X) (r : Option X) (new : List X) → can new → TakesFirst old r new → MakesProgress can (item_count (λ s. s)) old r new
@@ -146,8 +139,7 @@ module _ {X : Type 0} where
   pub goes_last : (can : List X → Type 0) (old : List X) (r : Option X) (new : List X) → can new → TakesLast old r new → MakesProgress can (item_count (λ s. s)) old r new
   goes_last can old r new may h =
       goes_on can old r new may
-      (λ z. h.given ∙ slice_get_past (reverse old) 0 (omega (arith, length-reverse old)))
-      (ap length h.left ∙ length-take (length old - 1) old ∙ (let e : min (length old - 1) (length old) ≡ length old - 1 = omega arith in e))
+      (λ z. h.given ∙ slice_get_past (reverse old) 0 (omega (arith, length-reverse old))) (omega (arith, ap length h.left, length-take (length old - 1) old))
 
   -- ---- the last item
   last_or-push : (o : Option X) (xs : List X) (x : X) → last_or o (xs ++ x ∷ []) ≡ Some x
@@ -155,54 +147,44 @@ module _ {X : Type 0} where
   last_or-push o (y ∷ ys) x = last_or-push (Some y) ys x
 
   pub last_is : (old : List X) (r : Option X) (new : List X) → TakesLast old r new → r ≡ last_or None old
-  last_is old None new h = sym (ap (last_or None) (last_none old h.given))
+  last_is old None new h = rw (last_none old h.given) refl
   last_is old (Some x) new h = sym (ap (last_or None) (last_some old x h.given) ∙ last_or-push None (take (length old - 1) old) x)
 
   -- ---- walks
   passes_next : (n : ℕ) (l : List X) (taken : Option X) → taken ≡ slice_get l n → nth_passes n l taken ≡ take (n + 1) l
   passes_next n l taken given = elim ((slice_get_cases l n).1) [
-    | inl (x, within, is, at) ↦
-        ap (λ o. take n l ++ option_to_list o) (given ∙ is) ∙ ap (λ y. take n l ++ y ∷ []) (sym at) ∙ sym (take_more l n x within)
-    | inr (past, none) ↦
-        ap (λ o. take n l ++ option_to_list o) (given ∙ none) ∙ append-nil (take n l) ∙ take_all n l past ∙ sym (take_all (n + 1) l (omega arith))
+    | inl (x, within, is, at) ↦ rw (given, is, take_more l n x within, at) refl
+    | inr (past, none) ↦ rw (given, none, append-nil, take_all n l past, take_all (n + 1) l (omega arith)) refl
   ]
 
   -- the last of a list, the last of them first
   last_turned : (m : ℕ) (l : List X) → reverse (take m (reverse l)) ≡ drop (length l - m) l
   last_turned m l =
-      let front : List X = take (length l - m) l in
       let back : List X = drop (length l - m) l in
-      let turned : reverse l ≡ reverse back ++ reverse front = ap reverse (sym (take-append-drop (length l - m) l)) ∙ reverse-append front back in
+      let turned : reverse l ≡ reverse back ++ reverse (take (length l - m) l) = rw (← reverse-append, take-append-drop) refl in
       elim (cases_lt (length l) m) [
         | inl all ↦
             let none : length l - m ≡ 0 = omega arith in
-            ap reverse (take_all m (reverse l) (omega (arith, length-reverse l))) ∙ reverse-reverse l ∙ sym (ap (λ k. drop k l) none)
-        | inr some ↦
-            ap (λ r. reverse (take m r)) turned ∙ ap reverse (take_at (reverse back) (reverse front) m (length-reverse back ∙ length-drop (length l - m) l ∙ omega arith))
-            ∙ reverse-reverse back
+            rw (none, take_all m (reverse l) (omega (arith, length-reverse l))) (reverse-reverse l)
+        | inr some ↦ rw (turned, take_at (reverse back) (reverse (take (length l - m) l)) m (length-reverse back ∙ length-drop (length l - m) l ∙ omega arith)) (reverse-reverse back)
       ]
 
   -- what one call passes and what it leaves make up the list
   step_passes : (old : List X) (taken : Option X) (fronts backs new : List X) → Step old taken fronts backs new → fronts ++ (new ++ reverse backs) ≡ old
   step_passes old None _ _ new (next _ _ _ h) = append-nil new ∙ h.1 ∙ sym h.0
-  step_passes old (Some x) _ _ new (next _ _ _ h) = ap (λ l. x ∷ l) (append-nil new) ∙ sym h
+  step_passes old (Some x) _ _ new (next _ _ _ h) = rw (append-nil, h) refl
   step_passes old None _ _ new (next_back _ _ _ h) = append-nil new ∙ h.1 ∙ sym h.0
   step_passes old (Some x) _ _ new (next_back _ _ _ h) = sym h
-  step_passes old taken _ _ new (nth n _ _ _ h) =
-      ap (λ l. nth_passes n old taken ++ l) (append-nil new ∙ h.left) ∙ ap (λ l. l ++ drop (n + 1) old) (passes_next n old taken h.given) ∙ take-append-drop (n + 1) old
+  step_passes old taken _ _ new (nth n _ _ _ h) = rw (append-nil, h.left, passes_next n old taken h.given) (take-append-drop (n + 1) old)
   step_passes old taken _ _ new (nth_back n _ _ _ h) =
-      ap (λ l. new ++ reverse l) (passes_next n (reverse old) taken h.given) ∙ ap (λ l. new ++ l) (last_turned (n + 1) old)
-      ∙ ap (λ l. l ++ drop (length old - (n + 1)) old) h.left ∙ take-append-drop (length old - (n + 1)) old
+      rw (passes_next n (reverse old) taken h.given, last_turned (n + 1) old, h.left) (take-append-drop (length old - (n + 1)) old)
 
   pub passes_each_once : PassesEachOnce X
   passes_each_once old [] [] new (no_call _) = append-nil old
   passes_each_once old _ _ new (call _ between _ fronts backs more_fronts more_backs taken step rest) =
-      append_assoc fronts more_fronts (new ++ reverse (backs ++ more_backs))
-      ∙ ap (λ l. fronts ++ (more_fronts ++ (new ++ l))) (reverse-append backs more_backs)
-      ∙ ap (λ l. fronts ++ (more_fronts ++ l)) (sym (append_assoc new (reverse more_backs) (reverse backs)))
-      ∙ ap (λ l. fronts ++ l) (sym (append_assoc more_fronts (new ++ reverse more_backs) (reverse backs)))
-      ∙ ap (λ l. fronts ++ (l ++ reverse backs)) (passes_each_once between more_fronts more_backs new rest)
-      ∙ step_passes old taken fronts backs between step
+      let last : fronts ++ (between ++ reverse backs) ≡ old = step_passes old taken fronts backs between step in
+      let others : more_fronts ++ (new ++ reverse more_backs) ≡ between = passes_each_once between more_fronts more_backs new rest in
+      rw (reverse-append backs more_backs, ← last, ← others) (simp append_assoc)
 
   pub stays_ended : StaysEnded X
   stays_ended None _ _ new (next _ _ _ h) = (refl, h.1)
@@ -218,10 +200,7 @@ pub length-bits : (bits : List Bool) → length (map bit_value bits) ≡ length 
 length-bits bits = length-map bits bit_value
 
 pub bit_item : (bits : List Bool) (p : ℕ) (x : ℕ) → p < length (map bit_value bits) → x ≡ bit_value (get_or bits p false) → slice_get (map bit_value bits) p ≡ Some x
-bit_item bits p x h is =
-    slice_get-map bit_value bits p
-    ∙ ap (option_map bit_value) (slice_get-get_or bits p false (omega (arith, length-bits bits)))
-    ∙ ap Some (sym is)
+bit_item bits p x h is = rw (slice_get-map, slice_get-get_or bits p false (omega (arith, length-bits bits)), is) refl
 
 -- ---- items that are the limbs of a list
 pub limb_item : (bits : List Bool) (k x : ℕ) → k < length (limbs bits) → x ≡ limb bits k → slice_get (limbs bits) k ≡ Some x

@@ -1,5 +1,5 @@
 -- Sums over the chunks of a list, and lists whose chunks are the same.
-use Rattle.vers_bits.proofs.Names.{◌≡◌, ℕ, zero, suc, map, ◌+◌, ◌*◌, ◌≤◌, Bool, true, false, List, [], ◌++◌, take, drop, length, get_or, eqb, refl, sym, ap, ◌∙◌, arith, Fits, w64, sum_by, count_ones, range_with_len, first_chunks, Decides, drop-drop, take-append-drop, sum_by-map-range_with_len_more, sum_by-cons, sum_by-take-drop, sum_by-le, ones-le, count, limb, limb_count}
+use Rattle.vers_bits.proofs.Names.{◌≡◌, ℕ, zero, suc, map, ◌+◌, ◌*◌, ◌≤◌, Bool, true, false, List, [], take, drop, length, get_or, eqb, refl, sym, ap, ◌∙◌, arith, Fits, w64, sum_by, count_ones, range_with_len, first_chunks, drop-drop, take-append-drop, sum_by-map-range_with_len_more, sum_by-cons, sum_by-take-drop, sum_by-le, ones-le, count, limb, limb_count}
 use Rattle.std.specs.Cmp.Lexicographic.{pointwise}
 use Rattle.std.proofs.lemmas.List.Elements.{All-from_get_or}
 use Rattle.std.proofs.lemmas.Slice.Eq.{bytes_eq-Decides}
@@ -11,13 +11,9 @@ use Rattle.vers_bits.proofs.Equal.{length-limbs}
 pub chunks-sum : (f : ℕ → ℕ) (n k : ℕ) (xs : List ℕ) → sum_by (sum_by f) (first_chunks n k xs) + sum_by f (drop (k * n) xs) ≡ sum_by f xs
 chunks-sum f n zero xs = grind arith
 chunks-sum f n (suc k) xs =
-    let rest = ap (sum_by f) (drop-drop (k * n) n xs) in
-    let ih = chunks-sum f n k (drop n xs) in
-    let whole = sum_by-take-drop f xs n in
-    let first = sum_by-cons (sum_by f) (take n xs) (first_chunks n k (drop n xs)) in
     let more : n + k * n ≡ suc k * n = omega arith in
-    let same = ap (λ m. sum_by f (drop m xs)) more in
-    omega (arith, rest, ih, whole, first, same)
+    let rest = ap (sum_by f) (drop-drop (k * n) n xs) in
+    rw (← more) (omega (arith, rest, chunks-sum f n k (drop n xs), sum_by-take-drop f xs n, sum_by-cons (sum_by f) (take n xs) (first_chunks n k (drop n xs))))
 
 -- words of 64 bits have no more than 64 ones each
 pub ones-bound : (xs : List ℕ) → ((k : ℕ) → Fits w64 (get_or xs k 0)) → sum_by count_ones xs ≤ length xs * 64
@@ -28,11 +24,10 @@ pub same_chunks : (n k : ℕ) (xs ys : List ℕ) → first_chunks n k xs ≡ fir
 same_chunks n zero xs ys h rest = grind arith
 same_chunks n (suc k) xs ys h rest =
     let more : n + k * n ≡ suc k * n = omega arith in
-    let behind : drop (k * n) (drop n xs) ≡ drop (k * n) (drop n ys) =
-    drop-drop (k * n) n xs ∙ ap (λ m. drop m xs) more ∙ rest ∙ sym (drop-drop (k * n) n ys ∙ ap (λ m. drop m ys) more) in
+    let behind : drop (k * n) (drop n xs) ≡ drop (k * n) (drop n ys) = rw (drop-drop (k * n) n xs, drop-drop (k * n) n ys, more) rest in
     let first : take n xs ≡ take n ys = ap (λ cs. get_or cs 0 []) h in
     let others : drop n xs ≡ drop n ys = same_chunks n k (drop n xs) (drop n ys) (ap (drop 1) h) behind in
-    sym (take-append-drop n xs) ∙ ap (λ a. a ++ drop n xs) first ∙ ap (λ b. take n ys ++ b) others ∙ take-append-drop n ys
+    rw (← take-append-drop n xs, ← take-append-drop n ys, first, others) refl
 
 ones_before : (l : List Bool) (n : ℕ) → sum_by count_ones (map (limb l) (range_with_len 0 n)) ≡ count true l (64 * n)
 ones_before l zero = sym (count_none true l)
@@ -47,16 +42,12 @@ pub ones_of_limbs : (l : List Bool) → sum_by count_ones (limbs l) ≡ count tr
 unfolding limbs
 ones_of_limbs l = ones_before l (limb_count (length l)) ∙ count_past true l (64 * limb_count (length l)) (omega arith)
 
-refuted : (r : Bool) (P : Type 0) → Decides r P → (P → ⊥) → r ≡ false
-refuted true P d h = absurd (h (d.0 refl))
-refuted false P d h = refl
-
 -- the test of two lists
 pub tests_same : (xs ys : List ℕ) → xs ≡ ys → true ≡ pointwise eqb xs ys
 tests_same xs ys e = sym ((bytes_eq-Decides xs ys).1 e)
 
 pub tests_other : (xs ys : List ℕ) → (xs ≡ ys → ⊥) → false ≡ pointwise eqb xs ys
-tests_other xs ys h = sym (refuted (pointwise eqb xs ys) (xs ≡ ys) (bytes_eq-Decides xs ys) h)
+tests_other xs ys h = grind (arith, bytes_eq-Decides xs ys)
 
 pub ruleset sums = (ones-bound)
 

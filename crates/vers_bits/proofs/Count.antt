@@ -1,5 +1,5 @@
 -- How many of the first places hold a bit.
-use Rattle.vers_bits.proofs.Names.{◌≡◌, ℕ, ◌+◌, ◌-◌, ◌*◌, ◌%◌, ◌^◌, ◌≤◌, min, Bool, true, false, cond, List, [], ◌∷◌, length, take, drop, refl, sym, ap, ◌∙◌, arith, inl, inr, count_by, count_ones, length-take, take_all, take-take, sum_by-cons, sum_by-append, count_by-le-length, take-add, cases_lt, number, is_bit, rules}
+use Rattle.vers_bits.proofs.Names.{◌≡◌, ℕ, ◌+◌, ◌-◌, ◌*◌, ◌%◌, ◌^◌, ◌≤◌, min, Bool, true, false, cond, List, [], ◌∷◌, length, take, drop, refl, sym, ap, ◌∙◌, arith, count_by, count_ones, length-take, take_all, take-take, sum_by-cons, sum_by-append, count_by-le-length, take-add, number, is_bit, rules}
 use Rattle.vers_bits.specs.Bits.{count, limb}
 use Rattle.vers_bits.proofs.Num.{number-take, ones-number}
 
@@ -54,4 +54,4 @@ count_limb_whole l k = count_split true l (64 * k) 64 ∙ ap (λ x. count true l
 
 -- no place has more before it than the whole list holds
 pub count_le_all : (b : Bool) (l : List Bool) (i : ℕ) → count b l i ≤ count b l (length l)
-count_le_all b l i = elim (cases_lt i (length l)) [ inl h ↦ count_up b l i (length l) (omega arith) | inr h ↦ omega (arith, count_past b l i h) ]
+count_le_all b l i = grind (arith, count_up, count_past)

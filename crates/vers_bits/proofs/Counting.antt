@@ -18,14 +18,11 @@ unfolding limb
 part_of_limb l p n some h =
     let k : ℕ = p / 64 in
     let s : ℕ = p % 64 in
-    let start : p ≡ 64 * k + s = omega arith in
     let all : 64 ≡ s + (64 - s) = omega arith in
     let cut : drop s (take 64 (drop (64 * k) l)) ≡ take (64 - s) (drop s (drop (64 * k) l)) =
     ap (λ m. drop s (take m (drop (64 * k) l))) all ∙ drop-take s (64 - s) (drop (64 * k) l) in
-    let same : take n (drop p l) ≡ take n (drop s (take 64 (drop (64 * k) l))) =
-    ap (λ q. take n (drop q l)) start ∙ sym (ap (take n) (drop-drop s (64 * k) l)) ∙ sym (take-take n (64 - s) (drop s (drop (64 * k) l)) (omega arith)) ∙ sym (ap (take n) cut) in
-    ap number same ∙ number-take n (drop s (take 64 (drop (64 * k) l))) ∙ ap (λ x. x % 2 ^ n) (number-drop s (take 64 (drop (64 * k) l)))
-    ∙ sym (low_mask (number (take 64 (drop (64 * k) l)) / 2 ^ s) n (omega arith))
+    let same : take n (drop p l) ≡ take n (drop s (take 64 (drop (64 * k) l))) = rw (cut, take-take n (64 - s) _ (omega arith), drop-drop s (64 * k) l) (grind arith) in
+    rw (same, number-take, number-drop) (sym (low_mask _ n (omega arith)))
 
 pub number-append : (a b : List Bool) → number (a ++ b) ≡ number a + 2 ^ length a * number b
 number-append [] b = omega arith
@@ -53,9 +50,7 @@ parts_join l p m n h few within =
 joined_low : (c a m n : ℕ) → n ≤ m → (c * 2 ^ m + a) % 2 ^ n ≡ a % 2 ^ n
 joined_low c a m n h =
     let wide : m ≡ (m - n) + n = omega arith in
-    let split : c * 2 ^ m ≡ c * 2 ^ (m - n) * 2 ^ n =
-    ap (λ k. c * 2 ^ k) wide ∙ ap (λ x. c * x) (pow-add 2 (m - n) n) ∙ sym (grind (arith, mul_assoc)) in
-    grind (arith, mul-add-mod_self_right)
+    rw (wide, pow-add, ← mul_assoc) (grind (arith, mul-add-mod_self_right))
 
 -- two limbs, the second shifted up to where the first ends
 two_limbs : (x y s : ℕ) → s < 64 → x < 2 ^ 64
@@ -63,14 +58,12 @@ two_limbs : (x y s : ℕ) → s < 64 → x < 2 ^ 64
 two_limbs x y s small fits =
     let rest : 1 + (63 - s) ≡ 64 - s = omega arith in
     let all : 64 ≡ s + (64 - s) = omega arith in
-    let twice : 2 ^ 1 * 2 ^ (63 - s) ≡ 2 ^ (64 - s) = sym (pow-add 2 1 (63 - s)) ∙ ap (λ j. 2 ^ j) rest in
+    let twice : 2 ^ 1 * 2 ^ (63 - s) ≡ 2 ^ (64 - s) = rw rest at (sym (pow-add 2 1 (63 - s))) in
     let shifted : y * 2 ^ 1 % 2 ^ 64 * 2 ^ (63 - s) % 2 ^ 64 ≡ (y % 2 ^ s) * 2 ^ (64 - s) =
-    mul-mod_first (y * 2 ^ 1) (2 ^ (63 - s)) (2 ^ 64) ∙ ap (λ x. x % 2 ^ 64) (mul_assoc y (2 ^ 1) (2 ^ (63 - s)) ∙ ap (λ x. y * x) twice)
-    ∙ ap (λ j. y * 2 ^ (64 - s) % 2 ^ j) all ∙ (grind (arith, mod-pow-add, mul-div_cancel, pow_pos, mul-mod_left)) in
-    let wide : 64 ≡ (64 - s) + s = omega arith in
-    let fit : x < 2 ^ ((64 - s) + s) = rw (sym wide) fits in
-    let short : x / 2 ^ s < 2 ^ (64 - s) = shr_lt (64 - s) s fit in
-    ap (bit_or (x / 2 ^ s)) shifted ∙ or_shifted_r (y % 2 ^ s) (64 - s) (x / 2 ^ s) short
+    rw (mul-mod_first (y * 2 ^ 1) (2 ^ (63 - s)) (2 ^ 64), mul_assoc y (2 ^ 1) (2 ^ (63 - s)), twice)
+    (ap (λ j. y * 2 ^ (64 - s) % 2 ^ j) all ∙ (grind (arith, mod-pow-add, mul-div_cancel, pow_pos, mul-mod_left))) in
+    let fit : x < 2 ^ ((64 - s) + s) = grind arith in
+    ap (bit_or (x / 2 ^ s)) shifted ∙ or_shifted_r (y % 2 ^ s) (64 - s) (x / 2 ^ s) (shr_lt (64 - s) s fit)
 
 part_in_limb : (l : List Bool) (p n : ℕ) → 0 < n → p % 64 + n ≤ 64 → number (take n (drop p l)) ≡ limb l (p / 64) / 2 ^ (p % 64) % 2 ^ n
 part_in_limb l p n some h = part_of_limb l p n some h ∙ low_mask (limb l (p / 64) / 2 ^ (p % 64)) n (omega arith)
@@ -89,11 +82,8 @@ part_over_limbs l p n k s start small few over within =
     let place : p % 64 ≡ s = omega arith in
     let after : (p + m) / 64 ≡ k + 1 = omega arith in
     let whole : (p + m) % 64 ≡ 0 = omega arith in
-    let plain : next / 1 ≡ next = omega arith in
-    let low : number (take m (drop p l)) ≡ first =
-    part_in_limb l p m (omega arith) (omega arith) ∙ ap (λ q. limb l q / 2 ^ (p % 64) % 2 ^ m) word ∙ ap (λ q. limb l k / 2 ^ q % 2 ^ m) place ∙ mod-eq_of_lt short in
-    let high : number (take j (drop (p + m) l)) ≡ next % 2 ^ j =
-    part_in_limb l (p + m) j (omega arith) (omega arith) ∙ ap (λ q. limb l q / 2 ^ ((p + m) % 64) % 2 ^ j) after ∙ ap (λ q. next / 2 ^ q % 2 ^ j) whole ∙ ap (λ x. x % 2 ^ j) plain in
+    let low : number (take m (drop p l)) ≡ first = rw (part_in_limb l p m (omega arith) (omega arith), word, place) (mod-eq_of_lt short) in
+    let high : number (take j (drop (p + m) l)) ≡ next % 2 ^ j = rw (part_in_limb l (p + m) j (omega arith) (omega arith), after, whole) (grind arith) in
     let split : s ≡ (s - j) + j = omega arith in
     let sum : n ≡ j + m = omega arith in
     let cut : next % 2 ^ s % 2 ^ j ≡ next % 2 ^ j = ap (λ q. next % 2 ^ q % 2 ^ j) split ∙ mod-mod-pow next (s - j) j in

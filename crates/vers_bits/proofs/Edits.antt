@@ -54,14 +54,10 @@ module _ (ws : List ℕ) (p : ℕ) (within : p / 64 < length ws) where
   word = get_or ws (p / 64) 0
 
   pub puts_one : Puts ws (set ws (p / 64) (bit_or (get_or ws (p / 64) 0) (1 * 2 ^ (p % 64) % 2 ^ 64))) p true
-  puts_one =
-      puts_by ws p (bit_or word (1 * 2 ^ (p % 64) % 2 ^ 64)) true within (ap (λ m. eqb m 1) (bit_at_set_same w64 word (p % 64) (omega arith)))
-      (λ i h e. bit_at_set_other w64 word (p % 64) (omega arith) i e)
+  puts_one = puts_by ws p _ true within (ap (λ m. eqb m 1) (bit_at_set_same w64 word (p % 64) (omega arith))) (λ i h e. bit_at_set_other w64 word (p % 64) (omega arith) i e)
 
   pub puts_zero : Puts ws (set ws (p / 64) (bit_and (get_or ws (p / 64) 0) (bit_not w64 (1 * 2 ^ (p % 64) % 2 ^ 64)))) p false
-  puts_zero =
-      puts_by ws p (bit_and word (bit_not w64 (1 * 2 ^ (p % 64) % 2 ^ 64))) false within (ap (λ m. eqb m 1) (bit_at_clear_same w64 word (p % 64) (omega arith)))
-      (λ i h e. bit_at_clear_other w64 word (p % 64) (omega arith) i h e)
+  puts_zero = puts_by ws p _ false within (ap (λ m. eqb m 1) (bit_at_clear_same w64 word (p % 64) (omega arith))) (λ i h e. bit_at_clear_other w64 word (p % 64) (omega arith) i h e)
 
   pub puts_other : Puts ws (set ws (p / 64) (bit_xor (get_or ws (p / 64) 0) (1 * 2 ^ (p % 64) % 2 ^ 64))) p (not (word_bit ws p))
   puts_other =

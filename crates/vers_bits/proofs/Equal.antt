@@ -1,5 +1,5 @@
 -- The words follow from the bits that they hold.
-use Rattle.vers_bits.proofs.Names.{◌≡◌, ℕ, ◌+◌, ◌*◌, ◌/◌, ◌%◌, ◌^◌, ◌<◌, Bool, true, false, eqb, List, length, get_or, refl, sym, ◌∙◌, ap, arith, fill_by_all, length-map-range_with_len, get_or-map-range_with_len, ext_get_or, false≢true, bit_at, Decides, bit_value, limb, limb_count, word_bits, HoldsBits}
+use Rattle.vers_bits.proofs.Names.{◌≡◌, ℕ, ◌+◌, ◌*◌, ◌/◌, ◌%◌, ◌^◌, ◌<◌, Bool, false, eqb, List, length, get_or, refl, sym, ◌∙◌, ap, arith, fill_by_all, length-map-range_with_len, get_or-map-range_with_len, ext_get_or, false≢true, bit_at, Decides, bit_value, limb, limb_count, word_bits, HoldsBits}
 use Rattle.std.specs.Cmp.Lexicographic.{pointwise}
 use Rattle.std.proofs.lemmas.Slice.Eq.{bytes_eq-Decides}
 use Rattle.vers_bits.specs.Bits.{limbs}
@@ -15,7 +15,7 @@ limbs-word_bits words n h fits =
 
 -- place i of a list is a digit of its limb
 pub bit_at-limb : (l : List Bool) (i : ℕ) → bit_at (limb l (i / 64)) (i % 64) ≡ bit_value (get_or l i false)
-bit_at-limb l i = let place : 64 * (i / 64) + i % 64 ≡ i = omega arith in limb_bit l (i / 64) (i % 64) (omega arith) ∙ ap (λ p. bit_value (get_or l p false)) place
+bit_at-limb l i = let place : 64 * (i / 64) + i % 64 ≡ i = omega arith in rw (limb_bit l (i / 64) (i % 64) (omega arith), place) refl
 
 pub length-limbs : (l : List Bool) → length (limbs l) ≡ limb_count (length l)
 unfolding limbs
@@ -26,25 +26,18 @@ unfolding limbs
 get_or-limbs l k h = get_or-map-range_with_len (limb l) 0 (limb_count (length l)) k k 0 h (omega arith)
 
 same_value : (x y : Bool) → bit_value x ≡ bit_value y → x ≡ y
-same_value true true e = refl
-same_value true false e = absurd (omega arith)
-same_value false true e = absurd (omega arith)
-same_value false false e = refl
+same_value x y e = grind arith
 
 -- lists of one length with equal limbs are equal
 pub equal_limbs : (xs ys : List Bool) → length xs ≡ length ys → limbs xs ≡ limbs ys → xs ≡ ys
 equal_limbs xs ys e same =
     ext_get_or false xs ys e (λ i h.
-    let held : limb xs (i / 64) ≡ limb ys (i / 64) =
-    sym (get_or-limbs xs (i / 64) (omega arith)) ∙ ap (λ l. get_or l (i / 64) 0) same ∙ get_or-limbs ys (i / 64) (omega arith) in
-    same_value _ _ (sym (bit_at-limb xs i) ∙ ap (λ w. bit_at w (i % 64)) held ∙ bit_at-limb ys i))
+    let held : limb xs (i / 64) ≡ limb ys (i / 64) = rw (← get_or-limbs xs (i / 64) (omega arith), ← get_or-limbs ys (i / 64) (omega arith), same) refl in
+    same_value _ _ (rw (← bit_at-limb xs i, ← bit_at-limb ys i, held) refl))
 
 -- two tests of facts that imply each other
 decides_same : (r s : Bool) (P Q : Type 0) → Decides r P → Decides s Q → (P → Q) → (Q → P) → r ≡ s
-decides_same true true P Q a b f h = refl
-decides_same true false P Q a b f h = sym (b.1 (f (a.0 refl)))
-decides_same false true P Q a b f h = a.1 (h (b.0 refl))
-decides_same false false P Q a b f h = refl
+decides_same r s P Q a b f h = grind arith
 
 -- lists of one length are equal exactly where their limbs are
 pub same_limbs : (xs ys : List Bool) → length xs ≡ length ys → pointwise eqb (limbs xs) (limbs ys) ≡ same_bits xs ys

@@ -1,5 +1,5 @@
 -- Words that are all alike.
-use Rattle.vers_bits.proofs.Names.{◌≡◌, ℕ, ◌/◌, ◌%◌, ◌<◌, Bool, true, false, cond, eqb, List, get_or, replicate, sym, ap, ◌∙◌, arith, bit_at, bit_at_ones, bit_at-zero, get_or-replicate, length-replicate, limb_count, word_bits, CutsTo}
+use Rattle.vers_bits.proofs.Names.{◌≡◌, ℕ, ◌/◌, ◌%◌, ◌<◌, Bool, true, false, cond, eqb, List, get_or, replicate, ap, arith, bit_at, bit_at_ones, bit_at-zero, get_or-replicate, length-replicate, limb_count, word_bits, CutsTo}
 use Rattle.vers_bits.proofs.Words.{word_bits_are}
 use Rattle.vers_bits.proofs.Edits.{cut_holds}
 
@@ -13,6 +13,6 @@ filled_bits {ws} {vs} {n} cuts b w digits filled =
     word_bits_are vs n (replicate n b) (length-replicate n b)
     (λ i h.
     let word : get_or ws (i / 64) 0 ≡ cond b 18446744073709551615 0 = grind (arith, get_or-replicate) in
-    cuts.below i h ∙ ap (λ x. eqb (bit_at x (i % 64)) 1) word ∙ equal_digits b (i % 64) (omega arith) ∙ sym (get_or-replicate n i b false h))
+    rw (cuts.below i h, word, get_or-replicate n i b false h) (equal_digits b (i % 64) (omega arith)))
 
 pub ruleset fills = (filled_bits, cut_holds)

@@ -1,5 +1,5 @@
 -- Bits that are gathered in a word.
-use Rattle.vers_bits.proofs.Names.{◌≡◌, ℕ, suc, ◌+◌, ◌*◌, ◌%◌, ◌^◌, ◌<◌, ◌≤◌, Bool, true, false, List, [], ◌∷◌, ◌++◌, length, map, take, drop, get_or, refl, sym, ap, ◌∙◌, arith, bit_or, pow-le-pow_right, drop-cons, length-map, map-append, take-append-drop, div-mul-add, mod-mul-add, pow-add, shl_whole, bool_byte, bit_value, number}
+use Rattle.vers_bits.proofs.Names.{◌≡◌, ℕ, suc, ◌+◌, ◌*◌, ◌%◌, ◌^◌, ◌<◌, ◌≤◌, Bool, List, [], ◌∷◌, ◌++◌, length, map, take, drop, get_or, refl, sym, ap, ◌∙◌, arith, bit_or, pow-le-pow_right, drop-cons, length-map, map-append, take-append-drop, div-mul-add, mod-mul-add, pow-add, shl_whole, bool_byte, bit_value, number}
 use Rattle.std.proofs.Common.{append_assoc, rules}
 use Rattle.std.specs.Int.Bits.{or_shifted_r}
 use Rattle.vers_bits.specs.Bits.{low_bits}
@@ -14,8 +14,7 @@ pub number_below : (l : List Bool) (k : ℕ) → length l ≤ k → number l < 2
 number_below l k few = le_trans_lt (number-lt l) (pow-le-pow_right {n = 2} (omega arith) {i = length l} {j = k} few)
 
 pub byte_value : (b : Bool) → bool_byte b ≡ bit_value b
-byte_value true = refl
-byte_value false = refl
+byte_value b = grind arith
 
 -- the number of the items from place i on, by that of the items after it
 pub number_from : {X : Type 0} (f : X → Bool) (xs : List X) (i j : ℕ) (x : X) → i < length xs → j ≡ i + 1 → x ≡ get_or xs i x
@@ -31,9 +30,8 @@ pub limb_gathered : {X : Type 0} (f : X → Bool) (l more : List Bool) (rest fro
     → w ≡ number (map f front) → more ≡ l ++ low_bits w (length front) → more ++ map f back ≡ l ++ map f rest
 limb_gathered f l more rest front back m w first last word grown =
     let long : length front ≡ length (map f front) = sym (length-map front f) in
-    let read : low_bits w (length front) ≡ map f front = grind (arith, low_bits_of_number) in
-    ap (λ xs. xs ++ map f back) (grind arith) ∙ append_assoc l (map f front) (map f back)
-    ∙ ap (λ xs. l ++ xs) (sym (map-append f front back) ∙ ap (map f) (ap (λ xs. xs ++ back) first ∙ ap (λ xs. take m rest ++ xs) last ∙ take-append-drop m rest))
+    let all : front ++ back ≡ rest = rw (first, last) (take-append-drop m rest) in
+    rw (grown, word, long, low_bits_of_number, append_assoc, ← map-append, all) refl
 
 -- one more digit above the others
 pub digit_added : (w n : ℕ) (b : Bool) → n < 64 → w < 2 ^ n → bit_or w (bit_value b * 2 ^ n % 18446744073709551616) ≡ bit_value b * 2 ^ n + w
@@ -42,17 +40,12 @@ digit_added w n b short small =
 
 low_bits_of_bit : (b : Bool) → low_bits (bit_value b) 1 ≡ b ∷ []
 unfolding low_bits
-low_bits_of_bit true = refl
-low_bits_of_bit false = refl
+low_bits_of_bit b = grind arith
 
 pub digits_gathered : (w n : ℕ) (b : Bool) → n < 64 → w < 2 ^ n → low_bits (bit_or w (bit_value b * 2 ^ n % 18446744073709551616)) (n + 1) ≡ low_bits w n ++ b ∷ []
 digits_gathered w n b short small = grind (arith, low_bits_of_rest, mod-mul-add, div-mul-add, low_bits_of_bit, digit_added, low_bits-add)
 
-sum_below : (w n : ℕ) (b : Bool) → w < 2 ^ n → bit_value b * 2 ^ n + w < 2 ^ (n + 1)
-sum_below w n true small = omega (arith, pow-add 2 n 1)
-sum_below w n false small = omega (arith, pow-add 2 n 1)
-
 pub gathered_below : (w n : ℕ) (b : Bool) → n < 64 → w < 2 ^ n → bit_or w (bit_value b * 2 ^ n % 18446744073709551616) < 2 ^ (n + 1)
-gathered_below w n b short small = rw (digit_added w n b short small) (sum_below w n b small)
+gathered_below w n b short small = rw (digit_added w n b short small) (grind (arith, pow-add 2 n 1))
 
 pub ruleset digits = (byte_value, digits_gathered, gathered_below)

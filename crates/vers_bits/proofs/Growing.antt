@@ -21,11 +21,11 @@ next_limb l s k within =
 pub last_bits : (l : List Bool) (s m n : ℕ) → s + m + n ≡ length l
     → take m (drop s l) ++ low_bits (number (take n (drop (s + m) l))) n ≡ drop s l
 last_bits l s m n all =
-    ap (λ xs. take m (drop s l) ++ xs) (grind (arith, low_bits_of_part, drop-drop))
-    ∙ sym (take-add m n (drop s l)) ∙ take_all (m + n) (drop s l) (omega (arith, length-drop s l))
+    let same = drop-drop m s l in
+    grind (arith, low_bits_of_part, take-add m n (drop s l), take_all, length-drop s l)
 
 pub add_none : (l : List Bool) (v n : ℕ) → n ≡ 0 → l ++ low_bits v n ≡ l
-add_none l v n none = ap (λ k. l ++ low_bits v k) none ∙ ap (λ xs. l ++ xs) (low_bits_none v) ∙ append-nil l
+add_none l v n none = rw (none, low_bits_none v) (append-nil l)
 
 -- a packed list has as many bits an item
 pub length-packed : {X : Type 0} (f : X → ℕ) (k : ℕ) (xs : List X) → length (flat_map (λ x. low_bits (f x) k) xs) ≡ length xs * k

@@ -1,5 +1,5 @@
 -- Words that hold a list of bits: what an edit of the words does to the list.
-use Rattle.vers_bits.proofs.Names.{◌≡◌, ℕ, ◌+◌, ◌-◌, ◌*◌, ◌/◌, ◌%◌, ◌^◌, ◌<◌, ◌≤◌, max, Bool, false, eqb, List, [], ◌∷◌, ◌++◌, length, get_or, set, take, replicate, refl, sym, ap, ◌∙◌, inl, inr, arith, bit_at, bit_or, cases_lt, cases_eq, shr-shr, pow_pos, bit_at-lt, bit_at_or, bit_at_above, bit_at_cat_low, bit_at_cat_high, bit_at-zero, get_or_past, get_or_push, get_or_append_left, get_or-append_right, length-append, length-replicate, get_or-replicate, length_push, length-set, take_all, low_bits, limb_count, word_bit, word_bits, HoldsBits, Holds}
+use Rattle.vers_bits.proofs.Names.{◌≡◌, ℕ, ◌+◌, ◌-◌, ◌*◌, ◌/◌, ◌%◌, ◌^◌, ◌<◌, ◌≤◌, Bool, false, eqb, List, [], ◌∷◌, ◌++◌, length, get_or, set, take, replicate, refl, sym, ◌∙◌, inl, inr, arith, bit_at, bit_or, cases_lt, cases_eq, shr-shr, pow_pos, bit_at-lt, bit_at_or, bit_at_above, bit_at_cat_low, bit_at_cat_high, bit_at-zero, get_or_past, get_or_push, get_or_append_left, get_or-append_right, length-append, length-replicate, get_or-replicate, length_push, length-set, take_all, low_bits, limb_count, word_bit, word_bits, HoldsBits, Holds}
 use Rattle.vers_bits.proofs.Words.{length-word_bits, get_or-word_bits, word_bits_are, past_words, set_here, set_apart}
 use Rattle.vers_bits.proofs.LowBits.{length-low_bits, get_or-low_bits, bit_at_mod, bit_value_test}
 
@@ -15,18 +15,14 @@ held {ws} {n} {l} holds = record {
 
 -- a digit that is 0 makes a zero
 zero_bit : (x i : ℕ) → bit_at x i ≡ 0 → eqb (bit_at x i) 1 ≡ false
-zero_bit x i e = ap (λ m. eqb m 1) e
+zero_bit x i e = rw e refl
 
 same_default : {X : Type 0} (k i : ℕ) (d : X) → get_or (replicate k d) i d ≡ d
-same_default k i d = elim (cases_lt i k) [ inl h ↦ get_or-replicate k i d d h | inr h ↦ get_or_past (replicate k d) i d (omega (arith, length-replicate k d)) ]
+same_default k i d = grind (arith, get_or-replicate, get_or_past, length-replicate)
 
 -- a place with a zero has one with more words of zeros, too
 zeros_past : (ws : List ℕ) (k i : ℕ) → word_bit ws i ≡ false → word_bit (ws ++ replicate k 0) i ≡ false
-zeros_past ws k i off =
-    elim (cases_lt (i / 64) (length ws)) [
-      | inl h ↦ ap (λ w. eqb (bit_at w (i % 64)) 1) (get_or_append_left ws (replicate k 0) 0 (i / 64) h) ∙ off
-      | inr h ↦ ap (λ w. eqb (bit_at w (i % 64)) 1) (get_or-append_right ws (replicate k 0) (length ws) (i / 64) 0 refl h ∙ same_default k (i / 64 - length ws) 0) ∙ zero_bit 0 (i % 64) (bit_at-zero (i % 64))
-    ]
+zeros_past ws k i off = grind (arith, get_or_append_left, get_or-append_right, same_default, bit_at-zero)
 
 module _ (ws : List ℕ) (n v k : ℕ) (holds : HoldsBits ws n) (small : v < 2 ^ k) where
   -- the list with the low k digits of v behind it, place by place
@@ -39,11 +35,7 @@ module _ (ws : List ℕ) (n v k : ℕ) (holds : HoldsBits ws n) (small : v < 2 ^
 
   above : (i : ℕ) → n ≤ i → get_or grown i false ≡ eqb (bit_at v (i - n)) 1
   unfolding grown
-  above i h =
-      get_or-append_right (word_bits ws n) (low_bits v k) n i false (length-word_bits ws n) h ∙ elim (cases_lt (i - n) k) [
-        | inl within ↦ get_or-low_bits v k (i - n) within
-        | inr past ↦ get_or_past (low_bits v k) (i - n) false (omega (arith, length-low_bits v k)) ∙ sym (zero_bit v (i - n) (bit_at_above v k (i - n) small past))
-      ]
+  above i h = grind (arith, get_or-append_right, length-word_bits, get_or-low_bits, get_or_past, length-low_bits, bit_at_above)
 
   length-grown : length grown ≡ n + k
   unfolding grown
@@ -69,12 +61,12 @@ module _ (ws : List ℕ) (n v k : ℕ) (holds : HoldsBits ws n) (small : v < 2 ^
   added_word whole some few bounded =
       let full : n ≡ 64 * length ws = omega (arith, holds.counted) in
       hold_grown (ws ++ v ∷ []) (length_push ws v ∙ omega (arith, holds.counted)) bounded
-      (λ i h. ap (λ w. eqb (bit_at w (i % 64)) 1) (get_or_append_left ws (v ∷ []) 0 (i / 64) (omega arith)))
+      (λ i h. rw (get_or_append_left ws (v ∷ []) 0 (i / 64) (omega arith)) refl)
       (λ i h. elim (cases_lt i (n + 64)) [
         | inl same ↦
             let word : length ws ≡ i / 64 = omega arith in
             let place : i % 64 ≡ i - n = omega arith in
-            ap (λ w. eqb (bit_at w (i % 64)) 1) (get_or_push ws v 0 (i / 64) word) ∙ ap (λ p. eqb (bit_at v p) 1) place
+            rw (get_or_push ws v 0 (i / 64) word, place) refl
         | inr past ↦ past_number (ws ++ v ∷ []) i h (omega arith) (omega (arith, length_push ws v))
       ])
 
@@ -86,43 +78,33 @@ module _ (ws : List ℕ) (n v k : ℕ) (holds : HoldsBits ws n) (small : v < 2 ^
   unfolding last_word
   last_word_low i h low =
       let none : bit_at (v * 2 ^ (n % 64) + 0) i ≡ 0 = bit_at_cat_low v (n % 64) 0 i low ∙ bit_at-zero i in
-      let shifted : v * 2 ^ (n % 64) + 0 ≡ v * 2 ^ (n % 64) = omega arith in
-      bit_at_or (get_or ws (n / 64) 0) (v * 2 ^ (n % 64) % 2 ^ 64) i
-      ∙ ap (max (bit_at (get_or ws (n / 64) 0) i)) (bit_at_mod (v * 2 ^ (n % 64)) 64 i h ∙ ap (λ m. bit_at m i) (sym shifted) ∙ none)
-      ∙ omega arith
+      let shifted : v * 2 ^ (n % 64) ≡ v * 2 ^ (n % 64) + 0 = omega arith in
+      rw (bit_at_or, bit_at_mod (v * 2 ^ (n % 64)) 64 i h, shifted, none) (omega arith)
 
   last_word_high : (i : ℕ) → i < 64 → n % 64 ≤ i → bit_at last_word i ≡ bit_at v (i - n % 64)
   unfolding last_word
   last_word_high i h high =
-      let shifted : v * 2 ^ (n % 64) + 0 ≡ v * 2 ^ (n % 64) = omega arith in
-      let some : bit_at (v * 2 ^ (n % 64)) i ≡ bit_at v (i - n % 64) = ap (λ m. bit_at m i) (sym shifted) ∙ bit_at_cat_high v (n % 64) 0 i (omega (arith, pow_pos (n % 64))) high in
+      let shifted : v * 2 ^ (n % 64) ≡ v * 2 ^ (n % 64) + 0 = omega arith in
       let word : (64 * (n / 64) + i) / 64 ≡ n / 64 = omega arith in
       let place : (64 * (n / 64) + i) % 64 ≡ i = omega arith in
-      let off : eqb (bit_at (get_or ws (n / 64) 0) i) 1 ≡ false =
-      ap (λ p. eqb (bit_at (get_or ws (n / 64) 0) p) 1) (sym place) ∙ ap (λ q. eqb (bit_at (get_or ws q 0) ((64 * (n / 64) + i) % 64)) 1) (sym word)
-      ∙ holds.padded (64 * (n / 64) + i) (omega arith) in
-      bit_at_or (get_or ws (n / 64) 0) (v * 2 ^ (n % 64) % 2 ^ 64) i
-      ∙ ap (λ m. max m (bit_at (v * 2 ^ (n % 64) % 2 ^ 64) i)) (grind (arith, bit_value_test, bit_at-lt))
-      ∙ ap (max 0) (bit_at_mod (v * 2 ^ (n % 64)) 64 i h ∙ some) ∙ omega arith
+      let off : eqb (bit_at (get_or ws (n / 64) 0) i) 1 ≡ false = rw (word, place) at (holds.padded (64 * (n / 64) + i) (omega arith)) in
+      let none : bit_at (get_or ws (n / 64) 0) i ≡ 0 = grind (arith, bit_value_test, bit_at-lt) in
+      rw (bit_at_or, none, bit_at_mod (v * 2 ^ (n % 64)) 64 i h, shifted, bit_at_cat_high v (n % 64) 0 i (omega (arith, pow_pos (n % 64))) high) (omega arith)
 
   -- any words that begin with the old ones, with the last word so changed, agree up to its end
   set_early : (zs : List ℕ) → 0 < n % 64 → n / 64 < length zs → ((j : ℕ) → j < length ws → get_or zs j 0 ≡ get_or ws j 0)
       → (i : ℕ) → i < n → word_bit (set zs (n / 64) last_word) i ≡ word_bit ws i
   set_early zs part within same i h =
       elim (cases_eq (i / 64) (n / 64)) [
-        | inl here ↦
-            set_here zs (n / 64) last_word i within here
-            ∙ ap (λ m. eqb m 1) (last_word_low (i % 64) (omega arith) (omega arith)) ∙ ap (λ q. eqb (bit_at (get_or ws q 0) (i % 64)) 1) (sym here)
-        | inr apart ↦ set_apart zs (n / 64) last_word i apart ∙ ap (λ w. eqb (bit_at w (i % 64)) 1) (same (i / 64) (omega (arith, holds.counted)))
+        | inl here ↦ rw (set_here zs (n / 64) last_word i within here, last_word_low (i % 64) (omega arith) (omega arith), here) refl
+        | inr apart ↦ rw (set_apart zs (n / 64) last_word i apart, same (i / 64) (omega (arith, holds.counted))) refl
       ]
 
   set_late : (zs : List ℕ) → n / 64 < length zs → (i : ℕ) → n ≤ i → i / 64 ≡ n / 64
       → word_bit (set zs (n / 64) last_word) i ≡ eqb (bit_at v (i - n)) 1
   set_late zs within i h here =
       let place : i % 64 - n % 64 ≡ i - n = omega arith in
-      set_here zs (n / 64) last_word i within here
-      ∙ ap (λ m. eqb m 1) (last_word_high (i % 64) (omega arith) (omega arith))
-      ∙ ap (λ p. eqb (bit_at v p) 1) place
+      rw (set_here zs (n / 64) last_word i within here, last_word_high (i % 64) (omega arith) (omega arith), place) refl
 
   -- within the last word
   pub added_inside : 0 < n % 64 → n % 64 + k ≤ 64 → n + k ≤ 18446744073709551552
@@ -145,10 +127,9 @@ module _ (ws : List ℕ) (n v k : ℕ) (holds : HoldsBits ws n) (small : v < 2 ^
   added_across part many few bounded =
       let high : ℕ = v / 2 ^ (64 - n % 64) in
       let zs = ws ++ high ∷ [] in
-      let more : length zs ≡ length ws + 1 = length_push ws high in
-      let within : n / 64 < length zs = omega (arith, holds.counted) in
+      let within : n / 64 < length zs = omega (arith, holds.counted, length_push ws high) in
       let vs = set zs (n / 64) last_word in
-      let long : length vs ≡ length ws + 1 = length-set zs (n / 64) last_word ∙ more in
+      let long : length vs ≡ length ws + 1 = length-set zs (n / 64) last_word ∙ length_push ws high in
       hold_grown vs (long ∙ omega (arith, holds.counted)) bounded (set_early zs part within (λ j h. get_or_append_left ws (high ∷ []) 0 j h))
       (λ i h. elim (cases_eq (i / 64) (n / 64)) [
         | inl here ↦ set_late zs within i h here
@@ -156,8 +137,7 @@ module _ (ws : List ℕ) (n v k : ℕ) (holds : HoldsBits ws n) (small : v < 2 ^
           | inl next ↦
               let word : length ws ≡ i / 64 = omega (arith, holds.counted) in
               let place : 64 - n % 64 + i % 64 ≡ i - n = omega arith in
-              set_apart zs (n / 64) last_word i apart ∙ ap (λ w. eqb (bit_at w (i % 64)) 1) (get_or_push ws high 0 (i / 64) word)
-              ∙ ap (λ m. eqb m 1) (ap (λ m. m % 2) (shr-shr v (64 - n % 64) (i % 64))) ∙ ap (λ p. eqb (bit_at v p) 1) place
+              rw (set_apart zs (n / 64) last_word i apart, get_or_push ws high 0 (i / 64) word, shr-shr v (64 - n % 64) (i % 64), place) refl
           | inr past ↦ past_number vs i h (omega arith) (omega (arith, holds.counted))
         ]
       ])
@@ -173,10 +153,8 @@ added_zeros ws n k holds bounded =
       counted = length-append ws more ∙ omega (arith, length-replicate {A = ℕ} (limb_count (n + k) - length ws) 0, holds.counted);
       bounded = bounded;
       each = λ i. elim (cases_lt i n) [
-        | inl h ↦ ap (λ w. eqb (bit_at w (i % 64)) 1) (get_or_append_left ws more 0 (i / 64) (omega (arith, holds.counted)))
-            ∙ sym (get_or_append_left (word_bits ws n) rest false i (omega (arith, length-word_bits ws n)) ∙ get_or-word_bits ws n i false h)
-        | inr h ↦ zeros_past ws (limb_count (n + k) - length ws) i (holds.padded i h)
-            ∙ sym (get_or-append_right (word_bits ws n) rest n i false (length-word_bits ws n) h ∙ same_default k (i - n) false)
+        | inl h ↦ rw (get_or_append_left ws more 0 (i / 64) (omega (arith, holds.counted)), get_or_append_left (word_bits ws n) rest false i (omega (arith, length-word_bits ws n))) (sym (get_or-word_bits ws n i false h))
+        | inr h ↦ rw (zeros_past ws (limb_count (n + k) - length ws) i (holds.padded i h), get_or-append_right (word_bits ws n) rest n i false (length-word_bits ws n) h) (sym (same_default k (i - n) false))
       ];
     }
 

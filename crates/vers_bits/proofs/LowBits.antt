@@ -1,5 +1,6 @@
 -- The low digits of a number as a list of bits.
-use Rattle.vers_bits.proofs.Names.{◌≡◌, ℕ, ◌+◌, ◌-◌, ◌/◌, ◌%◌, ◌^◌, ◌<◌, ◌≤◌, min, Bool, true, false, eqb, List, [], ◌++◌, length, get_or, replicate, refl, sym, ap, ◌∙◌, inl, inr, arith, bit_at, bit_and, cases_lt, cases_eq, and_mask, mod_below, pow_pos, shr-shr, ones_shr, bit_at-lt, bit_at_and, bit_at_ones, bit_at_above, same_from_bits, ext_get_or, get_or_past, get_or_append_left, get_or-append_right, get_or-replicate, length-append, length-replicate, length-map-range_with_len, get_or-map-range_with_len, bit_value, number}
+use Rattle.std.proofs.lemmas.Bool.Decides.{nat_tests}
+use Rattle.vers_bits.proofs.Names.{◌≡◌, ℕ, ◌+◌, ◌-◌, ◌/◌, ◌%◌, ◌^◌, ◌<◌, ◌≤◌, Bool, false, eqb, List, [], ◌++◌, length, get_or, replicate, refl, sym, ◌∙◌, arith, bit_at, bit_and, cases_lt, and_mask, mod_below, pow_pos, shr-shr, ones_shr, bit_at-lt, bit_at_and, bit_at_ones, bit_at_above, same_from_bits, ext_get_or, get_or_past, get_or_append_left, get_or-append_right, get_or-replicate, length-append, length-replicate, length-map-range_with_len, get_or-map-range_with_len, bit_value, number}
 use Rattle.vers_bits.specs.Bits.{low_bits}
 use Rattle.vers_bits.proofs.Num.{bit_at-number}
 
@@ -13,16 +14,14 @@ get_or-low_bits v n i h = get_or-map-range_with_len (λ j. eqb (bit_at v j) 1) 0
 
 -- a digit, 0 or 1, by the test for 1
 pub bit_value_test : (m : ℕ) → m < 2 → bit_value (eqb m 1) ≡ m
-bit_value_test m h = elim (cases_eq m 1) [ inl e ↦ rw e refl | inr ne ↦ let z : m ≡ 0 = omega arith in rw z refl ]
+bit_value_test m h = grind (arith, nat_tests)
 
 pub test_bit_value : (b : Bool) → eqb (bit_value b) 1 ≡ b
-test_bit_value true = refl
-test_bit_value false = refl
+test_bit_value b = grind arith
 
 -- a number cut to its low w digits has those and no other
 pub bit_at_mod : (x w i : ℕ) → i < w → bit_at (x % 2 ^ w) i ≡ bit_at x i
-bit_at_mod x w i h =
-    ap (λ m. bit_at m i) (sym (and_mask x w)) ∙ bit_at_and x (2 ^ w - 1) i ∙ ap (min (bit_at x i)) (bit_at_ones w i h) ∙ omega arith
+bit_at_mod x w i h = rw (← and_mask x w, bit_at_and, bit_at_ones w i h) (omega (arith, bit_at-lt x i))
 
 pub bit_at_mod_above : (x w i : ℕ) → w ≤ i → bit_at (x % 2 ^ w) i ≡ 0
 bit_at_mod_above x w i h = bit_at_above (x % 2 ^ w) w i (mod_below x (2 ^ w) (pow_pos w)) h
@@ -34,40 +33,28 @@ low_bits_are v n l e each =
     (λ i h. let small : i < n = omega (arith, length-low_bits v n) in get_or-low_bits v n i small ∙ each i small)
 
 pub low_bits_of_number : (l : List Bool) → low_bits (number l) (length l) ≡ l
-low_bits_of_number l =
-    low_bits_are (number l) (length l) l refl (λ i h. ap (λ m. eqb m 1) (bit_at-number l i) ∙ test_bit_value (get_or l i false))
+low_bits_of_number l = low_bits_are (number l) (length l) l refl (λ i h. grind (arith, bit_at-number, test_bit_value))
 
 pub low_bits_of_rest : (v n : ℕ) → low_bits (v % 2 ^ n) n ≡ low_bits v n
-low_bits_of_rest v n =
-    low_bits_are (v % 2 ^ n) n (low_bits v n) (length-low_bits v n) (λ i h. ap (λ m. eqb m 1) (bit_at_mod v n i h) ∙ sym (get_or-low_bits v n i h))
+low_bits_of_rest v n = low_bits_are (v % 2 ^ n) n (low_bits v n) (length-low_bits v n) (λ i h. grind (arith, bit_at_mod, get_or-low_bits))
 
 pub number-low_bits : (v n : ℕ) → number (low_bits v n) ≡ v % 2 ^ n
 number-low_bits v n =
     same_from_bits (number (low_bits v n)) (v % 2 ^ n) (λ i.
-    bit_at-number (low_bits v n) i ∙ elim (cases_lt i n) [
-      | inl small ↦ ap bit_value (get_or-low_bits v n i small) ∙ bit_value_test (bit_at v i) (bit_at-lt v i) ∙ sym (bit_at_mod v n i small)
-      | inr large ↦ ap bit_value (get_or_past (low_bits v n) i false (omega (arith, length-low_bits v n))) ∙ sym (bit_at_mod_above v n i large)
-    ])
-
--- the digits from j on are the digits of the quotient
-bit_at_shr : (v j i : ℕ) → bit_at (v / 2 ^ j) i ≡ bit_at v (j + i)
-bit_at_shr v j i = ap (λ m. m % 2) (shr-shr v j i)
+    grind (arith, bit_at-number, cases_lt, get_or-low_bits, bit_value_test, bit_at-lt, bit_at_mod, get_or_past, length-low_bits, bit_at_mod_above))
 
 low_bits_two : (v j k : ℕ) (high : List Bool) → length high ≡ k → ((i : ℕ) → i < k → eqb (bit_at v (j + i)) 1 ≡ get_or high i false) → low_bits v (j + k) ≡ low_bits v j ++ high
 low_bits_two v j k high long each =
-    low_bits_are v (j + k) (low_bits v j ++ high) (length-append (low_bits v j) high ∙ omega (arith, length-low_bits v j, long)) (λ i h. elim (cases_lt i j) [
-      | inl small ↦ sym (get_or_append_left (low_bits v j) high false i (omega (arith, length-low_bits v j)) ∙ get_or-low_bits v j i small)
-      | inr large ↦
-          let place : i ≡ j + (i - j) = omega arith in
-          ap (λ p. eqb (bit_at v p) 1) place ∙ each (i - j) (omega arith) ∙ sym (get_or-append_right (low_bits v j) high j i false (length-low_bits v j) large)
-    ])
+    low_bits_are v (j + k) (low_bits v j ++ high) (length-append (low_bits v j) high ∙ omega (arith, length-low_bits v j, long)) (λ i h.
+    let past = each (i - j) in
+    grind (arith, get_or_append_left, length-low_bits, get_or-low_bits, get_or-append_right))
 
 pub low_bits-add : (v j k : ℕ) → low_bits v (j + k) ≡ low_bits v j ++ low_bits (v / 2 ^ j) k
-low_bits-add v j k = low_bits_two v j k (low_bits (v / 2 ^ j) k) (length-low_bits (v / 2 ^ j) k) (λ i h. ap (λ m. eqb m 1) (sym (bit_at_shr v j i)) ∙ sym (get_or-low_bits (v / 2 ^ j) k i h))
+low_bits-add v j k = low_bits_two v j k (low_bits (v / 2 ^ j) k) (length-low_bits (v / 2 ^ j) k) (λ i h. rw (get_or-low_bits (v / 2 ^ j) k i h, shr-shr) refl)
 
 -- past the number's own digits there are zeros
 pub low_bits_past : (v j k : ℕ) → v < 2 ^ j → low_bits v (j + k) ≡ low_bits v j ++ replicate k false
-low_bits_past v j k small = low_bits_two v j k (replicate k false) (length-replicate k false) (λ i h. ap (λ m. eqb m 1) (bit_at_above v j (j + i) small (omega arith)) ∙ sym (get_or-replicate k i false false h))
+low_bits_past v j k small = low_bits_two v j k (replicate k false) (length-replicate k false) (λ i h. grind (arith, bit_at_above v j (j + i) small, get_or-replicate))
 
 pub low_bits_none : (v : ℕ) → low_bits v 0 ≡ []
 unfolding low_bits
@@ -75,9 +62,7 @@ low_bits_none v = refl
 
 -- `word & (u64::MAX >> (64 - n))`
 pub low_mask : (w n : ℕ) → n ≤ 64 → bit_and w (18446744073709551615 / 2 ^ (64 - n)) ≡ w % 2 ^ n
-low_mask w n h =
-    let width : 64 - (64 - n) ≡ n = omega arith in
-    ap (bit_and w) (ones_shr 64 (64 - n) (omega arith) ∙ ap (λ m. 2 ^ m - 1) width) ∙ and_mask w n
+low_mask w n h = let width : 64 - (64 - n) ≡ n = omega arith in rw (ones_shr 64 (64 - n) (omega arith), width) (and_mask w n)
 
 pub rest_below : (w n : ℕ) → w % 2 ^ n < 2 ^ n
 rest_below w n = mod_below w (2 ^ n) (pow_pos n)

@@ -40,10 +40,8 @@ limb-masked g l r k =
       | inl h ↦
           let word : (64 * k + i) / 64 ≡ k = omega arith in
           let place : (64 * k + i) % 64 ≡ i = omega arith in
-          ap bit_value (get_or-take 64 (drop (64 * k) (masked g l r)) i false (omega arith) ∙ get_or-drop (64 * k) (masked g l r) i false
-          ∙ get_or-masked g l r (64 * k + i) (omega arith)
-          ∙ ap (λ q. eqb (bit_at (g (limb l q) (limb r q)) ((64 * k + i) % 64)) 1) word ∙ ap (λ p. eqb (bit_at w p) 1) place)
-          ∙ bit_value_test (bit_at w i) (bit_at-lt w i) ∙ sym (bit_at_mod w m i h)
+          let at = get_or-masked g l r (64 * k + i) (omega arith) in
+          rw (get_or-take 64 (drop (64 * k) (masked g l r)) i false (omega arith), get_or-drop, at, word, place) (bit_value_test (bit_at w i) (bit_at-lt w i) ∙ sym (bit_at_mod w m i h))
       | inr h ↦ ap bit_value (get_or_past bits i false (omega (arith, length-take 64 (drop (64 * k) (masked g l r)), length-drop (64 * k) (masked g l r), length-masked g l r))) ∙ sym (bit_at_mod_above w m i h)
     ])
 

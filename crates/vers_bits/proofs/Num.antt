@@ -1,29 +1,24 @@
 -- Lists of bits as numbers, and counts of their bits.
-use Rattle.vers_bits.proofs.Names.{◌≡◌, ℕ, zero, suc, ◌/◌, ◌%◌, ◌^◌, ◌<◌, ◌≤◌, Bool, true, false, List, [], ◌∷◌, length, take, drop, get_or, refl, ap, ◌+◌, ◌*◌, ◌∙◌, arith, count_by, bit_at, count_ones, shr-shr, mod-pow-add, bit_at_lowest, bit_at-suc, bit_at-zero, sum_by-cons, pow-suc, get_or-take, get_or-drop, bit_value, number, is_bit, rules}
+use Rattle.vers_bits.proofs.Names.{◌≡◌, ℕ, zero, suc, ◌/◌, ◌%◌, ◌^◌, ◌<◌, ◌≤◌, Bool, true, false, List, [], ◌∷◌, length, take, drop, get_or, ap, ◌+◌, ◌*◌, ◌∙◌, arith, count_by, bit_at, count_ones, shr-shr, mod-pow-add, bit_at_lowest, bit_at-suc, bit_at-zero, sum_by-cons, pow-suc, get_or-take, get_or-drop, bit_value, number, is_bit, rules}
 use lib.Count.{ones_step, ones-ones}
 use Rattle.vers_bits.specs.Bits.{limb}
 
 -- the lowest digit, and the others
 pub number_odd : (b : Bool) (l : List Bool) → number (b ∷ l) % 2 ≡ bit_value b
-number_odd true l = omega arith
-number_odd false l = omega arith
+number_odd b l = grind arith
 
 pub number_half : (b : Bool) (l : List Bool) → number (b ∷ l) / 2 ≡ number l
-number_half true l = omega arith
-number_half false l = omega arith
+number_half b l = grind arith
 
 pub bit_value_le : (b : Bool) → bit_value b ≤ 1
-bit_value_le true = omega arith
-bit_value_le false = omega arith
+bit_value_le b = grind arith
 
 -- the value of a bit tells it
 pub value_none : (x : Bool) → bit_value x ≡ 0 → x ≡ false
-value_none false e = refl
-value_none true e = absurd (omega arith)
+value_none x e = grind arith
 
 pub value_one : (x : Bool) → bit_value x ≡ 1 → x ≡ true
-value_one true e = refl
-value_one false e = absurd (omega arith)
+value_one x e = grind arith
 
 pub number-lt : (l : List Bool) → number l < 2 ^ length l
 number-lt [] = omega arith

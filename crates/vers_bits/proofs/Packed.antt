@@ -1,5 +1,5 @@
 -- The elements of a packed list.
-use Rattle.vers_bits.proofs.Names.{◌≡◌, ℕ, zero, suc, ◌+◌, ◌*◌, ◌%◌, ◌^◌, ◌<◌, ◌≤◌, List, [], ◌∷◌, ◌++◌, length, take, drop, get_or, Some, sym, ap, ◌∙◌, arith, take_at, drop_at, drop-drop, row_fits, low_bits, pack, part_number}
+use Rattle.vers_bits.proofs.Names.{◌≡◌, ℕ, zero, suc, ◌+◌, ◌*◌, ◌%◌, ◌^◌, ◌<◌, ◌≤◌, List, [], ◌∷◌, length, take, drop, get_or, Some, arith, take_at, drop_at, drop-drop, row_fits, low_bits, pack, part_number}
 use Rattle.vers_bits.proofs.LowBits.{length-low_bits, number-low_bits}
 use Rattle.vers_bits.proofs.Growing.{length-packed}
 use Rattle.vers_bits.proofs.Counting.{part_number_some}
@@ -10,9 +10,7 @@ element [] k e h = absurd (omega arith)
 element (v ∷ items) k zero h = grind (arith, zero, take_at, length-low_bits)
 element (v ∷ items) k (suc e) h =
     let place : suc e * k ≡ k + e * k = omega arith in
-    ap (λ p. take k (drop p (low_bits v k ++ pack items k))) place
-    ∙ ap (take k) (sym (drop-drop (e * k) k (low_bits v k ++ pack items k)) ∙ ap (drop (e * k)) (drop_at (low_bits v k) (pack items k) k (length-low_bits v k)))
-    ∙ element items k e (omega arith)
+    rw (place, ← drop-drop (e * k) k, drop_at (low_bits v k) (pack items k) k (length-low_bits v k)) (element items k e (omega arith))
 
 pub packed_element : (items : List ℕ) (k e : ℕ) → 1 ≤ k → k ≤ 64 → e < length items → part_number (pack items k) (e * k) k ≡ Some (get_or items e 0 % 2 ^ k)
 packed_element items k e some few h =

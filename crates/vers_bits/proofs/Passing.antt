@@ -1,8 +1,9 @@
 -- The first members of a list, where they and no others pass a test.
+use Rattle.std.proofs.lemmas.Bool.Decides.{nat_tests}
 use Rattle.std.proofs.Common.{ltb, true≢false}
 use Rattle.std.specs.List.{AllPairs}
 use Rattle.std.proofs.lemmas.Bool.{le-ltb, false_from_ne_true}
-use Rattle.vers_bits.proofs.Names.{◌≡◌, ℕ, zero, suc, ◌+◌, ◌<◌, Bool, true, false, cond, List, [], ◌∷◌, length, get_or, refl, sym, ap, ◌∙◌, inl, inr, arith, cases_Bool, cases_lt, lt-ltb, count_by, sum_by-cons}
+use Rattle.vers_bits.proofs.Names.{◌≡◌, ℕ, zero, suc, ◌+◌, ◌<◌, Bool, true, false, cond, List, [], ◌∷◌, length, get_or, refl, sym, ap, ◌∙◌, inl, inr, arith, cases_Bool, lt-ltb, count_by, sum_by-cons}
 
 counted : (p : ℕ → Bool) (x : ℕ) (xs : List ℕ) (b : Bool) → p x ≡ b → count_by p (x ∷ xs) ≡ cond b 1 0 + count_by p xs
 counted p x xs b is = sum_by-cons (λ y. cond (p y) 1 0) x xs ∙ ap (λ t. cond t 1 0 + count_by p xs) is
@@ -12,7 +13,7 @@ none_counted p [] fails = refl
 none_counted p (x ∷ xs) fails = omega (arith, counted p x xs false (fails 0 (omega arith)), none_counted p xs (λ j inside. fails (suc j) (omega arith)))
 
 up : (k n m : ℕ) → m ≡ 1 + n → ltb (suc k) m ≡ ltb k n
-up k n m e = elim (cases_lt k n) [ inl h ↦ lt-ltb _ _ (omega arith) ∙ sym (lt-ltb k n h) | inr h ↦ le-ltb _ _ (omega arith) ∙ sym (le-ltb k n h) ]
+up k n m e = grind (arith, nat_tests)
 
 -- a test that no member passes after one that fails is passed by the first members, as many as it counts
 pub passes_first : (p : ℕ → Bool) (xs : List ℕ) → AllPairs (λ x y. p y ≡ true → p x ≡ true) xs → (k : ℕ) → k < length xs → p (get_or xs k 0) ≡ ltb k (count_by p xs)

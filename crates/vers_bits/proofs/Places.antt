@@ -1,5 +1,5 @@
 -- The places of a bit.
-use Rattle.vers_bits.proofs.Names.{◌≡◌, ℕ, zero, suc, ◌+◌, ◌<◌, ◌≤◌, Bool, true, false, cond, List, [], ◌∷◌, ◌++◌, length, get_or, refl, sym, ap, subst, ◌∙◌, arith, add-one, inl, inr, filter, range_with_len, cases_lt, cases_Bool, get_or_append_left, get_or_push, get_or_past, length-append, map-id, count_by_more_yes, count_by_more_no, filter_of_map_range_with_len_more, is_bit}
+use Rattle.vers_bits.proofs.Names.{◌≡◌, ℕ, zero, suc, ◌+◌, ◌<◌, ◌≤◌, Bool, true, false, cond, List, [], ◌∷◌, ◌++◌, length, get_or, refl, sym, ap, ◌∙◌, arith, add-one, inl, inr, filter, range_with_len, cases_lt, cases_Bool, get_or_append_left, get_or_push, get_or_past, length-append, map-id, count_by_more_yes, count_by_more_no, filter_of_map_range_with_len_more, is_bit}
 use Rattle.vers_bits.specs.Bits.{count, places, select}
 use Rattle.vers_bits.proofs.Count.{count_up, count_none, count_le_all}
 
@@ -11,9 +11,8 @@ module _ (b : Bool) (l : List Bool) where
   below_more : (n : ℕ) → below (n + 1) ≡ below n ++ cond (is_bit b (get_or l n false)) (n ∷ []) []
   unfolding below
   below_more n =
-      let same = λ (m : ℕ). ap (filter (λ i. is_bit b (get_or l i false))) (map-id (range_with_len 0 m)) in
-      sym (same (n + 1)) ∙ filter_of_map_range_with_len_more (λ i. is_bit b (get_or l i false)) (λ (x : ℕ). x) 0 n n (omega arith)
-      ∙ ap (λ xs. xs ++ cond (is_bit b (get_or l n false)) (n ∷ []) []) (same n)
+      let more = filter_of_map_range_with_len_more (λ i. is_bit b (get_or l i false)) (λ (x : ℕ). x) 0 n n (omega arith) in
+      rw (map-id (range_with_len 0 (n + 1)), map-id (range_with_len 0 n)) at more
 
   pub count_more_yes : (n : ℕ) → n < length l → is_bit b (get_or l n false) ≡ true → count b l (n + 1) ≡ count b l n + 1
   unfolding count
@@ -31,23 +30,22 @@ module _ (b : Bool) (l : List Bool) where
   length-below zero h = length-below_none ∙ sym (count_none b l)
   length-below (suc n) h =
       let here : length (below n) ≡ count b l n = length-below n (omega arith) in
-      rw (← add-one) (ap length (below_more n) ∙ elim (cases_Bool (is_bit b (get_or l n false))) [
-        | inl on ↦ ap (λ v. length (below n ++ cond v (n ∷ []) [])) on ∙ length-append (below n) (n ∷ []) ∙ omega (arith, here, count_more_yes n h on)
-        | inr off ↦ ap (λ v. length (below n ++ cond v (n ∷ []) [])) off ∙ length-append (below n) [] ∙ omega (arith, here, count_more_no n h off)
+      rw (← add-one n, below_more n) (elim (cases_Bool (is_bit b (get_or l n false))) [
+        | inl on ↦ rw (on, length-append, count_more_yes n h on) (omega (arith, here))
+        | inr off ↦ rw (off, length-append, count_more_no n h off) (omega (arith, here))
       ])
 
   below_at : (n p d : ℕ) → n ≤ length l → p < n → is_bit b (get_or l p false) ≡ true → get_or (below n) (count b l p) d ≡ p
   below_at zero p d h within on = absurd (omega arith)
   below_at (suc n) p d h within on =
-      rw (← add-one) (elim (cases_lt p n) [
+      rw (← add-one n, below_more n) (elim (cases_lt p n) [
         | inl lower ↦
             let early : count b l p < length (below n) = omega (arith, length-below n (omega arith), count_up b l (p + 1) n (omega arith), count_more_yes p (omega arith) on) in
-            ap (λ xs. get_or xs (count b l p) d) (below_more n) ∙ get_or_append_left (below n) _ d (count b l p) early ∙ below_at n p d (omega arith) lower on
+            rw (get_or_append_left (below n) _ d (count b l p) early) (below_at n p d (omega arith) lower on)
         | inr last ↦
             let here : p ≡ n = omega arith in
-            let held : is_bit b (get_or l n false) ≡ true = ap (λ i. is_bit b (get_or l i false)) (sym here) ∙ on in
-            ap (λ xs. get_or xs (count b l p) d) (below_more n ∙ ap (λ v. below n ++ cond v (n ∷ []) []) held)
-            ∙ get_or_push (below n) n d (count b l p) (length-below n (omega arith) ∙ ap (count b l) (sym here)) ∙ sym here
+            let held : is_bit b (get_or l n false) ≡ true = rw here at on in
+            rw (here, held) (get_or_push (below n) n d (count b l n) (length-below n (omega arith)))
       ])
 
   pub select_at : (r p : ℕ) → p < length l → is_bit b (get_or l p false) ≡ true → count b l p ≡ r → select b l r ≡ p
@@ -78,18 +76,14 @@ passes b l r (suc n) h some =
     let more : r < count b l (n + 1) = rw add-one some in
     elim (cases_lt r (count b l n)) [
       | inl early ↦ passes b l r n (omega arith) early
-      | inr late ↦ elim (cases_Bool (is_bit b (get_or l n false))) [
-        | inl on ↦ (n, record { within = omega arith; holds = on; before = omega (arith, count_more_yes b l n (omega arith) on) })
-        | inr off ↦ absurd (omega (arith, count_more_no b l n (omega arith) off))
-      ]
+      | inr late ↦
+          let on : is_bit b (get_or l n false) ≡ true = grind (arith, cases_Bool, count_more_no) in
+          (n, record { within = omega arith; holds = on; before = omega (arith, count_more_yes b l n (omega arith) on) })
     ]
 
 -- where there is a place of number r, `select` is that place
 pub select_is_place : (b : Bool) (l : List Bool) (r : ℕ) → r < count b l (length l) → IsPlace b l r (select b l r)
-select_is_place b l r some =
-    let found : (p : ℕ) × IsPlace b l r p = passes b l r (length l) (omega arith) some in
-    let P : ℕ → Type 0 = λ p. IsPlace b l r p in
-    subst P (sym (select_from_place found.1)) found.1
+select_is_place b l r some = let found = passes b l r (length l) (omega arith) some in rw (select_from_place found.1) found.1
 
 -- the count up to the place of number r, and past it
 pub count_at_select : (b : Bool) (l : List Bool) (r : ℕ) → r < count b l (length l)
@@ -100,15 +94,11 @@ count_at_select b l r some =
 
 -- number r stands below p where more than r places below p hold the bit
 pub select_below : (b : Bool) (l : List Bool) (r p : ℕ) → r < count b l p → select b l r < p
-select_below b l r p h =
-    let at : IsPlace b l r (select b l r) = select_is_place b l r (omega (arith, count_le_all b l p)) in
-    elim (cases_lt (select b l r) p) [ inl s ↦ s | inr s ↦ absurd (omega (arith, at.before, count_up b l p (select b l r) s)) ]
+select_below b l r p h = grind (arith, select_is_place, count_le_all, count_up)
 
 -- number r stands at or above p where at most r places below p hold the bit
 pub select_not_below : (b : Bool) (l : List Bool) (r p : ℕ) → r < count b l (length l) → count b l p ≤ r → p ≤ select b l r
-select_not_below b l r p some h =
-    let at = count_at_select b l r some in
-    elim (cases_lt (select b l r) p) [ inr s ↦ s | inl s ↦ absurd (omega (arith, at.2, count_up b l (select b l r + 1) p (omega arith))) ]
+select_not_below b l r p some h = grind (arith, count_at_select, count_up)
 
 pub select_up : (b : Bool) (l : List Bool) (r q : ℕ) → r < q → q < count b l (length l) → select b l r < select b l q
 select_up b l r q h some = select_below b l r (select b l q) (omega (arith, (count_at_select b l q some).1))

@@ -1,5 +1,5 @@
 -- The bits that words hold.
-use Rattle.vers_bits.proofs.Names.{◌≡◌, ℕ, ◌+◌, ◌*◌, ◌/◌, ◌%◌, ◌^◌, ◌<◌, ◌≤◌, Bool, true, false, List, [], ◌∷◌, ◌++◌, length, take, drop, get_or, set, refl, sym, ap, ◌∙◌, arith, eqb, Some, None, inl, inr, bit_at, bit_and, cases_lt, bool_byte, pow-le-pow_right, bit_at-lt, bit_at-zero, bit_at_lowest, shr_and_one, same_from_bits_below, bit_at_above, ext_get_or, get_or-take, get_or-drop, get_or_past, get_or_push, get_or_append_left, get_or-set_same, get_or-set_other, length_push, length-take, length-map-range_with_len, get_or-map-range_with_len, take-map-range_with_len, map-range_with_len_more, slice_get-get_or, slice_get_past, bit_value, word_bit, HoldsBits, AddsBit, rules}
+use Rattle.vers_bits.proofs.Names.{◌≡◌, ℕ, ◌+◌, ◌*◌, ◌/◌, ◌%◌, ◌^◌, ◌<◌, ◌≤◌, Bool, false, List, [], ◌∷◌, ◌++◌, length, take, drop, get_or, set, refl, sym, ap, ◌∙◌, arith, eqb, Some, None, inl, inr, bit_at, bit_and, cases_lt, bool_byte, pow-le-pow_right, bit_at-lt, bit_at-zero, bit_at_lowest, shr_and_one, same_from_bits_below, bit_at_above, ext_get_or, get_or-take, get_or-drop, get_or_past, get_or_push, get_or_append_left, get_or-set_same, get_or-set_other, length_push, length-take, length-map-range_with_len, get_or-map-range_with_len, take-map-range_with_len, map-range_with_len_more, slice_get-get_or, slice_get_past, bit_value, word_bit, HoldsBits, AddsBit, rules}
 use Rattle.std.specs.List.{slice_get}
 use Rattle.std.specs.Prelude.{option_map}
 use Rattle.vers_bits.specs.Bits.{limb}
@@ -79,16 +79,14 @@ past_words ws i h = grind (arith, get_or_past, bit_at-zero)
 pub added_bits : {ws vs : List ℕ} {n : ℕ} {b : Bool} → AddsBit ws vs n b → word_bits vs (n + 1) ≡ word_bits ws n ++ b ∷ []
 unfolding word_bits
 added_bits {ws} {vs} {n} {b} adds =
-    (map-range_with_len_more (word_bit vs) 0 n n (omega arith)) ∙ ap (λ x. word_bits vs n ++ x ∷ []) adds.here
-    ∙ ap (λ l. l ++ b ∷ []) (word_bits_are vs n (word_bits ws n) (length-word_bits ws n)
-    (λ i h. grind (arith, get_or-word_bits)))
+    let same : word_bits vs n ≡ word_bits ws n = word_bits_are vs n (word_bits ws n) (length-word_bits ws n) (λ i h. grind (arith, get_or-word_bits)) in
+    rw (map-range_with_len_more (word_bit vs) 0 n n (omega arith), adds.here) (ap (λ l. l ++ b ∷ []) same)
 
 pub added_holds : {ws vs : List ℕ} {n : ℕ} {b : Bool} → AddsBit ws vs n b → HoldsBits ws n → n < 18446744073709551552 → HoldsBits vs (n + 1)
 added_holds {ws} {vs} {n} {b} adds holds small = grind arith
 
 bit_value_lowest : (b : Bool) → eqb (bit_value b % 2) 1 ≡ b
-bit_value_lowest true = refl
-bit_value_lowest false = refl
+bit_value_lowest b = grind arith
 
 -- by a new word
 adds_by_number : (ws : List ℕ) (n : ℕ) (b : Bool) → HoldsBits ws n → n % 64 ≡ 0 → AddsBit ws (ws ++ bit_value b ∷ []) n b
@@ -97,23 +95,20 @@ adds_by_number ws n b holds whole =
       counted = omega (arith, length_push ws (bit_value b));
       here =
           let word : n / 64 ≡ length ws = omega arith in
-          let place : n % 64 ≡ 0 = whole in
-          rw (place, word, get_or_push ws (bit_value b) 0 (length ws) refl, bit_at_lowest) (bit_value_lowest b);
+          rw (whole, word, get_or_push ws (bit_value b) 0 (length ws) refl, bit_at_lowest) (bit_value_lowest b);
       others = λ i other. elim (cases_lt i n) [
         | inl below ↦ grind (arith, get_or_append_left)
         | inr above ↦ elim (cases_lt i (n + 64)) [
           | inl same_word ↦
-              let word : i / 64 ≡ length ws = omega arith in
+              let word : length ws ≡ i / 64 = omega arith in
               let none : bit_at (bit_value b) (i % 64) ≡ 0 = bit_at_above (bit_value b) 1 (i % 64) (omega (arith, bit_value_le b)) (omega arith) in
-              let new : get_or (ws ++ bit_value b ∷ []) (i / 64) 0 ≡ bit_value b = get_or_push ws (bit_value b) 0 (i / 64) (sym word) in
-              rw (new, none) (sym (past_words ws i (omega arith)))
-          | inr past ↦ past_words (ws ++ bit_value b ∷ []) i (omega (arith, length_push ws (bit_value b))) ∙ sym (past_words ws i (omega arith))
+              rw (get_or_push ws (bit_value b) 0 (i / 64) word, none) (sym (past_words ws i (omega arith)))
+          | inr past ↦ grind (arith, past_words, length_push)
         ]
       ];
     }
 
 pub adds_by_push : (ws vs : List ℕ) (n : ℕ) (b : Bool) → HoldsBits ws n → n % 64 ≡ 0 → vs ≡ ws ++ bool_byte b ∷ [] → AddsBit ws vs n b
-adds_by_push ws vs n true holds whole e = rw e (adds_by_number ws n true holds whole)
-adds_by_push ws vs n false holds whole e = rw e (adds_by_number ws n false holds whole)
+adds_by_push ws vs n b holds whole e = let same : bool_byte b ≡ bit_value b = grind arith in rw (e, same) (adds_by_number ws n b holds whole)
 
 pub ruleset words = (length-word_bits, slice_get-word_bits, slice_get_past-word_bits, bit_value_at-word_bits, slice_index-word_bits, bit_value_of-word_bits, limb-word_bits)

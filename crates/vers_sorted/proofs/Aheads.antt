@@ -1,5 +1,5 @@
 -- The ones of the high parts that were read ahead.
-use Rattle.vers_sorted.proofs.Names.{◌≡◌, ℕ, ◌+◌, ◌-◌, ◌/◌, ◌^◌, ◌<◌, ◌≤◌, Bool, true, false, List, length, take, drop, get_or, sym, ap, subst, ◌∙◌, arith, Option, Some, None, w64, unwrap_or, trailing_zeros, IsNonDecreasing, pow-le-pow_right, get_or_past, length-take, drop-take, drop-drop, bit_at-trailing_zeros, number, count, select, bit_at-number, number-lt, number-drop, select_at, count_at_select, count_more_yes, part_bit, value_none, value_one, part_number_or_zero, high_parts, high_place, IsPacked, rules}
+use Rattle.vers_sorted.proofs.Names.{◌≡◌, ℕ, ◌+◌, ◌-◌, ◌/◌, ◌^◌, ◌<◌, ◌≤◌, Bool, true, false, List, length, take, drop, get_or, sym, ap, ◌∙◌, arith, Option, Some, None, w64, unwrap_or, trailing_zeros, IsNonDecreasing, pow-le-pow_right, get_or_past, length-take, drop-take, drop-drop, shr-shr, bit_at-trailing_zeros, number, count, select, bit_at-number, number-lt, number-drop, select_at, count_at_select, count_more_yes, part_bit, value_none, value_one, part_number_or_zero, high_parts, high_place, IsPacked, rules}
 use Rattle.vers_sorted.specs.declared.elias_fano.ahead.Ahead.{Ahead}
 use Rattle.vers_sorted.specs.inside.Ahead.{HasRead, IsAhead}
 use Rattle.vers_sorted.proofs.Holds.{hold_high}
@@ -24,15 +24,11 @@ module _ (l : List Bool) (p n : ℕ) (within : p + n ≤ length l) (few : n ≤ 
       )
 
   -- what is left of the part past a place of it
-  pub rest : (t : ℕ) → t < n → number (take n (drop p l)) / 2 ^ t / 2 ^ 1 ≡ number (take (n - (t + 1)) (drop (p + (t + 1)) l))
+  rest : (t : ℕ) → t < n → number (take n (drop p l)) / 2 ^ t / 2 ^ 1 ≡ number (take (n - (t + 1)) (drop (p + (t + 1)) l))
   rest t low =
-      let e : t + 1 + (n - (t + 1)) ≡ n = omega arith in
-      ap (λ x. x / 2 ^ 1) (sym (number-drop t (take n (drop p l))))
-      ∙ sym (grind (arith, number-drop))
-      ∙ ap number (drop-drop 1 t (take n (drop p l)))
-      ∙ ap (λ k. number (drop (t + 1) (take k (drop p l)))) (sym e)
-      ∙ ap number (drop-take (t + 1) (n - (t + 1)) (drop p l))
-      ∙ ap (λ q. number (take (n - (t + 1)) q)) (drop-drop (t + 1) p l)
+      let e : n ≡ t + 1 + (n - (t + 1)) = omega arith in
+      let past : number (take n (drop p l)) / 2 ^ t / 2 ^ 1 ≡ number (take n (drop p l)) / 2 ^ (t + 1) = shr-shr (number (take n (drop p l))) t 1 in
+      rw (past, ← number-drop (t + 1) (take n (drop p l)), e) (rw (drop-take, drop-drop) (grind arith))
 
 -- ---- a step
 
@@ -74,9 +70,7 @@ read_after {s} {high} i p n w packed h e read =
 pub read_maybe : {s : List ℕ} {high low : List Bool} {first last width : ℕ} (i p n w : ℕ) (o : Option ℕ) → IsPacked s high low first last width → i < length s → p ≡ select true high i
     → o ≡ part_number_or_zero high (p + 1) n → w ≡ unwrap_or o 0 → IsAhead s (i + 1) (record { place = p + 1; len = n; word = w })
 read_maybe i p n w None packed h e read is some = absurd (omega (arith, is, some))
-read_maybe {s} i p n w (Some v) packed h e read is some =
-    let P : ℕ → Type 0 = λ x. HasRead s (i + 1) (record { place = p + 1; len = n; word = x }) in
-    subst P (sym is) (read_after i p n v packed h e (sym read))
+read_maybe i p n w (Some v) packed h e read is some = rw is (read_after i p n v packed h e (sym read))
 
 pub place_fits : {s : List ℕ} {high low : List Bool} {first last width : ℕ} (i : ℕ) → IsPacked s high low first last width → i < length s → select true high i < length high
 place_fits {s} {high} i packed h = (count_at_select true high i (omega (arith, packed.high_parts.ones))).0

@@ -41,15 +41,13 @@ module _ (l : List Bool) (to w : ℕ) (far : 64 ≤ to) (read : part_number_or_z
   one_back k before =
       let z : ℕ = count_leading_zeros 64 w in
       let p : ℕ = to - 64 + (63 - z) in
-      let at : to - 1 - z ≡ to - 64 + (63 - z) = omega (arith, highest.0) in
-      let rest : to - 64 + (63 - z) + 1 + z ≡ to = omega (arith, highest.0) in
-      let on : get_or l (to - 64 + (63 - z)) false ≡ true =
+      let at : to - 1 - z ≡ p = omega (arith, highest.0) in
+      let rest : p + 1 + z ≡ to = omega (arith, highest.0) in
+      let on : get_or l p false ≡ true =
       value_one (get_or l p false) (sym (part_bit l (to - 64) 64 (63 - z) (omega arith)) ∙ bit_is (63 - z) (omega arith) 1 highest.1) in
-      let stays : count true l (to - 64 + (63 - z) + 1 + z) ≡ count true l (to - 64 + (63 - z) + 1) =
-      count_stays true l (p + 1) z (omega (arith, part.0, highest.0)) (λ i less.
-      let place : to - 64 + (63 - z) + 1 + i ≡ to - 64 + (64 - z + i) = omega (arith, highest.0) in
-      ap (λ q. get_or l q false) place
-      ∙ value_none (get_or l (to - 64 + (64 - z + i)) false) (sym (part_bit l (to - 64) 64 (64 - z + i) (omega (arith, highest.0))) ∙ bit_is (64 - z + i) (omega (arith, highest.0)) 0 (highest.2 (64 - z + i) (omega (arith, highest.0))))) in
+      let stays = count_stays true l (p + 1) z (omega (arith, part.0, highest.0)) (λ i less.
+      let place : p + 1 + i ≡ to - 64 + (64 - z + i) = omega (arith, highest.0) in
+      rw place (value_none _ (sym (part_bit l (to - 64) 64 (64 - z + i) (omega (arith, highest.0))) ∙ bit_is (64 - z + i) (omega (arith, highest.0)) 0 (highest.2 (64 - z + i) (omega (arith, highest.0)))))) in
       let past = count_more_yes true l p (omega (arith, part.0, highest.0)) on in
       at ∙ sym (select_at true l k p (omega (arith, part.0, highest.0)) on (omega (arith, past, stays, ap (count true l) rest, before)))
 
@@ -60,24 +58,20 @@ ones_around : (s : List ℕ) (h start : ℕ) → IsNonDecreasing s → 0 < lengt
     → (count true (high_parts s) (h + start) ≡ start) × (count true (high_parts s) (h + start + 1) ≡ start) × (h + start < length (high_parts s))
 ones_around s h start up some within is =
     let zero = start_at s up h some within in
-    let same : start ≡ select false (high_parts s) h - h = grind arith in
-    let place : h + start ≡ select false (high_parts s) h = omega (arith, zero.0) in
-    let at = count_at_select false (high_parts s) h (omega (arith, zeros_counted s up some)) in
-    grind (arith, count_both)
+    let place : h + start ≡ select false (high_parts s) h = grind arith in
+    grind (arith, count_both, count_at_select, zeros_counted)
 
 module _ {s : List ℕ} {high low : List Bool} {first last width : ℕ} (packed : IsPacked s high low first last width) where
   pub ones_past : (v : ℕ) (bucket : Bucket) → first_of s ≤ v → v ≤ last_of s → IsBucket s v bucket → bucket.end < length s
       → (bucket.high + bucket.end + 2 ≤ length high) × (count true high (bucket.high + bucket.end + 2) ≡ bucket.end)
   ones_past v bucket from to is more =
       let around = ones_around s (high_of s v + 1) bucket.end packed.ascending (omega arith) (grind (arith, high_up)) is.end in
-      let place : bucket.high + bucket.end + 2 ≡ high_of s v + 1 + bucket.end + 1 = omega (arith, is.high) in
       grind (arith, high_same)
 
   pub ones_before : (v : ℕ) (bucket : Bucket) → first_of s ≤ v → v ≤ last_of s → IsBucket s v bucket → 0 < bucket.start
       → (bucket.high + (bucket.start - 1) + 1 ≤ length high) × (count true high (bucket.high + (bucket.start - 1) + 1) ≡ bucket.start - 1 + 1)
   ones_before v bucket from to is some =
       let around = ones_around s (high_of s v) bucket.start packed.ascending (omega (arith, is.start.within)) (grind (arith, high_up)) is.start in
-      let place : bucket.high + (bucket.start - 1) + 1 ≡ high_of s v + bucket.start = omega (arith, is.high) in
       grind (arith, high_same)
 
 pub ruleset ones_beside = (one_fits, one_read, back_fits, one_back)

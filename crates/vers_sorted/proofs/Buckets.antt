@@ -24,16 +24,15 @@ module _ (s : List ℕ) (up : IsNonDecreasing s) where
       let q : ℕ = select false (high_parts s) h in
       let at = count_at_select false (high_parts s) h (omega (arith, zeros_counted some)) in
       let ones : count true (high_parts s) q + h ≡ q = omega (arith, count_both (high_parts s) q, at.0, at.1) in
-      let ones_past : count true (high_parts s) (q + 1) + h ≡ q = omega (arith, count_both (high_parts s) (q + 1), at.0, at.2) in
       let few : q - h ≤ length s = omega (arith, holds.ones, count_up true (high_parts s) q (length (high_parts s)) (omega (arith, at.0))) in (
         omega arith,
         record {
           within = few;
           before = λ i small.
-              let left : select true (high_parts s) i < q = select_below true (high_parts s) i q (omega arith) in
+              let left = select_below true (high_parts s) i q (omega arith) in
               omega (arith, zeros_at_member i (omega arith), holds.place i (omega arith), at.1, count_up false (high_parts s) (high_place s i) q (omega (arith, holds.place i (omega arith))));
           after = λ i large short.
-              let right : q + 1 ≤ select true (high_parts s) i = select_not_below true (high_parts s) i (q + 1) (omega (arith, holds.ones)) (omega arith) in
+              let right = select_not_below true (high_parts s) i (q + 1) (omega (arith, holds.ones)) (omega (arith, count_both (high_parts s) (q + 1), at.2)) in
               omega (arith, zeros_at_member i short, holds.place i short, at.2, count_up false (high_parts s) (q + 1) (high_place s i) (omega (arith, holds.place i short)));
         },
       )
@@ -61,19 +60,20 @@ pub all_between : (s : List ℕ) (v : ℕ) (bucket : Bucket) → IsNonDecreasing
 all_between s v bucket up from is = record { start_from = omega arith; from_below = start_below s v bucket.start up from is.start; below_to = below_end s v bucket.end up from is.end; to_end = omega arith }
 
 -- a member between the two, by its low part
+same_high : (s : List ℕ) (v start end i : ℕ) → IsStart s (high_of s v) start → IsStart s (high_of s v + 1) end → start ≤ i → i < end
+    → (i < length s) × (high_of s (slice_index s i) * 2 ^ low_width s ≡ high_of s v * 2 ^ low_width s)
+same_high s v start end i at past low high = grind arith
+
 pub step_up : (s : List ℕ) (v start end i : ℕ) → IsNonDecreasing s → first_of s ≤ v → IsStart s (high_of s v) start → IsStart s (high_of s v + 1) end
     → start ≤ i → i < end → low_of s (slice_index s i) < low_of s v → i + 1 ≤ below s v
 step_up s v start end i up from at past low high less =
-    let h : i < length s = omega (arith, past.within) in
-    let same : high_of s (slice_index s i) ≡ high_of s v = omega (arith, at.after i low h, past.before i high) in
-    below_from s v i up h (omega (arith, parts_sum s v from, parts_sum s (slice_index s i) (member_from s i up h), ap (λ x. x * 2 ^ low_width s) same))
+    let same = same_high s v start end i at past low high in
+    below_from s v i up same.0 (omega (arith, same.1, parts_sum s v from, parts_sum s (slice_index s i) (member_from s i up same.0)))
 
 pub step_down : (s : List ℕ) (v start end i : ℕ) → IsNonDecreasing s → first_of s ≤ v → IsStart s (high_of s v) start → IsStart s (high_of s v + 1) end
     → start ≤ i → i < end → low_of s v ≤ low_of s (slice_index s i) → below s v ≤ i
-step_down s v start end i up from at past low high more =
-    let h : i < length s = omega (arith, past.within) in
-    let same : high_of s (slice_index s i) ≡ high_of s v = omega (arith, at.after i low h, past.before i high) in
-    below_to s v i up h (omega (arith, member_from s i up h, parts_sum s v from, parts_sum s (slice_index s i) (member_from s i up h), ap (λ x. x * 2 ^ low_width s) same))
+unfolding high_of low_of
+step_down s v start end i up from at past low high more = grind (arith, below_to)
 
 -- the parts of the number that is looked for
 pub high_is : {s : List ℕ} {high low : List Bool} {first last width : ℕ} (v : ℕ) → IsPacked s high low first last width → (v - first) / 2 ^ width ≡ high_of s v
@@ -84,12 +84,6 @@ pub low_is : {s : List ℕ} {high low : List Bool} {first last width : ℕ} (v :
     → bit_and (v - first) (1 * 2 ^ width % 18446744073709551616 - 1) ≡ low_of s v
 unfolding low_of
 low_is {s} {first} {last} {width} v packed = grind (arith, one_shl width 64 packed.narrow, and_mask)
-
-pub upper_steps : (a e : ℕ) → a < e → digits (e - (a + (e - a) / 2 + 1)) + 1 ≤ digits (e - a)
-upper_steps a e h = digits_halved _ _ (omega arith) (omega arith)
-
-pub lower_steps : (a e : ℕ) → a < e → digits (a + (e - a) / 2 - a) + 1 ≤ digits (e - a)
-lower_steps a e h = digits_halved _ _ (omega arith) (omega arith)
 
 -- ---- buckets
 
@@ -103,7 +97,7 @@ in_bucket i at low high h = omega (arith, at.high, at.start.after i low h, at.en
 
 pub ruleset bucket = (high_below, zeros_from, bucket_is)
 
-pub ruleset search_steps = (start_below, below_end, step_up, step_down, upper_steps, lower_steps, digits_up)
+pub ruleset search_steps = (start_below, below_end, step_up, step_down, digits_halved, digits_up)
 
 pub ruleset members = (in_bucket)
 

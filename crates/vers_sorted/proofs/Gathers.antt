@@ -38,13 +38,10 @@ pub fills : (l more : List Bool) (word v n w : ℕ) → word < 2 ^ n → n < 64 
     → more ≡ l ++ low_bits (bit_or word (v % 2 ^ w * 2 ^ n % 18446744073709551616)) 64
     → more ++ low_bits (v % 2 ^ w / 2 ^ (64 - n)) (n + w - 64) ≡ (l ++ low_bits word n) ++ low_bits v w
 fills l more word v n w small few full e =
-    let part : ℕ = v % 2 ^ w in
     let here : n + (64 - n) ≡ 64 = omega arith in
     let all : 64 - n + (n + w - 64) ≡ w = omega arith in
-    let front : List Bool = low_bits part (64 - n) in
-    let back : List Bool = low_bits (part / 2 ^ (64 - n)) (n + w - 64) in
-    let both : front ++ back ≡ low_bits v w = sym (low_bits-add part (64 - n) (n + w - 64)) ∙ ap (low_bits part) all ∙ low_bits_of_rest v w in
-    grind (arith, digits_of_both, low_bits-add, low_bits_of_rest, append_assoc)
+    let both = low_bits-add (v % 2 ^ w) (64 - n) (n + w - 64) in
+    grind (arith, digits_of_both, low_bits_of_rest, append_assoc)
 
 pub goes_on : (part n w : ℕ) → part < 2 ^ w → n < 64 → 64 ≤ n + w → part / 2 ^ (64 - n) < 2 ^ (n + w - 64)
 goes_on part n w narrow few full = grind (arith, shr_below)

@@ -1,5 +1,5 @@
 -- What the high and low parts of an ascending list say of its members.
-use Rattle.vers_sorted.proofs.Names.{◌≡◌, ℕ, ◌+◌, ◌-◌, ◌*◌, ◌^◌, ◌<◌, true, List, length, take, drop, ap, ◌∙◌, arith, slice_index, map, range_with_len, IsNonDecreasing, IsStrictlyIncreasing, mul_comm, same_number_lists, length-map, get_or-map, length-map-range_with_len, get_or-map-range_with_len, number, low_bits, pack, select, number-low_bits, length-packed, first_of, low_width, high_of, high_length, high_place, member, HoldHigh, HoldLow}
+use Rattle.vers_sorted.proofs.Names.{◌≡◌, ℕ, ◌-◌, ◌*◌, ◌^◌, ◌<◌, true, List, length, take, drop, ap, ◌∙◌, arith, slice_index, map, range_with_len, IsNonDecreasing, IsStrictlyIncreasing, mul_comm, same_number_lists, length-map, get_or-map, length-map-range_with_len, get_or-map-range_with_len, low_bits, pack, select, number-low_bits, length-packed, first_of, low_width, high_of, high_length, high_place, member, HoldHigh, HoldLow}
 use Rattle.vers_bits.proofs.PublicLaws.{element}
 use Rattle.vers_sorted.specs.Layout.{low_of, high_parts, low_parts}
 use Rattle.vers_sorted.specs.inside.Parts.{members}
@@ -55,6 +55,5 @@ packs s up =
     (λ k h.
     let short : k < length s = grind (arith, length-map-range_with_len, member) in
     let q : select true (high_parts s) k - k - 1 ≡ high_of s (slice_index s k) = omega (arith, highs.place k short) in
-    get_or-map-range_with_len (member (high_parts s) (low_parts s) (first_of s) (low_width s)) 0 (length s) k k 0 short (omega arith)
-    ∙ ap (λ v. first_of s + (2 ^ low_width s * v + number (take (low_width s) (drop (low_width s * k) (low_parts s))))) q
-    ∙ omega (arith, lows.part k short, parts_sum s (slice_index s k) (member_from s k up short), mul_comm (2 ^ low_width s) (high_of s (slice_index s k)), member_from s k up short))
+    rw (get_or-map-range_with_len (member (high_parts s) (low_parts s) (first_of s) (low_width s)) 0 (length s) k k 0 short (omega arith), q, lows.part k short)
+    (omega (arith, parts_sum s (slice_index s k) (member_from s k up short), mul_comm (2 ^ low_width s) (high_of s (slice_index s k)), member_from s k up short)))

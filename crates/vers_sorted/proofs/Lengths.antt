@@ -11,11 +11,8 @@ unfolding high_of low_width
 high_few s =
     let n : ℕ = length s in
     let u : ℕ = last_of s - first_of s in
-    let w : ℕ = width n u in
-    let c : ℕ = clog (max n 2) in
-    let up : 2 ^ clog (max u 2) ≤ 2 ^ (w + c) = pow-le-pow_right {n = 2} (omega arith) {i = clog (max u 2)} {j = w + c} (width_enough n u) in
-    let within : u ≤ 2 ^ w * 2 ^ c = omega (arith, clog_most (max u 2), up, pow-add 2 w c) in
-    div-le_of_le-mul (2 ^ w) within
+    let up = pow-le-pow_right {n = 2} (omega arith) (width_enough n u) in
+    div-le_of_le-mul (2 ^ width n u) (omega (arith, clog_most (max u 2), up, pow-add 2 (width n u) (clog (max n 2))))
 
 high_length-le : (s : List ℕ) → high_length s ≤ 2 + length s + 2 ^ clog (max (length s) 2)
 high_length-le s = grind (arith, high_zeros, high_few, high_none)

@@ -1,5 +1,5 @@
 -- How high and low parts are made.
-use Rattle.vers_sorted.proofs.Names.{◌≡◌, ◌==◌, ℕ, ◌+◌, ◌-◌, ◌*◌, ◌/◌, ◌^◌, ◌<◌, ◌≤◌, true, false, Bool, List, [], ◌∷◌, ◌++◌, length, take, drop, Option, Some, None, unwrap_or, refl, sym, ap, ◌∙◌, arith, inl, inr, set, replicate, mul-le-mul_left, mul_comm, zero-div, slice_index, slice_get, map, if◌then◌else◌, range_with_len, IsNonDecreasing, cases_lt, get_or_past, append-nil, map-append, take_all, take_more, length-map, length-take, length-drop, drop-drop, get_or-drop, slice_get-get_or, slice_get_past, get_or_from_slice_get, map-range_with_len_more, flat_map-append, low_bits, pack, ones_at, first_of, last_of, width, high_place, get_or-replicate, length-replicate, same_lists}
+use Rattle.vers_sorted.proofs.Names.{◌≡◌, ◌==◌, ℕ, ◌+◌, ◌-◌, ◌*◌, ◌/◌, ◌^◌, ◌<◌, ◌≤◌, true, false, Bool, List, [], ◌++◌, length, drop, Option, Some, None, unwrap_or, refl, sym, ap, ◌∙◌, arith, set, replicate, mul-le-mul_left, mul_comm, zero-div, slice_index, slice_get, map, if◌then◌else◌, range_with_len, IsNonDecreasing, get_or_past, append-nil, map-append, take_all, take_more, length-map, length-take, length-drop, drop-drop, get_or-drop, slice_get-get_or, slice_get_within, get_or_from_slice_get, map-range_with_len_more, flat_map-append, low_bits, pack, first_of, last_of, width, high_place, get_or-replicate, length-replicate, same_lists}
 use Rattle.vers_bits.specs.Walk.{TakesFirst}
 use Rattle.vers_sorted.specs.Layout.{low_width, high_of, high_length, high_parts, low_parts}
 use Rattle.vers_sorted.specs.inside.Parts.{first_high_parts, first_low_parts}
@@ -26,19 +26,17 @@ low_width_is s first last n w f l same e = e ∙ rw (same, l, f) refl
 -- the high part of a number as the code computes it
 pub high_part_is : (s : List ℕ) (v first width : ℕ) → first ≡ first_of s → width ≡ low_width s → (v - first) / 2 ^ width ≡ high_of s v
 unfolding high_of
-high_part_is s v first width f w = ap (λ k. (v - first) / 2 ^ k) w ∙ ap (λ k. (v - k) / 2 ^ low_width s) f
+high_part_is s v first width f w = rw (f, w) refl
 
 -- ---- the high parts
 
 pub high_start : (s : List ℕ) (n : ℕ) → n ≡ high_length s → replicate n false ≡ first_high_parts s 0
 unfolding first_high_parts
-high_start s n e = ap (λ k. replicate k false) e ∙ sym (grind (arith, same_lists, length-ones_at, length-replicate, get_or-ones_at, get_or-replicate))
+high_start s n e = grind (arith, same_lists, length-ones_at, length-replicate, get_or-ones_at, get_or-replicate)
 
 pub high_next : (s : List ℕ) (i : ℕ) → IsNonDecreasing s → i < length s → set (first_high_parts s i) (high_place s i) true ≡ first_high_parts s (i + 1)
 unfolding first_high_parts
-high_next s i up h =
-    sym (ap (λ l. ones_at l (high_length s)) (map-range_with_len_more (high_place s) 0 i i (omega arith))
-    ∙ ones_at_more (map (high_place s) (range_with_len 0 i)) (high_length s) (high_place s i) (place_within s up i h))
+high_next s i up h = rw (map-range_with_len_more (high_place s) 0 i i (omega arith), ones_at_more _ _ _ (place_within s up i h)) refl
 
 pub high_all : (s : List ℕ) → first_high_parts s (length s) ≡ high_parts s
 unfolding first_high_parts high_parts
@@ -56,11 +54,7 @@ low_start s = refl
 
 pub low_next : (s : List ℕ) (i : ℕ) → i < length s → first_low_parts s i ++ low_bits (slice_index s i - first_of s) (low_width s) ≡ first_low_parts s (i + 1)
 unfolding first_low_parts
-low_next s i h =
-    sym (ap (λ l. pack (map (λ m. m - first_of s) l) (low_width s)) (take_more s i 0 h)
-    ∙ ap (λ l. pack l (low_width s)) (grind (arith, map-append))
-    ∙ flat_map-append (λ v. low_bits v (low_width s)) (map (λ m. m - first_of s) (take i s)) ((slice_index s i - first_of s) ∷ [])
-    ∙ ap (λ l. pack (map (λ m. m - first_of s) (take i s)) (low_width s) ++ l) (append-nil (low_bits (slice_index s i - first_of s) (low_width s))))
+low_next s i h = rw (take_more s i 0 h, map-append, flat_map-append, append-nil) refl
 
 -- the low parts of the first i members, which fit
 pub low_length : (s : List ℕ) (i w : ℕ) → w ≡ low_width s → i ≤ length s → (length (first_low_parts s i) ≡ w * i) × (w * i ≤ length s * w)
@@ -76,13 +70,10 @@ low_all s = ap (λ l. pack (map (λ m. m - first_of s) l) (low_width s)) (take_a
 -- a number that was taken is that at its place
 pub taken_at : (s rest new : List ℕ) (i v : ℕ) → rest ≡ drop i s → TakesFirst rest (Some v) new → (i < length s) × (slice_index s i ≡ v) × (new ≡ drop (i + 1) s)
 taken_at s rest new i v here t =
-    let from : i + 0 ≡ i = omega arith in
     let given : slice_get (drop i s) 0 ≡ Some v = sym (rw here at t.given) in
-    let left : new ≡ drop 1 (drop i s) = rw here at t.left in
-    elim (cases_lt i (length s)) [
-      | inl within ↦ (within, ap (slice_index s) (sym from) ∙ sym (get_or-drop i s 0 0) ∙ get_or_from_slice_get (drop i s) 0 v 0 given, left ∙ drop-drop 1 i s)
-      | inr past ↦ let none = slice_get_past (drop i s) 0 (omega (arith, length-drop i s)) in absurd (cc (given, none))
-    ]
+    let from : i ≡ i + 0 = omega arith in
+    let at : slice_index s i ≡ v = rw (from, ← get_or-drop i s 0 0) (get_or_from_slice_get (drop i s) 0 v 0 given) in
+    (omega (arith, slice_get_within (drop i s) 0 v given, length-drop i s), at, rw (here, drop-drop) at t.left)
 
 -- where none was, all were taken
 pub all_taken : (s rest new : List ℕ) (i : ℕ) → rest ≡ drop i s → i ≤ length s → TakesFirst rest None new → i ≡ length s
@@ -129,10 +120,5 @@ pub high_sum_fits : (s : List ℕ) (n first last width : ℕ) → n ≡ length s
     → 2 + n + (last - first) / 2 ^ width ≤ 2305843009213693954
 high_sum_fits s n first last width same f l w few =
     let high : (last - first) / 2 ^ width ≡ high_of s (last_of s) = grind (arith, high_part_is) in
-    elim (cases_lt 0 (length s)) [
-      | inl some ↦ omega (arith, high, high_zeros s some, high_fits s (omega arith))
-      | inr none ↦
-          let apart : last - first ≡ 0 = omega (arith, first_none s (omega arith), last_none s (omega arith)) in
-          let zero_high : (last - first) / 2 ^ width ≡ 0 = ap (λ k. k / 2 ^ width) apart ∙ zero-div (2 ^ width) in
-          omega (arith, zero_high)
-    ]
+    let none : 0 / 2 ^ width ≡ 0 = zero-div (2 ^ width) in
+    grind (arith, high_zeros s, high_fits s, first_none s, last_none s)

@@ -24,16 +24,12 @@ digits_past w t i = ap (λ m. m % 2) (shr-shr w t i)
 pub marked_past : (b : Bool) (l : List Bool) (p n w t : ℕ) → t < n → AreMarked b l p n w → AreMarked b l (p + (t + 1)) (n - (t + 1)) (w / 2 ^ t / 2 ^ 1)
 marked_past b l p n w t h marked i small =
     let e : t + (1 + i) ≡ t + 1 + i = omega arith in
-    let place : p + (t + 1 + i) ≡ p + (t + 1) + i = omega arith in
-    digits_past (w / 2 ^ t) 1 i ∙ digits_past w t (1 + i) ∙ ap (bit_at w) e ∙ marked (t + 1 + i) (omega arith)
-    ∙ ap (λ q. bit_value (is_bit b (get_or l q false))) place
+    let place : p + (t + 1) + i ≡ p + (t + 1 + i) = omega arith in
+    rw place (digits_past (w / 2 ^ t) 1 i ∙ digits_past w t (1 + i) ∙ ap (bit_at w) e ∙ marked (t + 1 + i) (omega arith))
 
 module _ (b : Bool) (l : List Bool) (p n w : ℕ) (within : p + n ≤ length l) (few : n ≤ 64) (fits : w < 18446744073709551616) (marked : AreMarked b l p n w) where
   below_lowest : (i : ℕ) → i < trailing_zeros w64 w → bit_at w i ≡ 0
-  below_lowest i h = elim (cases_lt 0 w) [
-    | inl some ↦ (bit_at-trailing_zeros w64 w some fits).2 i h
-    | inr none ↦ omega arith
-  ]
+  below_lowest i h = grind (arith, bit_at-trailing_zeros w64 w)
 
   off : (i : ℕ) → i < n → i < trailing_zeros w64 w → is_bit b (get_or l (p + i) false) ≡ false
   off i h low = value_none (is_bit b (get_or l (p + i) false)) (sym (marked i h) ∙ below_lowest i low)

@@ -1,5 +1,6 @@
 -- The bits whose ones stand at given places: their counts, their places, and how they come about.
-use Rattle.vers_sorted.proofs.Names.{◌≡◌, ℕ, zero, suc, ◌+◌, ◌-◌, ◌<◌, ◌≤◌, Bool, true, false, ◌⊎◌, List, [], ◌∷◌, ◌++◌, length, get_or, refl, sym, ap, ◌∙◌, arith, inl, inr, eqb, set, slice_index, map, ◌||◌, list_any, IsNonDecreasing, IsStrictlyIncreasing, cases_lt, cases_Bool, ne_eqb, eq-eqb, eqb-true, same_number_lists, same_lists, get_or-set_same, get_or-set_other, length-set, get_or-map, length-map, length-map-range_with_len, map-id, get_or-map-range_with_len, get_or_default, is_bit, count, places, count_none, count_up, count_more_yes, count_more_no, select_at, length-places, select_is_place, select_up, IsPlace, below, rules}
+use Rattle.vers_sorted.proofs.Names.{◌≡◌, ℕ, zero, suc, ◌+◌, ◌-◌, ◌<◌, ◌≤◌, Bool, true, false, ◌⊎◌, List, [], ◌∷◌, ◌++◌, length, get_or, refl, sym, ap, ◌∙◌, arith, inl, inr, eqb, set, slice_index, map, list_any, IsNonDecreasing, IsStrictlyIncreasing, cases_lt, cases_Bool, ne_eqb, eq-eqb, eqb-true, same_number_lists, same_lists, get_or-set_same, get_or-set_other, length-set, get_or-map, length-map, length-map-range_with_len, map-id, get_or-map-range_with_len, get_or_default, is_bit, count, places, count_none, count_up, count_more_yes, count_more_no, select_at, length-places, select_is_place, select_up, IsPlace, below, rules}
+use Rattle.std.proofs.lemmas.Bool.Decides.{nat_tests}
 use Rattle.std.proofs.lemmas.List.Folds.{list_any-from_Any, Any-from_list_any, list_any_none, list_any-append}
 use Rattle.std.proofs.lemmas.List.Kept.{AllPairs-from_increasing}
 use Rattle.vers_bits.specs.Bits.{select}
@@ -25,14 +26,6 @@ no_member s v none =
 
 pub member_place : (s : List ℕ) (v : ℕ) → list_any (λ q. eqb q v) s ≡ true → (k : ℕ) × (k < length s) × (get_or s k 0 ≡ v)
 member_place s v on = grind (arith, Any-from_list_any, get_or_default, eqb-true)
-
-or_yes : (a b : Bool) → b ≡ true → (a || (b || false)) ≡ true
-or_yes true b e = refl
-or_yes false b e = rw e refl
-
-or_no : (a b : Bool) → b ≡ false → (a || (b || false)) ≡ a
-or_no true b e = refl
-or_no false b e = rw e refl
 
 -- ---- numbers that rise
 
@@ -86,8 +79,7 @@ module _ (s : List ℕ) (up : IsStrictlyIncreasing s) where
 -- ---- how such bits come about
 
 pub ones_at_more : (s : List ℕ) (n p : ℕ) → p < n → ones_at (s ++ p ∷ []) n ≡ set (ones_at s n) p true
-ones_at_more s n p within =
-    grind (arith, same_lists, length-ones_at, length-set, get_or-ones_at, list_any-append, or_yes, eq-eqb, get_or-set_same, or_no, ne_eqb, get_or-set_other)
+ones_at_more s n p within = grind (arith, nat_tests, same_lists, length-ones_at, length-set, get_or-ones_at, list_any-append, get_or-set_same, get_or-set_other)
 
 -- ---- the places of a list's own ones or zeros
 
@@ -107,20 +99,17 @@ unfolding select
 ones_at-places b l =
     same_lists _ _ (length-ones_at (places b l) (length l) ∙ sym (length-map l (is_bit b))) (λ k d h.
     let short : k < length l = grind (arith, length-ones_at) in
-    get_or-ones_at (places b l) (length l) k d short
-    ∙ elim (cases_Bool (is_bit b (get_or l k false))) [
+    rw (get_or-ones_at (places b l) (length l) k d short, get_or-map (is_bit b) l k false d short)
+    (elim (cases_Bool (is_bit b (get_or l k false))) [
       | inl on ↦
           let more : count b l (k + 1) ≡ count b l k + 1 = count_more_yes b l k short on in
           let few : count b l k < length (places b l) = omega (arith, more, length-places b l, count_up b l (k + 1) (length l) (omega arith)) in
-          let at : select b l (count b l k) ≡ k = select_at b l (count b l k) k short on refl in
-          any_member (places b l) k (count b l k) few (get_or_default (places b l) (count b l k) 0 (length l) few ∙ at) ∙ sym (get_or-map (is_bit b) l k false d short ∙ on)
-      | inr off ↦
-          no_member (places b l) k (λ r few e.
+          rw on (any_member (places b l) k _ few (get_or_default (places b l) (count b l k) 0 (length l) few ∙ select_at b l (count b l k) k short on refl))
+      | inr off ↦ rw off (no_member (places b l) k (λ r few e.
           let at : IsPlace b l r (select b l r) = select_is_place b l r (omega (arith, length-places b l)) in
           let same : select b l r ≡ k = get_or_default (places b l) r (length l) 0 few ∙ e in
-          let on : is_bit b (get_or l k false) ≡ true = ap (λ p. is_bit b (get_or l p false)) (sym same) ∙ at.holds in
-          absurd (cc (on, off))) ∙ sym (get_or-map (is_bit b) l k false d short ∙ off)
-    ])
+          absurd (cc (rw same at at.holds, off))))
+    ]))
 
 -- the places of the ones and the length tell the list
 pub ones_at-same : (bits : List Bool) (n : ℕ) (ones : List ℕ) → length bits ≡ n → places true bits ≡ ones → bits ≡ ones_at ones n

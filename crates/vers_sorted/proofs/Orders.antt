@@ -1,6 +1,6 @@
 -- Numbers that stand in an order, each to the next.
-use Rattle.vers_sorted.proofs.Names.{◌≡◌, ℕ, zero, suc, ◌<◌, Bool, true, false, List, [], ◌∷◌, length, get_or, nat_le, nat_lt, refl, sym, arith, add-one, ◌↔◌, All, IsTrue, IsAllAdjacentAnswer, list_all, IsNonDecreasing, IsStrictlyIncreasing, leb-true, le-leb, ltb-true, lt-ltb, get_or_default, IsNonDecreasingBy-from_all_adjacent, AllPass-from_list_all, list_all-from_AllPass, each_next}
-use Rattle.std.proofs.Math.Bool.{◌&&◌, and-false}
+use Rattle.vers_sorted.proofs.Names.{◌≡◌, ℕ, zero, suc, ◌<◌, Bool, true, false, List, [], ◌∷◌, length, get_or, nat_le, nat_lt, refl, sym, arith, add-one, ◌↔◌, All, IsTrue, IsAllAdjacentAnswer, list_all, IsNonDecreasing, IsStrictlyIncreasing, leb-true, le-leb, ltb-true, lt-ltb, get_or_default, and_parts, IsNonDecreasingBy-from_all_adjacent, AllPass-from_list_all, list_all-from_AllPass, each_next}
+use Rattle.std.proofs.Math.Bool.{and-false}
 
 -- number k and the next
 abbrev pair_at : (ℕ → ℕ → Bool) → List ℕ → ℕ → Bool
@@ -25,17 +25,12 @@ pub each_next-answer : (order : ℕ → ℕ → Bool) (xs : List ℕ) (r : Bool)
 each_next-answer order xs true h = grind (arith, each_next-true, add-one)
 each_next-answer order xs false h = sym (each_next-false order xs h.0 (omega (arith, h.1)) (rw (← add-one h.0) (sym (h.2 0))))
 
--- both sides of a conjunction
-both : (a b : Bool) → a && b ≡ true → (a ≡ true) × (b ≡ true)
-both true b h = (refl, h)
-both false b h = cc
-
 -- two neighbours, where all stand in the order
 each_next-at : (order : ℕ → ℕ → Bool) (xs : List ℕ) (k : ℕ) → suc k < length xs → each_next order xs ≡ true → pair_at order xs k ≡ true
 each_next-at order [] k l h = absurd (omega arith)
 each_next-at order (x ∷ []) k l h = absurd (omega arith)
-each_next-at order (x ∷ y ∷ xs) zero l h = grind (arith, both)
-each_next-at order (x ∷ y ∷ xs) (suc k) l h = each_next-at order (y ∷ xs) k (omega arith) (both (order x y) (each_next order (y ∷ xs)) h).1
+each_next-at order (x ∷ y ∷ xs) zero l h = (and_parts _ _ h).0
+each_next-at order (x ∷ y ∷ xs) (suc k) l h = each_next-at order (y ∷ xs) k (omega arith) (and_parts (order x y) _ h).1
 
 rising : (xs : List ℕ) → each_next nat_lt xs ≡ true → IsStrictlyIncreasing xs
 rising xs h k l = rw (add-one k) (ltb-true _ _ (each_next-at nat_lt xs k (omega arith) h))

@@ -1,5 +1,5 @@
 -- What the fields of a packed list say of its members.
-use Rattle.vers_sorted.proofs.Names.{◌≡◌, ℕ, ◌+◌, ◌*◌, ◌%◌, ◌^◌, ◌<◌, ◌≤◌, Bool, true, List, length, take, drop, refl, ap, ◌∙◌, arith, Some, None, slice_index, slice_get, bit_or, IsNonDecreasing, mul-le-mul_left, mul_comm, mod-eq_of_lt, or_shifted, slice_get-get_or, slice_get_past, length-map-range_with_len, select, number, limb_count, count_both, index_size, first_of, last_of, low_width, high_of, low_of, high_length, high_parts, low_parts, heap_size_of, member, IsPacked}
+use Rattle.vers_sorted.proofs.Names.{◌≡◌, ℕ, ◌+◌, ◌*◌, ◌%◌, ◌^◌, ◌<◌, ◌≤◌, Bool, true, List, length, take, drop, refl, arith, Some, None, slice_index, slice_get, bit_or, IsNonDecreasing, mul-le-mul_left, mul_comm, mod-eq_of_lt, or_shifted, slice_get-get_or, slice_get_past, length-map-range_with_len, select, number, limb_count, count_both, index_size, first_of, last_of, low_width, high_of, low_of, high_length, high_parts, low_parts, heap_size_of, member, IsPacked}
 use Rattle.vers_sorted.specs.inside.Parts.{members, AreHighParts}
 use Rattle.vers_sorted.proofs.Split.{parts_sum, low_below}
 use Rattle.vers_sorted.proofs.Holds.{hold_high, hold_low, packs}
@@ -13,8 +13,7 @@ pub packed_as : (s : List ℕ) (first last width : ℕ) → IsNonDecreasing s �
     → (members (high_parts s) (low_parts s) first width (length s) ≡ s) × IsPacked (members (high_parts s) (low_parts s) first width (length s)) (high_parts s) (low_parts s) first last width
 unfolding AreHighParts
 packed_as s first last width up f l fits w narrow =
-    let back : members (high_parts s) (low_parts s) first width (length s) ≡ s =
-    ap (λ v. members (high_parts s) (low_parts s) v width (length s)) f ∙ ap (λ v. members (high_parts s) (low_parts s) (first_of s) v (length s)) w ∙ packs s up in
+    let back : members (high_parts s) (low_parts s) first width (length s) ≡ s = rw (f, w) (packs s up) in
     (back, rw back (record { ascending = up; first_is = f; last_is = l; fits = fits; width_is = w; narrow = narrow; high_parts = hold_high s up; low_parts = hold_low s; laid_out = refl }))
 
 pub high_same : {s : List ℕ} {high low : List Bool} {first last width : ℕ} → IsPacked s high low first last width → high ≡ high_parts s
@@ -41,12 +40,6 @@ high_at i packed h = packed.high_parts.place i h
 
 -- ---- both
 
-pub get_some : (s : List ℕ) (i : ℕ) → i < length s → slice_get s i ≡ Some (slice_index s i)
-get_some s i h = slice_get-get_or s i 0 h
-
-pub get_none : (s : List ℕ) (i : ℕ) → length s ≤ i → slice_get s i ≡ None
-get_none s i h = slice_get_past s i h
-
 pub in_order : {s : List ℕ} {high low : List Bool} {first last width : ℕ} (i : ℕ) → IsPacked s high low first last width → i < length s
     → (first ≤ slice_index s i) × (slice_index s i ≤ last)
 in_order {s} i packed h = grind (arith)
@@ -72,6 +65,6 @@ pub ruleset low_parts_read = (low_read, low_within)
 
 pub ruleset high_parts_read = (high_at, high_counted)
 
-pub ruleset gets = (get_some, get_none)
+pub ruleset gets = (slice_get-get_or, slice_get_past)
 
 pub ruleset joined_parts = (joined, in_order)

@@ -1,5 +1,5 @@
 -- The next zero or one, by the number of the bits that follow.
-use Rattle.vers_sorted.proofs.Names.{◌≡◌, ℕ, zero, suc, ◌+◌, ◌<◌, ◌≤◌, Bool, true, false, List, length, take, drop, get_or, sym, ap, ◌∙◌, arith, Some, w64, trailing_ones, leb-true, and_parts, cond_some, bit_at-trailing_ones, is_bit, number, count, select, count_le, select_at, count_at_select, count_more_no, part_bit, value_none, value_one}
+use Rattle.vers_sorted.proofs.Names.{◌≡◌, ℕ, zero, suc, ◌+◌, ◌<◌, ◌≤◌, Bool, false, List, length, take, drop, get_or, sym, ap, ◌∙◌, arith, Some, w64, trailing_ones, leb-true, and_parts, cond_some, bit_at-trailing_ones, is_bit, number, count, select, count_le, select_at, count_at_select, count_more_no, part_bit, value_none, value_one}
 use Rattle.vers_rank.specs.Queries.{part_number_or_zero}
 
 -- where no place of a stretch holds the bit, the count stays
@@ -13,14 +13,12 @@ count_stays b l p (suc d) h off =
 pub next_zero : (l : List Bool) (p h : ℕ) → p + 64 ≤ length l → count false l p ≡ h → number (take 64 (drop p l)) + 1 < 18446744073709551616
     → select false l h ≡ p + trailing_ones w64 (number (take 64 (drop p l)))
 next_zero l p h within counted small =
-    let w : ℕ = number (take 64 (drop p l)) in
-    let t : ℕ = trailing_ones w64 w in
-    let found = bit_at-trailing_ones w64 w small in
+    let t : ℕ = trailing_ones w64 (number (take 64 (drop p l))) in
+    let found = bit_at-trailing_ones w64 (number (take 64 (drop p l))) small in
     let here : get_or l (p + t) false ≡ false = value_none (get_or l (p + t) false) (sym (part_bit l p 64 t found.0) ∙ found.1) in
-    select_at false l h (p + t) (omega (arith, found.0)) (ap (is_bit false) here)
-    (count_stays false l p t (omega (arith, found.0)) (λ i less.
-    let on : get_or l (p + i) false ≡ true = value_one (get_or l (p + i) false) (sym (part_bit l p 64 i (omega (arith, found.0))) ∙ found.2 i less) in
-    ap (is_bit false) on) ∙ counted)
+    let stays = count_stays false l p t (omega (arith, found.0)) (λ i less.
+    ap (is_bit false) (value_one (get_or l (p + i) false) (sym (part_bit l p 64 i (omega (arith, found.0))) ∙ found.2 i less))) in
+    select_at false l h (p + t) (omega (arith, found.0)) (ap (is_bit false) here) (stays ∙ counted)
 
 -- past zero number h as many zeros stand as h and one more
 pub counted_past : (b : Bool) (l : List Bool) (h p : ℕ) → h < count b l (length l) → p ≡ select b l h → count b l (p + 1) ≡ h + 1

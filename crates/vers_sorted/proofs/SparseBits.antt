@@ -1,5 +1,5 @@
 -- The queries of a sparse list of bits, by those of the list of its ones' places.
-use Rattle.vers_sorted.proofs.Names.{◌≡◌, ℕ, ◌+◌, ◌-◌, ◌<◌, ◌≤◌, Bool, true, false, List, [], ◌∷◌, ◌++◌, length, take, get_or, eqb, sym, ap, ◌∙◌, arith, inl, inr, min, Some, None, slice_index, slice_get, map, IsNonDecreasing, cases_lt, eq-eqb, ne_eqb, get_or_default, map-id, take_more, take_all, slice_get-get_or, slice_get_past, slice_get_within, get_or_from_slice_get, is_bit, count, places, count_none, count_both, count_past, count_up, select_at, select_past, length-places, count_more_yes, below, least_not_below, ones_at, AreSparse}
+use Rattle.vers_sorted.proofs.Names.{◌≡◌, ℕ, ◌+◌, ◌-◌, ◌<◌, ◌≤◌, Bool, true, false, List, [], ◌∷◌, ◌++◌, length, take, get_or, eqb, sym, ap, ◌∙◌, arith, min, Some, None, slice_index, slice_get, map, IsNonDecreasing, eq-eqb, ne_eqb, get_or_default, map-id, take_more, take_all, slice_get-get_or, slice_get_past, slice_get_within, get_or_from_slice_get, is_bit, count, places, count_none, count_both, count_past, count_up, select_at, select_past, length-places, count_more_yes, below, least_not_below, ones_at, AreSparse}
 use Rattle.vers_bits.specs.Bits.{select}
 use Rattle.vers_sorted.proofs.Below.{below_le, below_from, below_to, below_after, all_below}
 use Rattle.vers_sorted.proofs.Neighbours.{succ_is}
@@ -21,32 +21,22 @@ module _ {s : List ℕ} {n : ℕ} (sparse : AreSparse s n) where
 
   pub select_none : (r : ℕ) → slice_get s r ≡ None → select true (ones_at s n) r ≡ n
   select_none r e =
-      elim (cases_lt r (length s)) [
-        | inl h ↦ let some = slice_get-get_or s r 0 h in absurd (cc (e, some))
-        | inr past ↦ grind (arith, select_past, all_ones, last_within, length-ones_at)
-      ]
+      let all = all_ones s sparse.rising n last_within in
+      grind (arith, slice_get-get_or s r 0, select_past, length-ones_at)
 
   -- the bit at a place, by the least member that is not below it
   pub bit_some : (p v : ℕ) → p < n → least_not_below s p ≡ Some v → get_or (ones_at s n) p false ≡ eqb v p
   bit_some p v within e =
       let up : IsNonDecreasing s = ascends s sparse.rising in
       let at : slice_get s (below s p) ≡ Some v = sym (succ_is s p up) ∙ e in
-      elim (cases_lt (below s p) (length s)) [
-        | inr past ↦ let none = slice_get_past s (below s p) past in absurd (cc (at, none))
-        | inl h ↦
-            let here : Some v ≡ Some (slice_index s (below s p)) = sym at ∙ slice_get-get_or s (below s p) 0 h in
-            let same : v ≡ slice_index s (below s p) = cc here in
-            get_or-ones_at s n p false within ∙ grind (arith, same, member_test, eq-eqb, below_to, below_after, below_from, ne_eqb)
-      ]
+      let few = slice_get_within s (below s p) v at in
+      let same = get_or_from_slice_get s (below s p) v 0 at in
+      get_or-ones_at s n p false within ∙ grind (arith, member_test, eq-eqb, below_to, below_after, below_from, ne_eqb)
 
   pub bit_none : (p : ℕ) → p < n → least_not_below s p ≡ None → get_or (ones_at s n) p false ≡ false
   bit_none p within e =
       let at : slice_get s (below s p) ≡ None = grind (arith, succ_is, ascends) in
-      elim (cases_lt (below s p) (length s)) [
-        | inl h ↦ let some = slice_get-get_or s (below s p) 0 h in absurd (cc (at, some))
-        | inr past ↦
-            get_or-ones_at s n p false within ∙ grind (arith, below_le s (p + 1), member_test)
-      ]
+      get_or-ones_at s n p false within ∙ grind (arith, slice_get-get_or s (below s p) 0, below_le s (p + 1), member_test)
 
 -- the list has no fewer bits than ones, and each member is one of its places
 pub members_few : {s : List ℕ} {n : ℕ} → AreSparse s n → length s ≤ length (ones_at s n)

@@ -1,5 +1,5 @@
 -- How a number is split into its high and its low part.
-use Rattle.vers_sorted.proofs.Names.{◌≡◌, ℕ, ◌+◌, ◌-◌, ◌*◌, ◌^◌, ◌<◌, ◌≤◌, List, length, refl, arith, inl, inr, slice_index, IsNonDecreasing, mul-le-mul_left, mul_comm, mod_below, pow_pos, cases_lt, first_of, last_of, low_width}
+use Rattle.vers_sorted.proofs.Names.{◌≡◌, ℕ, ◌+◌, ◌-◌, ◌*◌, ◌^◌, ◌<◌, ◌≤◌, List, length, refl, arith, slice_index, IsNonDecreasing, mod_below, pow_pos, first_of, last_of, low_width}
 use Rattle.vers_sorted.specs.Layout.{high_of, low_of, high_length}
 
 pub parts_sum : (s : List ℕ) (v : ℕ) → first_of s ≤ v → high_of s v * 2 ^ low_width s + low_of s v ≡ v - first_of s
@@ -12,19 +12,8 @@ low_below s v = mod_below (v - first_of s) (2 ^ low_width s) (pow_pos (low_width
 
 -- a greater number has no lower high part
 pub high_up : (s : List ℕ) (a b : ℕ) → a ≤ b → first_of s ≤ a → high_of s a ≤ high_of s b
-high_up s a b h from =
-    elim (cases_lt (high_of s b) (high_of s a)) [
-      | inr fine ↦ fine
-      | inl less ↦ absurd (omega (
-        arith,
-        parts_sum s a from,
-        parts_sum s b (omega arith),
-        low_below s b,
-        mul-le-mul_left {m = high_of s b + 1} {n = high_of s a} (2 ^ low_width s) (omega arith),
-        mul_comm (2 ^ low_width s) (high_of s b + 1),
-        mul_comm (2 ^ low_width s) (high_of s a),
-      ))
-    ]
+unfolding high_of
+high_up s a b h from = grind arith
 
 pub member_from : (s : List ℕ) (i : ℕ) → IsNonDecreasing s → i < length s → first_of s ≤ slice_index s i
 member_from s i up h = up 0 i 0 (omega arith) h

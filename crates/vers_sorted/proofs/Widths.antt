@@ -17,8 +17,8 @@ width_least n u = omega (arith, digits_up (max n 2 - 1) (n + 2 - 1) (omega arith
 pub width_narrow : (n u : ℕ) → u < 18446744073709551616 → max (clog (max u 2)) (clog (n + 2)) - clog (max n 2) < 64
 width_narrow n u h =
     let few : digits (max u 2 - 1) ≤ 64 = grind (arith, digits-le) in
-    let some : digits (max n 2 - 1) ≡ digits ((max n 2 - 1) / 2) + 1 = digits_half (max n 2 - 1) (omega arith) in
-    let step : digits (n + 2 - 1) ≡ digits ((n + 2 - 1) / 2) + 1 = digits_half (n + 2 - 1) (omega arith) in
+    let some = digits_half (max n 2 - 1) (omega arith) in
+    let step = digits_half (n + 2 - 1) (omega arith) in
     omega (arith, digits_up ((n + 2 - 1) / 2) (max n 2 - 1) (omega arith))
 
 -- a low part has so many bits that what lies u above 0 has no higher high part than a power of two says

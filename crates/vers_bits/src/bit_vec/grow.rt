@@ -110,7 +110,7 @@ impl<A: Allocator + Copy> BitVec<A> {
     }
 
     // Appends the `n` digits of a number, which the last limb has room for.
-    #[tactic(auto, using(crate::proofs::Words::words))]
+    #[tactic(auto, using(crate::proofs::Words::words, crate::proofs::Holds::held, crate::proofs::Holds::held_bits, crate::proofs::Growing::add_none))]
     pub(super) fn append_within(&mut self, bits: u64, n: usize)
         requires small { bits < 2 ^ n }
         requires room { n ≤ (64 - length self.old % 64) % 64 }
@@ -125,7 +125,7 @@ impl<A: Allocator + Copy> BitVec<A> {
 
     // Appends the `n` digits of a number.
     #[inline(always)]
-    #[tactic(auto, using(crate::proofs::Words::words))]
+    #[tactic(auto, using(crate::proofs::Words::words, crate::proofs::Holds::held, crate::proofs::Holds::held_bits))]
     fn append_number(&mut self, number: u64, n: usize) -> Result<(), AllocError>
         requires some { 0 < n }
         requires few { n ≤ 64 }
@@ -141,7 +141,7 @@ impl<A: Allocator + Copy> BitVec<A> {
     }
 
     // Appends zeros.
-    #[tactic(auto, using(crate::proofs::Words::words))]
+    #[tactic(auto, using(crate::proofs::Words::words, crate::proofs::Holds::held, crate::proofs::Holds::held_bits))]
     fn append_zeros(&mut self, n: usize) -> Result<(), AllocError>
         requires { length self.old + n ≤ MAX_LEN }
         ensures { OnOk result (self.new ≡ self.old ++ replicate n false) }

@@ -1,5 +1,0 @@
-use Rattle.vers_sorted.proofs.elias_fano.EliasFanoVec.predecessor_each_counted.Goals as goal
-
-pub returns-clause-value : goal.returns-clause-value
-returns-clause-value g c =
-    c.neighbour_each.ensures.value
