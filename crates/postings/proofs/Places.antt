@@ -44,15 +44,6 @@ below_all documents v up less = elim (cases_lt (below documents v) (length docum
   | inr all ↦ omega (arith, all, below_le documents v)
 ]
 
-both_true : (x y : Bool) → x ≡ true → y ≡ true → (x && y) ≡ true
-both_true x y e f = rw (e, f) refl
-
-left_false : (x y : Bool) → x ≡ false → (x && y) ≡ false
-left_false x y e = rw e refl
-
-right_false : (x y : Bool) → y ≡ false → (x && y) ≡ false
-right_false x y e = rw e (and-false x)
-
 -- the documents of a range stand from where those below its start end to where those not above its end do
 pub places_between-range : (documents : List ℕ) (from to : ℕ) → IsNonDecreasing documents
     → places_between documents from to ≡ range_with_len (below documents from) (below documents (to + 1) - below documents from)
@@ -63,10 +54,12 @@ places_between-range documents from to up =
     let most = below_le documents (to + 1) in
     let least = below_le documents from in
     filter_range (λ i. nat_le from (slice_index documents i) && nat_le (slice_index documents i) to) (length documents) a (b - a) (omega (arith, most, least))
-    (λ i t. left_false _ _ (lt-leb from (slice_index documents i) (below_before documents from i up t)))
-    (λ i f t. both_true _ _ (le-leb from (slice_index documents i) (below_after documents from i up f (omega (arith, t, most))))
-    (le-leb (slice_index documents i) to (omega (arith, below_before documents (to + 1) i up (omega (arith, f, t))))))
-    (λ i f t. right_false _ _ (lt-leb (slice_index documents i) to (omega (arith, below_after documents (to + 1) i up (omega (arith, f)) t))))
+    (λ i t. rw (lt-leb from (slice_index documents i) (below_before documents from i up t)) refl)
+    (λ i f t. rw (
+      le-leb from (slice_index documents i) (below_after documents from i up f (omega (arith, t, most))),
+      le-leb (slice_index documents i) to (omega (arith, below_before documents (to + 1) i up (omega (arith, f, t)))),
+    ) refl)
+    (λ i f t. rw (lt-leb (slice_index documents i) to (omega (arith, below_after documents (to + 1) i up (omega (arith, f)) t))) (and-false _))
 
 -- none is cheapest where no document lies in the range
 pub cheapest_none : (posted : Posted) (from to : ℕ) → IsNonDecreasing posted.documents → below posted.documents (to + 1) ≤ below posted.documents from → None ≡ cheapest posted from to

@@ -1,6 +1,6 @@
 -- The shorter list looked through from its start.
 use Rattle.std.proofs.Common.{◌≡◌, ℕ, zero, suc, ◌+◌, ◌*◌, ◌<◌, ◌≤◌, Bool, true, false, cond, List, [], ◌∷◌, ◌++◌, length, take, drop, get_or, Some, None, refl, sym, ap, subst, ◌∙◌, arith, rules}
-use Rattle.std.specs.Prelude.{filter, slice_get, if◌then◌else◌}
+use Rattle.std.specs.Prelude.{slice_get, if◌then◌else◌}
 use Rattle.std.proofs.lemmas.List.{get_or-drop, length-drop}
 use Rattle.vers_bits.specs.Walk.{TakesFirst}
 use Rattle.std.proofs.lemmas.Option.{slice_get-get_or, get_or_from_slice_get, none-some}
@@ -24,10 +24,7 @@ pub common_more : (shorter longer : List ℕ) (k d : ℕ) (shares : Bool) → sl
     → common (take (k + 1) shorter) longer ≡ common (take k shorter) longer ++ cond shares (d ∷ []) []
 unfolding common
 common_more shorter longer k d shares at inside answer =
-    let here : get_or shorter k 0 ≡ d = get_or_from_slice_get shorter k d 0 at in
-    filter_more (is_among longer) shorter k 0 inside
-    ∙ ap (λ z. filter (is_among longer) (take k shorter) ++ cond (is_among longer z) (z ∷ []) []) here
-    ∙ ap (λ (b : Bool). filter (is_among longer) (take k shorter) ++ cond b (d ∷ []) []) (sym answer)
+    rw (filter_more (is_among longer) shorter k 0 inside, get_or_from_slice_get shorter k d 0 at, answer) refl
 
 common_start : (shorter longer : List ℕ) → common (take 0 shorter) longer ≡ []
 unfolding common
@@ -40,34 +37,13 @@ more_room k x y = omega arith
 lookups_more : (k : ℕ) (p q old between next new : Reads) → AddsAtMost old between (times k (plus p q)) → AddsAtMost between next p → AddsAtMost next new q
     → AddsAtMost old new (times (k + 1) (plus p q))
 lookups_more k p q a b c d before step look =
-    adds_then before (adds_then step look (within_itself _))
-    (record {
-      data_words = omega (arith, more_room k p.data_words q.data_words);
-      block_entries = omega (arith, more_room k p.block_entries q.block_entries);
-      superblock_entries = omega (arith, more_room k p.superblock_entries q.superblock_entries);
-      low_parts = omega (arith, more_room k p.low_parts q.low_parts);
-      rank_calls = omega (arith, more_room k p.rank_calls q.rank_calls);
-      items = omega (arith, more_room k p.items q.items);
-      blocks = omega (arith, more_room k p.blocks q.blocks);
-      nodes = omega (arith, more_room k p.nodes q.nodes);
-      chunks = omega (arith, more_room k p.chunks q.chunks);
-    })
+    adds_then before (adds_then step look (within_itself _)) (grind (arith, more_room))
 
 -- fewer look-ups stay within more
 pub lookups_up : (k n : ℕ) (p : Reads) → k ≤ n → IsWithin (times k p) (times n p)
 lookups_up k n p few =
     let up = λ (x : ℕ). mul-le-mul_right {m = k} {n = n} x few in
-    record {
-      data_words = up p.data_words;
-      block_entries = up p.block_entries;
-      superblock_entries = up p.superblock_entries;
-      low_parts = up p.low_parts;
-      rank_calls = up p.rank_calls;
-      items = up p.items;
-      blocks = up p.blocks;
-      nodes = up p.nodes;
-      chunks = up p.chunks;
-    }
+    grind (arith, up)
 
 -- what is left of a list after k of its members and one more
 drop_next : (k : ℕ) (xs : List ℕ) → drop 1 (drop k xs) ≡ drop (suc k) xs
@@ -86,12 +62,8 @@ next_left xs left k d rest inside first =
 -- before the first
 pub shared_start : (shorter longer found : List ℕ) (walk : Walking ℕ) (reads : Reads) → found ≡ [] → walk ≡ record { left = shorter; step = member_reads shorter }
     → SharedUpTo shorter longer found walk reads reads 0
-shared_start shorter longer found walk reads none start = record {
-  found_so_far = none ∙ sym (common_start shorter longer);
-  to_come = ap (λ (w : Walking ℕ). w.left) start;
-  step = ap (λ (w : Walking ℕ). w.step) start;
-  adds = search rules;
-}
+shared_start shorter longer found walk reads none start =
+    rw (none, start) (record { found_so_far = sym (common_start shorter longer); to_come = refl; step = refl; adds = search rules })
 
 -- after one more
 pub shared_more : (shorter longer found more : List ℕ) (walk walked : Walking ℕ) (old between next new : Reads) (k d : ℕ) (shares : Bool)

@@ -41,17 +41,10 @@ pub documents_after-end : (len last : ℕ) (nothing read : Option (Unit {0})) �
 documents_after-end len last None read is = ap (option_map (λ _. (len, last))) is
 documents_after-end len last (Some nothing) read is = ap (option_map (λ _. (len, last))) is
 
--- their count, by how they ascend
-counted : (documents : List ℕ) (end : Option (ℕ × ℕ)) → rise_from nat_lt 0 0 documents ≡ end
-    → option_map (λ (e : ℕ × ℕ). e.0) end ≡ (if each_next nat_lt documents then Some (length documents) else None)
-counted documents None h = rw (fall nat_lt documents h) refl
-counted documents (Some end) h =
-    let r = rise nat_lt documents end h in
-    rw (r.0, r.1) refl
-
 pub rising_counted : (found : Option Posted) (end : Option (ℕ × ℕ)) → documents_after 0 0 found ≡ end → option_map (λ (e : ℕ × ℕ). e.0) end ≡ rising_count found
 rising_counted None end h = rw (← h) refl
-rising_counted (Some posted) end h = counted posted.documents end h
+rising_counted (Some posted) None h = rw (fall nat_lt posted.documents h) refl
+rising_counted (Some posted) (Some end) h = let r = rise nat_lt posted.documents end h in rw (r.0, r.1) refl
 
 -- documents that ascend strictly and are not too many are admitted
 pub is_admitted : (posted : Posted) → IsStrictlyIncreasing posted.documents → length posted.documents ≤ MAX_LEN → Some posted ≡ if_admitted posted

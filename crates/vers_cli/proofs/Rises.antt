@@ -72,14 +72,11 @@ all_first [] numbers h = same_Some [] numbers h
 all_first (word ∷ more) numbers h = first_at (number_of word) (all_numbers more) (first_numbers more) numbers (all_first more) h
 
 -- what is told of numbers that ascend
-told_of : (order : ℕ → ℕ → Bool) (words : List (List ℕ)) (found : Option (List ℕ)) (end : ℕ × ℕ) → all_numbers words ≡ found → rise_after order 0 0 found ≡ Some end
+pub told : (order : ℕ → ℕ → Bool) (words : List (List ℕ)) (found : Option (List ℕ)) (end : ℕ × ℕ)
+    → all_numbers words ≡ found → rise_after order 0 0 found ≡ Some end
     → (all_numbers words ≡ Some (first_numbers words)) × ((each_next order (first_numbers words) ≡ true) × (end.0 ≡ length (first_numbers words)) × (end.1 ≡ last_of (first_numbers words)))
-told_of order words None end e h = cc
-told_of order words (Some numbers) end e h = rw (all_first words numbers e) (e, rise order numbers end h)
-
-pub told : (order : ℕ → ℕ → Bool) (words : List (List ℕ)) (end : ℕ × ℕ) → rise_after order 0 0 (all_numbers words) ≡ Some end
-    → (all_numbers words ≡ Some (first_numbers words)) × ((each_next order (first_numbers words) ≡ true) × (end.0 ≡ length (first_numbers words)) × (end.1 ≡ last_of (first_numbers words)))
-told order words end h = told_of order words (all_numbers words) end refl h
+told order words None end e h = cc
+told order words (Some numbers) end e h = rw (all_first words numbers e) (e, rise order numbers end h)
 
 -- and of those that don't
 pub not_told : (order : ℕ → ℕ → Bool) (found : Option (List ℕ)) (numbers : List ℕ) → rise_after order 0 0 found ≡ None → found ≡ Some numbers → each_next order numbers ≡ false
@@ -95,17 +92,13 @@ last_below limit p (q ∷ places) up =
     let parts = and_parts (nat_lt p q) (each_next nat_lt (q ∷ places)) up in
     grind (arith, nat_tests, last_below limit q places parts.1, parts.0)
 
-below_last : (limit : ℕ) (places : List ℕ) → each_next nat_lt places ≡ true
-    → ((length places == 0) || nat_lt (last_of places) limit) ≡ list_all (λ place. nat_lt place limit) places
-below_last limit [] up = refl
-below_last limit (p ∷ places) up =
-    let at : length (p ∷ places) - 1 ≡ length places = omega arith in
-    let counted : (length (p ∷ places) == 0) ≡ false = ne_eqb (length (p ∷ places)) 0 (λ e. omega arith) in
-    rw counted (ap (λ k. nat_lt (get_or (p ∷ places) k 0) limit) at ∙ last_below limit p places up)
-
 pub all_below : (limit last len : ℕ) (places : List ℕ) → each_next nat_lt places ≡ true → len ≡ length places → last ≡ last_of places
     → ((len == 0) || nat_lt last limit) ≡ list_all (λ place. nat_lt place limit) places
-all_below limit last len places up counted end = rw (counted, end) (below_last limit places up)
+all_below limit last len [] up counted end = rw counted refl
+all_below limit last len (p ∷ places) up counted end =
+    let at : length (p ∷ places) - 1 ≡ length places = omega arith in
+    let some : (length (p ∷ places) == 0) ≡ false = ne_eqb (length (p ∷ places)) 0 (λ e. omega arith) in
+    rw (counted, end, some) (ap (λ k. nat_lt (get_or (p ∷ places) k 0) limit) at ∙ last_below limit p places up)
 
 pub all_are_below : (limit : ℕ) (places : List ℕ) → list_all (λ place. nat_lt place limit) places ≡ true → All (λ place. place < limit) places
 all_are_below limit places h k d l = ltb-true _ _ (AllPass-from_list_all (λ place. nat_lt place limit) places h k d l)

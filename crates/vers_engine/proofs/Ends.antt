@@ -1,11 +1,6 @@
 -- How a run ends.
-use Rattle.vers_engine.proofs.Names.{◌≡◌, ℕ, List, [], ◌++◌, Option, Ok, Err, Result, refl, sym, inl, inr, IsAtEnd, RunError, Read, Write, Memory, whole_lines, lines_of, Answering, answers_of, AreLinesRead, WrittenOf, StandsAt, TakesOrFails, FinishesOrFails}
-use Rattle.vers_engine.proofs.Splits.{IsSplit-none}
+use Rattle.vers_engine.proofs.Names.{ℕ, List, ◌++◌, Option, Ok, Err, Result, refl, sym, inl, inr, IsAtEnd, RunError, Read, Write, Memory, lines_of, Answering, answers_of, AreLinesRead, WrittenOf, StandsAt, TakesOrFails, FinishesOrFails}
 use Rattle.vers_engine.proofs.Steps.{whole_lines-IsSplit}
-
--- nothing was read yet
-pub StandsAt-start : {H : Type 0} (by : Answering H) (start : H) → StandsAt by start [] [] start []
-StandsAt-start by start = record { lines = []; split = IsSplit-none 10; answered = refl; holds = refl }
 
 -- at the end of the input
 pub ends : {H : Type 0} (by : Answering H) (start : H) (r : Result (Unit {0}) RunError) (left : Option (List ℕ)) (h : H) (p text read written : List ℕ)
@@ -25,7 +20,3 @@ breaks by start Memory left h p bytes text new rest read written s f =
     let w = f start read written s in (w.0, inl (sym (whole_lines-IsSplit _ w.0 w.1 w.2)), w.3)
 breaks by start Write left h p bytes text new rest read written s f =
     let w = f start read written s in (w.0, inl (sym (whole_lines-IsSplit _ w.0 w.1 w.2)), w.3)
-
--- at a fault of the reader
-pub stops : {H : Type 0} (by : Answering H) (start : H) (h : H) (p read written : List ℕ) → StandsAt by start read written h p → written ≡ answers_of by start (whole_lines read)
-stops by start h p read written s = rw (whole_lines-IsSplit read s.lines p s.split) s.answered

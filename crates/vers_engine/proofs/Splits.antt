@@ -8,24 +8,12 @@ ended_by-push : (c : ℕ) (parts : List (List ℕ)) (l : List ℕ) → ended_by 
 ended_by-push c [] l = refl
 ended_by-push c (p ∷ parts) l = ap (λ r. p ++ c ∷ r) (ended_by-push c parts l) ∙ sym (append_assoc p (c ∷ ended_by c parts) (l ++ c ∷ []))
 
--- the empty text
-pub IsSplit-none : (c : ℕ) → IsSplit c [] [] []
-IsSplit-none c = record { joined = refl; parts_lack = search rules; rest_lacks = search rules }
-
 -- the byte ends a part
 pub IsSplit-end : (c : ℕ) (text : List ℕ) (parts : List (List ℕ)) (rest : List ℕ) → IsSplit c text parts rest → IsSplit c (text ++ c ∷ []) (parts ++ rest ∷ []) []
 IsSplit-end c text parts rest h = record {
   joined = ap (λ t. t ++ c ∷ []) h.joined ∙ append_assoc (ended_by c parts) rest (c ∷ []) ∙ sym (ended_by-push c parts rest) ∙ sym (append-nil _);
   parts_lack = All-push (All (λ b. (b == c) ≡ false)) parts rest h.parts_lack h.rest_lacks;
   rest_lacks = search rules;
-}
-
--- another byte is one more of the rest
-IsSplit-other : (c b : ℕ) (text : List ℕ) (parts : List (List ℕ)) (rest : List ℕ) → (b == c) ≡ false → IsSplit c text parts rest → IsSplit c (text ++ b ∷ []) parts (rest ++ b ∷ [])
-IsSplit-other c b text parts rest other h = record {
-  joined = ap (λ t. t ++ b ∷ []) h.joined ∙ append_assoc (ended_by c parts) rest (b ∷ []);
-  parts_lack = h.parts_lack;
-  rest_lacks = All-push (λ x. (x == c) ≡ false) rest b h.rest_lacks other;
 }
 
 -- bytes without that byte are more of the rest
@@ -51,7 +39,8 @@ IsSplit-more c [] text parts rest h = ([], rest, rw (append-nil, append-nil) h)
 IsSplit-more c (b ∷ bs) text parts rest h =
     elim (eqb_tells b c) [
       | inl e ↦ Grown-from c b bs text parts (rest ∷ []) (IsSplit-more c bs _ _ [] (rw e.1 (IsSplit-end c text parts rest h)))
-      | inr e ↦ Grown-from c b bs text parts [] (IsSplit-more c bs _ _ (rest ++ b ∷ []) (rw append-nil (IsSplit-other c b text parts rest e.0 h)))
+      | inr e ↦ Grown-from c b bs text parts []
+          (IsSplit-more c bs _ _ (rest ++ b ∷ []) (rw append-nil (IsSplit-others c text parts rest (b ∷ []) (search rules) h)))
     ]
 
 -- std's split gives the parts and the rest

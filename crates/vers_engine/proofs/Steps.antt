@@ -1,5 +1,5 @@
 -- What the parts of a session add to what it has read and answered.
-use Rattle.vers_engine.proofs.Names.{◌≡◌, ◌==◌, ℕ, List, [], ◌∷◌, ◌++◌, length, take, drop, false, Ok, Err, Result, OnOk, OnErr, IfErr, refl, sym, ap, ◌∙◌, append_assoc, append-nil, take-append-drop, filter, All, has_bytes, RunError, Read, Write, Memory, front, last_or, whole_lines, last_part, lines_of, Answering, answers_of, held_after, BeginsAnswer, IsSplit, AnswersOrStays, TakesOrFails, TakesSome, FinishesOrFails}
+use Rattle.vers_engine.proofs.Names.{◌≡◌, ◌==◌, ℕ, List, [], ◌∷◌, ◌++◌, length, take, drop, false, Ok, Err, Result, OnOk, OnErr, IfErr, refl, sym, ap, ◌∙◌, append_assoc, append-nil, take-append-drop, filter, All, has_bytes, RunError, Read, Write, Memory, front, whole_lines, lines_of, Answering, answers_of, held_after, BeginsAnswer, IsSplit, AnswersOrStays, TakesOrFails, TakesSome, FinishesOrFails}
 use Rattle.vers_engine.proofs.Splits.{IsSplit-end, IsSplit-others, IsSplit-more, slice_split-IsSplit, front-push, last_or-push}
 use Rattle.vers_engine.proofs.Lines.{answers_of-append, held_after-append}
 
@@ -7,24 +7,14 @@ use Rattle.vers_engine.proofs.Lines.{answers_of-append, held_after-append}
 pub whole_lines-IsSplit : (read : List ℕ) (lines : List (List ℕ)) (rest : List ℕ) → IsSplit 10 read lines rest → whole_lines read ≡ lines
 whole_lines-IsSplit read lines rest h = ap front (slice_split-IsSplit 10 read lines rest h) ∙ front-push lines rest
 
-pub last_part-IsSplit : (read : List ℕ) (lines : List (List ℕ)) (rest : List ℕ) → IsSplit 10 read lines rest → last_part read ≡ rest
-last_part-IsSplit read lines rest h = ap (last_or []) (slice_split-IsSplit 10 read lines rest h) ∙ last_or-push [] lines rest
-
--- a last line with bytes is a line
-last_line-some : (p : List ℕ) → (length p == 0) ≡ false → filter has_bytes (p ∷ []) ≡ p ∷ []
-last_line-some p h = rw h refl
-
 pub lines_of-IsSplit : (read : List ℕ) (lines : List (List ℕ)) (rest : List ℕ) → IsSplit 10 read lines rest → lines_of read ≡ lines ++ filter has_bytes (rest ∷ [])
-lines_of-IsSplit read lines rest h = rw (whole_lines-IsSplit read lines rest h, last_part-IsSplit read lines rest h)
+lines_of-IsSplit read lines rest h = rw (slice_split-IsSplit 10 read lines rest h, front-push, last_or-push) refl
 
 -- one more line was answered
 answers-more : {H : Type 0} (by : Answering H) (start : H) (lines : List (List ℕ)) (answers : List ℕ) (h : H) (line text : List ℕ)
     → answers ≡ answers_of by start lines → h ≡ held_after by start lines → text ≡ by.answer_to h line
     → answers ++ text ≡ answers_of by start (lines ++ line ∷ [])
-answers-more by start lines answers h line text whole holds a =
-    ap (λ t. t ++ text) whole
-    ∙ ap (λ t. answers_of by start lines ++ t) (a ∙ ap (λ x. by.answer_to x line) holds ∙ sym (append-nil (by.answer_to (held_after by start lines) line)))
-    ∙ sym (answers_of-append by start lines (line ∷ []))
+answers-more by start lines answers h line text whole holds a = rw (whole, a, holds, answers_of-append, append-nil) refl
 
 -- the answer of a line was gathered, or there was no memory for it
 pub AnswersOrStays-from : {H E : Type 0} (by : Answering H) (r : Result (Unit {0}) E) (h : H) (line old answers : List ℕ) (new : H)
@@ -75,9 +65,7 @@ TakesOrFails-fails by e h p bs t h1 p1 cs u h2 p2 h3 p3 a b start read answers s
 BeginsAnswer-more : {H : Type 0} (by : Answering H) (start : H) (lines more : List (List ℕ)) (answers text rest : List ℕ)
     → answers ++ (text ++ rest) ≡ answers_of by start lines → BeginsAnswer (answers_of by start) (lines ++ more) (answers ++ text)
 BeginsAnswer-more by start lines more answers text rest whole =
-    let others : List ℕ = answers_of by (held_after by start lines) more in
-    let grouped : (answers ++ text) ++ (rest ++ others) ≡ (answers ++ (text ++ rest)) ++ others = simp append_assoc in
-    (rest ++ others, grouped ∙ ap (λ t. t ++ others) whole ∙ sym (answers_of-append by start lines more))
+    (rest ++ answers_of by (held_after by start lines) more, rw (answers_of-append, ← whole) (simp append_assoc))
 
 -- the answers of what was taken were written in part
 pub TakesOrFails-cut : {H E : Type 0} (by : Answering H) (r : Result ℕ E) (h : H) (p bs text rest : List ℕ) (h1 : H) (p1 : List ℕ) (h2 : H) (p2 : List ℕ)
@@ -106,10 +94,10 @@ FinishesOrFails-stays by h p start read answers s =
 pub FinishesOrFails-line : {H : Type 0} (by : Answering H) (r : Result (Unit {0}) RunError) (h : H) (p text rest : List ℕ) → (length p == 0) ≡ false → text ++ rest ≡ by.answer_to h p
     → OnOk r (rest ≡ []) → IfErr r (λ e. e ≡ Write) → FinishesOrFails by r h p text
 FinishesOrFails-line by (Ok u) h p text rest some a none k =
-    λ start read answers s. rw (lines_of-IsSplit read s.lines p s.split, last_line-some p some)
+    λ start read answers s. rw (lines_of-IsSplit read s.lines p s.split, some)
     (answers-more by start s.lines answers h p text s.answered s.holds (rw (none, append-nil) at a))
 FinishesOrFails-line by (Err Read) h p text rest some a none k = cc
 FinishesOrFails-line by (Err Memory) h p text rest some a none k = cc
 FinishesOrFails-line by (Err Write) h p text rest some a none k =
-    λ start read answers s. rw (lines_of-IsSplit read s.lines p s.split, last_line-some p some)
+    λ start read answers s. rw (lines_of-IsSplit read s.lines p s.split, some)
     (rest, rw append_assoc (answers-more by start s.lines answers h p (text ++ rest) s.answered s.holds a))

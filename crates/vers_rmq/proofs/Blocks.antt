@@ -1,7 +1,6 @@
 -- Blocks of 128 items.
-use Rattle.vers_rmq.proofs.Names.{◌≡◌, ℕ, ◌+◌, ◌-◌, ◌*◌, ◌/◌, ◌%◌, ◌^◌, ◌<◌, ◌≤◌, min, List, [], ◌∷◌, ◌++◌, length, get_or, sym, ap, ◌∙◌, inl, inr, arith, bit_at, cases_lt, length_push, get_or_push, get_or_append_left, PlacedItem, IsFirstLeast, IsLeastItem, lesser_item, IsLastSet, IsFirstSet, AreMasks, part_end, binary_heap_size}
+use Rattle.vers_rmq.proofs.Names.{◌≡◌, ℕ, ◌+◌, ◌-◌, ◌*◌, ◌/◌, ◌%◌, ◌^◌, ◌<◌, ◌≤◌, min, List, [], ◌∷◌, ◌++◌, length, get_or, ap, inl, inr, arith, bit_at, cases_lt, length_push, get_or_push, get_or_append_left, PlacedItem, IsFirstLeast, IsLeastItem, lesser_item, IsLastSet, IsFirstSet, AreMasks, binary_heap_size}
 use Rattle.vers_rmq.specs.declared.rmq.fast_rmq.TheConstants.{MAX_LEN}
-use Rattle.vers_rmq.specs.declared.rmq.fast_rmq.mask.Masks.{Masks}
 use Rattle.vers_rmq.specs.declared.rmq.fast_rmq.block.BlockMasks.{BlockMasks}
 use Rattle.vers_rmq.specs.inside.Blocks.{IsBlock, AreBlocks, AreAllBlocks, block_end, no_masks}
 use Rattle.vers_bits.specs.Bits.{block_count}
@@ -21,14 +20,8 @@ add_block xs b place least masks mi pl mi2 pl2 ms ms2 h new e1 e2 e3 = rw (e1, e
   places_counted = omega (arith, length_push pl place, h.places_counted);
   masks_counted = omega (arith, length_push ms masks, h.masks_counted);
   block = λ a l. elim (cases_lt a b) [
-    | inl old ↦
-        let f1 : a < length mi = omega (arith, h.minima_counted) in
-        let f2 : a < length pl = omega (arith, h.places_counted) in
-        let f3 : a < length ms = omega (arith, h.masks_counted) in
-        rw (get_or_append_left mi (least ∷ []) 0 a f1, get_or_append_left pl (place ∷ []) 0 a f2, get_or_append_left ms (masks ∷ []) no_masks a f3) (h.block a old)
-    | inr last ↦
-        let e : a ≡ b = omega arith in
-        rw (e, get_or_push mi least 0 b h.minima_counted, get_or_push pl place 0 b h.places_counted, get_or_push ms masks no_masks b h.masks_counted) new
+    | inl old ↦ let kept = h.block a old in grind (arith, get_or_append_left)
+    | inr last ↦ grind (arith, get_or_push)
   ];
 })
 
@@ -49,28 +42,51 @@ sizes xs mi pl ms h = grind (arith, size_bounded)
 pub block_of : (xs mi pl : List ℕ) (ms : List BlockMasks) (b : ℕ) → AreAllBlocks xs mi pl ms → 128 * b < length xs → IsBlock xs b (get_or pl b 0) (get_or mi b 0) (get_or ms b no_masks)
 block_of xs mi pl ms b h inside = h.blocks.block b (omega arith)
 
-pub block_inside : (xs ys mi pl : List ℕ) (ms t : List BlockMasks) (j : ℕ) → AreAllBlocks xs mi pl ms → xs ≡ ys → t ≡ ms → j < length ys → j / 128 < length t
-block_inside xs ys mi pl ms t j h e et inside = rw et (omega (arith, h.blocks.masks_counted, ap length e))
+-- the masks of the block of place j
+module _ (xs ys mi pl : List ℕ) (ms t : List BlockMasks) (j : ℕ) (h : AreAllBlocks xs mi pl ms) (e : xs ≡ ys) (et : t ≡ ms) (l : j < length ys) where
+  pub block_inside : j / 128 < length t
+  block_inside = rw et (omega (arith, h.blocks.masks_counted, ap length e))
 
-pub block_at : (xs ys mi pl : List ℕ) (ms t : List BlockMasks) (j : ℕ) → AreAllBlocks xs mi pl ms → xs ≡ ys → t ≡ ms → j < length ys → IsBlock xs (j / 128) (get_or pl (j / 128) 0) (get_or mi (j / 128) 0) (get_or t (j / 128) no_masks)
-block_at xs ys mi pl ms t j h e et inside = rw et (block_of xs mi pl ms (j / 128) h (omega (arith, ap length e)))
+  block_at : IsBlock xs (j / 128) (get_or pl (j / 128) 0) (get_or mi (j / 128) 0) (get_or t (j / 128) no_masks)
+  block_at = rw et (block_of xs mi pl ms (j / 128) h (omega (arith, ap length e)))
 
--- each prefix mask has its first place
-pub prefix_some : (xs ys : List ℕ) (w j : ℕ) (masks : Masks) → xs ≡ ys → j < length ys → w * (0 / w) ≡ 0 → AreMasks xs w (128 * (j / 128)) (block_end (length xs) (j / 128)) masks → bit_at masks.prefixes 0 ≡ 1
-prefix_some xs ys w j masks e inside zero h = ap (bit_at masks.prefixes) (sym zero) ∙ h.prefixes.starts 0 (omega (arith, ap length e))
+  pub block_prefix_some : bit_at (get_or t (j / 128) no_masks).whole.prefixes 0 ≡ 1
+  block_prefix_some = block_at.whole.prefixes.starts 0 (omega (arith, ap length e))
 
--- each suffix mask has the last place of the part
-pub suffix_some : (xs ys : List ℕ) (w i : ℕ) (masks : Masks) → xs ≡ ys → i < length ys → i % 128 < w * (i % 128 / w) + w → AreMasks xs w (128 * (i / 128)) (block_end (length xs) (i / 128)) masks
-    → 0 < masks.suffixes / 2 ^ (i % 128)
-suffix_some xs ys w i masks e inside before h = grind (arith, some_from)
+  pub block_suffix_some : 0 < (get_or t (j / 128) no_masks).whole.suffixes / 2 ^ (j % 128)
+  block_suffix_some =
+      some_from _ (j % 128) _ (omega (arith, ap length e)) (block_at.whole.suffixes.ends (j % 128) (omega (arith, ap length e)) (omega (arith, ap length e)))
 
-pub prefix_at : (xs ys : List ℕ) (w f j r : ℕ) (masks : Masks) → xs ≡ ys → j < length ys → f ≡ 128 * (j / 128) + w * (j % 128 / w) → AreMasks xs w (128 * (j / 128)) (block_end (length xs) (j / 128)) masks
-    → IsLastSet masks.prefixes (j % 128) r → IsFirstLeast ys f j (128 * (j / 128) + r)
-prefix_at xs ys w f j r masks e inside start h found = grind (arith, least_ends)
+  pub block_prefix_at : (r : ℕ) → IsLastSet (get_or t (j / 128) no_masks).whole.prefixes (j % 128) r
+      → IsFirstLeast ys (128 * (j / 128)) j (128 * (j / 128) + r)
+  block_prefix_at r found =
+      let m = block_at.whole.prefixes.places (j % 128) r (omega (arith, ap length e)) found in
+      grind (arith, least_ends)
 
-pub suffix_at : (xs ys : List ℕ) (w i l r : ℕ) (masks : Masks) → xs ≡ ys → i < length ys → l ≡ part_end w (128 * (i / 128)) (block_end (length ys) (i / 128)) (i % 128) → AreMasks xs w (128 * (i / 128)) (block_end (length xs) (i / 128)) masks
-    → IsFirstSet masks.suffixes (i % 128) r → IsFirstLeast ys i (l - 1) (128 * (i / 128) + r)
-suffix_at xs ys w i l r masks e inside stop h found = grind (arith, least_ends)
+  pub block_suffix_at : (r : ℕ) → IsFirstSet (get_or t (j / 128) no_masks).whole.suffixes (j % 128) r
+      → IsFirstLeast ys j (min (128 * (j / 128) + 128) (length ys) - 1) (128 * (j / 128) + r)
+  block_suffix_at r found =
+      let m = block_at.whole.suffixes.places (j % 128) r (omega (arith, ap length e)) (omega (arith, ap length e)) found in
+      grind (arith, least_ends)
+
+  pub part_prefix_some : bit_at (get_or t (j / 128) no_masks).parts.prefixes 0 ≡ 1
+  part_prefix_some = block_at.parts.prefixes.starts 0 (omega (arith, ap length e))
+
+  pub part_suffix_some : 0 < (get_or t (j / 128) no_masks).parts.suffixes / 2 ^ (j % 128)
+  part_suffix_some =
+      some_from _ (j % 128) _ (omega (arith, ap length e)) (block_at.parts.suffixes.ends (j % 128) (omega (arith, ap length e)) (omega (arith, ap length e)))
+
+  pub part_prefix_at : (r : ℕ) → IsLastSet (get_or t (j / 128) no_masks).parts.prefixes (j % 128) r
+      → IsFirstLeast ys (16 * (j / 16)) j (128 * (j / 128) + r)
+  part_prefix_at r found =
+      let m = block_at.parts.prefixes.places (j % 128) r (omega (arith, ap length e)) found in
+      grind (arith, least_ends)
+
+  pub part_suffix_at : (r : ℕ) → IsFirstSet (get_or t (j / 128) no_masks).parts.suffixes (j % 128) r
+      → IsFirstLeast ys j (min (16 * (j / 16) + 16) (length ys) - 1) (128 * (j / 128) + r)
+  part_suffix_at r found =
+      let m = block_at.parts.suffixes.places (j % 128) r (omega (arith, ap length e)) (omega (arith, ap length e)) found in
+      grind (arith, least_ends)
 
 -- ---- ranges over blocks
 -- the least of whole blocks, from the least of their least items
@@ -116,3 +132,5 @@ part_more xs ys i q j m a b r e before ej left right pb vb v = grind (arith, ite
 pub part_end_with : (xs ys : List ℕ) (i q j m : ℕ) (a b r : PlacedItem) → xs ≡ ys → i < 16 * q → q ≡ j / 16 → IsLeastItem ys i (16 * q - 1) a → IsFirstLeast ys (16 * (j / 16)) j m → b.place ≡ m → b.value ≡ get_or xs m 0
     → r ≡ lesser_item a b → IsLeastItem ys i j r
 part_end_with xs ys i q j m a b r e before eq left right pb vb v = grind (arith, item_join, item_at)
+
+pub ruleset mask_places = (block_inside, block_suffix_some, part_suffix_some, block_prefix_at, block_suffix_at, part_prefix_at, part_suffix_at)

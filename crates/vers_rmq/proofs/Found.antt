@@ -1,5 +1,5 @@
 -- The first place of a least item, found among the places of its range.
-use Rattle.vers_rmq.proofs.Names.{◌≡◌, ℕ, zero, suc, ◌+◌, ◌-◌, ◌<◌, ◌≤◌, Bool, true, false, List, get_or, leb, Some, refl, sym, subst, inl, inr, arith, cases_lt, le-leb, lt-leb, IsFirstLeast, lesser}
+use Rattle.vers_rmq.proofs.Names.{◌≡◌, ℕ, zero, suc, ◌+◌, ◌-◌, ◌<◌, ◌≤◌, Bool, true, false, List, get_or, leb, Some, refl, inl, inr, arith, cases_lt, le-leb, lt-leb, IsFirstLeast, lesser}
 use Rattle.std.proofs.Math.Bool.{and-false}
 use Rattle.std.specs.List.{find, list_all, range_with_len}
 use Rattle.vers_rmq.specs.Minima.{is_least, first_least_of, least_place}
@@ -40,8 +40,7 @@ pub is_least_place : (items : List ℕ) (i j m : ℕ) → IsFirstLeast items i j
 unfolding least_place
 is_least_place items i j m first =
     let last : i + (j + 1 - i) - 1 ≡ j = omega (arith, first.from, first.to) in
-    let found : first_least_of items (range_with_len i (j + 1 - i)) ≡ Some m = first_least_of-range items i (j + 1 - i) m (omega (arith, first.from, first.to)) (rw last first) in
-    rw found refl
+    rw (first_least_of-range items i (j + 1 - i) m (omega (arith, first.from, first.to)) (rw last first)) refl
 
 -- n + 1 places from i on have a first least one
 some_place : (items : List ℕ) (i n : ℕ) → (m : ℕ) × IsFirstLeast items i (i + n) m
@@ -54,12 +53,11 @@ some_place items i (suc n) =
 pub least_place-first : LeastPlaceIsFirst
 least_place-first items i j order =
     let some = some_place items i (j - i) in
-    let end : i + (j - i) ≡ j = omega (arith, order) in
-    let first : IsFirstLeast items i j some.0 = least_ends items i (i + (j - i)) j some.0 end some.1 in
-    let P : ℕ → Type 0 = λ m. IsFirstLeast items i j m in subst P (is_least_place items i j some.0 first) first
+    let first : IsFirstLeast items i j some.0 = least_ends items i (i + (j - i)) j some.0 (omega (arith, order)) some.1 in
+    rw (← is_least_place items i j some.0 first) first
 
 -- what is the least place is the first least one
 pub as_first : (items : List ℕ) (i j m : ℕ) → i ≤ j → m ≡ least_place items i j → IsFirstLeast items i j m
-as_first items i j m order same = let P : ℕ → Type 0 = λ m. IsFirstLeast items i j m in subst P (sym same) (least_place-first items i j order)
+as_first items i j m order same = rw same (least_place-first items i j order)
 
 pub ruleset first_places = (least_place-first)

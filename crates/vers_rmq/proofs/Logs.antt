@@ -4,9 +4,7 @@ use Rattle.std.specs.Int.Count.{count_leading_zeros}
 use Rattle.vers_tally.proofs.PublicLaws.{clog_is, digits-le, pow_next}
 
 pub top_is : (a : ℕ) → 0 < a → a < 2 ^ 64 → (2 ^ (63 - count_leading_zeros 64 a) ≤ a) × (a < 2 * 2 ^ (63 - count_leading_zeros 64 a)) × (count_leading_zeros 64 a ≤ 63)
-top_is a some few =
-    let t = leading_top 64 a some few in
-    grind (arith, pow-suc)
+top_is a some few = let t = leading_top 64 a some few in grind (arith, pow-suc)
 
 pub shifted : (k : ℕ) → k < 64 → (1 * 2 ^ k) % 2 ^ 64 ≡ 2 ^ k
 shifted k h = one_shl k 64 h
@@ -23,6 +21,4 @@ pub few_levels : (n : ℕ) → n < 2 ^ 32 → clog n ≤ 32
 few_levels n h = digits-le 32 (n - 1) (omega (arith, h))
 
 pub size_bounded : (n : ℕ) → n < 2 ^ 32 → binary_heap_size n ≤ 140 * n
-size_bounded n h =
-    let few : clog n ≤ 32 = digits-le 32 (n - 1) (omega (arith, h)) in
-    omega (arith, mul-le-mul_left {m = clog n + 1} {n = 33} n (omega (arith, few)))
+size_bounded n h = omega (arith, mul-le-mul_left {m = clog n + 1} {n = 33} n (omega (arith, few_levels n h)))

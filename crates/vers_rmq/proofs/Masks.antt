@@ -1,5 +1,5 @@
 -- Masks of least places.
-use Rattle.vers_rmq.proofs.Names.{◌≡◌, ◌≢◌, ℕ, ◌+◌, ◌-◌, ◌*◌, ◌/◌, ◌%◌, ◌^◌, ◌<◌, ◌≤◌, List, get_or, sym, ap, ◌∙◌, subst, inl, inr, arith, bit_and, bit_or, bit_at, w128, trailing_zeros, pow-le-pow_right, pow_pos, shr-shr, leading_top, div_below, and_le_l, shl_below, bit_at_and, bit_at_or, bit_at_ones, bit_at_ones_above, bit_at_above, bit_at-lt, bit_at-trailing_zeros, bit_at-zero, bit_at_cat_low, bit_at_cat_high, ones_shr, same_from_bits, cases_lt, IsFirstLeast, IsLastSet, IsFirstSet, AddsOne, PrefixUpTo, SuffixFrom, IsPrefixMask, IsSuffixMask, part_end}
+use Rattle.vers_rmq.proofs.Names.{◌≡◌, ◌≢◌, ℕ, ◌+◌, ◌-◌, ◌*◌, ◌/◌, ◌%◌, ◌^◌, ◌<◌, ◌≤◌, List, get_or, sym, ap, ◌∙◌, inl, inr, arith, bit_and, bit_or, bit_at, w128, trailing_zeros, pow-le-pow_right, pow_pos, shr-shr, leading_top, div_below, and_le_l, shl_below, bit_at_and, bit_at_or, bit_at_ones, bit_at_ones_above, bit_at_above, bit_at-lt, bit_at-trailing_zeros, bit_at-zero, bit_at_cat_low, bit_at_cat_high, ones_shr, same_from_bits, cases_lt, IsFirstLeast, IsLastSet, IsFirstSet, AddsOne, PrefixUpTo, SuffixFrom, IsPrefixMask, IsSuffixMask, part_end}
 use Rattle.std.specs.Int.Bits.{or_zero_r}
 use Rattle.std.specs.Int.Count.{count_leading_zeros}
 use Rattle.vers_rmq.proofs.Minima.{least_at, least_longer, least_earlier, least_ends}
@@ -21,17 +21,17 @@ prefix_more xs s f k mask more least u lt a =
     record {
       base = u.base;
       some = omega arith;
-      first = let ne : f - s ≢ k - s = omega arith in a.others (f - s) ne ∙ u.first;
+      first = grind arith;
       places = λ j p g h t. elim (cases_lt (s + j) k) [
         | inl old ↦ u.places j p g old (grind arith)
         | inr new ↦ elim (cases_lt p j) [
           | inl less ↦ absurd (omega (arith, a.here, t.clear (k - s) (omega arith) (omega arith)))
-          | inr same ↦ let ej : s + j ≡ k = omega arith in let ep : s + p ≡ k = omega (arith, t.within) in rw (ej, ep) here
+          | inr same ↦ grind arith
         ]
       ];
-      best = least_ends xs f k (k + 1 - 1) k (omega arith) here;
-      above = λ q h. let ne : q ≢ k - s = omega arith in a.others q ne ∙ u.above q (omega arith);
-      below = λ q h. let ne : q ≢ k - s = omega arith in a.others q ne ∙ u.below q h;
+      best = grind arith;
+      above = grind arith;
+      below = grind arith;
     }
 
 -- items of which none is below the least so far
@@ -57,10 +57,6 @@ prefix_skip xs s f k e mask least m ke u b le =
       below = u.below;
     }
 
--- an item not below the least so far
-pub prefix_same : (xs : List ℕ) (s f k mask least : ℕ) → PrefixUpTo xs s f k mask least → get_or xs least 0 ≤ get_or xs k 0 → PrefixUpTo xs s f (k + 1) mask least
-prefix_same xs s f k mask least u le = prefix_skip xs s f k (k + 1) mask least k (omega arith) u (least_ends xs k k (k + 1 - 1) k (omega arith) (least_at xs k)) le
-
 -- ---- a suffix mask of one part
 pub suffix_start : (xs : List ℕ) (s k mask : ℕ) → s ≤ k → AddsOne 0 mask (k - s) → SuffixFrom xs s k (k + 1) mask k
 suffix_start xs s k mask sk a = grind (arith, bit_at-zero, least_at, least_ends)
@@ -73,17 +69,17 @@ suffix_more xs s k n e mask more least sk en u le a =
     record {
       base = sk;
       some = omega arith;
-      last = let ne : e - 1 - s ≢ k - s = omega arith in a.others (e - 1 - s) ne ∙ u.last;
+      last = grind arith;
       places = λ i p h f t. elim (cases_lt k (s + i)) [
         | inl old ↦ u.places i p (omega arith) f (grind arith)
         | inr new ↦ elim (cases_lt i p) [
           | inl less ↦ absurd (omega (arith, a.here, t.clear (k - s) (omega arith) (omega arith)))
-          | inr same ↦ let ei : s + i ≡ k = omega arith in let ep : s + p ≡ k = omega (arith, t.within) in rw (ei, ep) here
+          | inr same ↦ grind arith
         ]
       ];
       best = here;
-      above = λ q h. let ne : q ≢ k - s = omega arith in a.others q ne ∙ u.above q h;
-      below = λ q h. let ne : q ≢ k - s = omega arith in a.others q ne ∙ u.below q (omega arith);
+      above = grind arith;
+      below = grind arith;
     }
 
 -- items that are all above the least after them
@@ -110,10 +106,6 @@ suffix_skip xs s c k e mask least m sc ck u b lt =
       below = λ q h. u.below q (omega arith);
     }
 
--- an item above the least after it
-pub suffix_same : (xs : List ℕ) (s k n e mask least : ℕ) → s ≤ k → n ≡ k + 1 → SuffixFrom xs s n e mask least → get_or xs least 0 < get_or xs k 0 → SuffixFrom xs s k e mask least
-suffix_same xs s k n e mask least sk en u lt = suffix_skip xs s k n e mask least k sk (omega arith) u (least_ends xs k k (n - 1) k (omega arith) (least_at xs k)) lt
-
 -- ---- bits that are put into a mask from place o on
 placed_high : (n o d : ℕ) → bit_at (n * 2 ^ o) (d + o) ≡ bit_at n d
 placed_high n o d =
@@ -123,15 +115,12 @@ placed_high n o d =
 placed_low : (n o q : ℕ) → q < o → bit_at (n * 2 ^ o) q ≡ 0
 placed_low n o q h =
     let whole : n * 2 ^ o ≡ n * 2 ^ o + 0 = omega arith in
-    ap (λ v. bit_at v q) whole ∙ bit_at_cat_low n o 0 q h ∙ bit_at-zero q
+    grind (arith, bit_at_cat_low, bit_at-zero)
 
 placed_other : (bits more d o q : ℕ) → AddsOne bits more d → q ≢ d + o → bit_at (more * 2 ^ o) q ≡ bit_at (bits * 2 ^ o) q
 placed_other bits more d o q a ne = elim (cases_lt q o) [
-  | inl low ↦ placed_low more o q low ∙ sym (placed_low bits o q low)
-  | inr high ↦
-      let e : q ≡ q - o + o = omega arith in
-      let nd : q - o ≢ d = omega arith in
-      ap (bit_at (more * 2 ^ o)) e ∙ placed_high more o (q - o) ∙ a.others (q - o) nd ∙ sym (placed_high bits o (q - o)) ∙ ap (bit_at (bits * 2 ^ o)) (sym e)
+  | inl low ↦ grind (arith, placed_low)
+  | inr high ↦ let e : q ≡ q - o + o = omega arith in rw (e, placed_high more o (q - o), placed_high bits o (q - o)) (a.others (q - o) (omega arith))
 ]
 
 -- one bit more makes one 1 more in the mask
@@ -143,19 +132,10 @@ merged_none mask o = let z : 0 * 2 ^ o ≡ 0 = omega arith in ap (bit_or mask) z
 
 -- ---- the highest and the lowest 1
 some_bit : (n i : ℕ) → bit_at n i ≡ 1 → 0 < n
-some_bit n i h = elim (cases_lt 0 n) [ inl y ↦ y | inr z ↦ let e : n ≡ 0 = omega arith in absurd (omega (arith, h, ap (λ v. bit_at v i) e, bit_at-zero i)) ]
+some_bit n i h = elim (cases_lt 0 n) [ inl y ↦ y | inr z ↦ let e : n ≡ 0 = omega arith in absurd (omega (arith, bit_at-zero i, rw e at h)) ]
 
 shifted_bit : (n i d : ℕ) → bit_at n (i + d) ≡ bit_at (n / 2 ^ i) d
 shifted_bit n i d = sym (ap (λ m. m % 2) (shr-shr n i d))
-
--- the low part of a mask up to j, and the place of its highest 1
-pub last_is : (mask v j : ℕ) → j < 128 → bit_at mask 0 ≡ 1 → mask < 2 ^ 128 → v ≡ 2 ^ (j + 1) - 1 → IsLastSet mask j (127 - count_leading_zeros 128 (bit_and mask v))
-last_is mask v j h first fits ev =
-    let same : (q : ℕ) → q ≤ j → bit_at (bit_and mask v) q ≡ bit_at mask q = λ q l. bit_at_and mask v q ∙ omega (arith, ap (λ r. bit_at r q) ev, bit_at_ones (j + 1) q (omega arith), bit_at-lt mask q) in
-    let over : (q : ℕ) → j < q → bit_at (bit_and mask v) q ≡ 0 = λ q l. bit_at_and mask v q ∙ omega (arith, ap (λ r. bit_at r q) ev, bit_at_ones_above (j + 1) q (omega arith)) in
-    let some : 0 < bit_and mask v = some_bit (bit_and mask v) 0 (same 0 (omega arith) ∙ first) in
-    let few : bit_and mask v < 2 ^ 128 = omega (arith, and_le_l mask v, fits) in
-    let t = leading_top 128 (bit_and mask v) some few in grind (arith, top_bit, bit_at_above)
 
 pub first_is : (mask i : ℕ) → 0 < mask / 2 ^ i → mask < 2 ^ 128 → IsFirstSet mask i (i + trailing_zeros w128 (mask / 2 ^ i))
 first_is mask i some fits =
@@ -163,8 +143,8 @@ first_is mask i some fits =
     let t = bit_at-trailing_zeros w128 (mask / 2 ^ i) some few in
     record {
       within = omega arith;
-      set_at = shifted_bit mask i (trailing_zeros w128 (mask / 2 ^ i)) ∙ t.1;
-      clear = λ q f l. let e : q ≡ i + (q - i) = omega arith in ap (bit_at mask) e ∙ shifted_bit mask i (q - i) ∙ t.2 (q - i) (omega arith);
+      set_at = grind (arith, shifted_bit);
+      clear = λ q f l. let e : q ≡ i + (q - i) = omega arith in grind (arith, shifted_bit);
     }
 
 -- bits of which none stands from d on
@@ -178,45 +158,22 @@ pub few_bits : (bits n o : ℕ) → n + o ≤ 128 → ((q : ℕ) → n ≤ q →
 few_bits bits n o room none = omega (arith, shl_below bits n o (narrow bits n none), pow-le-pow_right {n = 2} (omega arith) {i = n + o} {j = 128} room)
 
 -- ---- the loops over a part
-pub prefixes_more : (xs : List ℕ) (s f from k mask bits more least : ℕ) → s ≤ from → from ≤ k → PrefixUpTo xs s f k (bit_or mask (bits * 2 ^ (from - s))) least
-    → get_or xs k 0 < get_or xs least 0 → AddsOne bits more (k - from) → PrefixUpTo xs s f (k + 1) (bit_or mask (more * 2 ^ (from - s))) k
-prefixes_more xs s f from k mask bits more least sf fk u lt a =
-    prefix_more xs s f k (bit_or mask (bits * 2 ^ (from - s))) (bit_or mask (more * 2 ^ (from - s))) least u lt (merged_one mask bits more (k - from) (from - s) (k - s) (omega arith) a)
-
-pub prefixes_to : (xs : List ℕ) (s f k e mask more least : ℕ) → k ≡ e → more ≡ mask → PrefixUpTo xs s f k mask least → PrefixUpTo xs s f e more least
-prefixes_to xs s f k e mask more least ek em u = grind arith
-
-pub suffixes_more : (xs : List ℕ) (s from k n e mask bits more least : ℕ) → s ≤ from → from ≤ k → n ≡ k + 1 → SuffixFrom xs s n e (bit_or mask (bits * 2 ^ (from - s))) least
-    → get_or xs k 0 ≤ get_or xs least 0 → AddsOne bits more (k - from) → SuffixFrom xs s k e (bit_or mask (more * 2 ^ (from - s))) k
-suffixes_more xs s from k n e mask bits more least sf fk en u le a =
-    suffix_more xs s k n e (bit_or mask (bits * 2 ^ (from - s))) (bit_or mask (more * 2 ^ (from - s))) least (omega arith) en u le (merged_one mask bits more (k - from) (from - s) (k - s) (omega arith) a)
-
-pub suffixes_to : (xs : List ℕ) (s k f e mask more least : ℕ) → k ≡ f → more ≡ mask → SuffixFrom xs s k e mask least → SuffixFrom xs s f e more least
-suffixes_to xs s k f e mask more least ek em u = grind arith
-
 -- one bit more, where none stands from n on
 pub none_above : (bits more d n : ℕ) → d < n → AddsOne bits more d → ((q : ℕ) → n ≤ q → bit_at bits q ≡ 0) → (q : ℕ) → n ≤ q → bit_at more q ≡ 0
-none_above bits more d n dn a none q h = let ne : q ≢ d = omega arith in a.others q ne ∙ none q h
+none_above bits more d n dn a none q h = grind arith
 
 -- ---- masks of parts
-or_left : (a b q : ℕ) → bit_at b q ≡ 0 → bit_at (bit_or a b) q ≡ bit_at a q
-or_left a b q off = bit_at_or a b q ∙ omega (arith, off)
-
-or_right : (a b q : ℕ) → bit_at a q ≡ 0 → bit_at (bit_or a b) q ≡ bit_at b q
-or_right a b q off = bit_at_or a b q ∙ omega (arith, off)
-
-or_second : (a b q : ℕ) → bit_at b q ≡ 1 → bit_at (bit_or a b) q ≡ 1
-or_second a b q on = bit_at_or a b q ∙ omega (arith, on, bit_at-lt a q)
-
 -- one part is all
-prefix_alone : (xs : List ℕ) (w s k mask least : ℕ) → ((j : ℕ) → s + j < k → w * (j / w) ≡ 0) → PrefixUpTo xs s s k mask least → IsPrefixMask xs w s k mask
+pub prefix_alone : (xs : List ℕ) (w s k mask least : ℕ) → ((j : ℕ) → s + j < k → w * (j / w) ≡ 0) → PrefixUpTo xs s s k mask least
+    → IsPrefixMask xs w s k mask
 prefix_alone xs w s k mask least one u = record {
   starts = λ j h. let e : w * (j / w) ≡ s - s = omega (arith, one j h) in ap (bit_at mask) e ∙ u.first;
   places = λ j p h t. let e : s + w * (j / w) ≡ s = omega (arith, one j h) in rw e (u.places j p (omega arith) h t);
   above = u.above;
 }
 
-suffix_alone : (xs : List ℕ) (w s k e mask least : ℕ) → ((i : ℕ) → k ≤ s + i → s + i < e → e ≤ s + (w * (i / w) + w)) → SuffixFrom xs s k e mask least → IsSuffixMask xs w s k e mask
+pub suffix_alone : (xs : List ℕ) (w s k e mask least : ℕ) → ((i : ℕ) → k ≤ s + i → s + i < e → e ≤ s + (w * (i / w) + w))
+    → SuffixFrom xs s k e mask least → IsSuffixMask xs w s k e mask
 suffix_alone xs w s k e mask least one u = record {
   ends = λ i h f. let q : part_end w s e i - 1 - s ≡ e - 1 - s = omega (arith, one i h f) in ap (bit_at mask) q ∙ u.last;
   places = λ i p h f t. least_ends xs (s + i) (e - 1) (part_end w s e i - 1) (s + p) (omega (arith, one i h f)) (u.places i p h f t);
@@ -224,60 +181,45 @@ suffix_alone xs w s k e mask least one u = record {
   below = u.below;
 }
 
-pub prefix_whole : (xs : List ℕ) (s k e mask least : ℕ) → k ≡ e → e ≤ s + 128 → PrefixUpTo xs s s k mask least → IsPrefixMask xs 128 s e mask
-prefix_whole xs s k e mask least ek few u = let P : ℕ → Type 0 = λ n. IsPrefixMask xs 128 s n mask in subst P ek (prefix_alone xs 128 s k mask least (λ j h. omega arith) u)
-
-pub suffix_whole : (xs : List ℕ) (s k e mask least : ℕ) → k ≡ s → e ≤ s + 128 → SuffixFrom xs s k e mask least → IsSuffixMask xs 128 s s e mask
-suffix_whole xs s k e mask least ek few u = let P : ℕ → Type 0 = λ n. IsSuffixMask xs 128 s n e mask in subst P ek (suffix_alone xs 128 s k e mask least (λ i h f. omega arith) u)
-
-pub prefix_first : (xs : List ℕ) (s k mask least : ℕ) → k ≤ s + 16 → PrefixUpTo xs s s k mask least → IsPrefixMask xs 16 s k mask
-prefix_first xs s k mask least few u = prefix_alone xs 16 s k mask least (λ j h. omega arith) u
-
-pub suffix_last : (xs : List ℕ) (s k e mask least : ℕ) → 16 * ((k - s) / 16) ≡ k - s → e ≤ k + 16 → SuffixFrom xs s k e mask least → IsSuffixMask xs 16 s k e mask
-suffix_last xs s k e mask least aligned few u = suffix_alone xs 16 s k e mask least (λ i h f. omega arith) u
-
 -- a part more
 pub prefix_part : (xs : List ℕ) (s k e mask part least : ℕ) → 16 * ((k - s) / 16) ≡ k - s → e ≤ k + 16 → IsPrefixMask xs 16 s k mask → PrefixUpTo xs s k e part least
     → IsPrefixMask xs 16 s e (bit_or mask part)
 prefix_part xs s k e mask part least aligned few m u =
-    let on : bit_at (bit_or mask part) (k - s) ≡ 1 = or_second mask part (k - s) u.first in
     record {
       starts = grind (arith, bit_at_or, bit_at-lt);
       places = λ j p h t. elim (cases_lt (s + j) k) [
         | inl old ↦
-            let keeps : (q : ℕ) → q ≤ j → bit_at (bit_or mask part) q ≡ bit_at mask q = λ q l. or_left mask part q (u.below q (omega arith)) in
-            m.places j p old (record { within = t.within; set_at = sym (keeps p t.within) ∙ t.set_at; clear = λ q y l. sym (keeps q l) ∙ t.clear q y l })
+            let keeps : (q : ℕ) → q ≤ j → bit_at (bit_or mask part) q ≡ bit_at mask q = λ q l. grind (arith, bit_at_or) in
+            m.places j p old (grind arith)
         | inr new ↦
-            let keeps : (q : ℕ) → k ≤ s + q → bit_at (bit_or mask part) q ≡ bit_at part q = λ q l. or_right mask part q (m.above q l) in
+            let keeps : (q : ℕ) → k ≤ s + q → bit_at (bit_or mask part) q ≡ bit_at part q = λ q l. grind (arith, bit_at_or) in
             let e : s + 16 * (j / 16) ≡ k = omega arith in
             elim (cases_lt p (k - s)) [
-              | inl less ↦ absurd (omega (arith, on, t.clear (k - s) less (omega arith)))
-              | inr rest ↦ rw e (u.places j p new h (record { within = t.within; set_at = sym (keeps p (omega arith)) ∙ t.set_at; clear = λ q y l. sym (keeps q (omega arith)) ∙ t.clear q y l }))
+              | inl less ↦ absurd (omega (arith, u.first, keeps (k - s) (omega arith), t.clear (k - s) less (omega arith)))
+              | inr rest ↦ rw e (u.places j p new h (grind arith))
             ]
       ];
-      above = λ q h. or_right mask part q (m.above q (omega arith)) ∙ u.above q h;
+      above = grind (arith, bit_at_or);
     }
 
 pub suffix_part : (xs : List ℕ) (s c k e mask part least : ℕ) → 16 * ((c - s) / 16) ≡ c - s → k ≡ c + 16 → k ≤ e → IsSuffixMask xs 16 s k e mask → SuffixFrom xs s c k part least
     → IsSuffixMask xs 16 s c e (bit_or mask part)
 suffix_part xs s c k e mask part least aligned next ke m u =
-    let on : bit_at (bit_or mask part) (k - 1 - s) ≡ 1 = or_second mask part (k - 1 - s) u.last in
     record {
       ends = grind (arith, bit_at_or, bit_at-lt);
       places = λ i p h f t. elim (cases_lt (s + i) k) [
         | inl new ↦
-            let keeps : (q : ℕ) → s + q < k → bit_at (bit_or mask part) q ≡ bit_at part q = λ q l. or_right mask part q (m.below q l) in
+            let keeps : (q : ℕ) → s + q < k → bit_at (bit_or mask part) q ≡ bit_at part q = λ q l. grind (arith, bit_at_or) in
             elim (cases_lt (k - 1 - s) p) [
-              | inl more ↦ absurd (omega (arith, on, t.clear (k - 1 - s) (omega arith) more))
-              | inr rest ↦ least_ends xs (s + i) (k - 1) (part_end 16 s e i - 1) (s + p) (omega arith)
-                  (u.places i p h new (record { within = t.within; set_at = sym (keeps p (omega arith)) ∙ t.set_at; clear = λ q g l. sym (keeps q (omega arith)) ∙ t.clear q g l }))
+              | inl more ↦ absurd (omega (arith, u.last, keeps (k - 1 - s) (omega arith), t.clear (k - 1 - s) (omega arith) more))
+              | inr rest ↦ least_ends xs (s + i) (k - 1) (part_end 16 s e i - 1) (s + p) (omega arith) (u.places i p h new (grind arith))
             ]
         | inr old ↦
-            let keeps : (q : ℕ) → k ≤ s + q → bit_at (bit_or mask part) q ≡ bit_at mask q = λ q l. or_left mask part q (u.above q l) in
-            m.places i p old f (record { within = t.within; set_at = sym (keeps p (omega (arith, t.within))) ∙ t.set_at; clear = λ q g l. sym (keeps q (omega arith)) ∙ t.clear q g l })
+            let keeps : (q : ℕ) → k ≤ s + q → bit_at (bit_or mask part) q ≡ bit_at mask q = λ q l. grind (arith, bit_at_or) in
+            m.places i p old f (grind arith)
       ];
-      above = λ q h. or_left mask part q (u.above q (omega arith)) ∙ m.above q h;
-      below = λ q h. or_right mask part q (m.below q (omega arith)) ∙ u.below q h;
+      above = grind (arith, bit_at_or);
+      below = grind (arith, bit_at_or);
     }
 
 -- ---- single ones
@@ -285,13 +227,23 @@ suffix_part xs s c k e mask part least aligned next ke m u =
 pub some_from : (mask i d : ℕ) → i ≤ d → bit_at mask d ≡ 1 → 0 < mask / 2 ^ i
 some_from mask i d h on = some_bit (mask / 2 ^ i) (d - i) (let e : d ≡ i + (d - i) = omega arith in sym (shifted_bit mask i (d - i)) ∙ ap (bit_at mask) (sym e) ∙ on)
 
+-- the low part of a mask, up to j
+low_ones : (j : ℕ) → j < 128 → (2 ^ 128 - 1) / 2 ^ (127 - j) ≡ 2 ^ (j + 1) - 1
+low_ones j h = let e : 128 - (127 - j) ≡ j + 1 = omega arith in rw e at (ones_shr 128 (127 - j) (omega arith))
+
+some_low : (mask j : ℕ) → bit_at mask 0 ≡ 1 → 0 < bit_and mask (2 ^ (j + 1) - 1)
+some_low mask j first = some_bit _ 0 (bit_at_and mask (2 ^ (j + 1) - 1) 0 ∙ omega (arith, first, bit_at_ones (j + 1) 0 (omega arith)))
+
+-- the place of its highest 1
 pub last_found : (mask j : ℕ) → j < 128 → bit_at mask 0 ≡ 1 → mask < 2 ^ 128 → IsLastSet mask j (127 - count_leading_zeros 128 (bit_and mask ((2 ^ 128 - 1) / 2 ^ (127 - j))))
-last_found mask j h first fits = last_is mask ((2 ^ 128 - 1) / 2 ^ (127 - j)) j h first fits (ones_shr 128 (127 - j) (omega arith) ∙ (let e : 128 - (127 - j) ≡ j + 1 = omega arith in ap (λ r. 2 ^ r - 1) e))
+last_found mask j h first fits =
+    let t = leading_top 128 (bit_and mask (2 ^ (j + 1) - 1)) (some_low mask j first) (omega (arith, and_le_l mask (2 ^ (j + 1) - 1), fits)) in
+    let same : (q : ℕ) → q ≤ j → bit_at (bit_and mask (2 ^ (j + 1) - 1)) q ≡ bit_at mask q =
+    λ q l. grind (arith, bit_at_and, bit_at_ones, bit_at-lt) in
+    let over : (q : ℕ) → j < q → bit_at (bit_and mask (2 ^ (j + 1) - 1)) q ≡ 0 = λ q l. grind (arith, bit_at_and, bit_at_ones_above) in
+    rw (low_ones j h) (grind (arith, top_bit, bit_at_above))
 
 pub last_few : (mask j : ℕ) → j < 128 → bit_at mask 0 ≡ 1 → mask < 2 ^ 128 → count_leading_zeros 128 (bit_and mask ((2 ^ 128 - 1) / 2 ^ (127 - j))) ≤ 127
 last_few mask j h first fits =
-    let v : ℕ = (2 ^ 128 - 1) / 2 ^ (127 - j) in
-    let ev : v ≡ 2 ^ (j + 1) - 1 = ones_shr 128 (127 - j) (omega arith) ∙ (let e : 128 - (127 - j) ≡ j + 1 = omega arith in ap (λ r. 2 ^ r - 1) e) in
-    let on : bit_at (bit_and mask v) 0 ≡ 1 = bit_at_and mask v 0 ∙ omega (arith, ap (λ r. bit_at r 0) ev, bit_at_ones (j + 1) 0 (omega arith), first) in
-    let t = leading_top 128 (bit_and mask v) (some_bit (bit_and mask v) 0 on) (omega (arith, and_le_l mask v, fits)) in
-    omega (arith, t.1)
+    let t = leading_top 128 (bit_and mask (2 ^ (j + 1) - 1)) (some_low mask j first) (omega (arith, and_le_l mask (2 ^ (j + 1) - 1), fits)) in
+    rw (low_ones j h) (omega (arith, t.1))

@@ -58,7 +58,7 @@ table_is xs table k few holds counted up down = record {
   places = holds;
   counted = elim (cases_lt 0 (length xs)) [
     | inl some ↦ rw (clog_is (length xs) k up (down some)) counted
-    | inr none ↦ let e : length xs ≡ 0 = omega arith in omega (arith, counted, ap (λ r. r * (k + 1)) e, ap (λ r. r * (clog (length xs) + 1)) e)
+    | inr none ↦ let e : length xs ≡ 0 = omega arith in grind arith
   ];
 }
 

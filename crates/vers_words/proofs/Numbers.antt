@@ -1,8 +1,8 @@
 -- Numbers, found from the front of their digits.
-use Rattle.std.proofs.Common.{◌≡◌, ◌+◌, ◌*◌, ◌-◌, ◌^◌, ◌<◌, ◌≤◌, ℕ, Bool, true, false, List, [], ◌∷◌, ◌++◌, append_assoc, sym, ap, length, take, get_or, Option, Some, None, refl, arith}
-use Rattle.std.proofs.Math.Bool.{◌&&◌}
+use Rattle.std.proofs.Common.{◌≡◌, ◌+◌, ◌*◌, ◌-◌, ◌^◌, ◌<◌, ◌≤◌, ℕ, true, false, List, [], ◌∷◌, ◌++◌, append_assoc, sym, ap, length, take, get_or, Option, Some, None, refl, arith}
+use Rattle.std.proofs.Math.Bool.{and-false}
 use Rattle.std.specs.List.{list_all}
-use Rattle.std.specs.Char.{is_ascii_digit, digit_value}
+use Rattle.std.specs.Char.{is_ascii_digit}
 use Rattle.std.specs.Str.Parse.{digits_value}
 use Rattle.std.proofs.lemmas.Bool.{le-ltb}
 use Rattle.std.proofs.lemmas.Bool.Decides.{nat_tests}
@@ -11,37 +11,24 @@ use Rattle.std.proofs.lemmas.Str.Parse.{digits_value-take-le}
 use Rattle.std.specs.Prelude.{option_map}
 use Rattle.vers_words.specs.Text.{number_of}
 
--- the value of a decimal digit is its distance from the digit 0
-pub digit_value-decimal : (b : ℕ) → is_ascii_digit b ≡ true → digit_value b ≡ b - 48
-digit_value-decimal b h = grind (arith, nat_tests)
-
 -- one more digit
 pub digits_value-digit : (w : List ℕ) (i : ℕ) → i < length w → is_ascii_digit (get_or w i 0) ≡ true
     → digits_value 10 (take (i + 1) w) ≡ digits_value 10 (take i w) * 10 + (get_or w i 0 - 48)
-digits_value-digit w i h d = rw (digits_value_more 10 w i h, digit_value-decimal (get_or w i 0) d) refl
+digits_value-digit w i h d = rw (digits_value_more 10 w i h) (grind (arith, nat_tests))
 
 -- digits too large for 64 bits make the whole too large
 pub large_at : (w : List ℕ) (i : ℕ) → i < length w → is_ascii_digit (get_or w i 0) ≡ true
     → 2 ^ 64 ≤ digits_value 10 (take i w) * 10 + (get_or w i 0 - 48) → 2 ^ 64 ≤ digits_value 10 w
 large_at w i h d k = omega (arith, digits_value-digit w i h d, digits_value-take-le 10 w (i + 1) (omega arith))
 
--- nothing holds together with what is false
-and_false : (b : Bool) → b && false ≡ false
-and_false true = refl
-and_false false = refl
-
 -- when a word writes a number, and which
-pub number_of-empty : number_of [] ≡ None
-unfolding number_of
-number_of-empty = refl
-
 pub number_of-other : (w : List ℕ) → list_all is_ascii_digit w ≡ false → number_of w ≡ None
 unfolding number_of
-number_of-other w h = rw (h, and_false) refl
+number_of-other w h = rw (h, and-false) refl
 
 pub number_of-large : (w : List ℕ) → 2 ^ 64 ≤ digits_value 10 w → number_of w ≡ None
 unfolding number_of
-number_of-large w h = rw (le-ltb (digits_value 10 w) (2 ^ 64) h, and_false, and_false) refl
+number_of-large w h = rw (le-ltb (digits_value 10 w) (2 ^ 64) h, and-false, and-false) refl
 
 -- numbers, and then those of further words
 abbrev pub numbers_then : List ℕ → Option (List ℕ) → Option (List ℕ)

@@ -31,15 +31,11 @@ minus_from (suc n) z (Some x) e h =
     let less : n < 2 ^ 63 = fits.sfits in
     rw (le-leb (suc n) (2 ^ 63) (omega (arith, less))) (ap Some (h.1 ∙ e))
 
-zero_minus : (n : ℕ) → pos 0 -ℤ pos n ≡ neg_ℤ (pos n)
-zero_minus zero = refl
-zero_minus (suc n) = omega (arith, ints)
-
 pub plus_checked : (n : ℕ) (r : Option ℤ) → SomeIff r (FitsSigned w64 (pos 0 +ℤ pos n)) (pos 0 +ℤ pos n) → r ≡ with_sign false n
 plus_checked n r h = plus_from n (pos 0 +ℤ pos n) r (omega (arith, ints)) h
 
 pub minus_checked : (n : ℕ) (r : Option ℤ) → SomeIff r (FitsSigned w64 (pos 0 -ℤ pos n)) (pos 0 -ℤ pos n) → r ≡ with_sign true n
-minus_checked n r h = minus_from n (pos 0 -ℤ pos n) r (zero_minus n) h
+minus_checked n r h = minus_from n (pos 0 -ℤ pos n) r (omega (arith, ints)) h
 
 pub signed-other : (byte : ℕ) (bytes : List ℕ) → (byte == 45) ≡ false → signed_number_of (byte ∷ bytes) ≡ option_and_then (with_sign false) (number_of (byte ∷ bytes))
 unfolding signed_number_of

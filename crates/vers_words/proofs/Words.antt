@@ -26,9 +26,7 @@ words_in-after_spaces (b ∷ t) =
 
 -- a text of spaces has no word
 pub words_in-spaces : (t : List ℕ) → position is_other t ≡ None → words_in t ≡ []
-words_in-spaces t h =
-    let gone = drop_all (position_or_len is_other t) t (position-None is_other t h) in
-    words_in-after_spaces t ∙ ap words_in gone
+words_in-spaces t h = rw (words_in-after_spaces t, drop_all (position_or_len is_other t) t (position-None is_other t h)) refl
 
 -- the words stand from the first byte that is no space
 pub words_in-from : (t : List ℕ) (i : ℕ) → position is_other t ≡ Some i → words_in t ≡ words_in (drop i t)

@@ -158,7 +158,7 @@ impl<A: Allocator + Copy> FastRmq<A> {
 
     // The first place of a least item from the start of the block of `j` to `j`.
     #[inline(always)]
-    #[tactic(auto, using(crate::proofs::Blocks::block_inside))]
+    #[tactic(auto, using(crate::proofs::Blocks::mask_places))]
     fn prefix_place(&self, j: usize) -> usize
         requires { j < length self.now }
         ensures value { IsFirstLeast self.now (BLOCK * (j / BLOCK)) j result }
@@ -170,7 +170,7 @@ impl<A: Allocator + Copy> FastRmq<A> {
 
     // The first place of a least item from `i` to the end of its block.
     #[inline(always)]
-    #[tactic(auto, using(crate::proofs::Blocks::block_inside))]
+    #[tactic(auto, using(crate::proofs::Blocks::mask_places))]
     fn suffix_place(&self, i: usize) -> usize
         requires { i < length self.now }
         ensures value { IsFirstLeast self.now i (min (BLOCK * (i / BLOCK) + BLOCK) (length self.now) - 1)
@@ -183,7 +183,7 @@ impl<A: Allocator + Copy> FastRmq<A> {
 
     // The first place of a least item from the start of the part of `j` to `j`.
     #[inline(always)]
-    #[tactic(auto, using(crate::proofs::Blocks::block_inside))]
+    #[tactic(auto, using(crate::proofs::Blocks::mask_places))]
     fn part_prefix_place(&self, j: usize) -> usize
         requires { j < length self.now }
         ensures value { IsFirstLeast self.now (PART * (j / PART)) j result }
@@ -195,7 +195,7 @@ impl<A: Allocator + Copy> FastRmq<A> {
 
     // The first place of a least item from `i` to the end of its part.
     #[inline(always)]
-    #[tactic(auto, using(crate::proofs::Blocks::block_inside))]
+    #[tactic(auto, using(crate::proofs::Blocks::mask_places))]
     fn part_suffix_place(&self, i: usize) -> usize
         requires { i < length self.now }
         ensures value { IsFirstLeast self.now i (min (PART * (i / PART) + PART) (length self.now) - 1)

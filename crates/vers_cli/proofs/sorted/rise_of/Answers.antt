@@ -1,24 +1,24 @@
-use Rattle.vers_cli.proofs.Names.{◌≡◌, Some, None, refl, sym, ◌∙◌, arith, number_of, words_in, all_numbers, in_order}
+use Rattle.vers_cli.proofs.Names.{refl, sym, ◌∙◌, arith, words_in, all_numbers, in_order}
 use Rattle.vers_cli.proofs.Rises.{rise_after-next, told, not_told}
 use Rattle.vers_cli.proofs.sorted.rise_of.Goals as goal
 
 pub returns-in_err-last-clause-none : goal.returns-in_err-last-clause-none
 returns-in_err-last-clause-none c =
     λ none numbers at.
-    let unread : number_of c.in-Some.word.now ≡ None = sym c.number.ensures ∙ c.in_err-last.was in
     not_told (in_order c.args.strictly) (all_numbers (words_in c.args.arguments.now)) numbers
-    (c.loop-word.invariant.after ∙ rw (c.in-Some.ensures.words, unread) refl) at
+    (c.loop-word.invariant.after ∙ rw (c.in-Some.ensures.words, ← c.number.ensures, c.in_err-last.was) refl) at
 
 pub returns-then-not-admits-clause-none : goal.returns-then-not-admits-clause-none
 returns-then-not-admits-clause-none c =
     λ none numbers at.
-    let some : number_of c.in-Some.word.now ≡ Some c.in_ok-last.last = sym c.number.ensures ∙ c.in_ok-last.was in
     not_told (in_order c.args.strictly) (all_numbers (words_in c.args.arguments.now)) numbers
-    (c.loop-word.invariant.after ∙ rw (c.in-Some.ensures.words, some) (rise_after-next (in_order c.args.strictly) c.loop-word.rise.len c.loop-word.rise.last c.in_ok-last.last (all_numbers (words_in c.in-Some.others.now)) _ (sym c.if-not-admits.ensures))) at
+    (c.loop-word.invariant.after ∙ rw (c.in-Some.ensures.words, ← c.number.ensures, c.in_ok-last.was)
+    (rise_after-next (in_order c.args.strictly) c.loop-word.rise.len c.loop-word.rise.last c.in_ok-last.last (all_numbers (words_in c.in-Some.others.now)) _ (sym c.if-not-admits.ensures))) at
 
 pub returns : goal.returns
 returns c =
-    let rise = told (in_order c.args.strictly) (words_in c.args.arguments.now) (c.loop-word.rise.len, c.loop-word.rise.last) (c.loop-word.invariant.after ∙ rw c.in_default.ensures.words refl) in
+    let rise = told (in_order c.args.strictly) (words_in c.args.arguments.now) _ (c.loop-word.rise.len, c.loop-word.rise.last) refl
+    (c.loop-word.invariant.after ∙ rw c.in_default.ensures.words refl) in
     record {
       none = λ none numbers at. cc;
       all = rise.0;
@@ -29,8 +29,8 @@ returns c =
 
 pub loop-word-preserved : goal.loop-word-preserved
 loop-word-preserved c =
-    let some : number_of c.in-Some.word.now ≡ Some c.in_ok-last.last = sym c.number.ensures ∙ c.in_ok-last.was in
     record {
-      after = c.loop-word.invariant.after ∙ rw (c.in-Some.ensures.words, some) (rise_after-next (in_order c.args.strictly) c.loop-word.rise.len c.loop-word.rise.last c.in_ok-last.last (all_numbers (words_in c.in-Some.others.now)) _ (sym c.if-not-admits.ensures));
+      after = c.loop-word.invariant.after ∙ rw (c.in-Some.ensures.words, ← c.number.ensures, c.in_ok-last.was)
+          (rise_after-next (in_order c.args.strictly) c.loop-word.rise.len c.loop-word.rise.last c.in_ok-last.last (all_numbers (words_in c.in-Some.others.now)) _ (sym c.if-not-admits.ensures));
       within = omega (arith, c.loop-word.invariant.within, c.in-Some.ensures.shorter);
     }

@@ -1,6 +1,7 @@
-use Rattle.vers_engine.proofs.Names.{◌≡◌, ◌++◌, ◌<◌, ◌||◌, [], length, false, take, refl, ap, ◌∙◌, arith, err_from_is_err_and, whole_lines, lines_of}
+use Rattle.vers_engine.proofs.Names.{◌≡◌, ◌++◌, ◌<◌, ◌||◌, [], length, false, take, refl, rules, ap, ◌∙◌, arith, err_from_is_err_and, lines_of}
 use Rattle.vers_engine.proofs.Known.{Appends-none, Appends-then, Consumes-none, Consumes-then, Consumes-kept, Consumes-end}
-use Rattle.vers_engine.proofs.Ends.{StandsAt-start, ends, breaks, stops}
+use Rattle.vers_engine.proofs.Ends.{ends, breaks}
+use Rattle.vers_engine.proofs.Steps.{whole_lines-IsSplit}
 use Rattle.vers_engine.proofs.engine.serve.Goals as goal
 
 pub reads-init : goal.reads-init
@@ -10,7 +11,8 @@ reads-init g c = record {
   consumed = Consumes-none _;
   appended = Appends-none _;
   gathered = c.requires.answers;
-  stands = rw (c.requires.pending) (StandsAt-start g.S.Answerer.answering c.args.session.now.store);
+  stands = rw c.requires.pending
+      (record { lines = []; split = record { joined = refl; parts_lack = search rules; rest_lacks = search rules }; answered = refl; holds = refl });
   reader_fine = c.requires.reader;
   writer_fine = c.requires.writer;
 }
@@ -47,7 +49,8 @@ returns-in_err-take_bytes-in-Ok-clause-answers g c =
 pub returns-in-Err-clause-answers : goal.returns-in-Err-clause-answers
 returns-in-Err-clause-answers g c =
     let i = c.reads.invariant in
-    (i.read, i.written, whole_lines i.read, Consumes-end _ _ _ i.read i.consumed (Consumes-kept _ _ c.in-Err.ensures.bytes), i.appended, refl, stops g.S.Answerer.answering c.args.session.now.store _ _ i.read i.written i.stands)
+    let e = whole_lines-IsSplit i.read _ _ i.stands.split in
+    (i.read, i.written, _, Consumes-end _ _ _ _ i.consumed (Consumes-kept _ _ c.in-Err.ensures.bytes), i.appended, refl, rw e i.stands.answered)
 
 pub reads-preserved : goal.reads-preserved
 reads-preserved g c =

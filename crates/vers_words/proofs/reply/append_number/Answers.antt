@@ -24,9 +24,8 @@ overflow_sub-start-2 g c = omega (arith, decimal_nonempty c.loop-rest.rest c.loo
 -- one digit more before those from `start` on
 drop_digit : (digits : List ℕ) (start d : ℕ) → 0 < start → start ≤ length digits → drop (start - 1) (set digits (start - 1) d) ≡ d ∷ drop start digits
 drop_digit digits start d some within =
-    let below : start - 1 < length digits = omega arith in
     let next : start - 1 + 1 ≡ start = omega arith in
-    drop-set digits (start - 1) d below ∙ ap (λ i. d ∷ drop i digits) next
+    rw (drop-set digits (start - 1) d (omega arith), next) refl
 
 pub loop-rest-preserved : goal.loop-rest-preserved
 loop-rest-preserved g c =

@@ -1,18 +1,17 @@
-use Rattle.std.proofs.Common.{◌≡◌, [], take, ap, sym, ◌∙◌, arith, Some, refl}
+use Rattle.std.proofs.Common.{◌≡◌, take, ap, sym, ◌∙◌, arith, Some, refl}
 use Rattle.std.proofs.lemmas.Bool.{eqb-true, lt-ltb}
 use Rattle.std.proofs.lemmas.List.{nil_from_length, take_all}
 use Rattle.std.proofs.lemmas.List.Folds.{list_all_at, list_all_more}
 use Rattle.std.specs.Char.{is_ascii_digit}
 use Rattle.std.specs.Str.Parse.{digits_value}
-use Rattle.vers_words.proofs.Numbers.{large_at, digits_value-digit, number_of-empty, number_of-other, number_of-large}
+use Rattle.vers_words.proofs.Numbers.{large_at, digits_value-digit, number_of-other, number_of-large}
 use Rattle.vers_words.specs.Text.{number_of}
 use Rattle.std.proofs.lemmas.Int.{ints}
 use Rattle.vers_words.proofs.text.number.Goals as goal
 
 pub returns-then-is_empty : goal.returns-then-is_empty
-returns-then-is_empty c =
-    let none : c.args.word.now ≡ [] = nil_from_length _ (eqb-true _ 0 (sym c.if-is_empty.ensures)) in
-    rw none (sym number_of-empty)
+unfolding number_of
+returns-then-is_empty c = rw (nil_from_length _ (eqb-true _ 0 (sym c.if-is_empty.ensures))) refl
 
 pub returns-then-not-is_ascii_digit : goal.returns-then-not-is_ascii_digit
 returns-then-not-is_ascii_digit c =

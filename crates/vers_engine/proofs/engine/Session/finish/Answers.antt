@@ -6,8 +6,8 @@ use Rattle.vers_engine.proofs.engine.Session.finish.Goals as goal
 pub returns-then-is_empty-clause-written : goal.returns-then-is_empty-clause-written
 returns-then-is_empty-clause-written g c =
     let s = c.args.self.now in
-    let long : length s.pending.items ≡ 0 = omega (arith, s.pending.ok.0, eqb-true _ 0 (sym c.if-is_empty.ensures)) in
-    ([], Appends-none _, rw (nil_from_length s.pending.items long) (FinishesOrFails-none g.S.Answerer.answering s.store))
+    let none = nil_from_length s.pending.items (omega (arith, s.pending.ok.0, eqb-true _ 0 (sym c.if-is_empty.ensures))) in
+    ([], Appends-none _, rw none (FinishesOrFails-none g.S.Answerer.answering s.store))
 
 pub returns-in_err-answer_line-clause-written : goal.returns-in_err-answer_line-clause-written
 returns-in_err-answer_line-clause-written g c =

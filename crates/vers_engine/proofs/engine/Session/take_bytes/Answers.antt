@@ -61,5 +61,4 @@ pub returns-clause-written : goal.returns-clause-written
 returns-clause-written g c =
     let i = c.loop-rest.invariant in
     let none = nil_from_length c.loop-rest.rest.now (eqb-true _ 0 (sym c.loop-rest-test.ensures)) in
-    let all : c.args.bytes.now ≡ i.taken = i.parts ∙ ap (λ more. i.taken ++ more) none ∙ append-nil i.taken in
-    (i.text, i.appended, rw all i.took)
+    (i.text, i.appended, rw (i.parts, none, append-nil) i.took)

@@ -3,5 +3,4 @@ use Rattle.std.proofs.Common.{arith}
 use Rattle.vers_rmq.proofs.rmq.binary_rmq.table.next_place.Goals as goal
 
 pub returns-then-h-items : goal.returns-then-h-items
-returns-then-h-items c =
-    grind (arith, next_joined)
+returns-then-h-items c = grind (arith, next_joined)

@@ -1,5 +1,5 @@
-use Rattle.std.proofs.Common.{◌≡◌, ◌+◌, ◌-◌, ◌*◌, ◌/◌, arith}
-use Rattle.vers_rmq.proofs.Masks.{suffix_last, suffix_part, suffix_whole}
+use Rattle.std.proofs.Common.{◌≡◌, arith}
+use Rattle.vers_rmq.proofs.Masks.{suffix_alone, suffix_part}
 use Rattle.vers_rmq.proofs.rmq.fast_rmq.mask.suffix_masks.Goals as goal
 
 pub parts-init : goal.parts-init
@@ -8,8 +8,7 @@ parts-init c = record {
   high = omega arith;
   aligned = omega arith;
   whole = c.part_suffixes-whole.ensures;
-  parts = suffix_last c.args.items.now c.args.start (c.args.start + (c.args.end - 1 - c.args.start) / 16 * 16) c.args.end c.part_suffixes-whole.result.mask c.part_suffixes-whole.result.least
-      (omega arith) (omega arith) c.part_suffixes-whole.ensures;
+  parts = suffix_alone _ 16 _ _ _ _ _ (λ i h f. omega arith) c.part_suffixes-whole.ensures;
 }
 
 pub parts-preserved : goal.parts-preserved
@@ -18,12 +17,13 @@ parts-preserved c = record {
   high = omega arith;
   aligned = omega arith;
   whole = c.suffixes_past-whole.ensures c.args.end c.parts.invariant.whole;
-  parts = suffix_part c.args.items.now c.args.start (c.parts.at - 16) c.parts.at c.args.end c.parts.parts c.part_suffixes-part.result.mask c.part_suffixes-part.result.least
-      (omega arith) (omega arith) (omega arith) c.parts.invariant.parts c.part_suffixes-part.ensures;
+  parts = suffix_part _ _ _ _ _ _ _ _ (omega arith) (omega arith) (omega arith) c.parts.invariant.parts c.part_suffixes-part.ensures;
 }
 
 pub returns-clause-whole : goal.returns-clause-whole
-returns-clause-whole c = suffix_whole c.args.items.now c.args.start c.parts.at c.args.end c.parts.whole.mask c.parts.whole.least (omega arith) c.requires.few c.parts.invariant.whole
+returns-clause-whole c =
+    let e : c.parts.at ≡ c.args.start = omega arith in
+    rw e at (suffix_alone _ 128 _ _ _ _ _ (λ i h f. omega arith) c.parts.invariant.whole)
 
 pub suffixes_past-whole-requires-clause-done : goal.suffixes_past-whole-requires-clause-done
 suffixes_past-whole-requires-clause-done c = omega (arith, c.parts.invariant.whole.best.to)

@@ -1,1 +1,0 @@
--- Where makers over iterators stop.
