@@ -87,14 +87,14 @@ def word(name):
 
 
 def code_tables(source):
-    """The names of the codes in the crate's tables, by the enums of vers.h. A name that stands twice has its group before it."""
+    """The names of the codes in the crate's tables, by the enums of vers.h. One that stands twice, or ends a level, has its group before it."""
     tables = {}
     for file, enum, start, row in TABLES:
         text = read(os.path.join(source, file))
         body = text[text.rfind("= [") if "= [" in text else 0:]
         rows = [[word(it) for it in found] for found in re.findall(row, body)]
         names = [name for _, name in rows]
-        tables[enum] = [start + (f"{group}_{name}" if name in names[:k] else name) for k, (group, name) in enumerate(rows)]
+        tables[enum] = [start + (f"{group}_{name}" if group == "LEVEL" or name in names[:k] else name) for k, (group, name) in enumerate(rows)]
     return tables
 
 
