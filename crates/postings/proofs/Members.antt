@@ -1,11 +1,6 @@
 -- Whether a document is in a list, and what two lists share.
-use Rattle.std.proofs.Common.{◌≡◌, ℕ, zero, suc, ◌+◌, ◌<◌, ◌≤◌, Bool, true, false, List, [], ◌∷◌, length, get_or, refl, sym, ap, subst, ◌∙◌, inl, inr, arith}
-use Rattle.std.specs.Prelude.{◌==◌, filter}
-use Rattle.std.specs.List.{AllPairs, list_any}
-use Rattle.std.specs.List.Sorted.{IsStrictlyIncreasing}
-use Rattle.std.proofs.lemmas.Bool.{cases_lt, eq-eqb, ne_eqb}
+use Rattle.postings.proofs.Names.{◌≡◌, ℕ, zero, suc, ◌+◌, ◌<◌, ◌≤◌, Bool, true, false, List, [], ◌∷◌, length, get_or, refl, sym, ap, subst, ◌∙◌, inl, inr, arith, ◌==◌, filter, AllPairs, list_any, IsStrictlyIncreasing, cases_lt, eq-eqb, ne_eqb, is_among, common}
 use Rattle.std.proofs.lemmas.List.Kept.{AllPairs-from_increasing}
-use Rattle.postings.specs.Posted.{is_among, common}
 
 -- each number is below all later ones
 abbrev Rising : List ℕ → Type 0
@@ -102,5 +97,4 @@ shared (suc n) (x ∷ xs) (y ∷ ys) few up upper =
 -- either of two lists may be looked through
 pub common_either : (documents others : List ℕ) → IsStrictlyIncreasing documents → IsStrictlyIncreasing others → common documents others ≡ common others documents
 unfolding common
-common_either documents others up upper =
-    shared (length documents + length others) documents others (omega arith) (AllPairs-from_increasing documents up) (AllPairs-from_increasing others upper)
+common_either documents others up upper = grind (arith, others, upper, shared, AllPairs-from_increasing)

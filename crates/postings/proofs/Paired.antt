@@ -1,8 +1,5 @@
 -- What the maker keeps of documents and costs.
-use Rattle.std.proofs.Common.{◌≡◌, ℕ, List, length, get_or, sym, arith, Fits, w64}
-use Rattle.std.specs.List.Sorted.{IsStrictlyIncreasing}
-use Rattle.std.proofs.lemmas.List.{get_or_default}
-use Rattle.postings.specs.Posted.{ArePaired}
+use Rattle.postings.proofs.Names.{◌≡◌, ℕ, List, length, get_or, sym, arith, Fits, w64, IsStrictlyIncreasing, get_or_default, ArePaired}
 
 -- what was kept of documents that ascend, and of as many costs
 pub paired : (documents costs kept kept_costs : List ℕ) → kept ≡ documents → kept_costs ≡ costs → IsStrictlyIncreasing documents → length documents ≡ length costs

@@ -1,16 +1,9 @@
 -- The places of the documents of a range follow one another.
-use Rattle.std.proofs.Common.{◌≡◌, ℕ, zero, suc, ◌+◌, ◌-◌, ◌<◌, ◌≤◌, All, Bool, true, false, List, ◌∷◌, length, Some, None, refl, ap, ◌∙◌, inl, inr, arith}
-use Rattle.std.specs.Prelude.{◌&&◌, nat_le, filter, slice_index, slice_get}
-use Rattle.std.specs.List.{range_with_len}
-use Rattle.std.specs.List.Sorted.{IsNonDecreasing}
+use Rattle.postings.proofs.Names.{◌≡◌, ℕ, zero, suc, ◌+◌, ◌-◌, ◌<◌, ◌≤◌, All, Bool, true, false, List, ◌∷◌, length, Some, None, refl, ap, ◌∙◌, inl, inr, arith, ◌&&◌, nat_le, filter, slice_index, slice_get, range_with_len, IsNonDecreasing, cases_lt, le-leb, lt-leb, slice_get-get_or, below_le, below_before, below_after, Posted, places_between, cheapest}
 use Rattle.std.proofs.Math.Bool.{and-false}
-use Rattle.std.proofs.lemmas.Bool.{cases_lt, le-leb, lt-leb}
-use Rattle.std.proofs.lemmas.Option.{slice_get-get_or}
 use Rattle.vers_rmq.specs.Minima.{IsFirstLeast, first_least_of, least_place}
 use Rattle.vers_rmq.proofs.PublicLaws.{first_least_of-range, as_first}
 use Rattle.vers_sorted.specs.Sorted.{below}
-use Rattle.vers_sorted.proofs.PublicLaws.{below_le, below_before, below_after}
-use Rattle.postings.specs.Posted.{Posted, places_between, cheapest}
 
 -- of n numbers from a on, the first c pass and no other
 filter_first : (p : ℕ → Bool) (a n c : ℕ) → c ≤ n → ((i : ℕ) → a ≤ i → i < a + c → p i ≡ true) → ((i : ℕ) → a + c ≤ i → i < a + n → p i ≡ false)

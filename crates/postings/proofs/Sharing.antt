@@ -1,16 +1,11 @@
 -- The shorter list looked through from its start.
-use Rattle.std.proofs.Common.{◌≡◌, ℕ, zero, suc, ◌+◌, ◌*◌, ◌<◌, ◌≤◌, Bool, true, false, cond, List, [], ◌∷◌, ◌++◌, length, take, drop, get_or, Some, None, refl, sym, ap, subst, ◌∙◌, arith, rules}
-use Rattle.std.specs.Prelude.{slice_get, if◌then◌else◌}
-use Rattle.std.proofs.lemmas.List.{get_or-drop, length-drop}
+use Rattle.postings.proofs.Names.{◌≡◌, ℕ, zero, suc, ◌+◌, ◌*◌, ◌<◌, ◌≤◌, Bool, true, false, cond, List, [], ◌∷◌, ◌++◌, length, take, drop, get_or, Some, None, refl, sym, ap, subst, ◌∙◌, arith, rules, slice_get, if◌then◌else◌, get_or-drop, length-drop, slice_get-get_or, get_or_from_slice_get, none-some, Reads, AddsAtMost, IsWithin, plus, times, is_among, common, lookups}
 use Rattle.vers_bits.specs.Walk.{TakesFirst}
-use Rattle.std.proofs.lemmas.Option.{slice_get-get_or, get_or_from_slice_get, none-some}
 use Rattle.std.proofs.Math.Nat.{mul-le-mul_right}
 use Rattle.std.proofs.lemmas.List.Elements.{filter_more}
 use Rattle.vers_sorted.specs.Layout.{member_reads, search_reads}
 use Rattle.vers_tally.specs.Ends.{Walking}
-use Rattle.vers_tally.specs.Reads.{Reads, AddsAtMost, IsWithin, plus, times}
 use Rattle.vers_tally.proofs.PublicLaws.{adds_then, adds_weaker, within_itself}
-use Rattle.postings.specs.Posted.{is_among, common, lookups}
 
 -- a walk along the shorter list took k documents and has the others left, and of those taken the ones that the longer list has were found
 pub record SharedUpTo (shorter longer found : List ℕ) (walk : Walking ℕ) (old new : Reads) (k : ℕ) : Type 0 where
@@ -36,14 +31,11 @@ more_room k x y = omega arith
 -- one more look-up
 lookups_more : (k : ℕ) (p q old between next new : Reads) → AddsAtMost old between (times k (plus p q)) → AddsAtMost between next p → AddsAtMost next new q
     → AddsAtMost old new (times (k + 1) (plus p q))
-lookups_more k p q a b c d before step look =
-    adds_then before (adds_then step look (within_itself _)) (grind (arith, more_room))
+lookups_more k p q a b c d before step look = grind (arith, before, step, adds_then, within_itself, more_room)
 
 -- fewer look-ups stay within more
 pub lookups_up : (k n : ℕ) (p : Reads) → k ≤ n → IsWithin (times k p) (times n p)
-lookups_up k n p few =
-    let up = λ (x : ℕ). mul-le-mul_right {m = k} {n = n} x few in
-    grind (arith, up)
+lookups_up k n p few = grind (arith, few, mul-le-mul_right)
 
 -- what is left of a list after k of its members and one more
 drop_next : (k : ℕ) (xs : List ℕ) → drop 1 (drop k xs) ≡ drop (suc k) xs

@@ -55,14 +55,10 @@ module _ {X E : Type 0} where
       record { on = λ _. (may, tt, omega arith); keeps = may; rests = λ _. tt }
 
   pub goes_made : (can : List X → Type 0) (old : List X) (r : Option (Result X E)) (new : List X) → can new → MakesNth 0 old r new → MakesProgress can (item_count (λ s. s)) old r new
-  goes_made can old r new may h =
-      goes_on can old r new may (λ z. none_made r (slice_get_past old 0 (omega arith)) h.given) (ap length h.left ∙ length-drop 1 old)
+  goes_made can old r new may h = grind (arith, may, goes_on, none_made, slice_get_past, length-drop)
 
   pub goes_made_back : (can : List X → Type 0) (old : List X) (r : Option (Result X E)) (new : List X) → can new → MakesNthBack 0 old r new → MakesProgress can (item_count (λ s. s)) old r new
-  goes_made_back can old r new may h =
-      goes_on can old r new may
-      (λ z. none_made r (slice_get_past (reverse old) 0 (omega (arith, length-reverse old))) h.given)
-      (ap length h.left ∙ length-take (length old - 1) old ∙ (let e : min (length old - 1) (length old) ≡ length old - 1 = omega arith in e))
+  goes_made_back can old r new may h = grind (arith, may, goes_on, none_made, slice_get_past, length-reverse, length-take)
 
   -- the last item
   pub last_made : (old : List X) (r : Option (Result X E)) (new : List X) → MakesNthBack 0 old r new → MayRefuse r (last_or None old)

@@ -1,3 +1,4 @@
+pub mod Imports
 pub mod Tables
 pub mod Places
 pub mod Words

@@ -1,15 +1,8 @@
 -- Numbers, found from the front of their digits.
-use Rattle.std.proofs.Common.{◌≡◌, ◌+◌, ◌*◌, ◌-◌, ◌^◌, ◌<◌, ◌≤◌, ℕ, true, false, List, [], ◌∷◌, ◌++◌, append_assoc, sym, ap, length, take, get_or, Option, Some, None, refl, arith}
+use Rattle.vers_words.proofs.Imports.{◌≡◌, ◌+◌, ◌*◌, ◌-◌, ◌^◌, ◌<◌, ◌≤◌, ℕ, true, false, List, [], ◌∷◌, ◌++◌, append_assoc, sym, ap, length, take, get_or, Option, Some, None, refl, arith, list_all, is_ascii_digit, digits_value, le-ltb, nat_tests, option_map, number_of}
 use Rattle.std.proofs.Math.Bool.{and-false}
-use Rattle.std.specs.List.{list_all}
-use Rattle.std.specs.Char.{is_ascii_digit}
-use Rattle.std.specs.Str.Parse.{digits_value}
-use Rattle.std.proofs.lemmas.Bool.{le-ltb}
-use Rattle.std.proofs.lemmas.Bool.Decides.{nat_tests}
 use Rattle.std.proofs.lemmas.Int.Digits.{digits_value_more}
 use Rattle.std.proofs.lemmas.Str.Parse.{digits_value-take-le}
-use Rattle.std.specs.Prelude.{option_map}
-use Rattle.vers_words.specs.Text.{number_of}
 
 -- one more digit
 pub digits_value-digit : (w : List ℕ) (i : ℕ) → i < length w → is_ascii_digit (get_or w i 0) ≡ true

@@ -1,6 +1,5 @@
 -- The laws that proofs of other crates may cite. A crate above imports this file and no other of this folder.
-use Rattle.std.proofs.Common.{◌≡◌, ◌==◌, ◌+◌, ℕ, false, List, [], ◌∷◌, ◌++◌, take, Some, None}
-use Rattle.std.specs.List.{All, position}
+use Rattle.vers_words.proofs.Imports.{◌≡◌, ◌==◌, ◌+◌, ℕ, false, List, [], ◌∷◌, ◌++◌, take, Some, None, All, position}
 use Rattle.vers_words.proofs.Places as Places
 
 -- ---- where a byte stands first

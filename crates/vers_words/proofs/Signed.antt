@@ -1,15 +1,10 @@
 -- Signed numbers.
-use Rattle.std.proofs.Common.{◌≡◌, ◌==◌, ◌^◌, ◌<◌, ℕ, ℤ, pos, neg_ℤ, ◌+ℤ◌, ◌-ℤ◌, negsuc, zero, suc, true, false, List, ◌∷◌, Option, Some, None, sym, ap, ◌∙◌, refl, inl, inr, arith}
-use Rattle.std.specs.Prelude.{FitsSigned, option_and_then}
+use Rattle.vers_words.proofs.Imports.{◌≡◌, ◌==◌, ◌^◌, ◌<◌, ℕ, ℤ, pos, neg_ℤ, negsuc, zero, suc, true, false, List, ◌∷◌, Option, Some, None, sym, ap, ◌∙◌, refl, inl, inr, arith, FitsSigned, option_and_then, ints, cases_lt, lt-ltb, le-ltb, le-leb, lt-leb, eqb_tells, number_of, with_sign, signed_number_of}
 use Rattle.std.specs.Int.{w64}
 use Rattle.std.specs.Option.{SomeIff}
-use Rattle.std.proofs.lemmas.Int.{ints}
-use Rattle.std.proofs.lemmas.Bool.{cases_lt, lt-ltb, le-ltb, le-leb, lt-leb}
-use Rattle.std.proofs.lemmas.Bool.Decides.{eqb_tells}
-use Rattle.vers_words.specs.Text.{number_of, with_sign, signed_number_of}
 
 -- what a checked sum and a checked difference with 0 answer
-plus_from : (n : ℕ) (z : ℤ) (r : Option ℤ) → z ≡ pos n → SomeIff r (FitsSigned w64 z) z → r ≡ with_sign false n
+pub plus_from : (n : ℕ) (z : ℤ) (r : Option ℤ) → z ≡ pos n → SomeIff r (FitsSigned w64 z) z → r ≡ with_sign false n
 plus_from n z None e h = elim (cases_lt n (2 ^ 63)) [
   | inl less ↦ absurd (h (rw e (record { sfits = less })))
   | inr more ↦ rw (le-ltb n (2 ^ 63) more) refl
@@ -19,7 +14,7 @@ plus_from n z (Some x) e h =
     let less : n < 2 ^ 63 = fits.sfits in
     rw (lt-ltb n (2 ^ 63) less) (ap Some (h.1 ∙ e))
 
-minus_from : (n : ℕ) (z : ℤ) (r : Option ℤ) → z ≡ neg_ℤ (pos n) → SomeIff r (FitsSigned w64 z) z → r ≡ with_sign true n
+pub minus_from : (n : ℕ) (z : ℤ) (r : Option ℤ) → z ≡ neg_ℤ (pos n) → SomeIff r (FitsSigned w64 z) z → r ≡ with_sign true n
 minus_from zero z None e h = absurd (h (rw e (record { sfits = omega arith })))
 minus_from zero z (Some x) e h = ap Some (h.1 ∙ e)
 minus_from (suc n) z None e h = elim (cases_lt n (2 ^ 63)) [
@@ -30,12 +25,6 @@ minus_from (suc n) z (Some x) e h =
     let fits : FitsSigned w64 (negsuc n) = rw e at h.0 in
     let less : n < 2 ^ 63 = fits.sfits in
     rw (le-leb (suc n) (2 ^ 63) (omega (arith, less))) (ap Some (h.1 ∙ e))
-
-pub plus_checked : (n : ℕ) (r : Option ℤ) → SomeIff r (FitsSigned w64 (pos 0 +ℤ pos n)) (pos 0 +ℤ pos n) → r ≡ with_sign false n
-plus_checked n r h = plus_from n (pos 0 +ℤ pos n) r (omega (arith, ints)) h
-
-pub minus_checked : (n : ℕ) (r : Option ℤ) → SomeIff r (FitsSigned w64 (pos 0 -ℤ pos n)) (pos 0 -ℤ pos n) → r ≡ with_sign true n
-minus_checked n r h = minus_from n (pos 0 -ℤ pos n) r (omega (arith, ints)) h
 
 pub signed-other : (byte : ℕ) (bytes : List ℕ) → (byte == 45) ≡ false → signed_number_of (byte ∷ bytes) ≡ option_and_then (with_sign false) (number_of (byte ∷ bytes))
 unfolding signed_number_of

@@ -1,6 +1,5 @@
 -- The names of a table.
-use Rattle.std.proofs.Common.{◌≡◌, ℕ, Bool, true, false, List, [], ◌∷◌, Option, Some, map, find, bytes_eq, option_map, Bor, refl}
-use Rattle.std.specs.Prelude.{if◌then◌else◌}
+use Rattle.vers_words.proofs.Imports.{◌≡◌, ℕ, Bool, true, false, List, [], ◌∷◌, Option, Some, map, find, bytes_eq, option_map, Bor, refl, if◌then◌else◌}
 use Rattle.vers_words.specs.Names.{named}
 
 -- one choice, seen in two ways

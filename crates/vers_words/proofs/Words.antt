@@ -1,15 +1,8 @@
 -- The words of a text, found from its front.
-use Rattle.std.proofs.Common.{◌≡◌, ◌==◌, ◌+◌, ◌<◌, ◌≤◌, ℕ, zero, suc, Bool, true, not, List, [], ◌∷◌, ◌++◌, length, take, drop, get_or, Option, Some, None, unwrap_or, inl, inr, refl, sym, ap, ◌∙◌, arith}
-use Rattle.std.specs.List.{position, position_or_len, slice_split, filter}
-use Rattle.std.proofs.lemmas.Bool.{ne_eqb}
-use Rattle.std.proofs.lemmas.Bool.Decides.{eqb_tells}
+use Rattle.vers_words.proofs.Imports.{◌≡◌, ◌==◌, ◌+◌, ◌<◌, ◌≤◌, ℕ, zero, suc, Bool, true, not, List, [], ◌∷◌, ◌++◌, length, take, drop, get_or, Option, Some, None, unwrap_or, inl, inr, refl, sym, ap, ◌∙◌, arith, position, position_or_len, slice_split, filter, ne_eqb, eqb_tells, drop_all, take_all, take-append-drop, length-take, position-Some, has_bytes, words_in, ints}
 use Rattle.std.proofs.lemmas.Option.{cond_some}
-use Rattle.std.proofs.lemmas.List.{drop_all, take_all, take-append-drop, length-take}
-use Rattle.std.proofs.lemmas.List.Quantifiers.{position-Some}
 use Rattle.std.proofs.lemmas.List.Splits.{slice_split_at, slice_split_none}
-use Rattle.vers_words.specs.Text.{has_bytes, words_in}
 use Rattle.vers_words.proofs.Places.{position-None, lacks, lacks_before, byte_at, from_byte}
-use Rattle.std.proofs.lemmas.Int.{ints}
 
 abbrev pub is_other : ℕ → Bool
 is_other b = not (b == 32)

@@ -1,5 +1,4 @@
-use Rattle.std.proofs.Common.{refl, sym, ◌∙◌, arith}
-use Rattle.std.proofs.lemmas.List.{append-nil}
+use Rattle.postings.proofs.Names.{refl, sym, ◌∙◌, arith, append-nil}
 use Rattle.postings.proofs.Members.{among_any}
 use Rattle.postings.proofs.Sharing.{shared_start, shared_more, stopped_within, ended_within, never_ends}
 use Rattle.postings.proofs.queries.common_documents.Goals.{then-has_counted+in_ok-push, else-has_counted, else-loop-test, then-loop-test+in_default}

@@ -1,5 +1,4 @@
-use Rattle.std.proofs.Common.{◌+◌, ◌<◌, ◌∙◌, inl, inr, arith}
-use Rattle.std.proofs.lemmas.Bool.{cases_lt}
+use Rattle.postings.proofs.Names.{◌+◌, ◌<◌, ◌∙◌, inl, inr, arith, cases_lt}
 use Rattle.postings.proofs.Places.{below_all}
 use Rattle.postings.proofs.queries.up_to.Goals as goal
 

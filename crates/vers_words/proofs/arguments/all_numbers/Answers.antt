@@ -1,5 +1,4 @@
-use Rattle.std.proofs.Common.{Some, refl, sym, ap, ◌∙◌}
-use Rattle.std.proofs.lemmas.List.{append-nil}
+use Rattle.vers_words.proofs.Imports.{Some, refl, sym, ap, ◌∙◌, append-nil}
 use Rattle.vers_words.proofs.Numbers.{numbers_then-none, numbers_then-push}
 use Rattle.vers_words.proofs.arguments.all_numbers.Goals as goal
 

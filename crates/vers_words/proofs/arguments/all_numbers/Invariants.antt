@@ -1,6 +1,4 @@
-use Rattle.std.proofs.Common.{◌≡◌, length}
-use Rattle.vers_words.specs.Text.{words_in}
-use Rattle.vers_words.specs.Arguments.{all_numbers}
+use Rattle.vers_words.proofs.Imports.{◌≡◌, length, words_in, all_numbers}
 use Rattle.vers_words.proofs.Numbers.{numbers_then}
 use Rattle.vers_words.proofs.arguments.all_numbers.Given as goal
 

@@ -1,7 +1,4 @@
-use Rattle.std.proofs.Common.{◌≡◌, ◌+◌, ◌≤◌, length}
-use Rattle.std.specs.Prelude.{option_map}
-use Rattle.vers_words.specs.Text.{words_in}
-use Rattle.vers_words.specs.Arguments.{all_numbers}
+use Rattle.vers_words.proofs.Imports.{◌≡◌, ◌+◌, ◌≤◌, length, option_map, words_in, all_numbers}
 use Rattle.vers_words.proofs.Numbers.{count_then}
 use Rattle.vers_words.proofs.arguments.count_numbers.Given as goal
 

@@ -1,4 +1,4 @@
-use Rattle.std.proofs.Common.{option_map, sym, ap, ◌∙◌}
+use Rattle.vers_words.proofs.Imports.{option_map, sym, ap, ◌∙◌}
 use Rattle.vers_words.proofs.Tables.{named-entry}
 use Rattle.vers_words.proofs.names.named.Goals as goal
 

@@ -1,5 +1,4 @@
-use Rattle.std.proofs.Common.{◌≡◌, ◌+◌, ◌-◌, ◌%◌, ◌/◌, ◌<◌, ◌≤◌, ◌^◌, set, ◌∷◌, ◌++◌, [], List, ℕ, length, drop, decimal, Ok, Err, Result, OnOk, is_ok, if◌then◌else◌, refl, sym, ap, ◌∙◌, arith, append_assoc}
-use Rattle.std.proofs.lemmas.List.{append-nil, length-set, length-drop, length_push, drop-set, take_all}
+use Rattle.vers_words.proofs.Imports.{◌≡◌, ◌+◌, ◌-◌, ◌%◌, ◌/◌, ◌<◌, ◌≤◌, ◌^◌, set, ◌∷◌, ◌++◌, [], List, ℕ, length, drop, decimal, Ok, Err, Result, OnOk, is_ok, if◌then◌else◌, refl, sym, ap, ◌∙◌, arith, append_assoc, append-nil, length-set, length-drop, length_push, drop-set, take_all}
 use Rattle.std.proofs.lemmas.Fmt.{decimal_digit, decimal_step, decimal_nonempty, length-decimal-le}
 use Rattle.vers_words.proofs.reply.append_number.Goals as goal
 

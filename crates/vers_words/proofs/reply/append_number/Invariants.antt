@@ -1,4 +1,4 @@
-use Rattle.std.proofs.Common.{◌≡◌, ◌<◌, ◌≤◌, ◌^◌, ◌++◌, length, drop, decimal}
+use Rattle.vers_words.proofs.Imports.{◌≡◌, ◌<◌, ◌≤◌, ◌^◌, ◌++◌, length, drop, decimal}
 use Rattle.vers_words.proofs.reply.append_number.Given as goal
 
 abbrev pub invariant-loop-rest : goal.invariant-loop-rest

@@ -1,6 +1,5 @@
-use Rattle.std.proofs.Common.{◌≡◌, ◌++◌, ◌∷◌, [], List, ℕ, length, take, refl, ap, ◌∙◌, append_assoc}
+use Rattle.vers_words.proofs.Imports.{◌≡◌, ◌++◌, ◌∷◌, [], List, ℕ, length, take, refl, ap, ◌∙◌, append_assoc, take_at}
 use Rattle.std.proofs.Math.Seq.{take-length}
-use Rattle.std.proofs.lemmas.List.{take_at}
 use Rattle.vers_words.proofs.reply.append_numbers.Goals as goal
 
 -- what stood first stands in front of all that was appended

@@ -1,5 +1,4 @@
-use Rattle.std.proofs.Common.{◌≡◌, ◌++◌, ◌∷◌, take, decimal}
-use Rattle.std.specs.List.{flat_map}
+use Rattle.vers_words.proofs.Imports.{◌≡◌, ◌++◌, ◌∷◌, take, decimal, flat_map}
 use Rattle.vers_words.proofs.reply.append_numbers.Given as goal
 
 abbrev pub invariant-loop-number : goal.invariant-loop-number

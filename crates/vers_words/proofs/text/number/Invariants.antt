@@ -1,7 +1,4 @@
-use Rattle.std.proofs.Common.{◌≡◌, ◌<◌, ◌^◌, take, true}
-use Rattle.std.specs.List.{list_all}
-use Rattle.std.specs.Char.{is_ascii_digit}
-use Rattle.std.specs.Str.Parse.{digits_value}
+use Rattle.vers_words.proofs.Imports.{◌≡◌, ◌<◌, ◌^◌, take, true, list_all, is_ascii_digit, digits_value}
 use Rattle.vers_words.proofs.text.number.Given as goal
 
 abbrev pub invariant-loop-byte : goal.invariant-loop-byte

@@ -1,13 +1,9 @@
-use Rattle.std.proofs.Common.{◌≡◌, ◌+◌, ◌<◌, true, length, drop, get_or, Some, sym, ◌∙◌, arith}
-use Rattle.std.specs.List.{position}
-use Rattle.std.proofs.lemmas.List.{take_rest, length-drop, get_or-drop}
-use Rattle.std.proofs.lemmas.List.Quantifiers.{position-Some}
+use Rattle.vers_words.proofs.Imports.{◌≡◌, ◌+◌, ◌<◌, true, length, drop, get_or, Some, sym, ◌∙◌, arith, position, take_rest, length-drop, get_or-drop, position-Some}
 use Rattle.vers_words.proofs.Words.{is_other, words_in-spaces, words_in-from, words_in-first}
 use Rattle.vers_words.proofs.text.split_first_word.Goals as goal
 
 pub returns-in_err-from_word-clause-words : goal.returns-in_err-from_word-clause-words
-returns-in_err-from_word-clause-words c =
-    rw c.from_residual.ensures (words_in-spaces c.args.text.now (sym c.first_of_word.ensures ∙ c.in_err-from_word.was))
+returns-in_err-from_word-clause-words c = grind (arith, words_in-spaces)
 
 pub returns-clause-words : goal.returns-clause-words
 returns-clause-words c =

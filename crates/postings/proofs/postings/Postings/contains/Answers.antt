@@ -1,4 +1,4 @@
-use Rattle.std.proofs.Common.{◌∙◌}
+use Rattle.postings.proofs.Names.{◌∙◌}
 use Rattle.postings.proofs.Members.{among_any}
 use Rattle.postings.proofs.postings.Postings.contains.Goals as goal
 

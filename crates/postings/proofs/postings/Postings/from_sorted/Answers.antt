@@ -1,4 +1,4 @@
-use Rattle.std.proofs.Common.{length, ap, ◌∙◌}
+use Rattle.postings.proofs.Names.{length, ap, ◌∙◌}
 use Rattle.postings.proofs.Paired.{paired}
 use Rattle.postings.proofs.postings.Postings.from_sorted.Goals as goal
 
