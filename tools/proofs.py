@@ -122,9 +122,9 @@ def longest_ways(crates, asked):
     return ways
 
 
-def prove_all(crates, names, commands, tell=lambda text: None):
-    """Proves crates with those below them: that with the longest way up by two jobs and as many more as the others leave processors, each of the
-    others, and a program, by one, which yields the more the shorter its way is."""
+def prove_all(crates, names, commands, most_jobs, tell):
+    """Proves crates with those below them, and tells the name of each: that with the longest way up by two jobs and as many more as the others leave
+    processors and are allowed, each of the others, and a program, by one, which yields the more the shorter its way is."""
     asked = {it for name in names for it in [*crates.below(name), name]}
     ways, order, running = longest_ways(crates, asked), TopologicalSorter({it: crates.uses(it) for it in asked}), {}
     order.prepare()
@@ -133,13 +133,14 @@ def prove_all(crates, names, commands, tell=lambda text: None):
             ready = order.get_ready()
             *others, longest = sorted([*running.values(), *ready], key=ways.get)
             for name in sorted(ready, key=ways.get, reverse=True):
-                jobs = max(2, commands.count - len(others)) if name == longest and not crates.is_program(name) else 1
+                shared = min(most_jobs, max(2, commands.count - len(others)))
+                jobs = shared if name == longest and not crates.is_program(name) else 1
                 running[pool.submit(prove, crates, name, jobs, 10 - 10 * ways[name] // ways[longest], commands)] = name
             for done in wait(running, return_when=FIRST_COMPLETED).done:
                 done.result()
                 name = running.pop(done)
                 order.done(name)
-                tell(f"{name} is proved by {commands.seconds[name, 'proof']:.0f} processor seconds")
+                tell(name)
 
 
 def prove(crates, name, jobs, niceness, commands):
@@ -166,10 +167,13 @@ def main():
     def tell(text):
         print(f"{names[0]}: {text}", file=sys.stderr, flush=True)
 
+    def tell_proved(name):
+        tell(f"{name} is proved by {commands.seconds[name, 'proof']:.0f} processor seconds, after {(time.time() - began) / 60:.1f} minutes")
+
     commands.end_on_interrupt()
     tell("proving the crates, those below first; this takes some minutes the first time")
     try:
-        prove_all(crates, names, commands, lambda text: tell(f"{text}, after {(time.time() - began) / 60:.1f} minutes"))
+        prove_all(crates, names, commands, commands.count, tell_proved)
     except Failure as failure:
         tell(failure)
         return 1

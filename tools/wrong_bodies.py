@@ -16,6 +16,7 @@ import shutil
 import subprocess
 import sys
 import tempfile
+import threading
 from collections import Counter, defaultdict, namedtuple
 from concurrent.futures import ThreadPoolExecutor
 from pathlib import Path
@@ -132,7 +133,7 @@ class Tried:
             self.crates.copy_to(room, self.name, "out/incremental")
             write_files(folder, {file: "\n".join(lines) for file, lines in changed.items()})
             jobs = max(1, self.commands.count // 2) if is_first else 1
-            report = report_of(self.commands.run((self.name, "waves"), ["rt", "check", "--jobs", str(jobs)], folder)[0])
+            report = report_of(self.commands.run((self.name, "waves"), ["nice", "rt", "check", "--jobs", str(jobs)], folder)[0])
             if report.functions and is_first:
                 shutil.move(f"{folder}/out/incremental", self.proved)
             return report
@@ -190,13 +191,28 @@ def keep(crate, refused):
 def try_crates(crates, flags, commands):
     """Tries the wrong bodies of crates, of all where none is named, and returns what came of each, by crate.
 
-    The crates below are proved before, and the waves of all crates then share the processors.
+    The waves of a crate begin once it and those below it are proved, or those below it where no other stands on it, and yield to the proofs.
     """
     names = [it for it in flags.crates or crates.lines if os.path.isdir(f"{crates.folder(it)}/wrong")]
     tried = [Tried(crates, it, commands, flags.anew) for it in names]
-    prove_all(crates, {name for it in tried if len(it.told) < len(it.files) for name in it.below}, commands)
+    waiting = {name: threading.Event() for it in tried if len(it.told) < len(it.files) for name in it.below}
+
+    def try_once_proved(crate):
+        for name in {*crate.below, crate.name} & {*waiting}:
+            waiting[name].wait()
+        try_crate(crate, flags, waves)
+
     with ThreadPoolExecutor(commands.count) as waves, ThreadPoolExecutor(len(tried) or 1) as pool:
-        list(pool.map(lambda crate: try_crate(crate, flags, waves), tried))
+        began = [pool.submit(try_once_proved, it) for it in tried]
+        try:
+            # (a crate that is shared by more takes more processor time in all, which the waves beside it can use)
+            prove_all(crates, waiting, commands, 2, lambda name: waiting[name].set())
+        finally:
+            # (where a proof failed, no command begins any more)
+            for it in waiting.values():
+                it.set()
+        for it in began:
+            it.result()
     return {it.name: it.told for it in tried}
 
 
