@@ -1,10 +1,7 @@
 -- Steps of iterators from both ends, for items of every type.
-use Rattle.vers_bits.proofs.Names.{◌≡◌, ℕ, ◌+◌, ◌-◌, ◌<◌, ◌≤◌, List, [], ◌∷◌, ◌++◌, Bool, false, map, Option, Some, None, length, get_or, take, drop, reverse, refl, sym, ◌∙◌, ap, arith, inl, inr, last_or, YieldsFirst, YieldsLast, MakesProgress, item_count, length-map, length-take, length-drop, get_or-take, get_or-drop, get_or-reverse, length-reverse, drop-drop, drop-take, drop_all, take_all, take_more, take_at, take-take, take-append-drop, length_push, reverse-append, reverse-reverse, append-nil, cases_lt, slice_get-map, slice_get_past, slice_get_cases, slice_get-get_or, get_or_from_slice_get, slice_get_within, bit_value, limb, limbs}
-use Rattle.std.proofs.Common.{slice_get, append_assoc}
+use Rattle.vers_bits.proofs.Names.{◌≡◌, ℕ, ◌+◌, ◌-◌, ◌<◌, ◌≤◌, List, [], ◌∷◌, ◌++◌, Bool, false, map, Option, Some, None, length, get_or, take, drop, reverse, refl, sym, ◌∙◌, ap, arith, inl, inr, last_or, YieldsFirst, YieldsLast, MakesProgress, item_count, length-map, length-take, length-drop, get_or-take, get_or-drop, get_or-reverse, length-reverse, drop-drop, drop-take, drop_all, take_all, take_more, take_at, take-take, take-append-drop, length_push, reverse-append, reverse-reverse, append-nil, cases_lt, slice_get-map, slice_get_past, slice_get_cases, slice_get-get_or, get_or_from_slice_get, slice_get_within, bit_value, limb, limbs, slice_get, append_assoc, Span, TakesNth, TakesNthBack, TakesFirst, TakesLast, items_in, nth_passes, Step, PassesEachOnce, StaysEnded, NextIsNthOfZero, NextBackIsNthBackOfZero}
 use Rattle.std.proofs.lemmas.Slice.{between_from_start}
 use Rattle.vers_bits.proofs.Equal.{length-limbs, get_or-limbs}
-use Rattle.vers_bits.specs.declared.walk.Span.{Span}
-use Rattle.vers_bits.specs.Walk.{TakesNth, TakesNthBack, TakesFirst, TakesLast, items_in, nth_passes, Step, PassesEachOnce, StaysEnded, NextIsNthOfZero, NextBackIsNthBackOfZero}
 use Rattle.vers_bits.specs.Walk.Step.{next, next_back, nth, nth_back}
 use Rattle.vers_bits.specs.Walk.Walk.{no_call, call}
 

@@ -1,9 +1,6 @@
 -- Sums over the chunks of a list, and lists whose chunks are the same.
-use Rattle.vers_bits.proofs.Names.{◌≡◌, ℕ, zero, suc, map, ◌+◌, ◌*◌, ◌≤◌, Bool, true, false, List, [], take, drop, length, get_or, eqb, refl, sym, ap, ◌∙◌, arith, Fits, w64, sum_by, count_ones, range_with_len, first_chunks, drop-drop, take-append-drop, sum_by-map-range_with_len_more, sum_by-cons, sum_by-take-drop, sum_by-le, ones-le, count, limb, limb_count}
-use Rattle.std.specs.Cmp.Lexicographic.{pointwise}
+use Rattle.vers_bits.proofs.Names.{◌≡◌, ℕ, zero, suc, map, ◌+◌, ◌*◌, ◌≤◌, Bool, true, false, List, [], take, drop, length, get_or, eqb, refl, sym, ap, ◌∙◌, arith, Fits, w64, sum_by, count_ones, range_with_len, first_chunks, drop-drop, take-append-drop, sum_by-map-range_with_len_more, sum_by-cons, sum_by-take-drop, sum_by-le, ones-le, count, limb, limb_count, pointwise, bytes_eq-Decides, limbs}
 use Rattle.std.proofs.lemmas.List.Elements.{All-from_get_or}
-use Rattle.std.proofs.lemmas.Slice.Eq.{bytes_eq-Decides}
-use Rattle.vers_bits.specs.Bits.{limbs}
 use Rattle.vers_bits.proofs.Count.{count_limb_whole, count_none, count_past}
 use Rattle.vers_bits.proofs.Equal.{length-limbs}
 

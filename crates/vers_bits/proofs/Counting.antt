@@ -1,9 +1,6 @@
 -- Counts and numbers of parts of a list, by its limbs.
-use Rattle.vers_bits.proofs.Names.{◌≡◌, ℕ, ◌+◌, ◌-◌, ◌*◌, ◌/◌, ◌%◌, ◌^◌, ◌<◌, ◌≤◌, Bool, List, [], ◌∷◌, ◌++◌, length, take, drop, sym, ap, ◌∙◌, inl, inr, arith, Some, None, bit_and, bit_or, cases_lt, div-mul-add, mod-mul-add, mod-pow-add, mod_below, mul-mod_first, or_comm, or_shifted, pow_pos, pow-add, shl_whole, mod-eq_of_lt, mul-add-mod_self_right, mul-div_cancel, mul-mod_left, mul_assoc, mul_comm, pow-suc, take-add, length-take, length-drop, take-take, drop-drop, drop-take, number}
-use Rattle.std.specs.Int.Bits.{or_shifted_r}
-use Rattle.std.proofs.lemmas.Bool.Decides.{nat_tests}
+use Rattle.vers_bits.proofs.Names.{◌≡◌, ℕ, ◌+◌, ◌-◌, ◌*◌, ◌/◌, ◌%◌, ◌^◌, ◌<◌, ◌≤◌, Bool, List, [], ◌∷◌, ◌++◌, length, take, drop, sym, ap, ◌∙◌, inl, inr, arith, Some, None, bit_and, bit_or, cases_lt, div-mul-add, mod-mul-add, mod-pow-add, mod_below, mul-mod_first, or_comm, or_shifted, pow_pos, pow-add, shl_whole, mod-eq_of_lt, mul-add-mod_self_right, mul-div_cancel, mul-mod_left, mul_assoc, mul_comm, pow-suc, take-add, length-take, length-drop, take-take, drop-drop, drop-take, number, or_shifted_r, nat_tests, limb, part_number}
 use Rattle.std.proofs.Math.Pow.{mod-mod-pow, shr_lt}
-use Rattle.vers_bits.specs.Bits.{limb, part_number}
 use Rattle.vers_bits.proofs.Words.{length-word_bits, limb-lt}
 use Rattle.vers_bits.proofs.LowBits.{low_mask}
 use Rattle.vers_bits.proofs.Num.{number-take, number-drop}

@@ -1,8 +1,5 @@
 -- Bits that are gathered in a word.
-use Rattle.vers_bits.proofs.Names.{◌≡◌, ℕ, suc, ◌+◌, ◌*◌, ◌%◌, ◌^◌, ◌<◌, ◌≤◌, Bool, List, [], ◌∷◌, ◌++◌, length, map, take, drop, get_or, refl, sym, ap, ◌∙◌, arith, bit_or, pow-le-pow_right, drop-cons, length-map, map-append, take-append-drop, div-mul-add, mod-mul-add, pow-add, shl_whole, bool_byte, bit_value, number}
-use Rattle.std.proofs.Common.{append_assoc, rules}
-use Rattle.std.specs.Int.Bits.{or_shifted_r}
-use Rattle.vers_bits.specs.Bits.{low_bits}
+use Rattle.vers_bits.proofs.Names.{◌≡◌, ℕ, suc, ◌+◌, ◌*◌, ◌%◌, ◌^◌, ◌<◌, ◌≤◌, Bool, List, [], ◌∷◌, ◌++◌, length, map, take, drop, get_or, refl, sym, ap, ◌∙◌, arith, bit_or, pow-le-pow_right, drop-cons, length-map, map-append, take-append-drop, div-mul-add, mod-mul-add, pow-add, shl_whole, bool_byte, bit_value, number, append_assoc, rules, or_shifted_r, low_bits}
 use Rattle.vers_bits.proofs.Num.{number-lt, bit_value_le}
 use Rattle.vers_bits.proofs.LowBits.{low_bits-add, low_bits_of_number, low_bits_of_rest}
 

@@ -1,6 +1,5 @@
 -- A list that grows by the parts of another, 64 bits at a time.
-use Rattle.vers_bits.proofs.Names.{◌≡◌, ℕ, ◌+◌, ◌*◌, ◌≤◌, Bool, List, [], ◌∷◌, ◌++◌, length, take, drop, sym, ap, ◌∙◌, arith, take-add, length-take, length-drop, drop-drop, take_all, append-nil, length-append, number, low_bits}
-use Rattle.std.specs.Prelude.{flat_map}
+use Rattle.vers_bits.proofs.Names.{◌≡◌, ℕ, ◌+◌, ◌*◌, ◌≤◌, Bool, List, [], ◌∷◌, ◌++◌, length, take, drop, sym, ap, ◌∙◌, arith, take-add, length-take, length-drop, drop-drop, take_all, append-nil, length-append, number, low_bits, flat_map}
 use Rattle.vers_bits.proofs.LowBits.{low_bits_of_number, low_bits_of_rest, low_bits_none, low_bits_past, length-low_bits}
 
 -- a part as low digits of its number

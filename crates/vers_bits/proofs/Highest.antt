@@ -1,6 +1,5 @@
 -- The highest bit of a number.
-use Rattle.vers_bits.proofs.Names.{◌≡◌, ℕ, suc, ◌-◌, ◌*◌, ◌^◌, ◌<◌, ◌≤◌, ap, ◌∙◌, arith, bit_at, pow-suc, pow_pos, leading_top, le-div, div_below, bit_at_above}
-use Rattle.std.specs.Int.Count.{count_leading_zeros}
+use Rattle.vers_bits.proofs.Names.{◌≡◌, ℕ, suc, ◌-◌, ◌*◌, ◌^◌, ◌<◌, ◌≤◌, ap, ◌∙◌, arith, bit_at, pow-suc, pow_pos, leading_top, le-div, div_below, bit_at_above, count_leading_zeros}
 
 pub top_bit : (n m : ℕ) → 2 ^ m ≤ n → n < 2 ^ suc m → bit_at n m ≡ 1
 top_bit n m low high =

@@ -1,6 +1,5 @@
 -- A list of bits made of limbs.
-use Rattle.vers_bits.proofs.Names.{◌≡◌, ℕ, suc, ◌*◌, ◌≤◌, List, [], ◌∷◌, ◌++◌, length, ap, ◌∙◌, refl, arith, get_or_append_left, get_or-append_right, length-append, low_bits, word_bits, HoldsBits}
-use Rattle.std.specs.Prelude.{flat_map}
+use Rattle.vers_bits.proofs.Names.{◌≡◌, ℕ, suc, ◌*◌, ◌≤◌, List, [], ◌∷◌, ◌++◌, length, ap, ◌∙◌, refl, arith, get_or_append_left, get_or-append_right, length-append, low_bits, word_bits, HoldsBits, flat_map}
 use Rattle.vers_bits.proofs.LowBits.{length-low_bits, get_or-low_bits}
 use Rattle.vers_bits.proofs.Words.{word_bits_are, length-word_bits, get_or-word_bits, past_words}
 

@@ -1,7 +1,5 @@
 -- The low digits of a number as a list of bits.
-use Rattle.std.proofs.lemmas.Bool.Decides.{nat_tests}
-use Rattle.vers_bits.proofs.Names.{◌≡◌, ℕ, ◌+◌, ◌-◌, ◌/◌, ◌%◌, ◌^◌, ◌<◌, ◌≤◌, Bool, false, eqb, List, [], ◌++◌, length, get_or, replicate, refl, sym, ◌∙◌, arith, bit_at, bit_and, cases_lt, and_mask, mod_below, pow_pos, shr-shr, ones_shr, bit_at-lt, bit_at_and, bit_at_ones, bit_at_above, same_from_bits, ext_get_or, get_or_past, get_or_append_left, get_or-append_right, get_or-replicate, length-append, length-replicate, length-map-range_with_len, get_or-map-range_with_len, bit_value, number}
-use Rattle.vers_bits.specs.Bits.{low_bits}
+use Rattle.vers_bits.proofs.Names.{◌≡◌, ℕ, ◌+◌, ◌-◌, ◌/◌, ◌%◌, ◌^◌, ◌<◌, ◌≤◌, Bool, false, eqb, List, [], ◌++◌, length, get_or, replicate, refl, sym, ◌∙◌, arith, bit_at, bit_and, cases_lt, and_mask, mod_below, pow_pos, shr-shr, ones_shr, bit_at-lt, bit_at_and, bit_at_ones, bit_at_above, same_from_bits, ext_get_or, get_or_past, get_or_append_left, get_or-append_right, get_or-replicate, length-append, length-replicate, length-map-range_with_len, get_or-map-range_with_len, bit_value, number, nat_tests, low_bits}
 use Rattle.vers_bits.proofs.Num.{bit_at-number}
 
 pub length-low_bits : (v n : ℕ) → length (low_bits v n) ≡ n

@@ -1,7 +1,5 @@
 -- Masked lists, place by place and limb by limb.
-use Rattle.vers_bits.proofs.Names.{◌≡◌, ℕ, ◌+◌, ◌-◌, ◌*◌, ◌/◌, ◌%◌, ◌^◌, ◌<◌, ◌≤◌, Bool, false, eqb, List, Some, None, min, length, get_or, set, take, drop, sym, ◌∙◌, ap, inl, inr, arith, bit_at, bit_and, count_ones, cases_lt, cases_eq, ones-le, bit_at-lt, shr_and_one, same_from_bits, slice_get-get_or, slice_get_past, get_or-take, get_or-drop, get_or_past, get_or-set_same, get_or-set_other, length-take, length-drop, length-map-range_with_len, get_or-map-range_with_len, bit_value, word_bits, CutsTo}
-use Rattle.std.specs.Prelude.{slice_get}
-use Rattle.vers_bits.specs.Bits.{limb, masked}
+use Rattle.vers_bits.proofs.Names.{◌≡◌, ℕ, ◌+◌, ◌-◌, ◌*◌, ◌/◌, ◌%◌, ◌^◌, ◌<◌, ◌≤◌, Bool, false, eqb, List, Some, None, min, length, get_or, set, take, drop, sym, ◌∙◌, ap, inl, inr, arith, bit_at, bit_and, count_ones, cases_lt, cases_eq, ones-le, bit_at-lt, shr_and_one, same_from_bits, slice_get-get_or, slice_get_past, get_or-take, get_or-drop, get_or_past, get_or-set_same, get_or-set_other, length-take, length-drop, length-map-range_with_len, get_or-map-range_with_len, bit_value, word_bits, CutsTo, slice_get, limb, masked}
 use Rattle.vers_bits.proofs.Words.{word_bits_are}
 use Rattle.vers_bits.proofs.Edits.{cut_holds}
 use Rattle.vers_bits.proofs.Num.{bit_at-number}

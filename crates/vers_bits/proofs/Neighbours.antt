@@ -1,8 +1,5 @@
 -- The places next to a place, by counts and selects.
-use Rattle.std.proofs.lemmas.Bool.{false_from_ne_true}
-use Rattle.vers_bits.proofs.Names.{◌≡◌, ℕ, zero, suc, ◌+◌, ◌-◌, ◌<◌, ◌≤◌, Bool, true, false, List, [], ◌∷◌, length, get_or, refl, ◌∙◌, arith, inl, inr, Option, Some, None, nat_lt, filter, find, last_or, cases_lt, lt-ltb, le-ltb, get_or_default, slice_get-get_or, slice_get_past, count, places}
-use Rattle.std.specs.Prelude.{slice_get}
-use Rattle.vers_bits.specs.Bits.{select, place_after, place_before}
+use Rattle.vers_bits.proofs.Names.{◌≡◌, ℕ, zero, suc, ◌+◌, ◌-◌, ◌<◌, ◌≤◌, Bool, true, false, List, [], ◌∷◌, length, get_or, refl, ◌∙◌, arith, inl, inr, Option, Some, None, nat_lt, filter, find, last_or, cases_lt, lt-ltb, le-ltb, get_or_default, slice_get-get_or, slice_get_past, count, places, false_from_ne_true, slice_get, select, place_after, place_before}
 use Rattle.vers_bits.proofs.Count.{count_le_all, count_up, count_past}
 use Rattle.vers_bits.specs.Laws.{IsNextPlace, NoneUpToNeighbour, NoneDownToNeighbour}
 use Rattle.vers_bits.proofs.Places.{length-places, IsPlace, select_is_place, select_past, select_below, select_not_below, count_more_yes}
@@ -38,10 +35,7 @@ module _ (b : Bool) (l : List Bool) where
 
   after_is : (p : ℕ) → place_after b l p ≡ slice_get (places b l) (count b l (p + 1))
   unfolding place_after
-  after_is p =
-      find_is (λ q. nat_lt p q) (places b l) (count b l (p + 1)) (omega (arith, length-places b l, count_le_all b l (p + 1)))
-      (λ i h. grind (arith, length-places b l, count_le_all b l (p + 1), place_number, le-ltb, select_below b l i (p + 1) h))
-      (λ h. grind (arith, length-places b l, place_number, lt-ltb, select_not_below))
+  after_is p = grind (arith, find_is, nat_lt, places, count, length-places, count_le_all, place_number, le-ltb, select_below, lt-ltb, select_not_below)
 
   -- the neighbour above is number count (p + 1), where there is one
   pub place_after_some : (p : ℕ) → count b l (p + 1) < count b l (length l) → place_after b l p ≡ Some (select b l (count b l (p + 1)))

@@ -1,6 +1,5 @@
 -- The places of a bit.
-use Rattle.vers_bits.proofs.Names.{◌≡◌, ℕ, zero, suc, ◌+◌, ◌<◌, ◌≤◌, Bool, true, false, cond, List, [], ◌∷◌, ◌++◌, length, get_or, refl, sym, ap, ◌∙◌, arith, add-one, inl, inr, filter, range_with_len, cases_lt, cases_Bool, get_or_append_left, get_or_push, get_or_past, length-append, map-id, count_by_more_yes, count_by_more_no, filter_of_map_range_with_len_more, is_bit}
-use Rattle.vers_bits.specs.Bits.{count, places, select}
+use Rattle.vers_bits.proofs.Names.{◌≡◌, ℕ, zero, suc, ◌+◌, ◌<◌, ◌≤◌, Bool, true, false, cond, List, [], ◌∷◌, ◌++◌, length, get_or, refl, sym, ap, ◌∙◌, arith, add-one, inl, inr, filter, range_with_len, cases_lt, cases_Bool, get_or_append_left, get_or_push, get_or_past, length-append, map-id, count_by_more_yes, count_by_more_no, filter_of_map_range_with_len_more, is_bit, count, places, select}
 use Rattle.vers_bits.proofs.Count.{count_up, count_none, count_le_all}
 
 module _ (b : Bool) (l : List Bool) where
@@ -88,9 +87,7 @@ select_is_place b l r some = let found = passes b l r (length l) (omega arith) s
 -- the count up to the place of number r, and past it
 pub count_at_select : (b : Bool) (l : List Bool) (r : ℕ) → r < count b l (length l)
     → (select b l r < length l) × (count b l (select b l r) ≡ r) × (count b l (select b l r + 1) ≡ r + 1)
-count_at_select b l r some =
-    let at : IsPlace b l r (select b l r) = select_is_place b l r some in
-    (at.within, at.before, omega (arith, at.before, count_more_yes b l (select b l r) at.within at.holds))
+count_at_select b l r some = grind (arith, some, select_is_place, count_more_yes)
 
 -- number r stands below p where more than r places below p hold the bit
 pub select_below : (b : Bool) (l : List Bool) (r p : ℕ) → r < count b l p → select b l r < p
@@ -106,9 +103,7 @@ select_up b l r q h some = select_below b l r (select b l q) (omega (arith, (cou
 -- number r of the first n places stands there, holds the bit, and r stand before it
 pub select_holds : (b : Bool) (l : List Bool) (r n : ℕ) → n ≤ length l → r < count b l n
     → (select b l r < n) × (is_bit b (get_or l (select b l r) false) ≡ true) × (count b l (select b l r) ≡ r)
-select_holds b l r n h few =
-    let at : IsPlace b l r (select b l r) = select_is_place b l r (omega (arith, count_le_all b l n)) in
-    (select_below b l r n few, at.holds, at.before)
+select_holds b l r n h few = grind (arith, few, select_is_place, count_le_all, select_below)
 
 -- ---- longer lists
 

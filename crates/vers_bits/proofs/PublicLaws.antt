@@ -1,15 +1,5 @@
 -- The laws that proofs of other crates may cite. A crate above imports this file and no other of this folder.
-use Rattle.std.proofs.Common.{◌≡◌, ℕ, ◌+◌, ◌-◌, ◌*◌, ◌%◌, ◌/◌, ◌^◌, ◌<◌, ◌≤◌, min, suc, Bool, true, false, eqb, ltb, List, ◌++◌, length, map, take, drop, get_or, slice_get, Option, None, Some}
-use mir.Val.{bool_byte}
-use Rattle.std.specs.Prelude.{count_ones, filter, find, flat_map}
-use Rattle.std.specs.Iterator.{YieldsFirst, YieldsLast, MakesProgress, item_count}
-use Rattle.std.specs.Int.{bit_at}
-use Rattle.std.specs.Int.Count.{count_leading_zeros}
-use Rattle.std.specs.List.{AllPairs, count_by, last_or}
-use Rattle.std.proofs.lemmas.List.{get_or_default}
-use Rattle.vers_bits.specs.Bits.{bit_value, number, low_bits, pack, is_bit, count, places, select, place_after, place_before, limb, limbs, limb_count}
-use Rattle.vers_bits.specs.declared.walk.Span.{Span}
-use Rattle.vers_bits.specs.Walk.{TakesNth, TakesNthBack, TakesFirst, TakesLast, items_in}
+use Rattle.vers_bits.proofs.Names.{◌≡◌, ℕ, ◌+◌, ◌-◌, ◌*◌, ◌%◌, ◌/◌, ◌^◌, ◌<◌, ◌≤◌, min, suc, Bool, true, false, eqb, ltb, List, ◌++◌, length, map, take, drop, get_or, slice_get, Option, None, Some, bool_byte, count_ones, filter, find, flat_map, YieldsFirst, YieldsLast, MakesProgress, item_count, bit_at, count_leading_zeros, AllPairs, count_by, last_or, get_or_default, bit_value, number, low_bits, pack, is_bit, count, places, select, place_after, place_before, limb, limbs, limb_count, Span, TakesNth, TakesNthBack, TakesFirst, TakesLast, items_in}
 -- `IsPlace bit bits r p`: place p is number r of those that hold the bit
 pub use Rattle.vers_bits.proofs.Places.{IsPlace}
 use Rattle.vers_bits.proofs.Num as Num

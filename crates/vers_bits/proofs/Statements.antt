@@ -1,5 +1,5 @@
 -- The lemmas that the laws state.
-use Rattle.std.proofs.lemmas.List.{take-append-drop}
+use Rattle.vers_bits.proofs.Names.{take-append-drop}
 use Rattle.vers_bits.proofs.LowBits.{length-low_bits, number-low_bits, low_bits-add, low_bits_of_rest, low_bits_of_number}
 use Rattle.vers_bits.proofs.Packed.{packed_element}
 use Rattle.vers_bits.proofs.Zips.{get_or-zip_bits, masked-or, masked-and, masked-xor}

@@ -1,11 +1,9 @@
-use Rattle.vers_bits.proofs.Names.{◌++◌, ◌-◌, ◌∙◌, false, length, replicate, ap, arith, length-append, low_bits, ◌+◌, ◌≡◌}
+use Rattle.vers_bits.proofs.Names.{◌++◌, ◌-◌, ◌∙◌, false, length, replicate, ap, arith, length-append, low_bits, ◌+◌, ◌≡◌, append_assoc}
 use Rattle.vers_bits.proofs.LowBits.{length-low_bits, low_bits_past}
-use Rattle.std.proofs.lemmas.List.{append_assoc}
 use Rattle.vers_bits.proofs.bit_vec.BitVec.append_digits.Goals as goal
 
 pub append_zeros-requires : goal.append_zeros-requires
-append_zeros-requires g c =
-    omega (arith, ap length c.in_ok-append_bits.ensures.grown, length-append c.args.self.now (low_bits c.args.number 64), length-low_bits c.args.number 64)
+append_zeros-requires g c = grind (arith, length-append, low_bits, length-low_bits)
 
 pub returns-clause-grown : goal.returns-clause-grown
 returns-clause-grown g c =

@@ -1,5 +1,4 @@
-use Rattle.vers_bits.proofs.Names.{◌≡◌, ◌++◌, ◌+◌, ◌-◌, ◌*◌, ◌%◌, ◌≤◌, ◌∙◌, ℕ, length, take, drop, ap, arith, IfOk-equal, number, low_bits}
-use Rattle.std.proofs.lemmas.List.{append_assoc}
+use Rattle.vers_bits.proofs.Names.{◌≡◌, ◌++◌, ◌+◌, ◌-◌, ◌*◌, ◌%◌, ◌≤◌, ◌∙◌, ℕ, length, take, drop, ap, arith, IfOk-equal, number, low_bits, append_assoc}
 use Rattle.vers_bits.proofs.Growing.{next_limb, last_bits}
 use Rattle.vers_bits.proofs.bit_vec.BitVec.append_from.Goals as goal
 

@@ -1,4 +1,4 @@
-use Rattle.std.proofs.Common.{◌≡◌, ◌*◌, ◌++◌, take, drop}
+use Rattle.vers_bits.proofs.Names.{◌≡◌, ◌*◌, ◌++◌, take, drop}
 use Rattle.vers_bits.proofs.bit_vec.BitVec.append_from.Given as goal
 
 abbrev pub invariant-loop-k : goal.invariant-loop-k

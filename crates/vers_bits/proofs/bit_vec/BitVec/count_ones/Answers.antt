@@ -1,4 +1,4 @@
-use Rattle.std.proofs.Common.{arith, ap, length}
+use Rattle.vers_bits.proofs.Names.{arith, ap, length}
 use Rattle.vers_bits.proofs.Equal.{length-limbs}
 use Rattle.vers_bits.proofs.bit_vec.BitVec.count_ones.Goals as goal
 

@@ -1,5 +1,4 @@
-use Rattle.vers_bits.proofs.Names.{◌≡◌, ◌++◌, IsFinite}
-use Rattle.std.specs.List.{flat_map}
+use Rattle.vers_bits.proofs.Names.{◌≡◌, ◌++◌, IsFinite, flat_map}
 use Rattle.vers_bits.proofs.bit_vec.BitVec.extend_by.Given as goal
 
 abbrev pub invariant-loop-list : goal.invariant-loop-list

@@ -1,4 +1,4 @@
-use Rattle.std.proofs.Common.{◌≡◌, ◌++◌, map, length}
+use Rattle.vers_bits.proofs.Names.{◌≡◌, ◌++◌, map, length}
 use Rattle.vers_bits.proofs.bit_vec.BitVec.odd_items.Given as goal
 
 abbrev pub invariant-loop-rest : goal.invariant-loop-rest

@@ -1,6 +1,4 @@
-use Rattle.vers_bits.proofs.Names.{rules, ◌≡◌, ◌++◌, ◌∷◌, ◌≤◌, [], length, map, Err, ap, sym, ◌∙◌, arith, err_from_is_err_and, length-map, append-nil, map-append, low_bits, length_push, length-append}
-use Rattle.std.proofs.lemmas.List.{append_assoc}
-use Rattle.vers_bits.specs.declared.bit_vec.fault.GrowError.TheVariants.{TooLong}
+use Rattle.vers_bits.proofs.Names.{rules, ◌≡◌, ◌++◌, ◌∷◌, ◌≤◌, [], length, map, Err, ap, sym, ◌∙◌, arith, err_from_is_err_and, length-map, append-nil, map-append, low_bits, length_push, length-append, append_assoc, TooLong}
 use Rattle.vers_bits.specs.declared.bit_vec.TheConstants.{MAX_LEN}
 use Rattle.vers_bits.proofs.Words.{length-word_bits}
 use Rattle.vers_bits.proofs.LowBits.{low_bits_none, length-low_bits}

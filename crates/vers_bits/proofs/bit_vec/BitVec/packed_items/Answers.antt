@@ -1,6 +1,4 @@
-use Rattle.vers_bits.proofs.Names.{rules, ◌≡◌, ◌*◌, [], ◌∷◌, ◌++◌, length, take, ap, ap₂, sym, ◌∙◌, arith, err_from_is_err_and, take_all, low_bits}
-use Rattle.std.specs.List.{flat_map}
-use Rattle.std.proofs.lemmas.List.{flat_map_more, take_more}
+use Rattle.vers_bits.proofs.Names.{rules, ◌≡◌, ◌*◌, [], ◌∷◌, ◌++◌, length, take, ap, ap₂, sym, ◌∙◌, arith, err_from_is_err_and, take_all, low_bits, flat_map, flat_map_more, take_more}
 use Rattle.vers_bits.proofs.bit_vec.BitVec.packed_items.Goals as goal
 
 pub returns-in_err-list-clause-too_long : goal.returns-in_err-list-clause-too_long
@@ -22,8 +20,7 @@ loop-item-preserved g c =
     ∙ ap (flat_map packed) (ap (λ x. take i items ++ x ∷ []) c.item-item.is ∙ sym (take_more items i c.item-item.result (omega (arith, c.loop-item-test.true))))
 
 pub returns-clause-made : goal.returns-clause-made
-returns-clause-made g c =
-    c.loop-item.invariant ∙ ap (flat_map (λ x. low_bits (g.T.Item.number x) c.args.k)) (take_all c.loop-item.item-index c.args.items.now (omega (arith, c.loop-item-test.false)))
+returns-clause-made g c = grind (arith, low_bits, take_all)
 
 pub returns-clause-too_long : goal.returns-clause-too_long
 returns-clause-too_long g c = ((λ e. cc), (λ h. let no = c.in_ok-list.ensures.too_long.1 (omega (arith, h, c.in-Some.ensures)) in cc))

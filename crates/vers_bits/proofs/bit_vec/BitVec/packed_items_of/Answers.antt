@@ -1,6 +1,4 @@
-use Rattle.vers_bits.proofs.Names.{◌≡◌, ◌+◌, ◌*◌, ◌++◌, [], length, Err, ap, ap₂, ◌∙◌, arith, err_from_is_err_and, low_bits}
-use Rattle.std.proofs.lemmas.List.{flat_map_more}
-use Rattle.vers_bits.specs.declared.bit_vec.fault.GrowError.TheVariants.{TooLong}
+use Rattle.vers_bits.proofs.Names.{◌≡◌, ◌+◌, ◌*◌, ◌++◌, [], length, Err, ap, ap₂, ◌∙◌, arith, err_from_is_err_and, low_bits, flat_map_more, TooLong}
 use Rattle.vers_bits.proofs.Growing.{length-packed}
 use Rattle.vers_bits.proofs.bit_vec.BitVec.packed_items_of.Goals as goal
 

@@ -1,5 +1,4 @@
-use Rattle.vers_bits.proofs.Names.{◌≡◌, IsFinite, low_bits}
-use Rattle.std.specs.List.{flat_map}
+use Rattle.vers_bits.proofs.Names.{◌≡◌, IsFinite, low_bits, flat_map}
 use Rattle.vers_bits.proofs.bit_vec.BitVec.packed_items_of.Given as goal
 
 abbrev pub invariant-loop-item : goal.invariant-loop-item

@@ -1,7 +1,5 @@
-use Rattle.vers_bits.proofs.Names.{◌≡◌, ◌∙◌, ap, length, take_all, fold, limbs}
-use Rattle.std.specs.List.{flat_map}
+use Rattle.vers_bits.proofs.Names.{◌≡◌, ◌∙◌, ap, length, take_all, fold, limbs, flat_map, hash_input}
 use Rattle.std.specs.Hash as fed
-use Rattle.vers_bits.specs.Equality.{hash_input}
 use Rattle.vers_bits.proofs.bit_vec.BitVecHash.hash.Goals as goal
 
 pub returns : goal.returns

@@ -1,5 +1,4 @@
-use Rattle.vers_bits.proofs.Names.{◌≡◌, take, fold, limbs}
-use Rattle.std.specs.List.{flat_map}
+use Rattle.vers_bits.proofs.Names.{◌≡◌, take, fold, limbs, flat_map}
 use Rattle.std.specs.Hash as fed
 use Rattle.vers_bits.proofs.bit_vec.BitVecHash.hash.Given as goal
 

@@ -1,4 +1,4 @@
-use Rattle.std.proofs.Common.{◌≡◌, ◌≤◌, length, not, eqb, sym, ap, ◌∙◌, arith}
+use Rattle.vers_bits.proofs.Names.{◌≡◌, ◌≤◌, length, not, eqb, sym, ap, ◌∙◌, arith}
 use Rattle.std.proofs.Math.Bool.{not-not}
 use Rattle.vers_bits.proofs.Lanes.{compared, lanes_decide, other_lanes}
 use Rattle.vers_bits.proofs.bit_vec.chunks.agree.Goals as goal

@@ -18,8 +18,4 @@ overflow_add-word g c =
     omega (arith, c.loop-place.invariant, c.from.ensures, byte_value c.is_odd.result, bit_value_le c.is_odd.result)
 
 pub loop-place-preserved : goal.loop-place-preserved
-loop-place-preserved g c =
-    let item = c.index-items-place.result in
-    let digit : c.from.result ≡ bit_value (g.T.Item.is_odd item) = c.from.ensures ∙ byte_value c.is_odd.result ∙ ap bit_value c.is_odd.ensures in
-    ap (λ w. 2 * w + c.from.result) c.loop-place.invariant ∙ ap (λ d. 2 * number (map g.T.Item.is_odd (drop c.loop-place.place c.args.items.now)) + d) digit
-    ∙ number_from g.T.Item.is_odd c.args.items.now (c.loop-place.place - 1) c.loop-place.place item (omega arith) (omega arith) c.index-items-place.is
+loop-place-preserved g c = grind (arith, byte_value, number_from)

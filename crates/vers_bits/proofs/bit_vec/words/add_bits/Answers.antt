@@ -1,11 +1,9 @@
-use Rattle.vers_bits.proofs.Names.{◌∷◌, [], ◌<◌, ◌-◌, ◌/◌, ◌%◌, ◌^◌, length, arith, get_or_append_left}
-use Rattle.std.proofs.lemmas.Result.{on_ok_weaker}
+use Rattle.vers_bits.proofs.Names.{◌∷◌, [], ◌<◌, ◌-◌, ◌/◌, ◌%◌, ◌^◌, length, arith, get_or_append_left, on_ok_weaker}
 use Rattle.vers_bits.proofs.Holds.{added_across, added_word}
 use Rattle.vers_bits.proofs.bit_vec.words.add_bits.Goals as goal
 
 pub returns-then-used-eq0-clause-grown : goal.returns-then-used-eq0-clause-grown
-returns-then-used-eq0-clause-grown g c =
-    on_ok_weaker c.push_word.result (λ pushed. rw pushed (added_word c.args.words.now.items _ _ _ c.requires.held c.requires.small c.if-used-eq0.true c.requires.some c.requires.few c.requires.short)) c.push_word.ensures.pushed
+returns-then-used-eq0-clause-grown g c = grind (arith, added_word)
 
 pub returns-clause-grown : goal.returns-clause-grown
 returns-clause-grown g c =

@@ -1,4 +1,4 @@
-use Rattle.std.proofs.Common.{arith}
+use Rattle.vers_bits.proofs.Names.{arith}
 use Rattle.vers_bits.proofs.Holds.{added_inside}
 use Rattle.vers_bits.proofs.bit_vec.words.add_within.Goals as goal
 

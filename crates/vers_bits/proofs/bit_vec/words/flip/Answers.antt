@@ -1,4 +1,4 @@
-use Rattle.std.proofs.lemmas.List.{get_or_read}
+use Rattle.vers_bits.proofs.Names.{get_or_read}
 use Rattle.vers_bits.proofs.Edits.{puts_other}
 use Rattle.vers_bits.proofs.bit_vec.words.flip.Goals as goal
 

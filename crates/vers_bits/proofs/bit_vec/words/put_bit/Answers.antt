@@ -1,4 +1,4 @@
-use Rattle.std.proofs.lemmas.List.{get_or_read}
+use Rattle.vers_bits.proofs.Names.{get_or_read}
 use Rattle.vers_bits.proofs.Edits.{puts_one, puts_zero}
 use Rattle.vers_bits.proofs.bit_vec.words.put_bit.Goals as goal
 
