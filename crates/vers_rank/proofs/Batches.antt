@@ -19,8 +19,7 @@ stands size b l r k rest q at stretch within number near = record {
 -- the same for a number that a place in a wider stretch stands for
 pub narrows : (wide size : ℕ) (b : Bool) (l : List Bool) (p k rest q : ℕ) → p < length l → q ≡ size * k + rest → q / size ≡ k → q % size ≡ rest
     → count b l (size * k) + rest ≡ number_of wide b l p → number_of wide b l p < count b l (size * (k + 1)) → (r : ℕ) → StandsFor wide b l r p → StandsFor size b l r q
-narrows wide size b l p k rest q inside at stretch within number near r is =
-    grind (arith, is, cases_lt r (count b l (length l)), stands size b l r k rest q at stretch within)
+narrows wide size b l p k rest q inside at stretch within number near r is = grind (arith, wide, size, rest, inside, within, near, cases_lt, count, stands)
 
 -- a place past the end stays there
 pub stays : (wide size : ℕ) (b : Bool) (l : List Bool) (p : ℕ) → length l ≤ p → (r : ℕ) → StandsFor wide b l r p → StandsFor size b l r p

@@ -31,9 +31,7 @@ module _ (b : Bool) (l : List Bool) (k q : ℕ) (after : 0 < marked b (limb l k)
   in_word = grind (arith, far_is.1, digit_past (marked b (limb l k)) q far, bit_at_above (marked b (limb l k)) 64 (q + 1 + far) (marked_fits b l k))
 
   bit_after : (i : ℕ) → i < 64 - (q + 1) → bit_at rest i ≡ bit_value (is_bit b (get_or l (64 * k + q + 1 + i) false))
-  bit_after i h =
-      let e : 64 * k + (q + 1 + i) ≡ 64 * k + q + 1 + i = omega arith in
-      rw (digit_past (marked b (limb l k)) q i, marked_bit b l k (q + 1 + i) (omega arith), e) refl
+  bit_after i h = grind (arith, digit_past, marked_bit)
 
   on : is_bit b (get_or l next false) ≡ true
   on = value_one (is_bit b (get_or l next false)) (sym (bit_after far (omega (arith, in_word))) ∙ far_is.1)

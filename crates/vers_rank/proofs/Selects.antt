@@ -37,8 +37,7 @@ place_found b l r k p seen some counted before small from to =
 
 -- after the last limb of a block nothing of the block is left
 pub block_end : (b : Bool) (l : List Bool) (block end : ℕ) → end ≡ min (8 * block + 8) (limb_count (length l)) → count b l (512 * (block + 1)) ≤ held b l (64 * end)
-block_end b l block end e =
-    grind (arith, cases_lt (64 * end) (length l), count_le_held b l (64 * end), count_le_all b l (512 * (block + 1)), held_is b l (length l), held_up b l (length l) (64 * end))
+block_end b l block end e = grind (arith, end, cases_lt, count_le_held, count_le_all, held_is, held_up)
 
 -- number r of a block stands in the limb that the scan has found
 pub rest_in_limb : (b : Bool) (l : List Bool) (block r k before : ℕ) → 512 * block < length l → count b l (512 * block) + r < count b l (512 * (block + 1))
@@ -58,8 +57,7 @@ pub record IsBetween (b : Bool) (l : List Bool) (r first last : ℕ) : Type 0 wh
 
 pub samples_bound : (b : Bool) (l : List Bool) (r first last : ℕ) → r < count b l (length l)
     → IsSample b l (r / 8192) first → IsSample b l (r / 8192 + 1) last → IsBetween b l r first last
-samples_bound b l r first last some before after =
-    grind (arith, before, after, count_le b l (length l), count_up b l (8192 * (last + 1)) (8192 * first))
+samples_bound b l r first last some before after = grind (arith, first, last, some, before, after, count_le, count_up)
 
 -- a superblock has at most 8192 places
 pub superblock_few : (b : Bool) (l : List Bool) (s r : ℕ) → r < count b l (8192 * (s + 1)) → r < count b l (8192 * s) + 8192

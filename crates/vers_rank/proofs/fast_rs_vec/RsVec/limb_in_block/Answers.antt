@@ -8,5 +8,4 @@ returns-clause-counted g c =
     omega (arith, found.counted, found.from, held_is c.args.bit c.args.self.now (512 * c.args.block) (omega arith))
 
 pub returns-clause-few : goal.returns-clause-few
-returns-clause-few g c =
-    rest_in_limb c.args.bit c.args.self.now c.args.block c.args.r c.limb_with-found.result.limb c.limb_with-found.result.before c.requires.within c.requires.to c.limb_with-found.ensures.found
+returns-clause-few g c = grind (arith, rest_in_limb)

@@ -15,5 +15,4 @@ loop-step-preserved g c = record {
 }
 
 pub returns-clause-adds : goal.returns-clause-adds
-returns-clause-adds g c =
-    adds_then c.loop-step.invariant.adds c.superblock_among.ensures.adds (all_reads c.loop-step.step _ _ (omega arith) (digits_up (c.args.n - 4 - 1) (c.args.n - 1) (omega arith)))
+returns-clause-adds g c = grind (arith, adds_then, digits_up)

@@ -5,9 +5,7 @@ reads : (d e : ℕ) → d ≤ e → IsWithin (plus (only_superblock_entries 1) (
 reads d e h = search rules
 
 pub returns-then-count_at_superblock-r-clause-adds : goal.returns-then-count_at_superblock-r-clause-adds
-returns-then-count_at_superblock-r-clause-adds g c =
-    adds_then c.count_at_superblock.ensures.adds c.superblock_from.ensures.adds (reads _ _ (digits_up (c.args.n - c.guessed-guess.result - 1) (c.args.n - 1) (omega arith)))
+returns-then-count_at_superblock-r-clause-adds g c = grind (arith, adds_then, digits_up)
 
 pub returns-clause-adds : goal.returns-clause-adds
-returns-clause-adds g c =
-    adds_then c.count_at_superblock.ensures.adds c.superblock_before.ensures.adds (reads _ _ (digits_up (c.guessed-guess.result - 1) (c.args.n - 1) (omega (arith, c.guessed-guess.ensures))))
+returns-clause-adds g c = grind (arith, adds_then, digits_up)

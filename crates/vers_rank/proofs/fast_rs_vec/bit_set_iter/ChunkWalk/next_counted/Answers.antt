@@ -17,9 +17,4 @@ pub returns-clause-steps : goal.returns-clause-steps
 returns-clause-steps g c = offset_gave c.args.bits.now c.loop-self.self c.loop-self.invariant.0 (omega arith) _ c.loop-self.invariant.1
 
 pub loop-self-preserved : goal.loop-self-preserved
-loop-self-preserved g c = (
-  c.load.ensures.walk,
-  c.load.ensures.same_left ∙ c.loop-self.invariant.1,
-  omega (arith, c.load.ensures.loads, c.loop-self.invariant.2),
-  chunk_reads_then _ _ _ _ _ _ c.loop-self.invariant.3 c.load.ensures.adds c.loop-self.invariant.2 c.load.ensures.loads,
-)
+loop-self-preserved g c = grind (arith, chunk_reads_then)
