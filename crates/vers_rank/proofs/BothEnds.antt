@@ -5,13 +5,9 @@ use mir.Val.{bool_byte}
 use Rattle.vers_rank.proofs.Reading.{no_reading}
 use Rattle.vers_rank.proofs.ReadingBack.{no_reading_back}
 
--- a truth value as a number
-byte_is_value : (bit : Bool) → bool_byte bit ≡ bit_value bit
-byte_is_value bit = grind (arith, cases_Bool bit)
-
 -- ---- items that are bits, as numbers
 pub number_item : (bits : List Bool) (p x : ℕ) (at : Bool) → p < length (map bit_value bits) → x ≡ bool_byte at → at ≡ get_or bits p false → slice_get (map bit_value bits) p ≡ Some x
-number_item bits p x at h number is = bit_item bits p x h (number ∙ byte_is_value at ∙ ap bit_value is)
+number_item bits p x at h number is = bit_item bits p x h (grind (arith, number, is, cases_Bool at))
 
 -- ---- items that are the places of a bit
 pub place_item : (b : Bool) (bits : List Bool) (r x : ℕ) → r < length (places b bits) → x ≡ select b bits r → slice_get (places b bits) r ≡ Some x

@@ -2,7 +2,7 @@
 use Rattle.vers_rank.proofs.Names.{◌&&◌, Bool, and_parts, zero, suc, ap, sym, ◌∙◌, ◌+◌, ◌/◌, inl, inr, ◌≡◌, ℕ, ◌-◌, ◌*◌, ◌%◌, ◌^◌, ◌<◌, ◌≤◌, true, refl, arith, eqb, leb, count_ones, bit_and, and_mask, and_block, and_le_l, and_le_r, ones_cat, mod-mul-add, shr-shr, cases_lt, ◌⊎◌, cases_eq, agree_below_at, eqb-true, leb-true, ones}
 use Rattle.std.proofs.Math.Nat.{div-div-eq-div-mul}
 use Rattle.vers_rank.specs.inside.ByteOnes.{byte_ones, ones_below_byte, ones_through_bytes}
-use Rattle.vers_rank.proofs.Words.{ones_few, ones_split}
+use Rattle.vers_rank.proofs.Words.{ones_few, ones_split, masked_byte}
 
 -- n bytes m
 bytes_of : ℕ → ℕ → ℕ
@@ -77,11 +77,7 @@ pub counted_bytes : (w : ℕ)
 unfolding bytes_of
 counted_bytes w = steps_bytes 8 w
 
--- what the steps take off and add
-pub shifted_few : (w m : ℕ) → bit_and (w / 2) m ≤ w
-shifted_few w m = omega (arith, and_le_l (w / 2) m)
-
-pub ruleset steps = (counted_bytes, shifted_few, and_le_r)
+pub ruleset steps = (counted_bytes, and_le_l, and_le_r)
 
 -- ---- the sums of the bytes up to each
 
@@ -109,9 +105,6 @@ abbrev pub IsByteWith : ℕ → ℕ → ℕ → Type 0
 IsByteWith w r s = (s < 8) × (count_ones (w % 2 ^ (8 * s)) ≤ r) × (r < count_ones (w % 2 ^ (8 * s + 8)))
 
 -- the ones below each byte
-few_below : (w i : ℕ) → i ≤ 8 → ones_below_byte w i ≤ 64
-few_below w i h = omega (arith, ones_few w (8 * i))
-
 more_below : (w i : ℕ) → ones_below_byte w i ≤ ones_below_byte w (i + 1)
 more_below w i = let e : 8 * (i + 1) ≡ 8 * i + 8 = omega arith in rw e (omega (arith, ones_split w (8 * i) 8))
 
@@ -130,7 +123,7 @@ module _ (w r : ℕ) (inside : r < count_ones (w % 2 ^ 64)) where
   minus_sums : (a n : ℕ) → a + n ≤ 9 → packed below a n + packed (ones_below_byte w) a n ≡ bytes_of n (128 + r)
   unfolding packed bytes_of
   minus_sums a zero h = refl
-  minus_sums a (suc n) h = omega (arith, minus_sums (a + 1) n (omega arith), few_below w a (omega arith))
+  minus_sums a (suc n) h = omega (arith, minus_sums (a + 1) n (omega arith), ones_few w (8 * a))
 
   top_bits : (a n : ℕ) → count_ones (bit_and (packed below a n) (bytes_of n 128)) ≡ reaching a n
   unfolding packed bytes_of reaching ones
@@ -147,13 +140,8 @@ module _ (w r : ℕ) (inside : r < count_ones (w % 2 ^ 64)) where
   reached_first a (suc n) h =
       let rest = reached_first (a + 1) n (omega arith) in
       let next : (reaching (a + 1) n ≡ 0) ⊎ (ones_below_byte w (a + 1) ≤ r) =
-      elim (cases_lt 0 (reaching (a + 1) n)) [ inl some ↦ inr ((rest.1 (a + 1) (omega arith) (omega (arith, rest.0))).0 (omega arith)) | inr none ↦ inl (omega arith) ] in (
-        omega (arith, small_number, rest.0),
-        λ i from to. elim (cases_eq i a) [
-          | inl same ↦ rw same (λ low. omega (arith, more_below w a), λ high. omega (arith, small_number))
-          | inr other ↦ (λ low. (rest.1 i (omega arith) (omega arith)).0 (omega (arith, small_number)), λ high. (rest.1 i (omega arith) (omega arith)).1 (omega (arith, more_below w a)))
-        ],
-      )
+      grind (arith, cases_lt 0 (reaching (a + 1) n), rest.0, rest.1 (a + 1)) in
+      (omega (arith, small_number, rest.0), λ i from to. grind (arith, cases_eq i a, more_below w a, small_number, rest.1 i))
 
 pub reached : (w r : ℕ) → r < count_ones (w % 2 ^ 64) → IsByteWith w r (count_ones (bit_and (r * 72340172838076673 + 9259542123273814144 - ones_through_bytes w) 9259542123273814144))
 unfolding bytes_of ones_through_bytes packed
@@ -162,17 +150,12 @@ reached w r h =
     let minus : r * 72340172838076673 + 9259542123273814144 - ones_through_bytes w ≡ packed (below w r h) 1 8 = omega (arith, minus_sums w r h 1 8 (omega arith)) in
     let is : count_ones (bit_and (r * 72340172838076673 + 9259542123273814144 - ones_through_bytes w) 9259542123273814144) ≡ s = rw minus (top_bits w r h 1 8) in
     let first = reached_first w r h 1 8 (omega arith) in
-    let some : s < 8 = elim (cases_lt s 8) [ inl some ↦ some | inr all ↦ absurd (omega (arith, h, (first.1 8 (omega arith) (omega arith)).0 (omega arith))) ] in
     let next : 8 * (s + 1) ≡ 8 * s + 8 = omega arith in
-    rw is (
-      some,
-      elim (cases_lt 0 s) [ inl from ↦ (first.1 s from (omega arith)).0 (omega arith) | inr none ↦ (let e : s ≡ 0 = omega arith in rw e (omega (arith, ones_few w 0))) ],
-      rw (← next) ((first.1 (s + 1) (omega arith) (omega arith)).1 (omega arith)),
-    )
+    rw (is, ← next) (grind (arith, h, cases_lt 0 s, cases_lt s 8, first.0, first.1 8, first.1 s, first.1 (s + 1), ones_few w (8 * s)))
 
 pub through_few : (w : ℕ) → ones_through_bytes w ≤ 4629771061636907072
 unfolding ones_through_bytes
-through_few w = omega (arith, few_below w)
+through_few w = omega (arith, ones_few w)
 
 pub ruleset bytes = (reached, through_few, small_number)
 
@@ -192,11 +175,8 @@ byte_at f a (suc n) (suc k) few h within =
 pub part_of : (w k : ℕ) → k < 8 → ones_through_bytes w * 256 % 18446744073709551616 / 2 ^ (8 * k) % 256 ≡ count_ones (w % 2 ^ (8 * k))
 unfolding ones_through_bytes packed
 part_of w k h =
-    let shifted : ones_through_bytes w * 256 % 18446744073709551616 ≡ packed (ones_below_byte w) 0 8 = omega (arith, few_below w, ones_few w 0) in
+    let shifted : ones_through_bytes w * 256 % 18446744073709551616 ≡ packed (ones_below_byte w) 0 8 = omega (arith, ones_few w) in
     let place : 0 + k ≡ k = omega arith in
-    rw shifted (rw place at (byte_at (ones_below_byte w) 0 8 k (few_below w) h (omega arith)))
-
-pub masked_byte : (n : ℕ) → bit_and n 255 ≡ n % 256
-masked_byte n = and_mask n 8
+    rw shifted (rw place at (byte_at (ones_below_byte w) 0 8 k (λ i low. omega (arith, ones_few w (8 * i))) h (omega arith)))
 
 pub ruleset parts = (part_of, masked_byte)

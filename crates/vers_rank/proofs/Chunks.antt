@@ -1,5 +1,5 @@
 -- Walks by chunks of bits.
-use Rattle.vers_rank.proofs.Names.{zero, suc, ◌≡◌, ℕ, ◌+◌, ◌-◌, ◌*◌, ◌/◌, ◌%◌, ◌^◌, ◌<◌, ◌≤◌, Bool, true, false, List, [], ◌∷◌, ◌++◌, map, filter, eqb, replicate, Some, None, length, get_or, refl, sym, ap, ◌∙◌, arith, inl, inr, bit_and, bit_at, range_with_len, cases_Bool, drop_more, drop_all, and_mask, bit_value, is_bit, count, limb, places, count_past, count_none, count_le_all, length-places, select_at, count_more_yes, count_more_no, Reads, AddsAtMost, adds_then, last_first, ones_below, chunk_places_left, marked, IsChunkWalkOf, select, chunk_reads, places_from}
+use Rattle.vers_rank.proofs.Names.{zero, suc, ◌≡◌, ℕ, ◌+◌, ◌-◌, ◌/◌, ◌%◌, ◌^◌, ◌<◌, ◌≤◌, Bool, true, false, List, [], ◌∷◌, ◌++◌, map, filter, eqb, replicate, Some, None, length, get_or, refl, sym, ap, ◌∙◌, arith, inl, inr, bit_and, bit_at, range_with_len, cases_Bool, drop_more, drop_all, and_mask, bit_value, is_bit, count, limb, places, count_past, count_none, count_le_all, length-places, select_at, count_more_yes, count_more_no, Reads, AddsAtMost, adds_then, last_first, ones_below, chunk_places_left, marked, IsChunkWalkOf, select, chunk_reads, places_from}
 use Rattle.vers_bits.specs.Walk.{TakesFirst}
 use Rattle.vers_rank.specs.declared.fast_rs_vec.bit_set_iter.ChunkWalk.{ChunkWalk}
 use Rattle.vers_rank.proofs.OffsetLanes.{last_first_from, offset_below}
@@ -52,11 +52,10 @@ module _ (bits : List Bool) (walk : ChunkWalk) (is : IsChunkWalkOf bits walk) wh
     pub offset_passed : IsChunkWalkOf bits next
     offset_passed = grind (arith, is)
 
-    handed : chunk_places_left bits walk ≡ (walk.start + get_or walk.offsets (walk.left - 1) 0) ∷ chunk_places_left bits next
-    handed = let e : walk.left ≡ suc (walk.left - 1) = omega (arith, some) in ap (λ n. last_first walk.start walk.offsets n ++ places_from walk.bit bits walk.end) e
-
     pub offset_gave : (old : List ℕ) → chunk_places_left bits walk ≡ old → TakesFirst old (Some (walk.start + get_or walk.offsets (walk.left - 1) 0)) (chunk_places_left bits next)
-    offset_gave old rest = rw (sym rest ∙ handed) (record { given = refl; left = refl })
+    offset_gave old rest =
+        let e : walk.left ≡ suc (walk.left - 1) = omega (arith, some) in
+        rw (sym rest ∙ ap (λ n. last_first walk.start walk.offsets n ++ places_from walk.bit bits walk.end) e) (record { given = refl; left = refl })
 
   -- where no offset is left
   at_end : walk.left ≡ 0 → chunk_places_left bits walk ≡ places_from walk.bit bits walk.end
@@ -69,30 +68,23 @@ module _ (bits : List Bool) (walk : ChunkWalk) (is : IsChunkWalkOf bits walk) wh
 
 -- ---- a chunk anew
 -- a digit of the limb of place p, without the digits before that place
-word_bit : (b : Bool) (bits : List Bool) (p i w : ℕ) → w ≡ marked b (limb bits (p / 64)) → p % 64 + i < 64 → bit_at (w / 2 ^ (p % 64)) i ≡ bit_value (is_bit b (get_or bits (p + i) false))
+pub word_bit : (b : Bool) (bits : List Bool) (p i w : ℕ) → w ≡ marked b (limb bits (p / 64)) → p % 64 + i < 64 → bit_at (w / 2 ^ (p % 64)) i ≡ bit_value (is_bit b (get_or bits (p + i) false))
 word_bit b bits p i w word small = grind (arith, word, small, digit_after, marked_bit)
 
 module _ (bits : List Bool) (walk : ChunkWalk) (n count : ℕ) (buffer : List ℕ) (w : ℕ) (is : IsChunkWalkOf bits walk) (done : walk.left ≡ 0) (within : walk.end + n ≤ length bits) (room : length buffer ≡ 16) (few : count ≤ 16) (listed : last_first 0 buffer count ≡ ones_below n w) (holds : (i : ℕ) → i < n → bit_at w i ≡ bit_value (is_bit walk.bit (get_or bits (walk.end + i) false))) (whole : walk.end + n < length bits → (walk.end + n) % 16 ≡ 0) where
   abbrev loaded : ChunkWalk
   loaded = record walk { start = walk.end; end = walk.end + n; left = count; offsets = buffer }
 
-  left_stays : chunk_places_left bits loaded ≡ chunk_places_left bits walk
-  left_stays =
+  pub chunk_loaded : (IsChunkWalkOf bits loaded) × (chunk_places_left bits loaded ≡ chunk_places_left bits walk)
+  chunk_loaded =
       let here : walk.end + 0 ≡ walk.end = omega arith in
       let all = places_and walk.bit bits walk.end w 0 n (omega arith) (λ i low high. holds i (omega arith)) in
-      rw (last_first_from walk.end buffer count, listed, at_end bits walk is done) (sym (rw here at all))
-
-  pub chunk_loaded : (IsChunkWalkOf bits loaded) × (chunk_places_left bits loaded ≡ chunk_places_left bits walk)
-  chunk_loaded = (grind (arith, offset_below buffer count n w listed), left_stays)
+      (grind (arith, offset_below buffer count n w listed), rw (last_first_from walk.end buffer count, listed, at_end bits walk is done) (sym (rw here at all)))
 
 -- 16 bits from place p on
 pub chunk_bits : (b : Bool) (bits : List Bool) (p w : ℕ) → w ≡ marked b (limb bits (p / 64)) → p % 16 ≡ 0 → (i : ℕ) → i < 16 → bit_at (bit_and (w / 2 ^ (p % 64)) 65535) i ≡ bit_value (is_bit b (get_or bits (p + i) false))
 chunk_bits b bits p w word aligned i small =
     rw (and_mask (w / 2 ^ (p % 64)) 16, low_digit 16 (w / 2 ^ (p % 64)) i small) (word_bit b bits p i w word (omega arith))
-
--- the last bits of a list, fewer than 16 from place p on
-pub rest_bits : (b : Bool) (bits : List Bool) (p n w : ℕ) → w ≡ marked b (limb bits (p / 64)) → p % 16 ≡ 0 → n < 16 → (i : ℕ) → i < n → bit_at (w / 2 ^ (p % 64)) i ≡ bit_value (is_bit b (get_or bits (p + i) false))
-rest_bits b bits p n w word aligned few i small = word_bit b bits p i w word (omega (arith, aligned, few, small))
 
 -- ---- the ends
 -- loads, one after another

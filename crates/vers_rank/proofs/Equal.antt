@@ -11,14 +11,10 @@ module _ (b : Bool) (l m : List Bool) (long : length l ≡ length m) (many : cou
       let at : IsPlace b m (count b l p) (select b m (count b l p)) = select_is_place b m (count b l p) (omega arith) in
       ap (λ q. is_bit b (get_or m q false)) (sym here) ∙ at.holds
 
-same_bit : (b x y : Bool) → (is_bit b x ≡ true → is_bit b y ≡ true) → (is_bit b y ≡ true → is_bit b x ≡ true) → x ≡ y
-same_bit b x y f g = grind (arith, cases_Bool b, cases_Bool x, cases_Bool y)
-
 -- lists of one length with the same places of a bit
 pub same_places : (b : Bool) (l m : List Bool) → length l ≡ length m → count b l (length l) ≡ count b m (length m)
     → ((r : ℕ) → r < count b l (length l) → select b l r ≡ select b m r) → l ≡ m
 same_places b l m long many each =
     same_lists l m long (λ k d h.
-    let same : get_or l k false ≡ get_or m k false = same_bit b (get_or l k false) (get_or m k false) (place_of_both b l m long many each k h)
-    (place_of_both b m l (sym long) (sym many) (λ r few. sym (each r (omega arith))) k (omega arith)) in
+    let same : get_or l k false ≡ get_or m k false = grind (arith, cases_Bool b, cases_Bool (get_or l k false), cases_Bool (get_or m k false), place_of_both b l m long many each k h, place_of_both b m l (sym long) (sym many) (λ r few. sym (each r (omega arith))) k (omega arith)) in
     any_default l k d false h ∙ same ∙ any_default m k false d (omega arith))

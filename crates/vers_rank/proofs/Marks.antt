@@ -93,30 +93,19 @@ whole_marked b l k lo hi low high = record {
 }
 
 module _ {b : Bool} {l : List Bool} {k w lo hi : ℕ} (is : IsMarked b l k w lo hi) where
-  -- the places from number r on
-  pub marked_from : (v s r : ℕ) → IsCut w v s 64 → count b l (64 * k + s) ≡ r → lo ≤ r → IsMarked b l k v r hi
-  marked_from v s r cut start up = record {
+  -- the places from number `from` on and below number `to`
+  pub marked_cut : (v s t from to : ℕ) → IsCut w v s t → max from (count b l (64 * k)) ≡ max lo (count b l (64 * k + s)) → min to (count b l (64 * k + 64)) ≡ min hi (count b l (64 * k + t)) → IsMarked b l k v from to
+  marked_cut v s t from to cut low high = record {
     fits = omega (arith, cut.less, is.fits);
     sound = λ i h on inside.
         let was = cut.only i h on in
         let at = is.sound i h was.0 inside in
-        record { inside = inside; holds = at.holds; low = omega (arith, count_up b l (64 * k + s) (64 * k + i) (omega (arith, was.1))); high = at.high };
+        grind (arith, low, high, at, was, count_up b l (64 * k + s) (64 * k + i), count_more_yes b l (64 * k + i) inside at.holds, count_up b l (64 * k + i + 1) (64 * k + t));
     complete = λ i h at.
-        let from : s ≤ i = grind (arith, at.low, count_more_yes b l (64 * k + i) at.inside at.holds, count_up b l (64 * k + i + 1) (64 * k + s)) in
-        cut.all i h from h (is.complete i h (record { inside = at.inside; holds = at.holds; low = omega (arith, at.low); high = at.high }));
-  }
-
-  -- the places below number r
-  pub marked_to : (v t r : ℕ) → IsCut w v 0 t → count b l (64 * k + t) ≡ r → r ≤ hi → IsMarked b l k v lo r
-  marked_to v t r cut end down = record {
-    fits = omega (arith, cut.less, is.fits);
-    sound = λ i h on inside.
-        let was = cut.only i h on in
-        let at = is.sound i h was.0 inside in
-        record { inside = inside; holds = at.holds; low = at.low; high = omega (arith, count_more_yes b l (64 * k + i) inside at.holds, count_up b l (64 * k + i + 1) (64 * k + t) (omega (arith, was.2))) };
-    complete = λ i h at.
-        let to : i < t = grind (arith, at.high, count_up b l (64 * k + t) (64 * k + i)) in
-        cut.all i h (omega arith) to (is.complete i h (record { inside = at.inside; holds = at.holds; low = at.low; high = omega (arith, at.high) }));
+        let next = count_more_yes b l (64 * k + i) at.inside at.holds in
+        let after : s ≤ i = grind (arith, low, at.low, next, count_up b l (64 * k + i + 1) (64 * k + s), count_up b l (64 * k) (64 * k + i)) in
+        let before : i < t = grind (arith, high, at.high, next, count_up b l (64 * k + t) (64 * k + i), count_up b l (64 * k + i + 1) (64 * k + 64)) in
+        cut.all i h after before (is.complete i h (grind (arith, low, high, at, next, count_up b l (64 * k) (64 * k + i), count_up b l (64 * k + i + 1) (64 * k + 64))));
   }
 
 -- ---- the ones of a word are as many as the places

@@ -1,5 +1,5 @@
 -- The place after a place that holds the bit, in the same limb.
-use Rattle.vers_rank.proofs.Names.{◌≡◌, ◌≢◌, ℕ, zero, suc, ◌+◌, ◌-◌, ◌*◌, ◌/◌, ◌%◌, ◌^◌, ◌<◌, ◌≤◌, Bool, true, false, List, length, get_or, refl, sym, ap, ◌∙◌, arith, min, w64, bit_at, trailing_zeros, cases_lt, bit_at-suc, bit_at-zero, bit_at_above, bit_at-trailing_zeros, bit_value, is_bit, count, limb, select, count_more_no, select_at, count_at_select, select_past, select_up, select_holds, value_one, value_none, shr-shr, shr_split, bit_at_cat_low, marked}
+use Rattle.vers_rank.proofs.Names.{◌≡◌, ◌≢◌, ℕ, zero, suc, ◌+◌, ◌-◌, ◌*◌, ◌/◌, ◌%◌, ◌^◌, ◌<◌, ◌≤◌, Bool, true, false, List, length, get_or, refl, sym, ◌∙◌, arith, min, w64, bit_at, trailing_zeros, cases_lt, bit_at-suc, bit_at-zero, bit_at_above, bit_at-trailing_zeros, bit_value, is_bit, count, limb, select, count_more_no, select_at, count_at_select, select_past, select_up, select_holds, value_one, value_none, shr-shr, shr_split, bit_at_cat_low, marked}
 use Rattle.vers_rank.proofs.Marks.{marked_fits, marked_bit}
 
 -- a digit of a number without its lowest q digits
@@ -58,6 +58,4 @@ none_after b l r k q small more place none same =
     let past : 64 * k + q < p = omega (arith, place, select_up b l r (r + 1) (omega arith) more) in
     let i = p - (64 * k + q + 1) in
     let there : 64 * k + (q + 1 + i) ≡ p = omega (arith, past) in
-    let inside : q + 1 + i < 64 = omega (arith, there, same, small) in
-    let one : bit_at (marked b (limb l k)) (q + 1 + i) ≡ 1 = marked_bit b l k (q + 1 + i) inside ∙ ap (λ n. bit_value (is_bit b (get_or l n false))) there ∙ ap bit_value holds in
-    absurd (omega (arith, one, digit_past (marked b (limb l k)) q i, ap (λ n. bit_at n i) none, bit_at-zero i))
+    absurd (grind (arith, there, holds, same, small, none, marked_bit b l k (q + 1 + i), digit_past (marked b (limb l k)) q i, bit_at-zero i))

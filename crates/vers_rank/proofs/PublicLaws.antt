@@ -2,7 +2,7 @@
 use Rattle.std.proofs.Common.{◌≡◌, ℕ, ◌+◌, ◌-◌, ◌<◌, ◌≤◌, List, length, map, get_or, sym, ◌∙◌, inl, inr, arith, rules}
 use Rattle.std.proofs.lemmas.Bool.{cases_lt}
 use Rattle.std.proofs.lemmas.List.{length-map, get_or-map, ext_get_or}
-use Rattle.vers_tally.specs.Reads.{Reads, AddsAtMost, IsWithin, plus, times}
+use Rattle.vers_tally.specs.Reads.{Reads, AddsAtMost, times}
 use Rattle.vers_tally.proofs.PublicLaws.{adds_then}
 use Rattle.vers_rank.specs.Batches.{Changed}
 
@@ -45,9 +45,6 @@ module _ {X : Type 0} {d : X} where
 
 -- ---- reads
 
-within_times : (m n : ℕ) (p : Reads) → IsWithin (plus (times m p) (times n p)) (times (m + n) p)
-within_times m n p = search rules
-
 -- a bound m times, and then n times
 pub adds_times : {a b c : Reads} (m n : ℕ) (p : Reads) → AddsAtMost a b (times m p) → AddsAtMost b c (times n p) → AddsAtMost a c (times (m + n) p)
-adds_times m n p s t = adds_then s t (within_times m n p)
+adds_times m n p s t = adds_then s t (search rules)

@@ -1,36 +1,19 @@
 -- The word that a walk over places is reading.
-use Rattle.vers_rank.proofs.Names.{◌≡◌, ℕ, ◌+◌, ◌-◌, ◌*◌, ◌/◌, ◌%◌, ◌^◌, ◌<◌, ◌≤◌, Bool, true, List, length, sym, ap, refl, arith, w64, count_ones, bit_and, bit_at, bit_not, trailing_zeros, bit_at-trailing_zeros, count, limb, select, count_up, count_past, count_none, count_le_all, select_at, select_is_place, count_more_yes, IsReading, marked, Reader, held_in}
+use Rattle.vers_rank.proofs.Names.{◌≡◌, ℕ, ◌+◌, ◌-◌, ◌*◌, ◌/◌, ◌%◌, ◌^◌, ◌<◌, ◌≤◌, Bool, true, List, length, sym, ap, ◌∙◌, refl, arith, w64, count_ones, bit_and, bit_at, bit_not, trailing_zeros, bit_at-trailing_zeros, count, limb, select, count_up, count_past, count_none, count_le_all, select_at, select_is_place, count_more_yes, IsReading, marked, Reader, held_in}
 use Rattle.vers_rank.specs.inside.Walks.{IsWithin}
 use Rattle.vers_rank.proofs.Words.{ones_few}
-use Rattle.vers_rank.proofs.Marks.{IsCut, ones_stay, one_between, some_word, cut_from, cut_lowest, whole_marked, marked_from, ones_within, ones_past, place_of}
+use Rattle.vers_rank.proofs.Marks.{IsCut, ones_stay, one_between, some_word, cut_from, cut_lowest, whole_marked, marked_cut, ones_within, ones_past, place_of}
 
 module _ {b : Bool} {l : List Bool} {reader : Reader} (is : IsReading b l reader) (known : 0 < reader.edge) where
   -- the ones from one of the word's places on
   reading_from : (v s r : ℕ) → IsCut reader.word v s 64 → s ≤ 64 → count b l (64 * reader.limb + s) ≡ r → reader.next ≤ r → IsReading b l (record reader { word = v; next = r })
   reading_from v s r cut small start up =
-      grind (arith, is, known, count_up b l (64 * reader.limb + s) (64 * reader.limb + 64) (omega arith), marked_from (is.marks known) v s r cut start up)
+      let all = marked_cut (is.marks known) v s 64 r (count b l (length l)) cut (omega (arith, start, up, count_up b l (64 * reader.limb) (64 * reader.limb + s) (omega arith))) refl in
+      grind (arith, is, known, count_up b l (64 * reader.limb + s) (64 * reader.limb + 64) (omega arith), all)
 
   module _ (r : ℕ) (from : reader.next ≤ r) (some : r < count b l (length l)) where
-    -- the limb starts inside the list
-    starts_inside : 64 * reader.limb < length l
-    starts_inside = grind (arith, is.before, count_past b l (64 * reader.limb))
-
     place_at : (q : ℕ) → q < 64 → bit_at reader.word q ≡ 1 → reader.next + count_ones (reader.word % 2 ^ q) ≡ r → (IsWithin b l reader.next (count b l (length l)) (64 * reader.limb + q)) × (count b l (64 * reader.limb + q) ≡ r)
-    place_at q small on number = place_of (is.marks known) (omega arith) q r small (omega arith) (omega (arith, starts_inside)) on (omega (arith, is.before)) some
-
-    -- where the word has not so many ones, the limb ends before number r
-    passed : count_ones reader.word ≤ r - reader.next → (64 * reader.limb + 64 < length l) × (count b l (64 * reader.limb + 64) ≡ reader.next + count_ones reader.word)
-    passed few =
-        let whole : reader.word % 2 ^ 64 ≡ reader.word = omega (arith, (is.marks known).fits) in
-        let sums = rw whole at (ones_within (is.marks known) (omega arith) 64 (omega arith)) in
-        let past = rw whole at (ones_past (is.marks known) (omega arith) 64 (omega arith) (omega (arith, starts_inside))) in
-        let inside : 64 * reader.limb + 64 < length l = grind (arith, is.before, past) in
-        (inside, omega (arith, sums (λ i h _. omega arith), is.before, is.after, count_le_all b l (64 * reader.limb + 64)))
-
-    pub passed_inside : r < reader.edge → count_ones reader.word ≤ r - reader.next → (64 * (reader.limb + 1) < length l) × ((reader.limb + 1) / 8 ≡ reader.limb / 8)
-    passed_inside to few =
-        let end = passed few in
-        (omega (arith, end.0), grind (arith, end.1, is.in_block, count_up b l (512 * (reader.limb / 8) + 512) (64 * reader.limb + 64)))
+    place_at q small on number = place_of (is.marks known) (omega arith) q r small (omega arith) (grind (arith, is.before, count_past)) on (omega (arith, is.before)) some
 
     pub onward : (q : ℕ) → q < 64 → held_in true reader.word q ≤ r - reader.next → r - reader.next < held_in true reader.word (q + 1)
         → (IsReading b l (record reader { word = bit_and reader.word (18446744073709551615 * 2 ^ q % 18446744073709551616); next = r })) × (0 < bit_and reader.word (18446744073709551615 * 2 ^ q % 18446744073709551616))
@@ -45,12 +28,25 @@ whole_reading : (b : Bool) (l : List Bool) (k n edge : ℕ) → count b l (64 * 
 whole_reading b l k n edge start known within =
     grind (arith, count_up b l (64 * k) (64 * k + 64) (omega arith), whole_marked b l k n (count b l (length l)) (omega arith) (count_le_all b l (64 * k + 64)))
 
-pub next_limb : {b : Bool} {l : List Bool} {reader : Reader} → IsReading b l reader → 0 < reader.edge → (r : ℕ) → reader.next ≤ r → r < count b l (length l) → r < reader.edge → (v ones : ℕ) → ones ≡ count_ones reader.word → ones ≤ r - reader.next
-    → v ≡ marked b (limb l (reader.limb + 1)) → IsReading b l (record reader { word = v; limb = reader.limb + 1; next = reader.next + ones })
-next_limb {b} {l} {reader} is known r from some to v ones all few word =
-    let start : 64 * (reader.limb + 1) ≡ 64 * reader.limb + 64 = omega arith in
-    let block : 512 * ((reader.limb + 1) / 8) + 512 ≡ 512 * (reader.limb / 8) + 512 = omega (arith, (passed_inside is known r from some to (omega arith)).1) in
-    rw word (whole_reading b l (reader.limb + 1) _ reader.edge (omega (arith, ap (count b l) start, (passed is known r from some (omega arith)).1)) known (omega (arith, is.in_block, ap (count b l) block)))
+-- where the word has not so many ones, the limb ends before number r
+module _ {b : Bool} {l : List Bool} {reader : Reader} (is : IsReading b l reader) (r : ℕ) (from : reader.next ≤ r) (to : r < reader.edge) (ones : ℕ) (all : ones ≡ count_ones reader.word) (few : ones ≤ r - reader.next) where
+  passed : (64 * reader.limb + 64 < length l) × (count b l (64 * reader.limb + 64) ≡ reader.next + ones)
+  passed =
+      let marks = is.marks (omega arith) in
+      let some : r < count b l (length l) = omega (arith, is.in_block, count_le_all b l (512 * (reader.limb / 8) + 512)) in
+      let whole : reader.word % 2 ^ 64 ≡ reader.word = omega (arith, marks.fits) in
+      let sums = rw whole at (ones_within marks (omega arith) 64 (omega arith)) in
+      let past = rw whole at (ones_past marks (omega arith) 64 (omega arith) (grind (arith, is.before, count_past))) in
+      let inside : 64 * reader.limb + 64 < length l = grind (arith, is.before, past) in
+      (inside, omega (arith, sums (λ i h _. omega arith), is.before, is.after, count_le_all b l (64 * reader.limb + 64)))
+
+  pub passed_inside : (64 * (reader.limb + 1) < length l) × ((reader.limb + 1) / 8 ≡ reader.limb / 8)
+  passed_inside = (omega (arith, passed), grind (arith, passed, is.in_block, count_up b l (512 * (reader.limb / 8) + 512) (64 * reader.limb + 64)))
+
+  pub next_limb : (v : ℕ) → v ≡ marked b (limb l (reader.limb + 1)) → IsReading b l (record reader { word = v; limb = reader.limb + 1; next = reader.next + ones })
+  next_limb v word =
+      let start : 64 * (reader.limb + 1) ≡ 64 * reader.limb + 64 = omega arith in
+      rw word (whole_reading b l (reader.limb + 1) _ reader.edge (ap (count b l) start ∙ passed.1) (omega arith) (rw passed_inside.1 is.in_block))
 
 pub whole_word : (w r : ℕ) → w < 18446744073709551616 → r < count_ones w → r < held_in true w 64
 unfolding held_in

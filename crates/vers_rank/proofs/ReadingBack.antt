@@ -2,16 +2,17 @@
 use Rattle.vers_rank.proofs.Names.{◌≡◌, ℕ, ◌+◌, ◌-◌, ◌*◌, ◌/◌, ◌%◌, ◌^◌, ◌<◌, ◌≤◌, Bool, true, List, length, sym, ap, arith, w64, count_ones, bit_and, bit_at, bit_not, bit_at-zero, count, limb, select, highest_bit, count_up, count_none, count_le_all, select_at, select_is_place, count_more_yes, IsReadingBack, marked, count_leading_zeros, Reader, held_in}
 use Rattle.vers_rank.specs.inside.Walks.{IsWithin}
 use Rattle.vers_rank.proofs.Words.{one_more}
-use Rattle.vers_rank.proofs.Marks.{IsCut, ones_stay, one_between, some_word, cut_to, cut_highest, whole_marked, marked_to, ones_within, place_of}
+use Rattle.vers_rank.proofs.Marks.{IsCut, ones_stay, one_between, some_word, cut_to, cut_highest, whole_marked, marked_cut, ones_within, place_of}
 
 module _ {b : Bool} {l : List Bool} {reader : Reader} (is : IsReadingBack b l reader) where
   ones_back : count b l (64 * reader.limb) + count_ones reader.word ≡ reader.next
   ones_back = let e : reader.word % 2 ^ 64 ≡ reader.word = omega (arith, is.marks.fits) in omega (arith, ones_within is.marks (omega arith) 64 (omega arith) (λ i h. is.within i h), ap count_ones e, is.after, is.before)
 
   -- the ones up to one of the word's places
-  reading_to : (v t r : ℕ) → IsCut reader.word v 0 t → count b l (64 * reader.limb + t) ≡ r → r ≤ reader.next → IsReadingBack b l (record reader { word = v; next = r })
-  reading_to v t r cut end down =
-      grind (arith, is, count_up b l (64 * reader.limb) (64 * reader.limb + t) (omega arith), marked_to is.marks v t r cut end down, cut.only)
+  reading_to : (v t r : ℕ) → IsCut reader.word v 0 t → t ≤ 64 → count b l (64 * reader.limb + t) ≡ r → r ≤ reader.next → IsReadingBack b l (record reader { word = v; next = r })
+  reading_to v t r cut few end down =
+      let all = marked_cut is.marks v 0 t 0 r cut (grind arith) (omega (arith, end, down, count_up b l (64 * reader.limb + t) (64 * reader.limb + 64) (omega arith))) in
+      grind (arith, is, count_up b l (64 * reader.limb) (64 * reader.limb + t) (omega arith), all, cut.only)
 
   place_at : (q r : ℕ) → q < 64 → bit_at reader.word q ≡ 1 → count b l (64 * reader.limb) + count_ones (reader.word % 2 ^ q) ≡ r → r < reader.next → (IsWithin b l 0 reader.next (64 * reader.limb + q)) × (count b l (64 * reader.limb + q) ≡ r)
   place_at q r small on number some = place_of is.marks (omega arith) q r small (omega (arith, is.after, count_le_all b l (64 * reader.limb + 64))) is.inside on (omega (arith, is.before)) some
@@ -38,7 +39,7 @@ module _ {b : Bool} {l : List Bool} {reader : Reader} (is : IsReadingBack b l re
         let on = one_between reader.word q (count_ones reader.word - 1 - (reader.next - end)) low high in
         let at = place_at q (end - 1) small on.0 (omega (arith, on.1, ones_back)) (omega arith) in
         let e : 64 * reader.limb + (q + 1) ≡ 64 * reader.limb + q + 1 = omega arith in
-        (reading_to _ (q + 1) end cut (omega (arith, ap (count b l) e, count_more_yes b l (64 * reader.limb + q) at.0.inside at.0.holds, at.1)) to, some_word _ q (cut.all q small (omega arith) (omega arith) on.0))
+        (reading_to _ (q + 1) end cut (omega arith) (omega (arith, ap (count b l) e, count_more_yes b l (64 * reader.limb + q) at.0.inside at.0.holds, at.1)) to, some_word _ q (cut.all q small (omega arith) (omega arith) on.0))
 
 -- ---- the highest one of the word
 module _ (b : Bool) (l : List Bool) (reader : Reader) (r : ℕ) (here : reader.next ≡ r + 1) (some : r < count b l (length l)) (is : IsReadingBack b l reader) (left : 0 < reader.word) where
@@ -58,7 +59,7 @@ module _ (b : Bool) (l : List Bool) (reader : Reader) (r : ℕ) (here : reader.n
 
   -- the word without its highest one
   pub rest_back_at : IsReadingBack b l (record reader { word = bit_and reader.word (bit_not w64 (1 * 2 ^ (63 - count_leading_zeros 64 reader.word) % 18446744073709551616)); next = r })
-  rest_back_at = reading_to is _ highest r (cut_highest reader.word left is.marks.fits) at_highest.1 (omega arith)
+  rest_back_at = reading_to is _ highest r (cut_highest reader.word left is.marks.fits) (omega (arith, at_highest)) at_highest.1 (omega arith)
 
   -- the place lies in a list, and a list is not as long as a word can count
   pub highest_fits : {m : List Bool} → length m ≤ 18446744073709551552 → m ≡ l → 64 * reader.limb + highest < 18446744073709551552
@@ -78,7 +79,7 @@ new_back b l r k q edge some place small begin =
     let on = whole.complete q small (record { inside = at.within; holds = at.holds; low = omega arith; high = omega (arith, at.before) }) in
     let up = count_up b l (64 * k) (64 * k + q) (omega arith) in
     let end = count_up b l (64 * k + (q + 1)) (64 * k + 64) (omega arith) in
-    (grind (arith, at, up, end, more, begin, cut.only, marked_to whole _ (q + 1) (r + 1) cut more (omega arith)), some_word _ q (cut.all q small (omega arith) (omega arith) on))
+    (grind (arith, at, up, end, more, begin, cut.only, marked_cut whole _ 0 (q + 1) 0 (r + 1) cut (grind arith) (omega (arith, more, end, count_le_all b l (64 * k + 64)))), some_word _ q (cut.all q small (omega arith) (omega arith) on))
 
 pub no_reading_back : (b : Bool) (l : List Bool) → IsReadingBack b l (record { word = 0; limb = 0; next = 0; edge = 0 })
 no_reading_back b l = grind (arith, count_none b l, bit_at-zero)

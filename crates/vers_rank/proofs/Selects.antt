@@ -59,10 +59,6 @@ pub samples_bound : (b : Bool) (l : List Bool) (r first last : ℕ) → r < coun
     → IsSample b l (r / 8192) first → IsSample b l (r / 8192 + 1) last → IsBetween b l r first last
 samples_bound b l r first last some before after = grind (arith, first, last, some, before, after, count_le, count_up)
 
--- a superblock has at most 8192 places
-pub superblock_few : (b : Bool) (l : List Bool) (s r : ℕ) → r < count b l (8192 * (s + 1)) → r < count b l (8192 * s) + 8192
-superblock_few b l s r h = omega (arith, count_near b l (8192 * s) (8192 * (s + 1)) (omega arith))
-
 pub ruleset totals = (count_both, count_le, select_past, select_le)
 
 pub ruleset between = (samples_bound, digits_up)
@@ -91,16 +87,12 @@ half_of b l block r n limb before ones is counts few =
 pub one_limb : (b : Bool) (l : List Bool) (block r limb before : ℕ) → IsAmongLimbs b l block r 1 limb before → IsLimbWith b l block r (8 * block + 7) limb before
 one_limb b l block r limb before is = grind (arith, is)
 
--- all 8 limbs of a block
-pub all_limbs : (b : Bool) (l : List Bool) (block r : ℕ) → IsAmongLimbs b l block r 8 (8 * block) 0
-all_limbs b l block r = grind arith
-
 -- half of a block: the second where the places of the first don't pass number r, and else the first
 pub block_half : (b : Bool) (l : List Bool) (block r ones : ℕ) → count true l (64 * (8 * block)) + ones ≡ count true l (64 * (8 * block + 4)) → ones ≤ 256
     → (held_of b ones 256 ≤ r → IsAmongLimbs b l block r 4 (8 * block + 4) (held_of b ones 256)) × (r < held_of b ones 256 → IsAmongLimbs b l block r 4 (8 * block) 0)
 block_half b l block r ones counts few =
     let none : 0 + held_of b ones 256 ≡ held_of b ones 256 = omega arith in
-    rw none at (half_of b l block r 4 (8 * block) 0 ones (all_limbs b l block r) counts few)
+    rw none at (half_of b l block r 4 (8 * block) 0 ones (grind arith) counts few)
 
 pub ruleset halves_of_block = (count_at, one_limb)
 

@@ -1,8 +1,11 @@
 -- How many bits of a part of a word are ones or zeros.
-use Rattle.vers_rank.proofs.Names.{zero, suc, ap, ◌∙◌, ◌+◌, ◌/◌, add_comm, ◌≡◌, ℕ, ◌-◌, ◌*◌, ◌%◌, ◌^◌, ◌<◌, ◌≤◌, Bool, true, refl, arith, count_ones, ones-le, mod_below, pow_pos, mod-pow-add, ones_cat, cases_Bool, eqb, eqb-true, agree_below_at, w64, bit_at, bit_at_not, bit_at-lt, marked, ones, held_in}
+use Rattle.vers_rank.proofs.Names.{and_mask, bit_and, zero, suc, ap, ◌∙◌, ◌+◌, ◌/◌, add_comm, ◌≡◌, ℕ, ◌-◌, ◌*◌, ◌%◌, ◌^◌, ◌<◌, ◌≤◌, Bool, true, refl, arith, count_ones, ones-le, mod_below, pow_pos, mod-pow-add, ones_cat, cases_Bool, eqb, eqb-true, agree_below_at, w64, bit_at, bit_at_not, bit_at-lt, marked, ones, held_in}
 
 pub ones_few : (w j : ℕ) → count_ones (w % 2 ^ j) ≤ j
 ones_few w j = ones-le j (w % 2 ^ j) (mod_below w (2 ^ j) (pow_pos j))
+
+pub masked_byte : (n : ℕ) → bit_and n 255 ≡ n % 256
+masked_byte n = and_mask n 8
 
 -- the low bits of a word, in two parts
 pub ones_split : (w i d : ℕ) → count_ones (w % 2 ^ (i + d)) ≡ count_ones (w % 2 ^ i) + count_ones (w / 2 ^ i % 2 ^ d)

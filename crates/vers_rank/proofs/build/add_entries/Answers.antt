@@ -1,10 +1,9 @@
 use Rattle.vers_rank.proofs.Names.{◌≡◌, ◌+◌, ◌*◌, ◌/◌, false, length, ap, ◌∙◌, arith, sym, block_count, count_none, count_le, count_past}
-use Rattle.vers_rank.proofs.Builds.{no_entries}
 use Rattle.vers_rank.proofs.build.add_entries.Goals as goal
 
 pub loop-block-init : goal.loop-block-init
 loop-block-init g c = record {
-  entries = no_entries c.args.bits.now _ _ (c.reserve_exact.ensures.items ∙ c.requires.blocks) (c.reserve_exact-2.ensures.items ∙ c.requires.superblocks);
+  entries = rw (c.reserve_exact.ensures.items ∙ c.requires.blocks, c.reserve_exact-2.ensures.items ∙ c.requires.superblocks) (grind arith);
   zeros = sym (count_none false c.args.bits.now);
   base = λ h. absurd (omega arith);
 }

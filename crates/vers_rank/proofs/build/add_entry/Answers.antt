@@ -1,4 +1,4 @@
-use Rattle.vers_rank.proofs.Names.{◌-◌, arith}
+use Rattle.vers_rank.proofs.Names.{arith}
 use Rattle.vers_rank.proofs.Builds.{add_block, near_block}
 use Rattle.vers_rank.proofs.build.add_entry.Goals as goal
 

@@ -4,20 +4,16 @@ use Rattle.vers_rank.proofs.fast_rs_vec.RsVec.block_among.Goals as goal
 
 pub last_up_to-requires-clause-within : goal.last_up_to-requires-clause-within
 last_up_to-requires-clause-within g c =
-    let index = rw c.self.view_is at c.self.invariant in
-    entry_within index c.args.s c.requires.within c.read_16-zeros.result c.read_16-zeros.ensures.value
+    entry_within (rw c.self.view_is at c.self.invariant) c.args.s c.requires.within c.read_16-zeros.result c.read_16-zeros.ensures.value
 
 pub last_up_to-requires-clause-rising : goal.last_up_to-requires-clause-rising
 last_up_to-requires-clause-rising g c =
-    let index = rw c.self.view_is at c.self.invariant in
-    held_rising index c.args.s c.requires.within c.read_16-zeros.result c.read_16-zeros.ensures.value c.args.bit
+    held_rising (rw c.self.view_is at c.self.invariant) c.args.s c.requires.within c.read_16-zeros.result c.read_16-zeros.ensures.value c.args.bit
 
 pub returns-clause-counted : goal.returns-clause-counted
 returns-clause-counted g c =
-    let index = rw c.self.view_is at c.self.invariant in
-    omega (arith, c.last_up_to.ensures.rest, held_counts index c.args.s c.requires.within c.read_16-zeros.result c.read_16-zeros.ensures.value c.args.bit c.last_up_to.result.block c.last_up_to.ensures.few)
+    omega (arith, c.last_up_to.ensures.rest, held_counts (rw c.self.view_is at c.self.invariant) c.args.s c.requires.within c.read_16-zeros.result c.read_16-zeros.ensures.value c.args.bit c.last_up_to.result.block c.last_up_to.ensures.few)
 
 pub returns-clause-to : goal.returns-clause-to
 returns-clause-to g c h =
-    let index = rw c.self.view_is at c.self.invariant in
-    grind (arith, c.last_up_to.ensures.last h, held_counts index c.args.s c.requires.within c.read_16-zeros.result c.read_16-zeros.ensures.value c.args.bit (c.last_up_to.result.block + 1) h)
+    grind (arith, c.last_up_to.ensures.last h, held_counts (rw c.self.view_is at c.self.invariant) c.args.s c.requires.within c.read_16-zeros.result c.read_16-zeros.ensures.value c.args.bit (c.last_up_to.result.block + 1) h)

@@ -1,4 +1,4 @@
-use Rattle.vers_rank.proofs.Names.{◌+◌, ◌*◌, arith, false, count_near}
+use Rattle.vers_rank.proofs.Names.{◌+◌, ◌*◌, arith, count_near}
 use Rattle.vers_rank.proofs.Ranks.{block_entry}
 use Rattle.vers_rank.proofs.fast_rs_vec.RsVec.count_in_superblock.Goals as goal
 

@@ -1,5 +1,5 @@
-use Rattle.vers_rank.proofs.Names.{arith, length, ◌∙◌}
-use Rattle.vers_rank.proofs.Builds.{superblocks_are, index_is}
+use Rattle.vers_rank.proofs.Names.{arith}
+use Rattle.vers_rank.proofs.Builds.{index_is}
 use Rattle.vers_rank.proofs.fast_rs_vec.RsVec.from_bit_vec.Goals as goal
 
 pub invariant_of-result : goal.invariant_of-result
@@ -11,12 +11,12 @@ invariant_of-result g c =
 pub samples-requires : goal.samples-requires
 samples-requires g c =
     let made = c.in_ok-zeros.ensures.entries in
-    rw c.deref.ensures.value (record { counted = made.superblocks_counted ∙ superblocks_are (length c.args.bits); entries = made.superblock_at })
+    rw c.deref.ensures.value (record { counted = omega (arith, made.superblocks_counted); entries = made.superblock_at })
 
 pub samples-requires-2 : goal.samples-requires-2
 samples-requires-2 g c =
     let made = c.in_ok-zeros.ensures.entries in
-    rw c.deref-2.ensures.value (record { counted = made.superblocks_counted ∙ superblocks_are (length c.args.bits); entries = made.superblock_at })
+    rw c.deref-2.ensures.value (record { counted = omega (arith, made.superblocks_counted); entries = made.superblock_at })
 
 pub returns : goal.returns
 returns g c = c.new.ensures

@@ -1,4 +1,4 @@
-use Rattle.vers_rank.proofs.Names.{◌≡◌, ℕ, ◌+◌, ◌<◌, List, length, set, get_or, ◌∙◌, inl, inr, arith, rules, cases_lt, get_or-set_other, get_or-set_same, length-set, adds_then, plus, times, Reads, IsWithin, Changed}
+use Rattle.vers_rank.proofs.Names.{◌≡◌, ℕ, ◌+◌, ◌<◌, List, length, set, get_or, ◌∙◌, inl, inr, arith, rules, cases_lt, get_or-set_other, get_or-set_same, length-set, adds_then, Changed}
 use Rattle.vers_rank.proofs.fast_rs_vec.RsVec.level_each.Goals as goal
 
 -- one item more
@@ -15,11 +15,8 @@ changed_more R from n y xs ys old inside becomes = record {
   after = λ j h. get_or-set_other ys (from + n) j y 0 (omega arith) ∙ old.after j (omega arith);
 }
 
-times_more : (n : ℕ) (p : Reads) → IsWithin (plus (times n p) p) (times (n + 1) p)
-times_more n p = search rules
-
 pub loop-j-preserved : goal.loop-j-preserved
 loop-j-preserved g c = record {
   changed = changed_more _ c.args.from c.loop-j.j _ _ _ c.loop-j.invariant.changed (omega (arith, c.requires.within)) c.lead.ensures.value;
-  adds = adds_then c.loop-j.invariant.adds c.lead.ensures.adds (times_more _ _);
+  adds = adds_then c.loop-j.invariant.adds c.lead.ensures.adds (search rules);
 }

@@ -1,6 +1,6 @@
-use Rattle.vers_rank.proofs.Names.{length, adds_then, within_itself, superblock_count, StandsFor}
+use Rattle.vers_rank.proofs.Names.{rules, adds_then, within_itself, StandsFor}
 use Rattle.vers_rank.proofs.PublicLaws.{changed_then}
-use Rattle.vers_rank.proofs.Batches.{takes, four_levels}
+use Rattle.vers_rank.proofs.Batches.{takes}
 use Rattle.vers_rank.proofs.fast_rs_vec.RsVec.levels_each.Goals as goal
 
 pub level_each-requires-clause-each : goal.level_each-requires-clause-each
@@ -26,4 +26,4 @@ pub returns-clause-adds : goal.returns-clause-adds
 returns-clause-adds g c =
     let two = adds_then c.level_each.ensures.adds c.level_each-2.ensures.adds (within_itself _) in
     let three = adds_then two c.level_each-3.ensures.adds (within_itself _) in
-    adds_then three c.level_each-4.ensures.adds (four_levels c.args.n (superblock_count (length c.args.self.now)))
+    adds_then three c.level_each-4.ensures.adds (search rules)

@@ -1,16 +1,7 @@
-use Rattle.vers_rank.proofs.Names.{select_past, ◌≡◌, ℕ, ◌+◌, ◌/◌, ◌<◌, ◌≤◌, ap, sym, ◌∙◌, arith, rules, count, length, select_reads, adds_then, digits, plus, times, Reads, IsWithin, no_reads, only_rank_calls, adds_weaker}
+use Rattle.vers_rank.proofs.Names.{select_past, ◌≡◌, ℕ, ◌+◌, ◌/◌, ◌<◌, ◌≤◌, ap, sym, ◌∙◌, arith, rules, count, length, adds_then, adds_weaker}
 use Rattle.vers_rank.proofs.Pairs.{none_after, place_after}
 use Rattle.vers_rank.proofs.Selects.{select_le}
 use Rattle.vers_rank.proofs.fast_rs_vec.RsVec.pair_of.Goals as goal
-
-abbrev place_reads : ℕ → Reads
-place_reads m = record no_reads { data_words = 8; block_entries = 16; superblock_entries = digits m + 11 }
-
-one_place : (m : ℕ) → IsWithin (plus (only_rank_calls 1) (place_reads m)) (select_reads m)
-one_place m = search rules
-
-two_places : (m : ℕ) → IsWithin (plus (select_reads m) (place_reads m)) (times 2 (select_reads m))
-two_places m = search rules
 
 pub returns-then-r-total : goal.returns-then-r-total
 returns-then-r-total g c =
@@ -43,7 +34,7 @@ returns-then-number-r g c =
       second = second;
       within = (omega (arith, known.first_is c.if-number-r.true, select_le c.args.bit c.args.self.now c.args.r), omega (arith, second, select_le c.args.bit c.args.self.now (c.args.r + 1)));
       counted = search rules;
-      adds = adds_then known.adds c.locate-at.ensures.adds (two_places _);
+      adds = adds_then known.adds c.locate-at.ensures.adds (search rules);
       near = λ inside same. absurd (known.apart c.if-number-r.true (same ∙ ap (λ p. p / 64) second));
     }
 
@@ -60,8 +51,8 @@ returns-then-after-ne0 g c =
       second = c.min.ensures ∙ rw (c.len-len.ensures.value, word) (place_after c.args.bit c.args.self.now _ _ (omega (arith, after)) c.args.r (rw is at known.some) first);
       within = (omega (arith, first, select_le c.args.bit c.args.self.now c.args.r), omega (arith, c.min.ensures, c.len-len.ensures.value));
       counted = search rules;
-      adds = adds_then known.adds at.adds (two_places _);
-      near = λ inside same. adds_then (known.begun c.if-number-r.false) at.adds (one_place _);
+      adds = adds_then known.adds at.adds (search rules);
+      near = λ inside same. adds_then (known.begun c.if-number-r.false) at.adds (search rules);
     }
 
 pub returns-then-number-total : goal.returns-then-number-total
@@ -73,8 +64,8 @@ returns-then-number-total g c =
       second = c.len-len.ensures.value ∙ sym (select_past c.args.bit c.args.self.now (c.args.r + 1) (omega (arith, c.total-total.ensures, c.if-number-total.true)));
       within = (omega (arith, at.value, select_le c.args.bit c.args.self.now c.loop-number.number), omega (arith, c.len-len.ensures.value));
       counted = search rules;
-      adds = adds_then known.adds at.adds (two_places _);
-      near = λ inside same. adds_then (known.begun c.if-number-r.false) at.adds (one_place _);
+      adds = adds_then known.adds at.adds (search rules);
+      near = λ inside same. adds_then (known.begun c.if-number-r.false) at.adds (search rules);
     }
 
 pub loop-number-preserved : goal.loop-number-preserved
@@ -93,5 +84,5 @@ loop-number-preserved g c =
       apart = λ _. none_after c.args.bit c.args.self.now c.args.r _ _ at.within.1 more place (rw word at c.if-after-ne0.false);
       counted = omega (arith, c.loop-number.invariant.counted, at.adds.rank_calls);
       begun = λ again. absurd (omega (arith, again));
-      adds = adds_then begun at.adds (one_place _);
+      adds = adds_then begun at.adds (search rules);
     }

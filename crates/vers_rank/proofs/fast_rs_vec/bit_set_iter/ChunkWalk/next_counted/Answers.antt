@@ -1,4 +1,4 @@
-use Rattle.std.proofs.Common.{◌≤◌, ◌∙◌, length, ap, arith}
+use Rattle.std.proofs.Common.{◌≤◌, length, ap, arith}
 use Rattle.vers_rank.proofs.Chunks.{offset_passed, offset_gave, offset_inside, chunk_ended, chunk_reads_then}
 use Rattle.vers_rank.proofs.fast_rs_vec.bit_set_iter.ChunkWalk.next_counted.Goals as goal
 

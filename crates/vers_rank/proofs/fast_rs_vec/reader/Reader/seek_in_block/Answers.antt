@@ -6,33 +6,31 @@ use Rattle.vers_rank.proofs.fast_rs_vec.reader.Reader.seek_in_block.Goals as goa
 pub overflow_add-self-in-loop-ones : goal.overflow_add-self-in-loop-ones
 overflow_add-self-in-loop-ones g c =
     let known = c.loop-ones.invariant in
-    omega (arith, (passed_inside known.reading (omega (arith, c.requires.to, known.edge)) c.args.r known.from c.requires.some (omega (arith, c.requires.to, known.edge)) (omega (arith, known.ones))).0, c.bits.invariant.bounded, ap length c.bits.view_is)
+    omega (arith, (passed_inside known.reading c.args.r known.from known.to _ known.ones (omega arith)).0, c.bits.invariant.bounded, ap length c.bits.view_is)
 
 pub limb-word-requires : goal.limb-word-requires
 limb-word-requires g c =
     let known = c.loop-ones.invariant in
-    omega (arith, (passed_inside known.reading (omega (arith, c.requires.to, known.edge)) c.args.r known.from c.requires.some (omega (arith, c.requires.to, known.edge)) (omega (arith, known.ones))).0, ap length c.bits.view_is)
+    rw c.bits.view_is (passed_inside known.reading c.args.r known.from known.to _ known.ones (omega arith)).0
 
 pub place_in_word-place-requires : goal.place_in_word-place-requires
-place_in_word-place-requires g c =
-    let known = c.loop-ones.invariant in
-    whole_word c.loop-ones.self.word _ (known.reading.marks (omega (arith, c.requires.to, known.edge))).fits (omega (arith, known.ones))
+place_in_word-place-requires g c = whole_word _ _ (c.loop-ones.invariant.reading.marks (omega arith)).fits (omega (arith, c.loop-ones.invariant.ones))
 
 pub returns-then-self-r : goal.returns-then-self-r
 returns-then-self-r g c =
     let known = c.loop-ones.invariant in
     let place = c.place_in_word-place.ensures in
-    let found = onward known.reading (omega (arith, c.requires.to, known.edge)) c.args.r known.from c.requires.some _ place.within place.from place.to in
+    let found = onward known.reading (omega arith) c.args.r known.from c.requires.some _ place.within place.from place.to in
     record { reading = found.0; next = search rules; some = found.1; adds = search rules }
 
 pub loop-ones-preserved : goal.loop-ones-preserved
 loop-ones-preserved g c =
     let known = c.loop-ones.invariant in
-    let inside = passed_inside known.reading (omega (arith, c.requires.to, known.edge)) c.args.r known.from c.requires.some (omega (arith, c.requires.to, known.edge)) (omega (arith, known.ones)) in
+    let inside = passed_inside known.reading c.args.r known.from known.to _ known.ones (omega arith) in
     record {
-      reading = next_limb known.reading (omega (arith, c.requires.to, known.edge)) c.args.r known.from c.requires.some (omega (arith, c.requires.to, known.edge)) _ _ known.ones (omega arith) (marks_are _ _ _ _ _ _ c.marks-self.ensures c.limb-word.ensures.value c.bits.view_is);
+      reading = next_limb known.reading c.args.r known.from known.to _ known.ones (omega arith) _ (marks_are _ _ _ _ _ _ c.marks-self.ensures c.limb-word.ensures.value c.bits.view_is);
       from = omega arith;
-      edge = known.edge;
+      to = known.to;
       ones = search rules;
       up = omega arith;
       block = omega (arith, inside.1);
