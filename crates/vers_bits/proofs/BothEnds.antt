@@ -68,11 +68,8 @@ module _ {X : Type 0} where
   gave_back n xs s t {p = p} {x = x} view within some is =
       let long : length (items_in xs s) ≡ s.to - s.from = length-items_in xs s within in
       let inside : n < length (items_in xs s) = omega (arith, some.0, some.1) in
-      let number : length (items_in xs s) - 1 - n ≡ p - s.from = omega (arith, some.0, some.1) in
       let kept : length (items_in xs s) - (n + 1) ≡ p - s.from = omega (arith, some.0, some.1) in
-      let place : s.from + (p - s.from) ≡ p = omega (arith, some.1) in
-      let at : get_or (reverse (items_in xs s)) n x ≡ x =
-      rw (get_or-reverse (items_in xs s) n x inside, number, get_or-items_in xs s (p - s.from) x (omega (arith, some.0, some.1)), place) (get_or_from_slice_get xs p x x is) in
+      let at : get_or (reverse (items_in xs s)) n x ≡ x = grind (arith, long, some, get_or-reverse (items_in xs s) n x inside, get_or-items_in xs s (p - s.from) x, get_or_from_slice_get xs p x x is) in
       rw (← view) (record {
         given = sym (slice_get-get_or (reverse (items_in xs s)) n x (omega (arith, length-reverse (items_in xs s))) ∙ ap Some at);
         left = sym (ap (λ k. take k (items_in xs s)) kept ∙ (grind (arith, take-take)));
@@ -87,22 +84,17 @@ module _ {X : Type 0} where
 
   last_none : (xs : List X) → None ≡ slice_get (reverse xs) 0 → xs ≡ []
   last_none [] h = refl
-  last_none (x ∷ xs) h =
-      let inside : 0 < length (reverse (x ∷ xs)) = omega (arith, length-reverse (x ∷ xs)) in
-      cc (h, slice_get-get_or (reverse (x ∷ xs)) 0 x inside)
+  last_none (x ∷ xs) h = cc (h, slice_get-get_or (reverse (x ∷ xs)) 0 x (omega (arith, length-reverse (x ∷ xs))))
 
   last_some : (xs : List X) (x : X) → Some x ≡ slice_get (reverse xs) 0 → xs ≡ take (length xs - 1) xs ++ x ∷ []
   last_some xs x h =
-      let inside : 0 < length (reverse xs) = slice_get_within (reverse xs) 0 x (sym h) in
-      let long : 0 < length xs = omega (arith, length-reverse xs) in
+      let long : 0 < length xs = omega (arith, length-reverse xs, slice_get_within (reverse xs) 0 x (sym h)) in
       let same : length xs - 1 ≡ length xs - 1 - 0 = omega arith in
       let at : get_or xs (length xs - 1) x ≡ x = rw (same, ← get_or-reverse xs 0 x long) (get_or_from_slice_get (reverse xs) 0 x x (sym h)) in
       grind (arith, take_all, take_more)
 
   pub yields_last : (old : List X) (r : Option X) (new : List X) → TakesLast old r new → YieldsLast (λ (s : List X). s) old r new
-  yields_last old None new h =
-      let none : old ≡ [] = last_none old h.given in
-      (none, h.left ∙ ap (λ l. take (length l - 1) l) none)
+  yields_last old None new h = let none = last_none old h.given in (none, h.left ∙ ap (λ l. take (length l - 1) l) none)
   yields_last old (Some x) new h = last_some old x h.given ∙ ap (λ l. l ++ x ∷ []) (sym h.left)
 
   -- the other way round
@@ -125,9 +117,7 @@ module _ {X : Type 0} where
   -- a step that gave an item leaves fewer
   goes_on : (can : List X → Type 0) (old : List X) (r : Option X) (new : List X) → can new → (length old ≡ 0 → r ≡ None) → length new ≡ length old - 1 → MakesProgress can (item_count (λ s. s)) old r new
   goes_on can old None new may ended fewer = record { on = λ _. tt; keeps = tt; rests = λ _. tt }
-  goes_on can old (Some x) new may ended fewer =
-      let some : 0 < length old = grind (arith, ended) in
-      record { on = λ _. (may, tt, omega arith); keeps = may; rests = λ _. tt }
+  goes_on can old (Some x) new may ended fewer = record { on = λ _. (may, tt, grind (arith, ended)); keeps = may; rests = λ _. tt }
 
   pub goes_first : (can : List X → Type 0) (old : List X) (r : Option X) (new : List X) → can new → TakesFirst old r new → MakesProgress can (item_count (λ s. s)) old r new
   goes_first can old r new may h =
@@ -159,12 +149,7 @@ module _ {X : Type 0} where
   last_turned m l =
       let back : List X = drop (length l - m) l in
       let turned : reverse l ≡ reverse back ++ reverse (take (length l - m) l) = rw (← reverse-append, take-append-drop) refl in
-      elim (cases_lt (length l) m) [
-        | inl all ↦
-            let none : length l - m ≡ 0 = omega arith in
-            rw (none, take_all m (reverse l) (omega (arith, length-reverse l))) (reverse-reverse l)
-        | inr some ↦ rw (turned, take_at (reverse back) (reverse (take (length l - m) l)) m (length-reverse back ∙ length-drop (length l - m) l ∙ omega arith)) (reverse-reverse back)
-      ]
+      grind (arith, turned, cases_lt (length l) m, take_all m (reverse l), length-reverse l, reverse-reverse l, take_at (reverse back) (reverse (take (length l - m) l)) m, length-reverse back, length-drop (length l - m) l, reverse-reverse back)
 
   -- what one call passes and what it leaves make up the list
   step_passes : (old : List X) (taken : Option X) (fronts backs new : List X) → Step old taken fronts backs new → fronts ++ (new ++ reverse backs) ≡ old
@@ -184,11 +169,8 @@ module _ {X : Type 0} where
       rw (reverse-append backs more_backs, ← last, ← others) (simp append_assoc)
 
   pub stays_ended : StaysEnded X
-  stays_ended None _ _ new (next _ _ _ h) = (refl, h.1)
-  stays_ended (Some x) _ _ new (next _ _ _ h) = cc h
-  stays_ended None _ _ new (next_back _ _ _ h) = (refl, h.1)
-  stays_ended (Some x) _ _ [] (next_back _ _ _ h) = cc h
-  stays_ended (Some x) _ _ (y ∷ new) (next_back _ _ _ h) = cc h
+  stays_ended taken _ _ new (next _ _ _ h) = let is = takes_first [] taken new h in (is.given, is.left)
+  stays_ended taken _ _ new (next_back _ _ _ h) = let is = takes_last [] taken new h in (is.given, is.left)
   stays_ended taken _ _ new (nth n _ _ _ h) = (h.given, h.left ∙ drop_all (n + 1) [] (omega arith))
   stays_ended taken _ _ new (nth_back n _ _ _ h) = (h.given, h.left ∙ take_all (0 - (n + 1)) [] (omega arith))
 

@@ -31,8 +31,7 @@ ones_before l zero = sym (count_none true l)
 ones_before l (suc n) =
     let more : suc n ≡ n + 1 = omega arith in
     let next : 64 * suc n ≡ 64 * n + 64 = omega arith in
-    ap (λ m. sum_by count_ones (map (limb l) (range_with_len 0 m))) more ∙ sum_by-map-range_with_len_more count_ones (limb l) 0 n n (omega arith)
-    ∙ ap (λ s. s + count_ones (limb l n)) (ones_before l n) ∙ sym (count_limb_whole l n) ∙ ap (count true l) (sym next)
+    omega (arith, ap (λ m. sum_by count_ones (map (limb l) (range_with_len 0 m))) more, ap (count true l) next, sum_by-map-range_with_len_more count_ones (limb l) 0 n n (omega arith), ones_before l n, count_limb_whole l n)
 
 -- the ones of all limbs
 pub ones_of_limbs : (l : List Bool) → sum_by count_ones (limbs l) ≡ count true l (length l)

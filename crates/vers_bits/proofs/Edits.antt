@@ -14,24 +14,11 @@ pub cut_holds : {ws vs : List ℕ} {m : ℕ} → CutsTo ws vs m → m ≤ 184467
 cut_holds {ws} {vs} {m} cuts h = record { counted = cuts.counted; bounded = h; padded = cuts.padded }
 
 module _ (ws : List ℕ) (n : ℕ) (enough : limb_count n ≤ length ws) where
-  front : List ℕ
-  front = take (limb_count n) ws
-
-  length-front : length front ≡ limb_count n
-  unfolding front
-  length-front = length-take (limb_count n) ws ∙ omega arith
-
-  front_bit : (i : ℕ) → i < n → word_bit front i ≡ word_bit ws i
-  unfolding front
-  front_bit i h = ap (λ w. eqb (bit_at w (i % 64)) 1) (get_or-take (limb_count n) ws (i / 64) 0 (omega arith))
-
   pub cut_whole : n % 64 ≡ 0 → CutsTo ws (take (limb_count n) ws) n
-  unfolding front
-  cut_whole whole = grind (arith, length-front, front_bit, past_words)
+  cut_whole whole = grind (arith, length-take, get_or-take, past_words)
 
   pub cut_part : 0 < n % 64 → CutsTo ws (set (take (limb_count n) ws) (n / 64) (get_or (take (limb_count n) ws) (n / 64) 0 % 2 ^ (n % 64))) n
-  unfolding front
-  cut_part part = grind (arith, length-front, length-set, cases_eq, set_here, bit_at_mod, front_bit, set_apart, bit_at_mod_above, past_words)
+  cut_part part = grind (arith, length-take, get_or-take, length-set, cases_eq, set_here, bit_at_mod, set_apart, bit_at_mod_above, past_words)
 
 -- ---- a bit put at a place
 

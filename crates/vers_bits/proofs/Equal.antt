@@ -1,5 +1,5 @@
 -- The words follow from the bits that they hold.
-use Rattle.vers_bits.proofs.Names.{◌≡◌, ℕ, ◌+◌, ◌*◌, ◌/◌, ◌%◌, ◌^◌, ◌<◌, Bool, false, eqb, List, length, get_or, refl, sym, ◌∙◌, ap, arith, fill_by_all, length-map-range_with_len, get_or-map-range_with_len, ext_get_or, false≢true, bit_at, Decides, bit_value, limb, limb_count, word_bits, HoldsBits, pointwise, bytes_eq-Decides, limbs, same_bits, same_bits-Decides}
+use Rattle.vers_bits.proofs.Names.{◌≡◌, ℕ, ◌+◌, ◌*◌, ◌/◌, ◌%◌, ◌^◌, ◌<◌, Bool, false, eqb, List, length, get_or, refl, sym, ◌∙◌, ap, arith, fill_by_all, length-map-range_with_len, get_or-map-range_with_len, ext_get_or, false≢true, bit_at, Decides, bit_value, limb, limb_count, word_bits, HoldsBits, pointwise, bytes_eq-Decides, limbs, same_bits, same_bits-Decides, cases_Bool}
 use Rattle.vers_bits.proofs.Words.{length-word_bits, limb-word_bits}
 use Rattle.vers_bits.proofs.Num.{limb_bit}
 
@@ -21,15 +21,12 @@ pub get_or-limbs : (l : List Bool) (k : ℕ) → k < limb_count (length l) → g
 unfolding limbs
 get_or-limbs l k h = get_or-map-range_with_len (limb l) 0 (limb_count (length l)) k k 0 h (omega arith)
 
-same_value : (x y : Bool) → bit_value x ≡ bit_value y → x ≡ y
-same_value x y e = grind arith
-
 -- lists of one length with equal limbs are equal
 pub equal_limbs : (xs ys : List Bool) → length xs ≡ length ys → limbs xs ≡ limbs ys → xs ≡ ys
 equal_limbs xs ys e same =
     ext_get_or false xs ys e (λ i h.
     let held : limb xs (i / 64) ≡ limb ys (i / 64) = rw (← get_or-limbs xs (i / 64) (omega arith), ← get_or-limbs ys (i / 64) (omega arith), same) refl in
-    same_value _ _ (rw (← bit_at-limb xs i, ← bit_at-limb ys i, held) refl))
+    grind (arith, held, bit_at-limb xs i, bit_at-limb ys i, cases_Bool (get_or xs i false), cases_Bool (get_or ys i false)))
 
 -- two tests of facts that imply each other
 decides_same : (r s : Bool) (P Q : Type 0) → Decides r P → Decides s Q → (P → Q) → (Q → P) → r ≡ s

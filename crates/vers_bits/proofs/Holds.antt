@@ -1,5 +1,5 @@
 -- Words that hold a list of bits: what an edit of the words does to the list.
-use Rattle.vers_bits.proofs.Names.{◌≡◌, ℕ, ◌+◌, ◌-◌, ◌*◌, ◌/◌, ◌%◌, ◌^◌, ◌<◌, ◌≤◌, Bool, false, eqb, List, [], ◌∷◌, ◌++◌, length, get_or, set, take, replicate, refl, sym, ◌∙◌, inl, inr, arith, bit_at, bit_or, cases_lt, cases_eq, shr-shr, pow_pos, bit_at-lt, bit_at_or, bit_at_above, bit_at_cat_low, bit_at_cat_high, bit_at-zero, get_or_past, get_or_push, get_or_append_left, get_or-append_right, length-append, length-replicate, get_or-replicate, length_push, length-set, take_all, low_bits, limb_count, word_bit, word_bits, HoldsBits, Holds}
+use Rattle.vers_bits.proofs.Names.{◌≡◌, ℕ, ◌+◌, ◌-◌, ◌*◌, ◌/◌, ◌%◌, ◌^◌, ◌<◌, ◌≤◌, Bool, false, eqb, List, [], ◌∷◌, ◌++◌, length, get_or, set, take, replicate, refl, ◌∙◌, arith, bit_at, bit_or, cases_lt, cases_eq, shr-shr, pow_pos, bit_at-lt, bit_at_or, bit_at_above, bit_at_cat_low, bit_at_cat_high, bit_at-zero, get_or_past, get_or_push, get_or_append_left, get_or-append_right, length-append, length-replicate, get_or-replicate, length_push, length-set, take_all, low_bits, limb_count, word_bit, word_bits, HoldsBits, Holds}
 use Rattle.vers_bits.proofs.Words.{length-word_bits, get_or-word_bits, word_bits_are, past_words, set_here, set_apart}
 use Rattle.vers_bits.proofs.LowBits.{length-low_bits, get_or-low_bits, bit_at_mod, bit_value_test}
 
@@ -12,10 +12,6 @@ held {ws} {n} {l} holds = record {
   bounded = holds.bounded;
   padded = λ i h. holds.each i ∙ get_or_past l i false (omega (arith, holds.long));
 }
-
--- a digit that is 0 makes a zero
-zero_bit : (x i : ℕ) → bit_at x i ≡ 0 → eqb (bit_at x i) 1 ≡ false
-zero_bit x i e = rw e refl
 
 same_default : {X : Type 0} (k i : ℕ) (d : X) → get_or (replicate k d) i d ≡ d
 same_default k i d = grind (arith, get_or-replicate, get_or_past, length-replicate)
@@ -50,11 +46,11 @@ module _ (ws : List ℕ) (n v k : ℕ) (holds : HoldsBits ws n) (small : v < 2 ^
     long = length-grown;
     counted = counted;
     bounded = bounded;
-    each = λ i. elim (cases_lt i n) [ inl h ↦ early i h ∙ sym (below i h) | inr h ↦ late i h ∙ sym (above i h) ];
+    each = λ i. grind (arith, cases_lt i n, early i, below i, late i, above i);
   }
 
   past_number : (vs : List ℕ) (i : ℕ) → n ≤ i → k ≤ i - n → 64 * length vs ≤ i → word_bit vs i ≡ eqb (bit_at v (i - n)) 1
-  past_number vs i h past end = past_words vs i end ∙ sym (zero_bit v (i - n) (bit_at_above v k (i - n) small past))
+  past_number vs i h past end = rw (past_words vs i end, bit_at_above v k (i - n) small past) refl
 
   -- by a word of their own, where the last word is full
   pub added_word : n % 64 ≡ 0 → 0 < k → k ≤ 64 → n + k ≤ 18446744073709551552 → Holds (ws ++ v ∷ []) (n + k) (word_bits ws n ++ low_bits v k)
@@ -62,13 +58,7 @@ module _ (ws : List ℕ) (n v k : ℕ) (holds : HoldsBits ws n) (small : v < 2 ^
       let full : n ≡ 64 * length ws = omega (arith, holds.counted) in
       hold_grown (ws ++ v ∷ []) (length_push ws v ∙ omega (arith, holds.counted)) bounded
       (λ i h. rw (get_or_append_left ws (v ∷ []) 0 (i / 64) (omega arith)) refl)
-      (λ i h. elim (cases_lt i (n + 64)) [
-        | inl same ↦
-            let word : length ws ≡ i / 64 = omega arith in
-            let place : i % 64 ≡ i - n = omega arith in
-            rw (get_or_push ws v 0 (i / 64) word, place) refl
-        | inr past ↦ past_number (ws ++ v ∷ []) i h (omega arith) (omega (arith, length_push ws v))
-      ])
+      (λ i h. grind (arith, full, cases_lt i (n + 64), get_or_push ws v 0 (i / 64), past_number (ws ++ v ∷ []) i h, length_push ws v))
 
   -- the last word with the digits put above its own
   last_word : ℕ
@@ -77,9 +67,7 @@ module _ (ws : List ℕ) (n v k : ℕ) (holds : HoldsBits ws n) (small : v < 2 ^
   last_word_low : (i : ℕ) → i < 64 → i < n % 64 → bit_at last_word i ≡ bit_at (get_or ws (n / 64) 0) i
   unfolding last_word
   last_word_low i h low =
-      let none : bit_at (v * 2 ^ (n % 64) + 0) i ≡ 0 = bit_at_cat_low v (n % 64) 0 i low ∙ bit_at-zero i in
-      let shifted : v * 2 ^ (n % 64) ≡ v * 2 ^ (n % 64) + 0 = omega arith in
-      rw (bit_at_or, bit_at_mod (v * 2 ^ (n % 64)) 64 i h, shifted, none) (omega arith)
+      grind (arith, bit_at_or (get_or ws (n / 64) 0), bit_at_mod (v * 2 ^ (n % 64)) 64 i h, bit_at_cat_low v (n % 64) 0 i low, bit_at-zero i)
 
   last_word_high : (i : ℕ) → i < 64 → n % 64 ≤ i → bit_at last_word i ≡ bit_at v (i - n % 64)
   unfolding last_word
@@ -94,17 +82,11 @@ module _ (ws : List ℕ) (n v k : ℕ) (holds : HoldsBits ws n) (small : v < 2 ^
   -- any words that begin with the old ones, with the last word so changed, agree up to its end
   set_early : (zs : List ℕ) → 0 < n % 64 → n / 64 < length zs → ((j : ℕ) → j < length ws → get_or zs j 0 ≡ get_or ws j 0)
       → (i : ℕ) → i < n → word_bit (set zs (n / 64) last_word) i ≡ word_bit ws i
-  set_early zs part within same i h =
-      elim (cases_eq (i / 64) (n / 64)) [
-        | inl here ↦ rw (set_here zs (n / 64) last_word i within here, last_word_low (i % 64) (omega arith) (omega arith), here) refl
-        | inr apart ↦ rw (set_apart zs (n / 64) last_word i apart, same (i / 64) (omega (arith, holds.counted))) refl
-      ]
+  set_early zs part within same i h = grind (arith, cases_eq (i / 64) (n / 64), set_here zs (n / 64) last_word i, last_word_low (i % 64), set_apart zs (n / 64) last_word i, same (i / 64), holds.counted)
 
   set_late : (zs : List ℕ) → n / 64 < length zs → (i : ℕ) → n ≤ i → i / 64 ≡ n / 64
       → word_bit (set zs (n / 64) last_word) i ≡ eqb (bit_at v (i - n)) 1
-  set_late zs within i h here =
-      let place : i % 64 - n % 64 ≡ i - n = omega arith in
-      rw (set_here zs (n / 64) last_word i within here, last_word_high (i % 64) (omega arith) (omega arith), place) refl
+  set_late zs within i h here = grind (arith, set_here zs (n / 64) last_word i within here, last_word_high (i % 64))
 
   -- within the last word
   pub added_inside : 0 < n % 64 → n % 64 + k ≤ 64 → n + k ≤ 18446744073709551552
@@ -115,10 +97,7 @@ module _ (ws : List ℕ) (n v k : ℕ) (holds : HoldsBits ws n) (small : v < 2 ^
       let vs = set ws (n / 64) last_word in
       let long : length vs ≡ length ws = length-set ws (n / 64) last_word in
       hold_grown vs (long ∙ omega (arith, holds.counted)) bounded (set_early ws part within (λ j h. refl))
-      (λ i h. elim (cases_eq (i / 64) (n / 64)) [
-        | inl here ↦ set_late ws within i h here
-        | inr apart ↦ past_number vs i h (omega arith) (omega (arith, holds.counted))
-      ])
+      (λ i h. grind (arith, long, cases_eq (i / 64) (n / 64), set_late ws within i h, past_number vs i h, holds.counted))
 
   -- over the last word and a new one
   pub added_across : 0 < n % 64 → 64 < n % 64 + k → k ≤ 64 → n + k ≤ 18446744073709551552
@@ -131,16 +110,7 @@ module _ (ws : List ℕ) (n v k : ℕ) (holds : HoldsBits ws n) (small : v < 2 ^
       let vs = set zs (n / 64) last_word in
       let long : length vs ≡ length ws + 1 = length-set zs (n / 64) last_word ∙ length_push ws high in
       hold_grown vs (long ∙ omega (arith, holds.counted)) bounded (set_early zs part within (λ j h. get_or_append_left ws (high ∷ []) 0 j h))
-      (λ i h. elim (cases_eq (i / 64) (n / 64)) [
-        | inl here ↦ set_late zs within i h here
-        | inr apart ↦ elim (cases_eq (i / 64) (n / 64 + 1)) [
-          | inl next ↦
-              let word : length ws ≡ i / 64 = omega (arith, holds.counted) in
-              let place : 64 - n % 64 + i % 64 ≡ i - n = omega arith in
-              rw (set_apart zs (n / 64) last_word i apart, get_or_push ws high 0 (i / 64) word, shr-shr v (64 - n % 64) (i % 64), place) refl
-          | inr past ↦ past_number vs i h (omega arith) (omega (arith, holds.counted))
-        ]
-      ])
+      (λ i h. grind (arith, long, cases_eq (i / 64) (n / 64), cases_eq (i / 64) (n / 64 + 1), set_late zs within i h, set_apart zs (n / 64) last_word i, get_or_push ws high 0 (i / 64), shr-shr v (64 - n % 64) (i % 64), past_number vs i h, holds.counted))
 
 -- zeros behind the list, in as many words as they fill
 pub added_zeros : (ws : List ℕ) (n k : ℕ) → HoldsBits ws n → n + k ≤ 18446744073709551552
@@ -152,10 +122,7 @@ added_zeros ws n k holds bounded =
       long = length-append (word_bits ws n) rest ∙ omega (arith, length-word_bits ws n, length-replicate k false);
       counted = length-append ws more ∙ omega (arith, length-replicate {A = ℕ} (limb_count (n + k) - length ws) 0, holds.counted);
       bounded = bounded;
-      each = λ i. elim (cases_lt i n) [
-        | inl h ↦ rw (get_or_append_left ws more 0 (i / 64) (omega (arith, holds.counted)), get_or_append_left (word_bits ws n) rest false i (omega (arith, length-word_bits ws n))) (sym (get_or-word_bits ws n i false h))
-        | inr h ↦ rw (zeros_past ws (limb_count (n + k) - length ws) i (holds.padded i h), get_or-append_right (word_bits ws n) rest n i false (length-word_bits ws n) h) (sym (same_default k (i - n) false))
-      ];
+      each = λ i. grind (arith, cases_lt i n, get_or_append_left ws more 0 (i / 64), get_or_append_left (word_bits ws n) rest false i, length-word_bits ws n, get_or-word_bits ws n i false, holds.counted, zeros_past ws (limb_count (n + k) - length ws) i, holds.padded i, get_or-append_right (word_bits ws n) rest n i false, same_default k (i - n) false);
     }
 
 -- the same, as a list of words that was resized

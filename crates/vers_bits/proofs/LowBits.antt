@@ -62,7 +62,4 @@ low_bits_none v = refl
 pub low_mask : (w n : ℕ) → n ≤ 64 → bit_and w (18446744073709551615 / 2 ^ (64 - n)) ≡ w % 2 ^ n
 low_mask w n h = let width : 64 - (64 - n) ≡ n = omega arith in rw (ones_shr 64 (64 - n) (omega arith), width) (and_mask w n)
 
-pub rest_below : (w n : ℕ) → w % 2 ^ n < 2 ^ n
-rest_below w n = mod_below w (2 ^ n) (pow_pos n)
-
-pub ruleset masks = (low_mask, rest_below)
+pub ruleset masks = (low_mask, mod_below, pow_pos)

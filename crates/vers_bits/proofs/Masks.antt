@@ -1,5 +1,5 @@
 -- Masked lists, place by place and limb by limb.
-use Rattle.vers_bits.proofs.Names.{◌≡◌, ℕ, ◌+◌, ◌-◌, ◌*◌, ◌/◌, ◌%◌, ◌^◌, ◌<◌, ◌≤◌, Bool, false, eqb, List, Some, None, min, length, get_or, set, take, drop, sym, ◌∙◌, ap, inl, inr, arith, bit_at, bit_and, count_ones, cases_lt, cases_eq, ones-le, bit_at-lt, shr_and_one, same_from_bits, slice_get-get_or, slice_get_past, get_or-take, get_or-drop, get_or_past, get_or-set_same, get_or-set_other, length-take, length-drop, length-map-range_with_len, get_or-map-range_with_len, bit_value, word_bits, CutsTo, slice_get, limb, masked}
+use Rattle.vers_bits.proofs.Names.{◌≡◌, ℕ, ◌+◌, ◌-◌, ◌*◌, ◌/◌, ◌%◌, ◌^◌, ◌<◌, ◌≤◌, Bool, false, eqb, List, Some, None, min, length, get_or, set, take, drop, arith, bit_at, bit_and, count_ones, cases_lt, cases_eq, ones-le, bit_at-lt, shr_and_one, same_from_bits, slice_get-get_or, slice_get_past, get_or-take, get_or-drop, get_or_past, get_or-set_same, get_or-set_other, length-take, length-drop, length-map-range_with_len, get_or-map-range_with_len, bit_value, word_bits, CutsTo, slice_get, limb, masked}
 use Rattle.vers_bits.proofs.Words.{word_bits_are}
 use Rattle.vers_bits.proofs.Edits.{cut_holds}
 use Rattle.vers_bits.proofs.Num.{bit_at-number}
@@ -34,14 +34,9 @@ limb-masked g l r k =
     let w : ℕ = g (limb l k) (limb r k) in
     let bits : List Bool = take 64 (drop (64 * k) (masked g l r)) in
     same_from_bits _ (w % 2 ^ m) (λ i.
-    bit_at-number bits i ∙ elim (cases_lt i m) [
-      | inl h ↦
-          let word : (64 * k + i) / 64 ≡ k = omega arith in
-          let place : (64 * k + i) % 64 ≡ i = omega arith in
-          let at = get_or-masked g l r (64 * k + i) (omega arith) in
-          rw (get_or-take 64 (drop (64 * k) (masked g l r)) i false (omega arith), get_or-drop, at, word, place) (bit_value_test (bit_at w i) (bit_at-lt w i) ∙ sym (bit_at_mod w m i h))
-      | inr h ↦ ap bit_value (get_or_past bits i false (omega (arith, length-take 64 (drop (64 * k) (masked g l r)), length-drop (64 * k) (masked g l r), length-masked g l r))) ∙ sym (bit_at_mod_above w m i h)
-    ])
+    let place : i < 64 → ((64 * k + i) / 64 ≡ k) × ((64 * k + i) % 64 ≡ i) = λ h. omega arith in
+    let rest = drop (64 * k) (masked g l r) in
+    grind (arith, place, bit_at-number bits i, cases_lt i m, get_or-take 64 rest i false, get_or-drop (64 * k) (masked g l r) i false, get_or-masked g l r (64 * k + i), bit_value_test (bit_at w i), bit_at-lt w i, bit_at_mod w m i, get_or_past bits i false, length-take 64 rest, length-drop (64 * k) (masked g l r), length-masked g l r, bit_at_mod_above w m i))
 
 -- at most as many ones as the limb has bits of the list
 pub few_ones : (w n : ℕ) → w < 2 ^ min n 64 → (count_ones w ≤ 64) × (count_ones w ≤ n)

@@ -2,7 +2,7 @@
 use Rattle.vers_bits.proofs.Names.{◌≡◌, ℕ, zero, suc, ◌+◌, ◌-◌, ◌<◌, ◌≤◌, Bool, true, false, List, [], ◌∷◌, length, get_or, refl, ◌∙◌, arith, inl, inr, Option, Some, None, nat_lt, filter, find, last_or, cases_lt, lt-ltb, le-ltb, get_or_default, slice_get-get_or, slice_get_past, count, places, false_from_ne_true, slice_get, select, place_after, place_before}
 use Rattle.vers_bits.proofs.Count.{count_le_all, count_up, count_past}
 use Rattle.vers_bits.specs.Laws.{IsNextPlace, NoneUpToNeighbour, NoneDownToNeighbour}
-use Rattle.vers_bits.proofs.Places.{length-places, IsPlace, select_is_place, select_past, select_below, select_not_below, count_more_yes}
+use Rattle.vers_bits.proofs.Places.{length-places, select_is_place, select_past, select_below, select_not_below, count_more_yes}
 
 -- the first item that passes, in a list whose items pass from number k on
 pub find_is : (p : ℕ → Bool) (s : List ℕ) (k : ℕ) → k ≤ length s → ((i : ℕ) → i < k → p (get_or s i 0) ≡ false) → (k < length s → p (get_or s k 0) ≡ true) → find p s ≡ slice_get s k
@@ -44,9 +44,6 @@ module _ (b : Bool) (l : List Bool) where
   pub place_after_none : (p : ℕ) → count b l (length l) ≤ count b l (p + 1) → place_after b l p ≡ None
   place_after_none p h = after_is p ∙ slice_get_past (places b l) (count b l (p + 1)) (omega (arith, length-places b l))
 
-  pub place_after_past : (p : ℕ) → length l ≤ p → place_after b l p ≡ None
-  place_after_past p h = place_after_none p (omega (arith, count_past b l (p + 1) (omega arith)))
-
   -- the neighbour below is number count p - 1, where there is one
   pub place_before_some : (p : ℕ) → 0 < count b l p → place_before b l p ≡ Some (select b l (count b l p - 1))
   unfolding place_before
@@ -76,9 +73,8 @@ next_place b l i within =
 pub none_up : NoneUpToNeighbour
 none_up b l p = elim (cases_lt (count b l (p + 1)) (count b l (length l))) [
   | inl some ↦
-      let at : IsPlace b l (count b l (p + 1)) (select b l (count b l (p + 1))) = select_is_place b l (count b l (p + 1)) some in
-      let inside : p + 1 ≤ length l = grind (arith, count_past b l (p + 1)) in
-      let next : IsNextPlace b l (p + 1) (select b l (count b l (p + 1))) = next_place b l (p + 1) inside in
+      let at = select_is_place b l (count b l (p + 1)) some in
+      let next = next_place b l (p + 1) (grind (arith, count_past b l (p + 1))) in
       rw (place_after_some b l p some) (omega (arith, next.from), (at.within, at.holds), next.none_between)
   | inr none ↦
       rw (place_after_none b l p none) (λ q h k. false_from_ne_true _ (λ on. grind (arith, count_more_yes b l q, count_up b l (p + 1) q h, count_le_all b l (q + 1))))
@@ -87,8 +83,7 @@ none_up b l p = elim (cases_lt (count b l (p + 1)) (count b l (length l))) [
 pub none_down : NoneDownToNeighbour
 none_down b l p = elim (cases_lt 0 (count b l p)) [
   | inl some ↦
-      let few : count b l p - 1 < count b l (length l) = omega (arith, count_le_all b l p) in
-      let at : IsPlace b l (count b l p - 1) (select b l (count b l p - 1)) = select_is_place b l (count b l p - 1) few in
+      let at = select_is_place b l (count b l p - 1) (omega (arith, count_le_all b l p)) in
       let more = count_more_yes b l (select b l (count b l p - 1)) at.within at.holds in
       rw (place_before_some b l p some) (
         select_below b l (count b l p - 1) p (omega arith),

@@ -12,13 +12,6 @@ number_half b l = grind arith
 pub bit_value_le : (b : Bool) → bit_value b ≤ 1
 bit_value_le b = grind arith
 
--- the value of a bit tells it
-pub value_none : (x : Bool) → bit_value x ≡ 0 → x ≡ false
-value_none x e = grind arith
-
-pub value_one : (x : Bool) → bit_value x ≡ 1 → x ≡ true
-value_one x e = grind arith
-
 pub number-lt : (l : List Bool) → number l < 2 ^ length l
 number-lt [] = omega arith
 number-lt (b ∷ l) = search (rules, bit_value_le, pow-suc, number-lt l)

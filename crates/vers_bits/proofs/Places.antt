@@ -96,16 +96,3 @@ select_below b l r p h = grind (arith, select_is_place, count_le_all, count_up)
 -- number r stands at or above p where at most r places below p hold the bit
 pub select_not_below : (b : Bool) (l : List Bool) (r p : ℕ) → r < count b l (length l) → count b l p ≤ r → p ≤ select b l r
 select_not_below b l r p some h = grind (arith, count_at_select, count_up)
-
-pub select_up : (b : Bool) (l : List Bool) (r q : ℕ) → r < q → q < count b l (length l) → select b l r < select b l q
-select_up b l r q h some = select_below b l r (select b l q) (omega (arith, (count_at_select b l q some).1))
-
--- number r of the first n places stands there, holds the bit, and r stand before it
-pub select_holds : (b : Bool) (l : List Bool) (r n : ℕ) → n ≤ length l → r < count b l n
-    → (select b l r < n) × (is_bit b (get_or l (select b l r) false) ≡ true) × (count b l (select b l r) ≡ r)
-select_holds b l r n h few = grind (arith, few, select_is_place, count_le_all, select_below)
-
--- ---- longer lists
-
-pub select_finds_number : (b : Bool) (l : List Bool) (r : ℕ) → r < count b l (length l) → (count b l (select b l r) ≡ r) × (is_bit b (get_or l (select b l r) false) ≡ true)
-select_finds_number b l r some = let at = select_is_place b l r some in (at.before, at.holds)

@@ -1,5 +1,5 @@
 -- The laws that proofs of other crates may cite. A crate above imports this file and no other of this folder.
-use Rattle.vers_bits.proofs.Names.{◌≡◌, ℕ, ◌+◌, ◌-◌, ◌*◌, ◌%◌, ◌/◌, ◌^◌, ◌<◌, ◌≤◌, min, suc, Bool, true, false, eqb, ltb, List, ◌++◌, length, map, take, drop, get_or, slice_get, Option, None, Some, bool_byte, count_ones, filter, find, flat_map, YieldsFirst, YieldsLast, MakesProgress, item_count, bit_at, count_leading_zeros, AllPairs, count_by, last_or, get_or_default, bit_value, number, low_bits, pack, is_bit, count, places, select, place_after, place_before, limb, limbs, limb_count, Span, TakesNth, TakesNthBack, TakesFirst, TakesLast, items_in}
+use Rattle.vers_bits.proofs.Names.{arith, ◌≡◌, ℕ, ◌+◌, ◌-◌, ◌*◌, ◌%◌, ◌/◌, ◌^◌, ◌<◌, ◌≤◌, min, suc, Bool, true, false, eqb, ltb, List, ◌++◌, length, map, take, drop, get_or, slice_get, Option, None, Some, bool_byte, count_ones, filter, find, flat_map, YieldsFirst, YieldsLast, MakesProgress, item_count, bit_at, count_leading_zeros, AllPairs, count_by, last_or, get_or_default, bit_value, number, low_bits, pack, is_bit, count, places, select, place_after, place_before, limb, limbs, limb_count, Span, TakesNth, TakesNthBack, TakesFirst, TakesLast, items_in}
 -- `IsPlace bit bits r p`: place p is number r of those that hold the bit
 pub use Rattle.vers_bits.proofs.Places.{IsPlace}
 use Rattle.vers_bits.proofs.Num as Num
@@ -91,12 +91,12 @@ select_not_below = Places.select_not_below
 
 -- a greater number stands at a later place
 pub select_up : (bit : Bool) (bits : List Bool) (r q : ℕ) → r < q → q < count bit bits (length bits) → select bit bits r < select bit bits q
-select_up = Places.select_up
+select_up bit bits r q h some = grind (arith, select_below, count_at_select)
 
 -- number r of the first n places stands there, holds the bit, and r stand before it
 pub select_holds : (bit : Bool) (bits : List Bool) (r n : ℕ) → n ≤ length bits → r < count bit bits n
     → (select bit bits r < n) × (is_bit bit (get_or bits (select bit bits r) false) ≡ true) × (count bit bits (select bit bits r) ≡ r)
-select_holds = Places.select_holds
+select_holds bit bits r n h few = grind (arith, few, select_is_place, count_le_all, select_below)
 
 -- ---- neighbours
 
@@ -109,7 +109,7 @@ place_after_none = Neighbours.place_after_none
 
 -- there is none above a place past the end
 pub place_after_past : (bit : Bool) (bits : List Bool) (p : ℕ) → length bits ≤ p → place_after bit bits p ≡ None
-place_after_past = Neighbours.place_after_past
+place_after_past bit bits p h = place_after_none bit bits p (omega (arith, count_past bit bits (p + 1) (omega arith)))
 
 -- the neighbour below p is the last of those that `count p` counts, where it counts some
 pub place_before_some : (bit : Bool) (bits : List Bool) (p : ℕ) → 0 < count bit bits p → place_before bit bits p ≡ Some (select bit bits (count bit bits p - 1))
@@ -239,10 +239,10 @@ pub bit_value_le : (b : Bool) → bit_value b ≤ 1
 bit_value_le = Num.bit_value_le
 
 pub value_none : (x : Bool) → bit_value x ≡ 0 → x ≡ false
-value_none = Num.value_none
+value_none x e = grind arith
 
 pub value_one : (x : Bool) → bit_value x ≡ 1 → x ≡ true
-value_one = Num.value_one
+value_one x e = grind arith
 
 pub bit_value_test : (m : ℕ) → m < 2 → bit_value (eqb m 1) ≡ m
 bit_value_test = LowBits.bit_value_test

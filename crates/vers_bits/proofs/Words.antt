@@ -1,8 +1,8 @@
 -- The bits that words hold.
-use Rattle.vers_bits.proofs.Names.{◌≡◌, ℕ, ◌+◌, ◌*◌, ◌/◌, ◌%◌, ◌^◌, ◌<◌, ◌≤◌, Bool, false, List, [], ◌∷◌, ◌++◌, length, take, drop, get_or, set, refl, sym, ap, ◌∙◌, arith, eqb, Some, None, inl, inr, bit_at, bit_and, cases_lt, bool_byte, pow-le-pow_right, bit_at-lt, bit_at-zero, bit_at_lowest, shr_and_one, same_from_bits_below, bit_at_above, ext_get_or, get_or-take, get_or-drop, get_or_past, get_or_push, get_or_append_left, get_or-set_same, get_or-set_other, length_push, length-take, length-map-range_with_len, get_or-map-range_with_len, take-map-range_with_len, map-range_with_len_more, slice_get-get_or, slice_get_past, bit_value, word_bit, HoldsBits, AddsBit, rules, slice_get, option_map, limb, word_bits}
-use Rattle.vers_bits.proofs.Num.{number-lt, bit_at-number, bit_value_le}
+use Rattle.vers_bits.proofs.Names.{◌≡◌, ℕ, ◌+◌, ◌*◌, ◌/◌, ◌%◌, ◌^◌, ◌<◌, ◌≤◌, Bool, false, List, [], ◌∷◌, ◌++◌, length, take, drop, get_or, set, refl, sym, ap, ◌∙◌, arith, eqb, Some, None, bit_at, bit_and, cases_lt, bool_byte, bit_at-lt, bit_at-zero, bit_at_lowest, shr_and_one, same_from_bits_below, bit_at_above, ext_get_or, get_or-take, get_or-drop, get_or_past, get_or_push, get_or_append_left, get_or-set_same, get_or-set_other, length_push, length-take, length-map-range_with_len, get_or-map-range_with_len, take-map-range_with_len, map-range_with_len_more, slice_get-get_or, slice_get_past, bit_value, word_bit, HoldsBits, AddsBit, rules, slice_get, option_map, limb, word_bits}
+use Rattle.vers_bits.proofs.Num.{bit_at-number, bit_value_le}
 use Rattle.vers_bits.proofs.LowBits.{bit_value_test}
-use Rattle.vers_bits.proofs.Gather.{le_trans_lt}
+use Rattle.vers_bits.proofs.Gather.{number_below}
 
 pub length-word_bits : (ws : List ℕ) (n : ℕ) → length (word_bits ws n) ≡ n
 unfolding word_bits
@@ -61,7 +61,7 @@ bit_of_limb ws n k i holds small =
 
 pub limb-lt : (l : List Bool) (k : ℕ) → limb l k < 2 ^ 64
 unfolding limb
-limb-lt l k = le_trans_lt (number-lt (take 64 (drop (64 * k) l))) (pow-le-pow_right {n = 2} (omega arith) {i = length (take 64 (drop (64 * k) l))} {j = 64} (omega (arith, length-take 64 (drop (64 * k) l))))
+limb-lt l k = number_below (take 64 (drop (64 * k) l)) 64 (omega (arith, length-take 64 (drop (64 * k) l)))
 
 pub limb-word_bits : (ws : List ℕ) (n k : ℕ) → HoldsBits ws n → get_or ws k 0 < 2 ^ 64 → limb (word_bits ws n) k ≡ get_or ws k 0
 limb-word_bits ws n k holds fits = search (rules, same_from_bits_below, limb-lt, bit_of_limb)
@@ -81,9 +81,6 @@ added_bits {ws} {vs} {n} {b} adds =
 pub added_holds : {ws vs : List ℕ} {n : ℕ} {b : Bool} → AddsBit ws vs n b → HoldsBits ws n → n < 18446744073709551552 → HoldsBits vs (n + 1)
 added_holds {ws} {vs} {n} {b} adds holds small = grind arith
 
-bit_value_lowest : (b : Bool) → eqb (bit_value b % 2) 1 ≡ b
-bit_value_lowest b = grind arith
-
 -- by a new word
 adds_by_number : (ws : List ℕ) (n : ℕ) (b : Bool) → HoldsBits ws n → n % 64 ≡ 0 → AddsBit ws (ws ++ bit_value b ∷ []) n b
 adds_by_number ws n b holds whole =
@@ -91,17 +88,8 @@ adds_by_number ws n b holds whole =
       counted = omega (arith, length_push ws (bit_value b));
       here =
           let word : n / 64 ≡ length ws = omega arith in
-          rw (whole, word, get_or_push ws (bit_value b) 0 (length ws) refl, bit_at_lowest) (bit_value_lowest b);
-      others = λ i other. elim (cases_lt i n) [
-        | inl below ↦ grind (arith, get_or_append_left)
-        | inr above ↦ elim (cases_lt i (n + 64)) [
-          | inl same_word ↦
-              let word : length ws ≡ i / 64 = omega arith in
-              let none : bit_at (bit_value b) (i % 64) ≡ 0 = bit_at_above (bit_value b) 1 (i % 64) (omega (arith, bit_value_le b)) (omega arith) in
-              rw (get_or_push ws (bit_value b) 0 (i / 64) word, none) (sym (past_words ws i (omega arith)))
-          | inr past ↦ grind (arith, past_words, length_push)
-        ]
-      ];
+          rw (whole, word, get_or_push ws (bit_value b) 0 (length ws) refl, bit_at_lowest) (grind arith);
+      others = λ i other. grind (arith, cases_lt i n, cases_lt i (n + 64), get_or_append_left ws (bit_value b ∷ []) 0 (i / 64), bit_at_above (bit_value b) 1 (i % 64), bit_value_le b, get_or_push ws (bit_value b) 0 (i / 64), past_words ws i, past_words (ws ++ bit_value b ∷ []) i, length_push ws (bit_value b));
     }
 
 pub adds_by_push : (ws vs : List ℕ) (n : ℕ) (b : Bool) → HoldsBits ws n → n % 64 ≡ 0 → vs ≡ ws ++ bool_byte b ∷ [] → AddsBit ws vs n b

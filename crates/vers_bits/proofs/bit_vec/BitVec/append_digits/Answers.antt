@@ -1,4 +1,4 @@
-use Rattle.vers_bits.proofs.Names.{◌++◌, ◌-◌, ◌∙◌, false, length, replicate, ap, arith, length-append, low_bits, ◌+◌, ◌≡◌, append_assoc}
+use Rattle.vers_bits.proofs.Names.{◌++◌, ◌-◌, ◌∙◌, false, replicate, ap, arith, length-append, low_bits, ◌+◌, ◌≡◌, append_assoc}
 use Rattle.vers_bits.proofs.LowBits.{length-low_bits, low_bits_past}
 use Rattle.vers_bits.proofs.bit_vec.BitVec.append_digits.Goals as goal
 

@@ -1,4 +1,4 @@
-use Rattle.vers_bits.proofs.Names.{◌≡◌, length, map, Err, ap, ◌∙◌, arith, err_from_is_err_and, length-append, length-map, length-take, TooLong}
+use Rattle.vers_bits.proofs.Names.{◌≡◌, length, map, Err, ap, arith, err_from_is_err_and, length-append, length-map, length-take, TooLong}
 use Rattle.vers_bits.proofs.Gather.{limb_gathered}
 use Rattle.vers_bits.proofs.bit_vec.BitVec.odd_items.Goals as goal
 

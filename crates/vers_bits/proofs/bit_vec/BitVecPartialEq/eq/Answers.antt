@@ -1,4 +1,4 @@
-use Rattle.vers_bits.proofs.Names.{◌∙◌, ap, length, arith, same_bits-Decides}
+use Rattle.vers_bits.proofs.Names.{arith, same_bits-Decides}
 use Rattle.vers_bits.proofs.Equal.{length-limbs, same_limbs}
 use Rattle.vers_bits.proofs.bit_vec.BitVecPartialEq.eq.Goals as goal
 

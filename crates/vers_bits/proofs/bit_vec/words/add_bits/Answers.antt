@@ -1,4 +1,4 @@
-use Rattle.vers_bits.proofs.Names.{◌∷◌, [], ◌<◌, ◌-◌, ◌/◌, ◌%◌, ◌^◌, length, arith, get_or_append_left, on_ok_weaker}
+use Rattle.vers_bits.proofs.Names.{◌∷◌, [], ◌<◌, ◌-◌, ◌/◌, ◌%◌, ◌^◌, length, arith, get_or_append_left}
 use Rattle.vers_bits.proofs.Holds.{added_across, added_word}
 use Rattle.vers_bits.proofs.bit_vec.words.add_bits.Goals as goal
 

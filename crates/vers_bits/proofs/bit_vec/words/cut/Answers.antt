@@ -1,4 +1,4 @@
-use Rattle.vers_bits.proofs.Names.{◌≡◌, ◌∙◌, ◌<◌, ◌/◌, ◌%◌, ◌^◌, length, get_or, take, ap, arith, get_or_read, length-take, limb_count}
+use Rattle.vers_bits.proofs.Names.{◌≡◌, ◌∙◌, ◌<◌, ◌/◌, length, take, ap, arith, get_or_read, length-take, limb_count}
 use Rattle.vers_bits.proofs.Edits.{cut_whole, cut_part}
 use Rattle.vers_bits.proofs.bit_vec.words.cut.Goals as goal
 
@@ -15,6 +15,4 @@ returns g c =
     let words = c.args.words.now.items in
     let front : c.truncate.new.self.items ≡ take (limb_count n) words = c.truncate.ensures.items ∙ ap (λ k. take k words) (omega arith) in
     let within : n / 64 < length c.truncate.new.self.items = rw front (omega (arith, c.requires, length-take (limb_count n) words)) in
-    let last : c.low_part.result ≡ get_or c.truncate.new.self.items (n / 64) 0 % 2 ^ (n % 64) =
-    c.low_part.ensures.value ∙ ap (λ w. w % 2 ^ (n % 64)) (get_or_read _ _ _ within c.index-last.ensures 0) in
-    rw (last, front) (cut_part words n c.requires (omega arith))
+    rw (c.low_part.ensures.value, get_or_read _ _ _ within c.index-last.ensures 0, front) (cut_part words n c.requires (omega arith))
