@@ -1,10 +1,6 @@
 -- The bounds of batches.
 use Rattle.vers_sorted.proofs.Names.{◌≡◌, ℕ, ◌+◌, List, length, arith, IsWithin, plus, times, only_low_parts, digits, high_length, member_reads, search_reads, reads, select_reads, superblock_count}
 
--- selects of members, and their low parts
-pub group_reads : (k n : ℕ) (s : List ℕ) → k ≡ n → IsWithin (plus (times k (select_reads (superblock_count (high_length s)))) (times n (only_low_parts 1))) (times n (member_reads s))
-group_reads k n s e = rw e (grind arith)
-
 -- and the search after it
 pub rank_reads : (k n : ℕ) (s : List ℕ) → k ≡ n → IsWithin (plus (times k (reads 1 3 (high_length s))) (times n (only_low_parts (digits (length s) + 4)))) (times n (search_reads s))
 rank_reads k n s e = rw e (grind arith)

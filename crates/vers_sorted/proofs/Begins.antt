@@ -1,6 +1,5 @@
 -- What searches begin with.
-use Rattle.std.proofs.Common.{◌≢◌, below_more}
-use Rattle.vers_sorted.proofs.Names.{◌≡◌, ℕ, ◌+◌, ◌-◌, ◌<◌, ◌≤◌, false, List, length, arith, set, slice_index, IsNonDecreasing, get_or-set_other, get_or-set_same, select, first_of, last_of, high_of, high_parts, IsInside, IsBegun}
+use Rattle.vers_sorted.proofs.Names.{◌≡◌, ℕ, ◌+◌, ◌-◌, ◌<◌, ◌≤◌, false, List, length, arith, set, slice_index, IsNonDecreasing, get_or-set_other, get_or-set_same, select, first_of, last_of, high_of, high_parts, IsInside, IsBegun, ◌≢◌, below_more}
 use Rattle.vers_sorted.proofs.Buckets.{start_at}
 use Rattle.vers_sorted.proofs.Makes.{last_none}
 use Rattle.vers_sorted.proofs.Split.{high_up}

@@ -1,6 +1,5 @@
 -- The ones beside a place, by the number of the bits there, and the members beside a bucket.
-use Rattle.vers_sorted.proofs.Names.{◌≡◌, ℕ, ◌+◌, ◌-◌, ◌<◌, ◌≤◌, Bool, true, false, List, length, take, drop, get_or, sym, ap, ◌∙◌, arith, Some, w64, bit_at, trailing_zeros, IsNonDecreasing, number, count, select, highest_bit, select_at, count_at_select, count_both, count_more_yes, part_bit, value_none, value_one, part_number_or_zero, first_of, last_of, high_of, high_parts, IsPacked, IsStart, IsBucket, Bucket}
-use Rattle.std.specs.Int.Count.{count_leading_zeros}
+use Rattle.vers_sorted.proofs.Names.{◌≡◌, ℕ, ◌+◌, ◌-◌, ◌<◌, ◌≤◌, Bool, true, false, List, length, take, drop, get_or, sym, ap, ◌∙◌, arith, Some, w64, bit_at, trailing_zeros, IsNonDecreasing, number, count, select, highest_bit, select_at, count_at_select, count_both, count_more_yes, part_bit, value_none, value_one, part_number_or_zero, first_of, last_of, high_of, high_parts, IsPacked, IsStart, IsBucket, Bucket, count_leading_zeros}
 use Rattle.vers_sorted.proofs.Scans.{part_read, count_stays}
 use Rattle.vers_sorted.proofs.Aheads.{small, lowest}
 use Rattle.vers_sorted.proofs.Packed.{high_same}

@@ -1,7 +1,6 @@
 -- The items of the iterators over the members.
-use Rattle.vers_sorted.proofs.Names.{◌≡◌, ℕ, ◌-◌, ◌<◌, List, length, drop, sym, ap, ◌∙◌, Some, slice_get, slice_index, IsNonDecreasing, IsNonDecreasingBy-take, IsNonDecreasingBy-drop, slice_get-get_or}
+use Rattle.vers_sorted.proofs.Names.{◌≡◌, ℕ, ◌-◌, ◌<◌, List, length, drop, sym, ap, ◌∙◌, Some, slice_get, slice_index, IsNonDecreasing, IsNonDecreasingBy-take, IsNonDecreasingBy-drop, slice_get-get_or, items_in}
 use Rattle.vers_bits.specs.declared.walk.Span.{Span}
-use Rattle.vers_bits.specs.Walk.{items_in}
 
 pub member_item : (s : List ℕ) (i x : ℕ) → i < length s → x ≡ slice_index s i → slice_get s i ≡ Some x
 member_item s i x h is = slice_get-get_or s i 0 h ∙ ap (λ m. Some m) (sym is)

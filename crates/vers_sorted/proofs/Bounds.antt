@@ -1,6 +1,5 @@
 -- The bounds of the queries.
-use Rattle.vers_tally.specs.Reads.{Reads}
-use Rattle.vers_sorted.proofs.Names.{ℕ, ◌+◌, ◌*◌, ◌≤◌, List, length, arith, mul-le-mul_left, mul_comm, AddsAtMost, reads, only_low_parts, digits, high_length, search_reads, adds_then}
+use Rattle.vers_sorted.proofs.Names.{ℕ, ◌+◌, ◌*◌, ◌≤◌, List, length, arith, mul-le-mul_left, mul_comm, AddsAtMost, reads, only_low_parts, digits, high_length, search_reads, adds_then, Reads}
 
 -- a row that allows 8 calls and more has room for 4
 pub few_calls : (d x : ℕ) → 4 * x ≤ (d + 8) * x

@@ -1,7 +1,5 @@
 -- Where the members with one high part begin and end.
-use Rattle.vers_sorted.proofs.Names.{◌≡◌, ℕ, ◌+◌, ◌-◌, ◌*◌, ◌/◌, ◌%◌, ◌^◌, ◌<◌, ◌≤◌, Bool, true, false, List, length, refl, ap, ◌∙◌, arith, inl, inr, slice_index, bit_and, IsNonDecreasing, and_mask, one_shl, cases_lt, count, select, count_both, count_up, count_at_select, select_below, select_not_below, digits, digits_halved, digits_up, below, first_of, last_of, low_width, high_place, high_parts, IsPacked, IsStart, IsBucket, Bucket}
-use Rattle.vers_sorted.specs.inside.Buckets.{IsBetween}
-use Rattle.vers_sorted.specs.Layout.{high_of, low_of}
+use Rattle.vers_sorted.proofs.Names.{◌≡◌, ℕ, ◌+◌, ◌-◌, ◌*◌, ◌/◌, ◌%◌, ◌^◌, ◌<◌, ◌≤◌, Bool, true, false, List, length, refl, ap, ◌∙◌, arith, inl, inr, slice_index, bit_and, IsNonDecreasing, and_mask, one_shl, cases_lt, count, select, count_both, count_up, count_at_select, select_below, select_not_below, digits, digits_halved, digits_up, below, first_of, last_of, low_width, high_place, high_parts, IsPacked, IsStart, IsBucket, Bucket, IsBetween, high_of, low_of}
 use Rattle.vers_sorted.proofs.Below.{below_le, below_from, below_to, below_before, below_after}
 use Rattle.vers_sorted.proofs.Split.{parts_sum, high_up, member_from, high_zeros}
 use Rattle.vers_sorted.proofs.Holds.{hold_high}

@@ -1,7 +1,6 @@
 -- Low parts that are gathered in a word before they are appended.
-use Rattle.vers_sorted.proofs.Names.{◌≡◌, ℕ, ◌+◌, ◌-◌, ◌*◌, ◌/◌, ◌%◌, ◌^◌, ◌<◌, ◌≤◌, Bool, List, [], ◌++◌, length, sym, ap, ◌∙◌, append_assoc, arith, bit_and, bit_or, mul-mod_left, pow-le-pow_right, length-append, and_mask, div-mul-add, mod-mul-add, mod-pow-add, mod_below, mod_low, one_shl, or_lt, pow_pos, shl-shr, shl_below, shl_whole, shr_below, length-low_bits, low_bits-add, low_bits_of_rest}
+use Rattle.vers_sorted.proofs.Names.{◌≡◌, ℕ, ◌+◌, ◌-◌, ◌*◌, ◌/◌, ◌%◌, ◌^◌, ◌<◌, ◌≤◌, Bool, List, [], ◌++◌, length, sym, ap, ◌∙◌, append_assoc, arith, bit_and, bit_or, mul-mod_left, pow-le-pow_right, length-append, and_mask, div-mul-add, mod-mul-add, mod-pow-add, mod_below, mod_low, one_shl, or_lt, pow_pos, shl-shr, shl_below, shl_whole, shr_below, length-low_bits, low_bits-add, low_bits_of_rest, low_bits}
 use Rattle.std.specs.Int.Bits.{or_shifted_r}
-use Rattle.vers_bits.specs.Bits.{low_bits}
 
 -- the lowest digits of the lowest digits
 rest_of_rest : (v k m : ℕ) → m ≤ k → v % 2 ^ k % 2 ^ m ≡ v % 2 ^ m
@@ -21,8 +20,7 @@ shifted part n few =
 -- its digits are those of both, as many as fit
 digits_of_both : (word part n m : ℕ) → n ≤ 64 → word < 2 ^ n → m ≤ 64 - n
     → low_bits (bit_or word (part * 2 ^ n % 18446744073709551616)) (n + m) ≡ low_bits word n ++ low_bits part m
-digits_of_both word part n m few small fits =
-    grind (arith, low_bits_of_rest, mod-mul-add, div-mul-add, first_digits, shifted, or_shifted_r, low_bits-add)
+digits_of_both word part n m few small fits = grind (arith, word, part, few, small, fits, low_bits_of_rest, mod-mul-add, div-mul-add, first_digits, shifted, or_shifted_r, low_bits-add)
 
 -- a part that fits stays in the word
 pub stays_small : (word part n w : ℕ) → word < 2 ^ n → part < 2 ^ w → n + w ≤ 64 → bit_or word (part * 2 ^ n % 18446744073709551616) < 2 ^ (n + w)

@@ -1,8 +1,5 @@
 -- What the high and low parts of an ascending list say of its members.
-use Rattle.vers_sorted.proofs.Names.{◌≡◌, ℕ, ◌-◌, ◌*◌, ◌^◌, ◌<◌, true, List, length, take, drop, ap, ◌∙◌, arith, slice_index, map, range_with_len, IsNonDecreasing, IsStrictlyIncreasing, mul_comm, same_number_lists, length-map, get_or-map, length-map-range_with_len, get_or-map-range_with_len, low_bits, pack, select, number-low_bits, length-packed, first_of, low_width, high_of, high_length, high_place, member, HoldHigh, HoldLow}
-use Rattle.vers_bits.proofs.PublicLaws.{element}
-use Rattle.vers_sorted.specs.Layout.{low_of, high_parts, low_parts}
-use Rattle.vers_sorted.specs.inside.Parts.{members}
+use Rattle.vers_sorted.proofs.Names.{◌≡◌, ℕ, ◌-◌, ◌*◌, ◌^◌, ◌<◌, true, List, length, take, drop, ap, ◌∙◌, arith, slice_index, map, range_with_len, IsNonDecreasing, IsStrictlyIncreasing, mul_comm, same_number_lists, length-map, get_or-map, length-map-range_with_len, get_or-map-range_with_len, low_bits, pack, select, number-low_bits, length-packed, first_of, low_width, high_of, high_length, high_place, member, HoldHigh, HoldLow, element, low_of, high_parts, low_parts, members}
 use Rattle.vers_sorted.proofs.Ones.{length-ones_at, select-ones_at, all_ones}
 use Rattle.vers_sorted.proofs.Split.{parts_sum, high_up, member_from, high_zeros}
 
@@ -29,8 +26,7 @@ length-high_parts s = length-ones_at (places_of s) (high_length s)
 
 pub hold_high : (s : List ℕ) → IsNonDecreasing s → HoldHigh s (high_parts s)
 unfolding high_parts
-hold_high s up =
-    grind (arith, all_ones, places_of-rise, length-places_of, place_of, place_within, length-high_parts, select-ones_at)
+hold_high s up = grind (arith, all_ones, places_of-rise, length-places_of, place_of, place_within, length-high_parts, select-ones_at)
 
 -- ---- the low parts
 

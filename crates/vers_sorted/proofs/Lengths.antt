@@ -1,6 +1,5 @@
 -- How many bits the high and the low parts have at most.
-use Rattle.vers_sorted.proofs.Names.{◌≡◌, ℕ, zero, suc, ◌+◌, ◌-◌, ◌*◌, ◌^◌, ◌<◌, ◌≤◌, List, length, ap, arith, max, inl, inr, div-le_of_le-mul, mul-le-mul_left, mul_comm, pow-le-pow_right, cases_lt, pow-add, clog, first_of, last_of, width, high_length, high_parts, clog_most, clog_least, clog_is_least}
-use Rattle.vers_sorted.specs.Layout.{low_width, high_of}
+use Rattle.vers_sorted.proofs.Names.{◌≡◌, ℕ, zero, suc, ◌+◌, ◌-◌, ◌*◌, ◌^◌, ◌<◌, ◌≤◌, List, length, ap, arith, max, inl, inr, div-le_of_le-mul, mul-le-mul_left, mul_comm, pow-le-pow_right, cases_lt, pow-add, clog, first_of, last_of, width, high_length, high_parts, clog_most, clog_least, clog_is_least, low_width, high_of}
 use Rattle.vers_sorted.proofs.Split.{high_none, high_zeros}
 use Rattle.vers_sorted.proofs.Holds.{length-high_parts}
 use Rattle.vers_sorted.proofs.Widths.{width_enough, width_few}

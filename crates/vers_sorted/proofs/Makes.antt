@@ -1,8 +1,5 @@
 -- How high and low parts are made.
-use Rattle.vers_sorted.proofs.Names.{◌≡◌, ◌==◌, ℕ, ◌+◌, ◌-◌, ◌*◌, ◌/◌, ◌^◌, ◌<◌, ◌≤◌, true, false, Bool, List, [], ◌++◌, length, drop, Option, Some, None, unwrap_or, refl, sym, ap, ◌∙◌, arith, set, replicate, mul-le-mul_left, mul_comm, zero-div, slice_index, slice_get, map, if◌then◌else◌, range_with_len, IsNonDecreasing, get_or_past, append-nil, map-append, take_all, take_more, length-map, length-take, length-drop, drop-drop, get_or-drop, slice_get-get_or, slice_get_within, get_or_from_slice_get, map-range_with_len_more, flat_map-append, low_bits, pack, first_of, last_of, width, high_place, get_or-replicate, length-replicate, same_lists}
-use Rattle.vers_bits.specs.Walk.{TakesFirst}
-use Rattle.vers_sorted.specs.Layout.{low_width, high_of, high_length, high_parts, low_parts}
-use Rattle.vers_sorted.specs.inside.Parts.{first_high_parts, first_low_parts}
+use Rattle.vers_sorted.proofs.Names.{◌≡◌, ◌==◌, ℕ, ◌+◌, ◌-◌, ◌*◌, ◌/◌, ◌^◌, ◌<◌, ◌≤◌, true, false, Bool, List, [], ◌++◌, length, drop, Option, Some, None, unwrap_or, refl, sym, ap, ◌∙◌, arith, set, replicate, mul-le-mul_left, mul_comm, zero-div, slice_index, slice_get, map, if◌then◌else◌, range_with_len, IsNonDecreasing, get_or_past, append-nil, map-append, take_all, take_more, length-map, length-take, length-drop, drop-drop, get_or-drop, slice_get-get_or, slice_get_within, get_or_from_slice_get, map-range_with_len_more, flat_map-append, low_bits, pack, first_of, last_of, width, high_place, get_or-replicate, length-replicate, same_lists, TakesFirst, low_width, high_of, high_length, high_parts, low_parts, first_high_parts, first_low_parts}
 use Rattle.vers_sorted.proofs.Ones.{length-ones_at, ones_at_more, get_or-ones_at}
 use Rattle.vers_sorted.proofs.Split.{high_zeros, member_from}
 use Rattle.vers_sorted.proofs.Holds.{place_within, length-pack}

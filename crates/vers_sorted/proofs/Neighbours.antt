@@ -1,6 +1,5 @@
 -- The members next to a number.
-use Rattle.vers_sorted.proofs.Names.{◌≡◌, ℕ, ◌+◌, ◌-◌, ◌<◌, ◌≤◌, Bool, List, length, refl, sym, ap, ◌∙◌, arith, Some, None, slice_index, slice_get, IsNonDecreasing, le-leb, lt-leb, ne_eqb, below, slice_get-get_or, slice_get_past, find_is, none_passing, last_passing_is, IsPacked}
-use Rattle.vers_sorted.specs.Sorted.{greatest_not_above, least_not_below, delta}
+use Rattle.vers_sorted.proofs.Names.{◌≡◌, ℕ, ◌+◌, ◌-◌, ◌<◌, ◌≤◌, Bool, List, length, refl, sym, ap, ◌∙◌, arith, Some, None, slice_index, slice_get, IsNonDecreasing, le-leb, lt-leb, ne_eqb, below, slice_get-get_or, slice_get_past, find_is, none_passing, last_passing_is, IsPacked, greatest_not_above, least_not_below, delta}
 use Rattle.vers_sorted.proofs.Below.{below_le, below_up, below_from, below_to, below_before, below_after, none_below, all_below}
 
 pub succ_is : (s : List ℕ) (v : ℕ) → IsNonDecreasing s → least_not_below s v ≡ slice_get s (below s v)

@@ -1,6 +1,5 @@
 -- What the fields of a packed list say of its members.
-use Rattle.vers_sorted.proofs.Names.{◌≡◌, ℕ, ◌+◌, ◌*◌, ◌%◌, ◌^◌, ◌<◌, ◌≤◌, Bool, true, List, length, take, drop, refl, arith, Some, None, slice_index, slice_get, bit_or, IsNonDecreasing, mul-le-mul_left, mul_comm, mod-eq_of_lt, or_shifted, slice_get-get_or, slice_get_past, length-map-range_with_len, select, number, limb_count, count_both, index_size, first_of, last_of, low_width, high_of, low_of, high_length, high_parts, low_parts, heap_size_of, member, IsPacked}
-use Rattle.vers_sorted.specs.inside.Parts.{members, AreHighParts}
+use Rattle.vers_sorted.proofs.Names.{◌≡◌, ℕ, ◌+◌, ◌*◌, ◌%◌, ◌^◌, ◌<◌, ◌≤◌, Bool, true, List, length, take, drop, refl, arith, Some, None, slice_index, slice_get, bit_or, IsNonDecreasing, mul-le-mul_left, mul_comm, mod-eq_of_lt, or_shifted, slice_get-get_or, slice_get_past, length-map-range_with_len, select, number, limb_count, count_both, index_size, first_of, last_of, low_width, high_of, low_of, high_length, high_parts, low_parts, heap_size_of, member, IsPacked, members, AreHighParts}
 use Rattle.vers_sorted.proofs.Split.{parts_sum, low_below}
 use Rattle.vers_sorted.proofs.Holds.{hold_high, hold_low, packs}
 
@@ -46,8 +45,7 @@ in_order {s} i packed h = grind (arith)
 
 pub joined : {s : List ℕ} {high low : List Bool} {first last width : ℕ} (i : ℕ) → IsPacked s high low first last width → i < length s
     → (first + bit_or (high_of s (slice_index s i) * 2 ^ width % 18446744073709551616) (low_of s (slice_index s i)) ≡ slice_index s i)
-joined {s} {first} {last} {width} i packed h =
-    grind (arith, in_order, packed, parts_sum, mod-eq_of_lt, or_shifted, low_below)
+joined {s} {first} {last} {width} i packed h = grind (arith, first, last, width, packed, in_order, parts_sum, mod-eq_of_lt, or_shifted, low_below)
 
 -- ---- sizes
 

@@ -1,6 +1,5 @@
 -- The queries of a sparse list of bits, by those of the list of its ones' places.
-use Rattle.vers_sorted.proofs.Names.{◌≡◌, ℕ, ◌+◌, ◌-◌, ◌<◌, ◌≤◌, Bool, true, false, List, [], ◌∷◌, ◌++◌, length, take, get_or, eqb, sym, ap, ◌∙◌, arith, min, Some, None, slice_index, slice_get, map, IsNonDecreasing, eq-eqb, ne_eqb, get_or_default, map-id, take_more, take_all, slice_get-get_or, slice_get_past, slice_get_within, get_or_from_slice_get, is_bit, count, places, count_none, count_both, count_past, count_up, select_at, select_past, length-places, count_more_yes, below, least_not_below, ones_at, AreSparse}
-use Rattle.vers_bits.specs.Bits.{select}
+use Rattle.vers_sorted.proofs.Names.{◌≡◌, ℕ, ◌+◌, ◌-◌, ◌<◌, ◌≤◌, Bool, true, false, List, [], ◌∷◌, ◌++◌, length, take, get_or, eqb, sym, ap, ◌∙◌, arith, min, Some, None, slice_index, slice_get, map, IsNonDecreasing, eq-eqb, ne_eqb, get_or_default, map-id, take_more, take_all, slice_get-get_or, slice_get_past, slice_get_within, get_or_from_slice_get, is_bit, count, places, count_none, count_both, count_past, count_up, select_at, select_past, length-places, count_more_yes, below, least_not_below, ones_at, AreSparse, select}
 use Rattle.vers_sorted.proofs.Below.{below_le, below_from, below_to, below_after, all_below}
 use Rattle.vers_sorted.proofs.Neighbours.{succ_is}
 use Rattle.vers_sorted.proofs.Ones.{length-ones_at, get_or-ones_at, member_test, ascends, below_member, count-ones_at, select-ones_at, all_ones, places-ones_at, places_rise, places_within, ones_at-places}
@@ -13,8 +12,7 @@ module _ {s : List ℕ} {n : ℕ} (sparse : AreSparse s n) where
   places_are = places-ones_at s sparse.rising n last_within
 
   pub count_is : (i : ℕ) → count true (ones_at s n) i ≡ below s i
-  count_is i =
-      grind (arith, count-ones_at, all_below, ascends, last_within, below_le, count_past, length-ones_at, all_ones)
+  count_is i = grind (arith, count-ones_at, all_below, ascends, last_within, below_le, count_past, length-ones_at, all_ones)
 
   pub select_some : (r v : ℕ) → slice_get s r ≡ Some v → select true (ones_at s n) r ≡ v
   select_some r v e = grind (arith, slice_get-get_or, select-ones_at, slice_get_past)
@@ -41,9 +39,6 @@ module _ {s : List ℕ} {n : ℕ} (sparse : AreSparse s n) where
 -- the list has no fewer bits than ones, and each member is one of its places
 pub members_few : {s : List ℕ} {n : ℕ} → AreSparse s n → length s ≤ length (ones_at s n)
 members_few {s} {n} sparse = omega (arith, all_ones s sparse.rising n (last_within sparse), count_both (ones_at s n) (length (ones_at s n)))
-
-pub member_few : {s : List ℕ} {n : ℕ} → AreSparse s n → (r v : ℕ) → slice_get s r ≡ Some v → v ≤ length (ones_at s n)
-member_few {s} {n} sparse r v e = grind (arith, slice_get_within, get_or_from_slice_get, length-ones_at)
 
 -- ---- from the places of a list's bits
 

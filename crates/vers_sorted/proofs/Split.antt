@@ -1,6 +1,5 @@
 -- How a number is split into its high and its low part.
-use Rattle.vers_sorted.proofs.Names.{◌≡◌, ℕ, ◌+◌, ◌-◌, ◌*◌, ◌^◌, ◌<◌, ◌≤◌, List, length, refl, arith, slice_index, IsNonDecreasing, mod_below, pow_pos, first_of, last_of, low_width}
-use Rattle.vers_sorted.specs.Layout.{high_of, low_of, high_length}
+use Rattle.vers_sorted.proofs.Names.{◌≡◌, ℕ, ◌+◌, ◌-◌, ◌*◌, ◌^◌, ◌<◌, ◌≤◌, List, length, refl, arith, slice_index, IsNonDecreasing, mod_below, pow_pos, first_of, last_of, low_width, high_of, low_of, high_length}
 
 pub parts_sum : (s : List ℕ) (v : ℕ) → first_of s ≤ v → high_of s v * 2 ^ low_width s + low_of s v ≡ v - first_of s
 unfolding high_of low_of

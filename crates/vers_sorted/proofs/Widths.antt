@@ -1,7 +1,6 @@
 -- The widths of low parts.
-use Rattle.vers_sorted.proofs.Names.{◌≡◌, ℕ, ◌+◌, ◌-◌, ◌/◌, ◌<◌, ◌≤◌, arith, max, leading_length, digits, digits_half, digits-le, digits_up, digits_is, clog_least, clog}
+use Rattle.vers_sorted.proofs.Names.{◌≡◌, ℕ, ◌+◌, ◌-◌, ◌/◌, ◌<◌, ◌≤◌, arith, max, leading_length, digits, digits_half, digits-le, digits_up, digits_is, clog_least, clog, width}
 use lib.Count.{count_leading_zeros}
-use Rattle.vers_sorted.specs.Layout.{width}
 
 pub digits_leading : (n : ℕ) → n < 340282366920938463463374607431768211456 → 128 - count_leading_zeros 128 n ≡ digits n
 digits_leading n h =

@@ -1,4 +1,4 @@
-use Rattle.std.proofs.Common.{◌+◌, ◌*◌, ◌∙◌, arith, refl}
+use Rattle.vers_sorted.proofs.Names.{◌+◌, ◌*◌, ◌∙◌, arith, refl}
 use Rattle.vers_sorted.proofs.Marks.{marked_past_to, more_found, limb_done}
 use Rattle.vers_sorted.proofs.sparse.push_places.Goals as goal
 

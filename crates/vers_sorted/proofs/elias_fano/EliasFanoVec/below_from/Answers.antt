@@ -1,4 +1,4 @@
-use Rattle.std.proofs.Common.{arith}
+use Rattle.vers_sorted.proofs.Names.{arith}
 use Rattle.vers_sorted.proofs.Buckets.{start_below, step_down}
 use Rattle.vers_sorted.proofs.elias_fano.EliasFanoVec.below_from.Goals as goal
 

@@ -1,5 +1,4 @@
 use Rattle.vers_sorted.proofs.Names.{true, length, take, ap, ◌∙◌, arith, unwrap_or, select, get_or-map, get_or-take, length-map, length-take, get_or_append_left, high_length, select_reads, superblock_count, times, adds_then}
-use Rattle.vers_sorted.proofs.Batches.{group_reads}
 use Rattle.vers_sorted.proofs.Packed.{high_counted}
 use Rattle.vers_sorted.proofs.elias_fano.EliasFanoVec.get_group.Goals as goal
 
@@ -15,7 +14,4 @@ pub returns-clause-value : goal.returns-clause-value
 returns-clause-value g c = c.members_each.ensures.value
 
 pub returns-clause-adds : goal.returns-clause-adds
-returns-clause-adds g c =
-    adds_then {p = times (length (take c.args.n c.ask_each.new.ones)) (select_reads (superblock_count (high_length c.args.self.now)))}
-    (rw (high_counted (rw c.self.view_is at c.self.invariant)) at c.select1_each_counted.ensures.adds) c.members_each.ensures.adds
-    (group_reads _ _ c.args.self.now (omega (arith, length-take c.args.n c.ask_each.new.ones)))
+returns-clause-adds g c = grind (arith, adds_then, high_counted, length-take)

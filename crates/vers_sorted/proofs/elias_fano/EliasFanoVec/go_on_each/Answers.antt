@@ -1,6 +1,4 @@
-use Rattle.std.proofs.Common.{below_more}
-use Rattle.vers_sorted.proofs.Names.{arith, high_length, adds_then}
-use Rattle.vers_tally.proofs.PublicLaws.{adds_weaker}
+use Rattle.vers_sorted.proofs.Names.{arith, high_length, adds_then, below_more, adds_weaker}
 use Rattle.vers_sorted.proofs.Begins.{begun_more}
 use Rattle.vers_sorted.proofs.Bounds.{part_after}
 use Rattle.vers_sorted.proofs.elias_fano.EliasFanoVec.go_on_each.Goals as goal

@@ -1,4 +1,4 @@
-use Rattle.std.proofs.Common.{sym, arith}
+use Rattle.vers_sorted.proofs.Names.{sym, arith}
 use Rattle.vers_sorted.proofs.Buckets.{start_below, in_bucket}
 use Rattle.vers_sorted.proofs.Members.{found_at, none_past, none_above, all_less}
 use Rattle.vers_sorted.proofs.elias_fano.EliasFanoVec.has_counted.Goals as goal
@@ -25,5 +25,4 @@ pub with_low_part-requires-clause-within : goal.with_low_part-requires-clause-wi
 with_low_part-requires-clause-within g c = omega (arith, c.bucket_of-bucket.ensures.bucket.end.within)
 
 pub returns-clause-value : goal.returns-clause-value
-returns-clause-value g c =
-    rw c.with_low_part.ensures.value (found_at c.args.self.now c.args.v c.below_in-k.result c.len.ensures.ascending c.below_in-k.ensures.value (omega (arith, c.bucket_of-bucket.ensures.bucket.end.within)))
+returns-clause-value g c = grind (arith, found_at)

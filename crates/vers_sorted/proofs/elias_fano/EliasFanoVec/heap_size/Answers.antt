@@ -1,4 +1,4 @@
-use Rattle.std.proofs.Common.{length, ap, arith}
+use Rattle.vers_sorted.proofs.Names.{length, ap, arith}
 use Rattle.vers_sorted.proofs.Packed.{size_is, index_fits}
 use Rattle.vers_sorted.proofs.elias_fano.EliasFanoVec.heap_size.Goals as goal
 

@@ -1,4 +1,4 @@
-use Rattle.std.proofs.Common.{arith}
+use Rattle.vers_sorted.proofs.Names.{arith}
 use Rattle.vers_sorted.proofs.elias_fano.EliasFanoVec.member_at.Goals as goal
 
 pub overflow_sub-one : goal.overflow_sub-one

@@ -18,24 +18,19 @@ pub one_from-place-requires-clause-within : goal.one_from-place-requires-clause-
 one_from-place-requires-clause-within g c = omega (arith, (rw c.self.view_is at c.self.invariant).high_parts.ones, c.requires.more)
 
 pub one_from-place-requires-clause-before : goal.one_from-place-requires-clause-before
-one_from-place-requires-clause-before g c =
-    (ones_past (rw c.self.view_is at c.self.invariant) c.args.v c.args.bucket c.requires.from c.requires.to c.requires.bucket c.requires.more).1
+one_from-place-requires-clause-before g c = grind (arith, ones_past)
 
 pub overflow_sub-place : goal.overflow_sub-place
-overflow_sub-place g c =
-    omega (arith, c.one_from-place.ensures.value, (rw c.self.view_is at c.self.invariant).high_parts.place c.args.bucket.end c.requires.more)
+overflow_sub-place g c = grind arith
 
 pub overflow_sub-place-2 : goal.overflow_sub-place-2
-overflow_sub-place-2 g c =
-    omega (arith, c.one_from-place.ensures.value, (rw c.self.view_is at c.self.invariant).high_parts.place c.args.bucket.end c.requires.more)
+overflow_sub-place-2 g c = grind arith
 
 pub with_low_part-requires-clause-high : goal.with_low_part-requires-clause-high
-with_low_part-requires-clause-high g c =
-    omega (arith, c.one_from-place.ensures.value, (rw c.self.view_is at c.self.invariant).high_parts.place c.args.bucket.end c.requires.more)
+with_low_part-requires-clause-high g c = grind arith
 
 pub returns-clause-value : goal.returns-clause-value
 returns-clause-value g c = c.with_low_part.ensures.value
 
 pub returns-clause-adds : goal.returns-clause-adds
-returns-clause-adds g c =
-    part_after 2 (high_length c.args.self.now) (rw (high_counted (rw c.self.view_is at c.self.invariant)) at c.one_from-place.ensures.adds) c.with_low_part.ensures.adds
+returns-clause-adds g c = grind (arith, part_after, high_counted)

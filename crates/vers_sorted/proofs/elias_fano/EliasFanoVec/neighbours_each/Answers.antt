@@ -1,4 +1,4 @@
-use Rattle.std.proofs.Common.{◌+◌, sym, ◌∙◌, arith}
+use Rattle.vers_sorted.proofs.Names.{◌+◌, sym, ◌∙◌, arith}
 use Rattle.vers_sorted.proofs.elias_fano.EliasFanoVec.neighbours_each.Goals as goal
 
 pub neighbour-requires : goal.neighbour-requires

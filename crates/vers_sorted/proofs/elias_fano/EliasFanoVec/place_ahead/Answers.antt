@@ -1,4 +1,4 @@
-use Rattle.std.proofs.Common.{length, ap, ◌∙◌, refl, arith}
+use Rattle.vers_sorted.proofs.Names.{length, ap, ◌∙◌, refl, arith}
 use Rattle.vers_sorted.proofs.Aheads.{step_fits, step_place, step_read, read_maybe, place_fits}
 use Rattle.vers_sorted.proofs.Packed.{high_same}
 use Rattle.vers_sorted.proofs.elias_fano.EliasFanoVec.place_ahead.Goals as goal
@@ -15,8 +15,7 @@ overflow_add-ahead-then-ahead-ne0 g c =
     omega (arith, ap length (high_same packed), c.len-bits.ensures.value, c.len-bits.ensures.bounded, step_fits c.args.self.now c.args.i c.args.ahead.now packed.ascending read (omega arith), read.within)
 
 pub overflow_sub-ahead : goal.overflow_sub-ahead
-overflow_sub-ahead g c =
-    step_fits c.args.self.now c.args.i c.args.ahead.now (rw c.self.view_is at c.self.invariant).ascending (c.requires.ahead (omega arith)) (omega arith)
+overflow_sub-ahead g c = grind (arith, step_fits)
 
 pub returns-then-ahead-ne0-clause-value : goal.returns-then-ahead-ne0-clause-value
 returns-then-ahead-ne0-clause-value g c =
@@ -29,8 +28,7 @@ returns-then-ahead-ne0-clause-ahead g c =
     λ more. step_read c.args.self.now c.args.i c.args.ahead.now packed.ascending (c.requires.ahead (omega arith)) (omega arith) _ refl refl refl
 
 pub overflow_sub-bits-2 : goal.overflow_sub-bits-2
-overflow_sub-bits-2 g c =
-    omega (arith, place_fits c.args.i (rw c.self.view_is at c.self.invariant) c.requires.within, c.select1_counted-place.ensures.value, c.len-bits.ensures.value)
+overflow_sub-bits-2 g c = grind (arith, place_fits)
 
 pub returns-clause-value : goal.returns-clause-value
 returns-clause-value g c = c.select1_counted-place.ensures.value ∙ (rw c.self.view_is at c.self.invariant).high_parts.place c.args.i c.requires.within

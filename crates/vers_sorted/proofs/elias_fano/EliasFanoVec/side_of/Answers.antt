@@ -1,4 +1,4 @@
-use Rattle.std.proofs.Common.{arith}
+use Rattle.vers_sorted.proofs.Names.{arith}
 use Rattle.vers_sorted.proofs.Buckets.{step_up, step_down}
 use Rattle.vers_sorted.proofs.elias_fano.EliasFanoVec.side_of.Goals as goal
 

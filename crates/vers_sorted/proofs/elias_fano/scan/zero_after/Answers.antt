@@ -1,4 +1,4 @@
-use Rattle.std.proofs.Common.{◌+◌, arith}
+use Rattle.vers_sorted.proofs.Names.{◌+◌, arith}
 use Rattle.vers_sorted.proofs.Scans.{few_zeros}
 use Rattle.vers_sorted.proofs.elias_fano.scan.zero_after.Goals as goal
 
