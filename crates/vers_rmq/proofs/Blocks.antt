@@ -1,12 +1,11 @@
 -- Blocks of 128 items.
-use Rattle.vers_rmq.proofs.Names.{◌≡◌, ℕ, ◌+◌, ◌-◌, ◌*◌, ◌/◌, ◌%◌, ◌^◌, ◌<◌, ◌≤◌, min, List, [], ◌∷◌, ◌++◌, length, get_or, ap, inl, inr, arith, bit_at, cases_lt, length_push, get_or_push, get_or_append_left, PlacedItem, IsFirstLeast, IsLeastItem, lesser_item, IsLastSet, IsFirstSet, AreMasks, binary_heap_size}
+use Rattle.vers_rmq.proofs.Names.{mul-le-mul_left, ◌≡◌, ℕ, ◌+◌, ◌-◌, ◌*◌, ◌/◌, ◌%◌, ◌^◌, ◌<◌, ◌≤◌, min, List, [], ◌∷◌, ◌++◌, length, get_or, ap, inl, inr, arith, bit_at, cases_lt, length_push, get_or_push, get_or_append_left, PlacedItem, IsFirstLeast, IsLeastItem, lesser_item, IsLastSet, IsFirstSet, AreMasks, binary_heap_size, IsBlock, AreBlocks, AreAllBlocks, block_end, no_masks}
 use Rattle.vers_rmq.specs.declared.rmq.fast_rmq.TheConstants.{MAX_LEN}
 use Rattle.vers_rmq.specs.declared.rmq.fast_rmq.block.BlockMasks.{BlockMasks}
-use Rattle.vers_rmq.specs.inside.Blocks.{IsBlock, AreBlocks, AreAllBlocks, block_end, no_masks}
 use Rattle.vers_bits.specs.Bits.{block_count}
 use Rattle.vers_rmq.proofs.Minima.{least_ends, item_at, item_join, item_ends}
 use Rattle.vers_rmq.proofs.Masks.{some_from}
-use Rattle.vers_rmq.proofs.Logs.{size_bounded}
+use Rattle.vers_rmq.proofs.Logs.{few_levels}
 
 -- ---- how blocks are made
 pub block_is : (xs : List ℕ) (b e least value : ℕ) (masks : BlockMasks) → e ≡ block_end (length xs) b → AreMasks xs 128 (128 * b) e masks.whole → AreMasks xs 16 (128 * b) e masks.parts
@@ -35,7 +34,7 @@ all_blocks xs mi pl ms b few e h = record { bounded = few; blocks = rw (← e) h
 pub sizes : (xs mi pl : List ℕ) (ms : List BlockMasks) → AreAllBlocks xs mi pl ms
     → (binary_heap_size (length mi) ≡ binary_heap_size (block_count 128 (length xs))) × (length pl ≡ block_count 128 (length xs)) × (length ms ≡ block_count 128 (length xs))
     × (binary_heap_size (length mi) ≤ 140 * block_count 128 (length xs)) × (length xs ≤ MAX_LEN)
-sizes xs mi pl ms h = grind (arith, size_bounded)
+sizes xs mi pl ms h = grind (arith, mul-le-mul_left, few_levels)
 
 -- ---- what the masks of a block answer
 -- the block of a place

@@ -1,8 +1,6 @@
 -- The first place of a least item, found among the places of its range.
-use Rattle.vers_rmq.proofs.Names.{◌≡◌, ℕ, zero, suc, ◌+◌, ◌-◌, ◌<◌, ◌≤◌, Bool, true, false, List, get_or, leb, Some, refl, inl, inr, arith, cases_lt, le-leb, lt-leb, IsFirstLeast, lesser}
+use Rattle.vers_rmq.proofs.Names.{◌≡◌, ℕ, zero, suc, ◌+◌, ◌-◌, ◌<◌, ◌≤◌, Bool, true, false, List, get_or, leb, Some, refl, inl, inr, arith, cases_lt, le-leb, lt-leb, IsFirstLeast, lesser, find, list_all, range_with_len, is_least, first_least_of, least_place}
 use Rattle.std.proofs.Math.Bool.{and-false}
-use Rattle.std.specs.List.{find, list_all, range_with_len}
-use Rattle.vers_rmq.specs.Minima.{is_least, first_least_of, least_place}
 use Rattle.vers_rmq.specs.Laws.{LeastPlaceIsFirst}
 use Rattle.vers_rmq.proofs.Minima.{least_at, least_join, least_ends}
 

@@ -1,7 +1,6 @@
 -- Masks of least places.
-use Rattle.vers_rmq.proofs.Names.{◌≡◌, ◌≢◌, ℕ, ◌+◌, ◌-◌, ◌*◌, ◌/◌, ◌%◌, ◌^◌, ◌<◌, ◌≤◌, List, get_or, sym, ap, ◌∙◌, inl, inr, arith, bit_and, bit_or, bit_at, w128, trailing_zeros, pow-le-pow_right, pow_pos, shr-shr, leading_top, div_below, and_le_l, shl_below, bit_at_and, bit_at_or, bit_at_ones, bit_at_ones_above, bit_at_above, bit_at-lt, bit_at-trailing_zeros, bit_at-zero, bit_at_cat_low, bit_at_cat_high, ones_shr, same_from_bits, cases_lt, IsFirstLeast, IsLastSet, IsFirstSet, AddsOne, PrefixUpTo, SuffixFrom, IsPrefixMask, IsSuffixMask, part_end}
+use Rattle.vers_rmq.proofs.Names.{◌≡◌, ◌≢◌, ℕ, ◌+◌, ◌-◌, ◌*◌, ◌/◌, ◌%◌, ◌^◌, ◌<◌, ◌≤◌, List, get_or, sym, ap, ◌∙◌, inl, inr, arith, bit_and, bit_or, bit_at, w128, trailing_zeros, pow-le-pow_right, pow_pos, shr-shr, leading_top, div_below, and_le_l, shl_below, bit_at_and, bit_at_or, bit_at_ones, bit_at_ones_above, bit_at_above, bit_at-lt, bit_at-trailing_zeros, bit_at-zero, bit_at_cat_low, bit_at_cat_high, ones_shr, same_from_bits, cases_lt, IsFirstLeast, IsLastSet, IsFirstSet, AddsOne, PrefixUpTo, SuffixFrom, IsPrefixMask, IsSuffixMask, part_end, count_leading_zeros}
 use Rattle.std.specs.Int.Bits.{or_zero_r}
-use Rattle.std.specs.Int.Count.{count_leading_zeros}
 use Rattle.vers_rmq.proofs.Minima.{least_at, least_longer, least_earlier, least_ends}
 use Rattle.vers_bits.proofs.PublicLaws.{top_bit}
 

@@ -1,7 +1,6 @@
 -- How first places of least items join.
-use Rattle.vers_rmq.proofs.Names.{◌≡◌, ℕ, ◌+◌, ◌-◌, ◌<◌, ◌≤◌, List, leb, get_or, subst, arith, cond-true, cond-false, le-leb, lt-leb, PlacedItem, IsFirstLeast, IsLeastItem, lesser_item}
+use Rattle.vers_rmq.proofs.Names.{◌≡◌, ℕ, ◌+◌, ◌-◌, ◌<◌, ◌≤◌, List, leb, get_or, subst, arith, cond-true, cond-false, le-leb, lt-leb, PlacedItem, IsFirstLeast, IsLeastItem, lesser_item, lesser}
 use Rattle.std.proofs.lemmas.Bool.Decides.{nat_tests}
-use Rattle.vers_rmq.specs.Minima.{lesser}
 
 -- a range of one place
 pub least_at : (xs : List ℕ) (i : ℕ) → IsFirstLeast xs i i i

@@ -1,7 +1,5 @@
 -- The laws that proofs of other crates may cite. A crate above imports this file and no other of this folder.
-use Rattle.std.proofs.Common.{◌≡◌, ℕ, ◌+◌, ◌-◌, ◌<◌, ◌≤◌, List, Some}
-use Rattle.std.specs.List.{range_with_len}
-use Rattle.vers_rmq.specs.Minima.{IsFirstLeast, first_least_of, least_place}
+use Rattle.vers_rmq.proofs.Names.{◌≡◌, ℕ, ◌+◌, ◌-◌, ◌<◌, ◌≤◌, List, Some, range_with_len, IsFirstLeast, first_least_of, least_place}
 use Rattle.vers_rmq.proofs.Found as Found
 
 -- of the n places from i on, the first with a least item is the first least place of this range

@@ -1,4 +1,4 @@
-use Rattle.std.proofs.Common.{◌≡◌, ◌≤◌, length}
+use Rattle.vers_rmq.proofs.Names.{◌≡◌, ◌≤◌, length}
 use Rattle.vers_rmq.proofs.rmq.gather.gathered.Given as goal
 
 abbrev pub invariant-loop-item : goal.invariant-loop-item

@@ -1,5 +1,4 @@
-use Rattle.vers_rmq.proofs.Names.{◌-◌, IsLeastItem}
-use Rattle.vers_tally.specs.Reads.{AddsAtMost, only_items}
+use Rattle.vers_rmq.proofs.Names.{◌-◌, IsLeastItem, AddsAtMost, only_items}
 use Rattle.vers_rmq.proofs.rmq.least.scan.Given as goal
 
 abbrev pub invariant-loop-k : goal.invariant-loop-k

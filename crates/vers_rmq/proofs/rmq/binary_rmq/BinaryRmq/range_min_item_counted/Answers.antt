@@ -1,4 +1,4 @@
-use Rattle.std.proofs.Common.{arith}
+use Rattle.vers_rmq.proofs.Names.{arith}
 use Rattle.vers_rmq.proofs.Found.{is_least_place}
 use Rattle.vers_rmq.proofs.Tables.{asked}
 use Rattle.vers_rmq.proofs.rmq.binary_rmq.BinaryRmq.range_min_item_counted.Goals as goal

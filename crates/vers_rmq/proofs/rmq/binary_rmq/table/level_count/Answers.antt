@@ -1,4 +1,4 @@
-use Rattle.std.proofs.Common.{arith}
+use Rattle.vers_rmq.proofs.Names.{arith}
 use Rattle.vers_rmq.proofs.Logs.{levels_are, few_levels}
 use Rattle.vers_rmq.proofs.rmq.binary_rmq.table.level_count.Goals as goal
 

@@ -1,4 +1,4 @@
-use Rattle.std.proofs.Common.{arith}
+use Rattle.vers_rmq.proofs.Names.{arith}
 use Rattle.vers_rmq.proofs.Logs.{top_is}
 use Rattle.vers_rmq.proofs.rmq.binary_rmq.table.log2.Goals as goal
 

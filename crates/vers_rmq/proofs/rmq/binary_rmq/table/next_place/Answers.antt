@@ -1,5 +1,5 @@
 use Rattle.vers_rmq.proofs.Tables.{next_joined}
-use Rattle.std.proofs.Common.{arith}
+use Rattle.vers_rmq.proofs.Names.{arith}
 use Rattle.vers_rmq.proofs.rmq.binary_rmq.table.next_place.Goals as goal
 
 pub returns-then-h-items : goal.returns-then-h-items

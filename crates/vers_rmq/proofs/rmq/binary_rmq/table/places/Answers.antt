@@ -1,5 +1,4 @@
-use Rattle.vers_rmq.proofs.Names.{◌+◌, length, arith, ap, length_push}
-use Rattle.vers_tally.proofs.PublicLaws.{pow_next}
+use Rattle.vers_rmq.proofs.Names.{◌+◌, length, arith, ap, length_push, pow_next}
 use Rattle.vers_rmq.proofs.Tables.{add_place, level_zero, no_places, room_fits, table_is}
 use Rattle.vers_rmq.proofs.rmq.binary_rmq.table.places.Goals as goal
 

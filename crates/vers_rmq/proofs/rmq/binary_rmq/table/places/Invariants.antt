@@ -1,5 +1,4 @@
-use Rattle.std.proofs.Common.{◌≡◌, ◌+◌, ◌-◌, ◌*◌, ◌^◌, ◌<◌, length}
-use Rattle.vers_rmq.specs.inside.Tables.{HoldsPlaces}
+use Rattle.vers_rmq.proofs.Names.{◌≡◌, ◌+◌, ◌-◌, ◌*◌, ◌^◌, ◌<◌, length, HoldsPlaces}
 use Rattle.vers_rmq.proofs.rmq.binary_rmq.table.places.Given as goal
 
 abbrev pub invariant-loop-i : goal.invariant-loop-i

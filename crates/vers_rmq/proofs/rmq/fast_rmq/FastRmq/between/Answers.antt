@@ -1,4 +1,4 @@
-use Rattle.std.proofs.Common.{◌+◌, ◌*◌, get_or, refl}
+use Rattle.vers_rmq.proofs.Names.{◌+◌, ◌*◌, get_or, refl}
 use Rattle.vers_rmq.proofs.Blocks.{between}
 use Rattle.vers_rmq.proofs.PublicLaws.{as_first}
 use Rattle.vers_rmq.proofs.rmq.fast_rmq.FastRmq.between.Goals as goal

@@ -1,4 +1,4 @@
-use Rattle.std.proofs.Common.{arith}
+use Rattle.vers_rmq.proofs.Names.{arith}
 use Rattle.vers_rmq.proofs.Blocks.{end_before}
 use Rattle.vers_rmq.proofs.rmq.fast_rmq.FastRmq.least_from.Goals as goal
 

@@ -1,4 +1,4 @@
-use Rattle.std.proofs.Common.{◌+◌, ◌*◌, ◌/◌, ◌≤◌, refl, rules, arith}
+use Rattle.vers_rmq.proofs.Names.{◌+◌, ◌*◌, ◌/◌, ◌≤◌, refl, rules, arith}
 use Rattle.vers_rmq.proofs.Minima.{least_within, item_at, item_ends}
 use Rattle.vers_rmq.proofs.Blocks.{part_more, part_end_with}
 use Rattle.vers_rmq.proofs.rmq.fast_rmq.FastRmq.least_in_block.Goals as goal
@@ -10,10 +10,7 @@ pub returns-then-first-j-clause-value : goal.returns-then-first-j-clause-value
 returns-then-first-j-clause-value g c = least_within _ _ _ _ _ _ c.suffix_place-first.ensures.value (omega arith) (omega arith) (omega arith) (omega arith)
 
 pub loop-part-init : goal.loop-part-init
-loop-part-init g c = record {
-  best = item_ends _ _ _ _ _ (omega arith) (item_at _ _ _ _ _ c.part_suffix_place.ensures.value c.read_at-least.ensures.at (rw c.self.view_is at c.read_at-least.ensures.item));
-  adds = search rules;
-}
+loop-part-init g c = grind (arith, item_ends, item_at)
 
 pub loop-part-preserved : goal.loop-part-preserved
 loop-part-preserved g c = record {

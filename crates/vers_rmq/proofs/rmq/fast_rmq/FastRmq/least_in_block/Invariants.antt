@@ -1,5 +1,4 @@
-use Rattle.vers_rmq.proofs.Names.{◌-◌, ◌*◌, ◌/◌, IsLeastItem}
-use Rattle.vers_tally.specs.Reads.{AddsAtMost, only_items}
+use Rattle.vers_rmq.proofs.Names.{◌-◌, ◌*◌, ◌/◌, IsLeastItem, AddsAtMost, only_items}
 use Rattle.vers_rmq.proofs.rmq.fast_rmq.FastRmq.least_in_block.Given as goal
 
 abbrev pub invariant-loop-part : goal.invariant-loop-part

@@ -1,4 +1,4 @@
-use Rattle.std.proofs.Common.{arith}
+use Rattle.vers_rmq.proofs.Names.{arith}
 use Rattle.vers_rmq.proofs.Blocks.{block_of}
 use Rattle.vers_rmq.proofs.rmq.fast_rmq.FastRmq.least_of_block.Goals as goal
 

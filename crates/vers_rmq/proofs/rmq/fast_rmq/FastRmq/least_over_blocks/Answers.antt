@@ -1,4 +1,4 @@
-use Rattle.std.proofs.Common.{arith}
+use Rattle.vers_rmq.proofs.Names.{arith}
 use Rattle.vers_rmq.proofs.Blocks.{two_parts}
 use Rattle.vers_rmq.proofs.Minima.{item_ends}
 use Rattle.vers_rmq.proofs.rmq.fast_rmq.FastRmq.least_over_blocks.Goals as goal

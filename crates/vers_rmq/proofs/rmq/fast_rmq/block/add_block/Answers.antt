@@ -1,4 +1,4 @@
-use Rattle.std.proofs.Common.{◌-◌, ◌*◌, get_or, refl, arith}
+use Rattle.vers_rmq.proofs.Names.{◌-◌, ◌*◌, get_or, refl, arith}
 use Rattle.vers_rmq.proofs.Blocks.{block_is, add_block}
 use Rattle.vers_rmq.proofs.rmq.fast_rmq.block.add_block.Goals as goal
 

@@ -1,4 +1,4 @@
-use Rattle.std.proofs.Common.{arith}
+use Rattle.vers_rmq.proofs.Names.{arith}
 use Rattle.vers_rmq.proofs.Blocks.{all_blocks}
 use Rattle.vers_rmq.proofs.rmq.fast_rmq.block.all_blocks.Goals as goal
 

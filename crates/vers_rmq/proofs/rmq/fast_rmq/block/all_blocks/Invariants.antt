@@ -1,4 +1,4 @@
-use Rattle.vers_rmq.specs.inside.Blocks.{AreBlocks}
+use Rattle.vers_rmq.proofs.Names.{AreBlocks}
 use Rattle.vers_rmq.proofs.rmq.fast_rmq.block.all_blocks.Given as goal
 
 abbrev pub invariant-loop-b : goal.invariant-loop-b

@@ -1,4 +1,4 @@
-use Rattle.std.proofs.Common.{◌≡◌, arith}
+use Rattle.vers_rmq.proofs.Names.{◌≡◌, arith}
 use Rattle.vers_rmq.proofs.Masks.{prefix_alone, prefix_part}
 use Rattle.vers_rmq.proofs.rmq.fast_rmq.mask.prefix_masks.Goals as goal
 
