@@ -1,5 +1,5 @@
 -- The first place of a list that has one.
-use Rattle.std.proofs.Common.{◌≡◌, ◌≢◌, ℕ, Bool, List, [], ◌∷◌, Option, Some, None, refl}
+use Rattle.vers_cli.proofs.Names.{◌≡◌, ◌≢◌, ℕ, Bool, List, [], ◌∷◌, Option, Some, None, refl}
 use Rattle.vers_cli.specs.TreeLines.{first_place}
 
 pub first_place-is : (bits : List Bool) (r : Option ℕ) → (bits ≡ [] → r ≡ None) → (bits ≢ [] → r ≡ Some 0) → r ≡ first_place bits

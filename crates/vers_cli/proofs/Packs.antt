@@ -1,11 +1,9 @@
 -- Numbers of a line, packed as bits.
-use Rattle.vers_cli.proofs.Names.{◌≡◌, ℕ, ◌*◌, ◌/◌, ◌%◌, ◌^◌, ◌<◌, ◌≤◌, Bool, true, List, [], ◌∷◌, ◌++◌, append_assoc, length, map, Option, Some, None, Result, Ok, Err, IfOk, refl, sym, ap, ◌∙◌, arith, option_map, nat_le, range_with_len, ne_eqb, cond_some, same_Some, get_or-map, length-map, length-map-range_with_len, get_or-map-range_with_len, low_bits, number, pack, part, Symbols, Accepted, symbols_loaded}
+use Rattle.vers_cli.proofs.Names.{◌≡◌, ℕ, ◌*◌, ◌/◌, ◌%◌, ◌^◌, ◌<◌, ◌≤◌, Bool, true, List, [], ◌∷◌, ◌++◌, append_assoc, length, map, Option, Some, None, Result, Ok, Err, IfOk, refl, sym, ap, ◌∙◌, arith, option_map, nat_le, range_with_len, ne_eqb, cond_some, same_Some, get_or-map, length-map, length-map-range_with_len, get_or-map-range_with_len, low_bits, number, pack, part, Symbols, Accepted, symbols_loaded, part_number, low_symbols, packed_symbols}
 use Rattle.std.proofs.Math.Nat.{mul-div_cancel, mul-mod_left}
 use Rattle.std.proofs.lemmas.Grind.{same_number_lists}
-use Rattle.vers_bits.specs.Bits.{part_number}
 use Rattle.vers_bits.specs.Laws.{PackedElementsAreItems}
 use Rattle.vers_bits.proofs.PublicLaws.{length-packed}
-use Rattle.vers_wavelet.specs.Makers.{low_symbols, packed_symbols}
 
 -- bits, and then those of further numbers
 abbrev pub bits_then : List Bool → ℕ → Option (List ℕ) → Option (List Bool)

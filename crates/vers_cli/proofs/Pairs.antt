@@ -1,9 +1,7 @@
 -- Documents with their costs, as the numbers of a line write them.
-use Rattle.vers_cli.proofs.Names.{◌≡◌, ◌==◌, ◌||◌, ℕ, ◌+◌, ◌≤◌, Bool, true, false, List, [], ◌∷◌, ◌++◌, length, append_assoc, Option, Some, None, Result, Ok, Err, IfOk, unwrap_or, refl, ap, nat_lt, option_map, if◌then◌else◌, option_and_then, le-leb, each_next-rising, each_next, Numbers, Refused, posted_first, rising_count, are_admitted, if_admitted, shared_reply}
+use Rattle.vers_cli.proofs.Names.{◌≡◌, ◌==◌, ◌||◌, ℕ, ◌+◌, ◌≤◌, Bool, true, false, List, [], ◌∷◌, ◌++◌, length, append_assoc, Option, Some, None, Result, Ok, Err, IfOk, unwrap_or, refl, ap, nat_lt, option_map, if◌then◌else◌, option_and_then, le-leb, each_next-rising, each_next, Numbers, Refused, posted_first, rising_count, are_admitted, if_admitted, shared_reply, IsErr, MatchResult, PlainReply}
 use Rattle.std.specs.List.Sorted.{IsStrictlyIncreasing}
-use Rattle.std.specs.Prelude.{IsErr, MatchResult}
 use Rattle.std.proofs.lemmas.Result.{IfOk-from_err}
-use Rattle.vers_words.specs.Reply.{PlainReply}
 use Rattle.vers_rmq.specs.declared.rmq.fast_rmq.TheConstants.{MAX_LEN}
 use Rattle.postings.specs.Posted.{Posted, common}
 use Rattle.postings.specs.Makers.{IsRefusedFor}

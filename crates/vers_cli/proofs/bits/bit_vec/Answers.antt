@@ -1,4 +1,4 @@
-use Rattle.std.proofs.Common.{◌≡◌, Ok, Err, Result, IfOk, MatchResult, is_ok}
+use Rattle.vers_cli.proofs.Names.{◌≡◌, Ok, Err, Result, IfOk, MatchResult, is_ok}
 use Rattle.vers_cli.proofs.Digits.{odd_digits}
 use Rattle.vers_cli.proofs.bits.bit_vec.Goals as goal
 

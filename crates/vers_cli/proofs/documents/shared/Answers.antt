@@ -1,4 +1,4 @@
-use Rattle.vers_words.specs.Reply.{plain_reply}
+use Rattle.vers_cli.proofs.Names.{plain_reply}
 use Rattle.vers_cli.proofs.Pairs.{shared}
 use Rattle.vers_cli.proofs.documents.shared.Goals as goal
 

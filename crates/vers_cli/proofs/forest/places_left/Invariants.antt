@@ -1,4 +1,4 @@
-use Rattle.std.proofs.Common.{◌≡◌}
+use Rattle.vers_cli.proofs.Names.{◌≡◌}
 use Rattle.vers_cli.proofs.forest.places_left.Given as goal
 
 abbrev pub invariant-loop-place : goal.invariant-loop-place

@@ -1,4 +1,4 @@
-use Rattle.std.proofs.Common.{sym, ap}
+use Rattle.vers_cli.proofs.Names.{sym, ap}
 use Rattle.vers_trees.specs.Forest.{forest_of}
 use Rattle.vers_cli.specs.ForestLines.{walk_of}
 use Rattle.vers_cli.proofs.Gathers.{items_gathered}

@@ -1,5 +1,4 @@
-use Rattle.vers_cli.proofs.Names.{◌≡◌, ◌∷◌, Some, true, refl, sym, ◌∙◌, ap, nat_lt, list_all, words_in, all_numbers, each_next-ascending, each_next-rising, ones_at-same, first_numbers, Accepted}
-use Rattle.vers_cli.specs.Holding.{SparseHeld}
+use Rattle.vers_cli.proofs.Names.{◌≡◌, ◌∷◌, Some, true, refl, sym, ◌∙◌, ap, nat_lt, list_all, words_in, all_numbers, each_next-ascending, each_next-rising, ones_at-same, first_numbers, Accepted, SparseHeld}
 use Rattle.vers_cli.proofs.Rises.{all_below, all_are_below, rising_ascends}
 use Rattle.vers_cli.proofs.sparse.load.Goals as goal
 

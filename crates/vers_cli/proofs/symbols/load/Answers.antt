@@ -1,6 +1,5 @@
-use Rattle.vers_cli.proofs.Names.{◌≡◌, ◌≤◌, ◌∷◌, refl, sym, ap, ◌∙◌, arith, option_map, le-leb, words_in, all_numbers, symbols_loaded}
+use Rattle.vers_cli.proofs.Names.{◌≡◌, ◌≤◌, ◌∷◌, refl, sym, ap, ◌∙◌, arith, option_map, le-leb, words_in, all_numbers, symbols_loaded, SymbolsHeld}
 use Rattle.vers_words.specs.Loading.{map_loading}
-use Rattle.vers_cli.specs.Holding.{SymbolsHeld}
 use Rattle.vers_cli.proofs.Packs.{packed_whole, symbols_accepted}
 use Rattle.vers_cli.proofs.symbols.load.Goals as goal
 

@@ -1,5 +1,4 @@
-use Rattle.std.proofs.Common.{ap, ◌∙◌, arith}
-use Rattle.vers_wavelet.specs.Makers.{packed_symbols}
+use Rattle.vers_cli.proofs.Names.{ap, ◌∙◌, arith, packed_symbols}
 use Rattle.vers_cli.proofs.Packs.{if_ok_then, no_symbols, packed_are_low}
 use Rattle.vers_cli.proofs.symbols.of_packed.Goals as goal
 

@@ -1,6 +1,5 @@
-use Rattle.std.proofs.Common.{ap, ◌∙◌}
 use Rattle.vers_wavelet.proofs.PublicLaws.{offset_place}
-use Rattle.vers_cli.proofs.Names.{number_or_absent}
+use Rattle.vers_cli.proofs.Names.{number_or_absent, ap, ◌∙◌}
 use Rattle.vers_cli.proofs.symbols.within_reply.Goals as goal
 
 pub returns-in-SelectOffsetU64 : goal.returns-in-SelectOffsetU64
