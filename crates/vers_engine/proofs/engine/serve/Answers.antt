@@ -47,10 +47,7 @@ returns-in_err-take_bytes-in-Ok-clause-answers g c =
     rw (p.1, p.2) (i.read ++ bs, i.written ++ w.0, k.0, Consumes-then _ _ _ _ _ i.consumed b.0, Appends-then _ _ _ _ _ i.appended w.1, k.1, k.2)
 
 pub returns-in-Err-clause-answers : goal.returns-in-Err-clause-answers
-returns-in-Err-clause-answers g c =
-    let i = c.reads.invariant in
-    let e = whole_lines-IsSplit i.read _ _ i.stands.split in
-    (i.read, i.written, _, Consumes-end _ _ _ _ i.consumed (Consumes-kept _ _ c.in-Err.ensures.bytes), i.appended, refl, rw e i.stands.answered)
+returns-in-Err-clause-answers g c = grind (arith, whole_lines-IsSplit, Consumes-end, Consumes-kept)
 
 pub reads-preserved : goal.reads-preserved
 reads-preserved g c =
