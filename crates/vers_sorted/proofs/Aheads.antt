@@ -74,4 +74,4 @@ read_maybe i p n w (Some v) packed h e read is some = rw is (read_after i p n v 
 pub place_fits : {s : List ℕ} {high low : List Bool} {first last width : ℕ} (i : ℕ) → IsPacked s high low first last width → i < length s → select true high i < length high
 place_fits {s} {high} i packed h = (count_at_select true high i (omega (arith, packed.high_parts.ones))).0
 
-pub ruleset steps = (step_fits, step_place, place_fits)
+pub ruleset steps = (high_same, step_fits, step_place, place_fits)

@@ -1,7 +1,7 @@
 -- Where the members with one high part begin and end.
 use Rattle.vers_sorted.proofs.Names.{◌≡◌, ℕ, ◌+◌, ◌-◌, ◌*◌, ◌/◌, ◌%◌, ◌^◌, ◌<◌, ◌≤◌, Bool, true, false, List, length, refl, ap, ◌∙◌, arith, inl, inr, slice_index, bit_and, IsNonDecreasing, and_mask, one_shl, cases_lt, count, select, count_both, count_up, count_at_select, select_below, select_not_below, digits, digits_halved, digits_up, below, first_of, last_of, low_width, high_place, high_parts, IsPacked, IsStart, IsBucket, Bucket, IsBetween, high_of, low_of}
 use Rattle.vers_sorted.proofs.Below.{below_le, below_from, below_to, below_before, below_after}
-use Rattle.vers_sorted.proofs.Split.{parts_sum, high_up, member_from, high_zeros}
+use Rattle.vers_sorted.proofs.Split.{high_up, member_from, high_zeros}
 use Rattle.vers_sorted.proofs.Holds.{hold_high}
 use Rattle.vers_sorted.proofs.Packed.{high_same, high_counted}
 
@@ -57,21 +57,14 @@ below_end s v end up from at = grind (arith, below_le, below_before, high_up, me
 pub all_between : (s : List ℕ) (v : ℕ) (bucket : Bucket) → IsNonDecreasing s → first_of s ≤ v → IsBucket s v bucket → IsBetween s v bucket (record { from = bucket.start; to = bucket.end })
 all_between s v bucket up from is = record { start_from = omega arith; from_below = start_below s v bucket.start up from is.start; below_to = below_end s v bucket.end up from is.end; to_end = omega arith }
 
--- a member between the two, by its low part
-same_high : (s : List ℕ) (v start end i : ℕ) → IsStart s (high_of s v) start → IsStart s (high_of s v + 1) end → start ≤ i → i < end
-    → (i < length s) × (high_of s (slice_index s i) * 2 ^ low_width s ≡ high_of s v * 2 ^ low_width s)
-same_high s v start end i at past low high = grind arith
-
-pub step_up : (s : List ℕ) (v start end i : ℕ) → IsNonDecreasing s → first_of s ≤ v → IsStart s (high_of s v) start → IsStart s (high_of s v + 1) end
-    → start ≤ i → i < end → low_of s (slice_index s i) < low_of s v → i + 1 ≤ below s v
-step_up s v start end i up from at past low high less =
-    let same = same_high s v start end i at past low high in
-    below_from s v i up same.0 (omega (arith, same.1, parts_sum s v from, parts_sum s (slice_index s i) (member_from s i up same.0)))
-
-pub step_down : (s : List ℕ) (v start end i : ℕ) → IsNonDecreasing s → first_of s ≤ v → IsStart s (high_of s v) start → IsStart s (high_of s v + 1) end
-    → start ≤ i → i < end → low_of s v ≤ low_of s (slice_index s i) → below s v ≤ i
+-- a member with the same high part, by its low part
+pub step_up : (s : List ℕ) (v i : ℕ) → IsNonDecreasing s → i < length s → high_of s (slice_index s i) ≡ high_of s v → low_of s (slice_index s i) < low_of s v → i + 1 ≤ below s v
 unfolding high_of low_of
-step_down s v start end i up from at past low high more = grind (arith, below_to)
+step_up s v i up h same less = grind (arith, below_from)
+
+pub step_down : (s : List ℕ) (v i : ℕ) → IsNonDecreasing s → first_of s ≤ v → i < length s → high_of s (slice_index s i) ≡ high_of s v → low_of s v ≤ low_of s (slice_index s i) → below s v ≤ i
+unfolding high_of low_of
+step_down s v i up from h same more = grind (arith, below_to)
 
 -- the parts of the number that is looked for
 pub high_is : {s : List ℕ} {high low : List Bool} {first last width : ℕ} (v : ℕ) → IsPacked s high low first last width → (v - first) / 2 ^ width ≡ high_of s v
@@ -93,7 +86,7 @@ high_below {s} v packed some from to = rw (high_same packed) (omega (arith, zero
 pub in_bucket : {s : List ℕ} {v : ℕ} {bucket : Bucket} (i : ℕ) → IsBucket s v bucket → bucket.start ≤ i → i < bucket.end → i < length s → bucket.high ≡ high_of s (slice_index s i)
 in_bucket i at low high h = omega (arith, at.high, at.start.after i low h, at.end.before i high)
 
-pub ruleset bucket = (high_below, zeros_from, bucket_is)
+pub ruleset bucket = (high_same, high_below, zeros_from, bucket_is)
 
 pub ruleset search_steps = (start_below, below_end, step_up, step_down, digits_halved, digits_up)
 

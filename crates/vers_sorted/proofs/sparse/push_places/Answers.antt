@@ -2,15 +2,6 @@ use Rattle.vers_sorted.proofs.Names.{◌+◌, ◌*◌, ◌∙◌, arith, refl}
 use Rattle.vers_sorted.proofs.Marks.{marked_past_to, more_found, limb_done}
 use Rattle.vers_sorted.proofs.sparse.push_places.Goals as goal
 
-pub loop-skip-init : goal.loop-skip-init
-loop-skip-init g c = grind (arith)
-
-pub overflow_sub-end : goal.overflow_sub-end
-overflow_sub-end g c = omega (arith, c.loop-skip.invariant.to)
-
-pub overflow_shr-word : goal.overflow_shr-word
-overflow_shr-word g c = omega (arith, c.min.ensures, c.loop-skip.invariant.from)
-
 pub loop-skip-preserved : goal.loop-skip-preserved
 loop-skip-preserved g c =
     record {

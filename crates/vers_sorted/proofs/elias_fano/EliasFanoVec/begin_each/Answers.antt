@@ -1,9 +1,6 @@
 use Rattle.vers_sorted.proofs.Names.{false, ap, ◌∙◌, arith, slice_index, select, high_of, get_or-map, get_or-take, length-map, length-take, get_or_append_left}
-use Rattle.vers_sorted.proofs.Packed.{high_counted, high_same}
+use Rattle.vers_sorted.proofs.Packed.{high_same}
 use Rattle.vers_sorted.proofs.elias_fano.EliasFanoVec.begin_each.Goals as goal
-
-pub returns-clause-adds : goal.returns-clause-adds
-returns-clause-adds g c = grind (arith, high_counted)
 
 pub go_on_each-requires-clause-before : goal.go_on_each-requires-clause-before
 go_on_each-requires-clause-before g c =

@@ -1,5 +1,4 @@
-use Rattle.vers_sorted.proofs.Names.{true, length, take, ap, ◌∙◌, arith, unwrap_or, select, get_or-map, get_or-take, length-map, length-take, get_or_append_left, high_length, select_reads, superblock_count, times, adds_then}
-use Rattle.vers_sorted.proofs.Packed.{high_counted}
+use Rattle.vers_sorted.proofs.Names.{true, ap, ◌∙◌, arith, unwrap_or, select, get_or-map, get_or-take, length-map, length-take, get_or_append_left}
 use Rattle.vers_sorted.proofs.elias_fano.EliasFanoVec.get_group.Goals as goal
 
 pub members_each-requires-clause-ones : goal.members_each-requires-clause-ones
@@ -9,9 +8,3 @@ members_each-requires-clause-ones g c =
     (grind (arith, length-take, length-map, get_or_append_left, get_or-map, get_or-take))
     ∙ ap (select true c.self.inside.high) (c.ask_each.ensures j h ∙ ap (λ o. unwrap_or o 18446744073709551615) is)
     ∙ packed.high_parts.place i within
-
-pub returns-clause-value : goal.returns-clause-value
-returns-clause-value g c = c.members_each.ensures.value
-
-pub returns-clause-adds : goal.returns-clause-adds
-returns-clause-adds g c = grind (arith, adds_then, high_counted, length-take)

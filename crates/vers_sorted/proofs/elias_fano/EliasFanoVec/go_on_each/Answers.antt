@@ -4,18 +4,6 @@ use Rattle.vers_sorted.proofs.Bounds.{part_after}
 use Rattle.vers_sorted.proofs.elias_fano.EliasFanoVec.go_on_each.Goals as goal
 use Rattle.vers_sorted.proofs.elias_fano.EliasFanoVec.go_on_each.Goals.{then-is_inside, else-is_inside}
 
-pub zero_past-requires-clause-inside : goal.zero_past-requires-clause-inside
-zero_past-requires-clause-inside g c = c.is_inside.ensures.inside c.if-is_inside.true
-
-pub zero_past-requires-clause-before : goal.zero_past-requires-clause-before
-zero_past-requires-clause-before g c = c.requires.before c.loop-j.j (omega arith)
-
-pub first_part-requires-clause-inside : goal.first_part-requires-clause-inside
-first_part-requires-clause-inside g c = c.is_inside.ensures.inside c.if-is_inside.true
-
-pub first_part-requires-clause-before : goal.first_part-requires-clause-before
-first_part-requires-clause-before g c = c.requires.before c.loop-j.j (omega arith)
-
 pub loop-j-preserved : goal.loop-j-preserved
 loop-j-preserved g c =
     let s = c.args.self.now in
@@ -33,6 +21,3 @@ loop-j-preserved g c =
         adds = adds_weaker adds (grind arith);
       })
     ]
-
-pub returns-clause-begun : goal.returns-clause-begun
-returns-clause-begun g c = λ k h. c.loop-j.invariant.begun k (omega arith)

@@ -1,6 +1,6 @@
 use Rattle.vers_sorted.proofs.Names.{sym, arith}
 use Rattle.vers_sorted.proofs.Buckets.{start_below, in_bucket}
-use Rattle.vers_sorted.proofs.Members.{found_at, none_past, none_above, all_less}
+use Rattle.vers_sorted.proofs.Members.{none_past, none_above, all_less}
 use Rattle.vers_sorted.proofs.elias_fano.EliasFanoVec.has_counted.Goals as goal
 
 pub returns-then-v-first-clause-value : goal.returns-then-v-first-clause-value
@@ -20,9 +20,3 @@ with_low_part-requires-clause-high g c =
     let bucket = c.bucket_of-bucket.ensures.bucket in
     let start = start_below c.args.self.now c.args.v c.bucket_of-bucket.result.start c.len.ensures.ascending (omega arith) bucket.start in
     in_bucket c.below_in-k.result bucket (omega (arith, start, c.below_in-k.ensures.value)) (omega arith) (omega (arith, bucket.end.within))
-
-pub with_low_part-requires-clause-within : goal.with_low_part-requires-clause-within
-with_low_part-requires-clause-within g c = omega (arith, c.bucket_of-bucket.ensures.bucket.end.within)
-
-pub returns-clause-value : goal.returns-clause-value
-returns-clause-value g c = grind (arith, found_at)

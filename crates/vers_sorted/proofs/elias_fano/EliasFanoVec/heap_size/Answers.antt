@@ -1,5 +1,5 @@
 use Rattle.vers_sorted.proofs.Names.{length, ap, arith}
-use Rattle.vers_sorted.proofs.Packed.{size_is, index_fits}
+use Rattle.vers_sorted.proofs.Packed.{size_is}
 use Rattle.vers_sorted.proofs.elias_fano.EliasFanoVec.heap_size.Goals as goal
 
 pub returns : goal.returns
@@ -7,8 +7,3 @@ returns g c =
     let packed = rw c.self.view_is at c.self.invariant in
     let low = ap length c.as_bit_vec.ensures in
     omega (arith, size_is packed, low, c.heap_size.ensures, c.heap_size-2.ensures)
-
-pub overflow_add-result : goal.overflow_add-result
-overflow_add-result g c =
-    let low = ap length c.as_bit_vec.ensures in
-    omega (arith, index_fits c.self.inside.high (omega (arith, c.len.ensures)), c.len-2.ensures, low, c.heap_size.ensures, c.heap_size-2.ensures)
