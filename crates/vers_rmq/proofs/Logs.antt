@@ -1,5 +1,5 @@
 -- Binary logarithms.
-use Rattle.vers_rmq.proofs.Names.{◌≡◌, ℕ, ◌+◌, ◌-◌, ◌*◌, ◌%◌, ◌^◌, ◌<◌, ◌≤◌, arith, pow-suc, mul-le-mul_left, leading_top, one_shl, clog, binary_heap_size, count_leading_zeros, clog_is, digits-le, pow_next}
+use Rattle.vers_rmq.proofs.Names.{◌≡◌, ℕ, ◌+◌, ◌-◌, ◌*◌, ◌%◌, ◌^◌, ◌<◌, ◌≤◌, arith, pow-suc, leading_top, one_shl, clog, count_leading_zeros, clog_is, digits-le, pow_next}
 
 pub top_is : (a : ℕ) → 0 < a → a < 2 ^ 64 → (2 ^ (63 - count_leading_zeros 64 a) ≤ a) × (a < 2 * 2 ^ (63 - count_leading_zeros 64 a)) × (count_leading_zeros 64 a ≤ 63)
 top_is a some few = let t = leading_top 64 a some few in grind (arith, pow-suc)
@@ -17,4 +17,3 @@ one_level n few = let none : clog n ≤ 0 = digits-le 0 (n - 1) (omega arith) in
 
 pub few_levels : (n : ℕ) → n < 2 ^ 32 → clog n ≤ 32
 few_levels n h = digits-le 32 (n - 1) (omega (arith, h))
-

@@ -5,6 +5,3 @@ use Rattle.vers_rmq.proofs.rmq.binary_rmq.BinaryRmq.range_min_item_counted.Goals
 
 pub returns-clause-place : goal.returns-clause-place
 returns-clause-place g c = is_least_place _ _ _ _ (grind (arith, asked))
-
-pub returns-clause-item : goal.returns-clause-item
-returns-clause-item g c = grind (arith, asked)

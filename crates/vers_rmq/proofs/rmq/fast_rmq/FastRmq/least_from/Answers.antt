@@ -1,9 +1,5 @@
-use Rattle.vers_rmq.proofs.Names.{arith}
 use Rattle.vers_rmq.proofs.Blocks.{end_before}
 use Rattle.vers_rmq.proofs.rmq.fast_rmq.FastRmq.least_from.Goals as goal
-
-pub returns-then-after-least-clause-value : goal.returns-then-after-least-clause-value
-returns-then-after-least-clause-value g c to found = grind arith
 
 pub returns-clause-value : goal.returns-clause-value
 returns-clause-value g c to found =

@@ -1,16 +1,6 @@
 use Rattle.vers_rmq.proofs.Names.{◌+◌, ◌*◌, ◌/◌, ◌≤◌, refl, rules, arith}
-use Rattle.vers_rmq.proofs.Minima.{least_within, item_at, item_ends}
 use Rattle.vers_rmq.proofs.Blocks.{part_more, part_end_with}
 use Rattle.vers_rmq.proofs.rmq.fast_rmq.FastRmq.least_in_block.Goals as goal
-
-pub returns-then-i-last-clause-value : goal.returns-then-i-last-clause-value
-returns-then-i-last-clause-value g c = least_within _ _ _ _ _ _ c.prefix_place-last.ensures.value (omega arith) (omega arith) (omega arith) (omega arith)
-
-pub returns-then-first-j-clause-value : goal.returns-then-first-j-clause-value
-returns-then-first-j-clause-value g c = least_within _ _ _ _ _ _ c.suffix_place-first.ensures.value (omega arith) (omega arith) (omega arith) (omega arith)
-
-pub loop-part-init : goal.loop-part-init
-loop-part-init g c = grind (arith, item_ends, item_at)
 
 pub loop-part-preserved : goal.loop-part-preserved
 loop-part-preserved g c = record {
