@@ -1,5 +1,4 @@
 pub mod Names
-pub mod Known
 pub mod Splits
 pub mod Lines
 pub mod Steps

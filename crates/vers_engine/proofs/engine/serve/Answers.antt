@@ -1,5 +1,5 @@
-use Rattle.vers_engine.proofs.Names.{◌≡◌, ◌++◌, ◌<◌, ◌||◌, [], length, false, take, refl, rules, ap, ◌∙◌, arith, err_from_is_err_and, lines_of}
-use Rattle.vers_engine.proofs.Known.{Appends-none, Appends-then, Consumes-none, Consumes-then, Consumes-kept, Consumes-end}
+use Rattle.vers_engine.proofs.Names.{◌≡◌, ◌++◌, ◌<◌, ◌||◌, [], length, false, take, refl, rules, ap, ◌∙◌, arith, err_from_is_err_and, lines_of, append-nil}
+use Rattle.std.proofs.KnownBytes.{Appends-nil, Appends-trans, Consumes-nil, Consumes-trans, Consumes-kept}
 use Rattle.vers_engine.proofs.Ends.{ends, breaks}
 use Rattle.vers_engine.proofs.Steps.{whole_lines-IsSplit}
 use Rattle.vers_engine.proofs.engine.serve.Goals as goal
@@ -8,8 +8,8 @@ pub reads-init : goal.reads-init
 reads-init g c = record {
   read = [];
   written = [];
-  consumed = Consumes-none _;
-  appended = Appends-none _;
+  consumed = Consumes-nil _;
+  appended = Appends-nil _;
   gathered = c.requires.answers;
   stands = rw c.requires.pending
       (record { lines = []; split = record { joined = refl; parts_lack = search rules; rest_lacks = search rules }; answered = refl; holds = refl });
@@ -29,8 +29,8 @@ returns-in-Ok-eq0-clause-answers g c =
       i.read,
       i.written ++ w.0,
       lines_of i.read,
-      Consumes-end _ _ _ i.read i.consumed none,
-      Appends-then _ _ _ _ _ i.appended w.1,
+      rw append-nil at (Consumes-trans _ _ _ _ _ i.consumed none),
+      Appends-trans _ _ _ _ _ i.appended w.1,
       e.0,
       e.1,
     )
@@ -44,10 +44,10 @@ returns-in_err-take_bytes-in-Ok-clause-answers g c =
     let bs = take c.in-Ok.n c.read.new.buf in
     let s = c.reads.session in
     let k = breaks g.S.Answerer.answering c.args.session.now.store c.in_err-take_bytes-in-Ok.field-0.0 (g.R.Read.remaining c.read.new.self.inner) s.store s.pending.items bs w.0 s.store s.pending.items i.read i.written i.stands w.2 in
-    rw (p.1, p.2) (i.read ++ bs, i.written ++ w.0, k.0, Consumes-then _ _ _ _ _ i.consumed b.0, Appends-then _ _ _ _ _ i.appended w.1, k.1, k.2)
+    rw (p.1, p.2) (i.read ++ bs, i.written ++ w.0, k.0, Consumes-trans _ _ _ _ _ i.consumed b.0, Appends-trans _ _ _ _ _ i.appended w.1, k.1, k.2)
 
 pub returns-in-Err-clause-answers : goal.returns-in-Err-clause-answers
-returns-in-Err-clause-answers g c = grind (arith, whole_lines-IsSplit, Consumes-end, Consumes-kept)
+returns-in-Err-clause-answers g c = grind (arith, whole_lines-IsSplit, Consumes-kept)
 
 pub reads-preserved : goal.reads-preserved
 reads-preserved g c =
@@ -57,8 +57,8 @@ reads-preserved g c =
     record {
       read = i.read ++ take c.in-Ok.n c.read.new.buf;
       written = i.written ++ w.0;
-      consumed = Consumes-then _ _ _ _ _ i.consumed b.0;
-      appended = Appends-then _ _ _ _ _ i.appended w.1;
+      consumed = Consumes-trans _ _ _ _ _ i.consumed b.0;
+      appended = Appends-trans _ _ _ _ _ i.appended w.1;
       gathered = c.in_ok-take_bytes-in-Ok.ensures.answers;
       stands = w.2 c.args.session.now.store i.read i.written i.stands;
       reader_fine = c.in-Ok.ensures.failed ∙ ap (λ b. b || false) i.reader_fine;

@@ -1,6 +1,6 @@
 use Rattle.vers_engine.proofs.Names.{◌++◌, take, arith, append_assoc, take_rest, take-append-drop, nat_tests}
 use Rattle.std.proofs.lemmas.Grind.{common_steps}
-use Rattle.vers_engine.proofs.Known.{Appends-then}
+use Rattle.std.proofs.KnownBytes.{Appends-trans}
 use Rattle.vers_engine.proofs.engine.write_piece.Goals as goal
 
 pub loop-rest-preserved : goal.loop-rest-preserved
@@ -9,7 +9,7 @@ loop-rest-preserved g c =
     let rest = c.loop-rest.rest.now in (
       (
         c.loop-rest.invariant.0.0 ++ take n rest,
-        Appends-then _ _ _ _ _ c.loop-rest.invariant.0.1 c.in-Ok.ensures.bytes,
+        Appends-trans _ _ _ _ _ c.loop-rest.invariant.0.1 c.in-Ok.ensures.bytes,
         rw (take_rest, append_assoc, take-append-drop) c.loop-rest.invariant.0.2,
       ),
       grind (arith, nat_tests, common_steps),

@@ -1,5 +1,5 @@
 use Rattle.vers_engine.proofs.Names.{◌≡◌, ◌==◌, ◌++◌, [], false, length, sym, ◌∙◌, arith, eqb-true, eqb-false, ne_eqb, append-nil, nil_from_length, err_from_is_err_and}
-use Rattle.vers_engine.proofs.Known.{Appends-none}
+use Rattle.std.proofs.KnownBytes.{Appends-nil}
 use Rattle.vers_engine.proofs.Steps.{FinishesOrFails-none, FinishesOrFails-stays, FinishesOrFails-line}
 use Rattle.vers_engine.proofs.engine.Session.finish.Goals as goal
 
@@ -7,13 +7,13 @@ pub returns-then-is_empty-clause-written : goal.returns-then-is_empty-clause-wri
 returns-then-is_empty-clause-written g c =
     let s = c.args.self.now in
     let none = nil_from_length s.pending.items (omega (arith, s.pending.ok.0, eqb-true _ 0 (sym c.if-is_empty.ensures))) in
-    ([], Appends-none _, rw none (FinishesOrFails-none g.S.Answerer.answering s.store))
+    ([], Appends-nil _, rw none (FinishesOrFails-none g.S.Answerer.answering s.store))
 
 pub returns-in_err-answer_line-clause-written : goal.returns-in_err-answer_line-clause-written
 returns-in_err-answer_line-clause-written g c =
     let p = err_from_is_err_and c.from_residual.result c.from_residual.ensures.1 in
     let s = c.args.self.now in
-    ([], Appends-none _, rw (p.1, p.2) (FinishesOrFails-stays g.S.Answerer.answering s.store s.pending.items))
+    ([], Appends-nil _, rw (p.1, p.2) (FinishesOrFails-stays g.S.Answerer.answering s.store s.pending.items))
 
 pub returns-clause-written : goal.returns-clause-written
 returns-clause-written g c =
