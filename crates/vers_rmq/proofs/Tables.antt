@@ -23,9 +23,6 @@ add_place xs table more k i m holds counted inside place e = rw e (record {
 pub level_zero : (xs : List ℕ) (i : ℕ) → i < length xs → IsFirstLeast xs i (reach (length xs) 0 i) i
 level_zero xs i h = least_ends xs i i (reach (length xs) 0 i) i (omega arith) (least_at xs i)
 
-pub no_places : (xs table : List ℕ) → table ≡ [] → HoldsPlaces xs table
-no_places xs table e = rw e (record { place = λ k i h at. absurd (omega arith) })
-
 -- an entry of the next level
 pub next_joined : (xs table : List ℕ) (k i : ℕ) → HoldsPlaces xs table → length xs * k + length xs ≤ length table → i + 2 ^ k < length xs
     → IsFirstLeast xs i (reach (length xs) (k + 1) i) (lesser xs (get_or table (length xs * k + i) 0) (get_or table (length xs * k + (i + 2 ^ k)) 0))
@@ -65,10 +62,6 @@ pub asked : (xs ys : List ℕ) (k i j w h m n : ℕ) (a b r : PlacedItem) → xs
     → IsFirstLeast ys i (i + 2 ^ k - 1) m → IsFirstLeast ys h (h + 2 ^ k - 1) n → a.place ≡ m → a.value ≡ get_or xs m 0 → b.place ≡ n → b.value ≡ get_or xs n 0
     → r ≡ lesser_item a b → IsLeastItem ys i j r
 asked xs ys k i j w h m n a b r e ij ew low high eh left right pa va pb vb v = grind (arith, item_at, item_ends)
-
--- the room that is asked for is a number of the machine
-pub room_fits : (n r : ℕ) → n < 2 ^ 32 → r ≤ 33 → n * r < 2 ^ 64
-room_fits n r few most = omega (arith, few, mul-le-mul_left {m = r} {n = 33} n most)
 
 -- the sizes of the table
 pub table_size : (xs table : List ℕ) → IsTable xs table → (length table ≡ length xs * (clog (length xs) + 1)) × (length table ≤ 33 * length xs) × (length xs < 2 ^ 32)

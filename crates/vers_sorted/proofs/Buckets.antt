@@ -54,9 +54,6 @@ start_below s v start up from at = grind (arith, high_up, below_after)
 pub below_end : (s : List ℕ) (v end : ℕ) → IsNonDecreasing s → first_of s ≤ v → IsStart s (high_of s v + 1) end → below s v ≤ end
 below_end s v end up from at = grind (arith, below_le, below_before, high_up, member_from)
 
-pub all_between : (s : List ℕ) (v : ℕ) (bucket : Bucket) → IsNonDecreasing s → first_of s ≤ v → IsBucket s v bucket → IsBetween s v bucket (record { from = bucket.start; to = bucket.end })
-all_between s v bucket up from is = record { start_from = omega arith; from_below = start_below s v bucket.start up from is.start; below_to = below_end s v bucket.end up from is.end; to_end = omega arith }
-
 -- a member with the same high part, by its low part
 pub step_up : (s : List ℕ) (v i : ℕ) → IsNonDecreasing s → i < length s → high_of s (slice_index s i) ≡ high_of s v → low_of s (slice_index s i) < low_of s v → i + 1 ≤ below s v
 unfolding high_of low_of
