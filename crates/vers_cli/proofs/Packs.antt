@@ -1,5 +1,5 @@
 -- Numbers of a line, packed as bits.
-use Rattle.vers_cli.proofs.Names.{◌≡◌, ℕ, ◌*◌, ◌/◌, ◌%◌, ◌^◌, ◌<◌, ◌≤◌, Bool, true, List, [], ◌∷◌, ◌++◌, append_assoc, length, map, Option, Some, None, Result, Ok, Err, IfOk, refl, sym, ap, ◌∙◌, arith, option_map, nat_le, range_with_len, ne_eqb, cond_some, same_Some, get_or-map, length-map, length-map-range_with_len, get_or-map-range_with_len, low_bits, number, pack, part, Symbols, Accepted, symbols_loaded, part_number, low_symbols, packed_symbols}
+use Rattle.vers_cli.proofs.Names.{◌≡◌, ℕ, ◌*◌, ◌/◌, ◌%◌, ◌^◌, ◌<◌, ◌≤◌, Bool, true, List, [], ◌∷◌, ◌++◌, length, map, Option, Some, None, Result, Ok, Err, IfOk, refl, sym, ap, ◌∙◌, arith, option_map, nat_le, range_with_len, ne_eqb, cond_some, same_Some, get_or-map, length-map, length-map-range_with_len, get_or-map-range_with_len, number, pack, part, Symbols, Accepted, symbols_loaded, part_number, low_symbols, packed_symbols}
 use Rattle.std.proofs.Math.Nat.{mul-div_cancel, mul-mod_left}
 use Rattle.std.proofs.lemmas.Grind.{same_number_lists}
 use Rattle.vers_bits.specs.Laws.{PackedElementsAreItems}
@@ -8,11 +8,6 @@ use Rattle.vers_bits.proofs.PublicLaws.{length-packed}
 -- bits, and then those of further numbers
 abbrev pub bits_then : List Bool → ℕ → Option (List ℕ) → Option (List Bool)
 bits_then bits k others = option_map (λ numbers. bits ++ pack numbers k) others
-
-pub bits_then-push : (bits : List Bool) (v k : ℕ) (others : Option (List ℕ))
-    → bits_then bits k (option_map (λ more. v ∷ more) others) ≡ bits_then (bits ++ low_bits v k) k others
-bits_then-push bits v k None = refl
-bits_then-push bits v k (Some more) = ap Some (sym (append_assoc bits (low_bits v k) (pack more k)))
 
 -- the bits of packed items are whole items
 pub whole_items : (items : List ℕ) (k : ℕ) → length (pack items k) % k ≡ 0

@@ -1,9 +1,8 @@
 -- Documents with their costs, as the numbers of a line write them.
-use Rattle.vers_cli.proofs.Names.{◌≡◌, ◌==◌, ◌||◌, ℕ, ◌+◌, ◌≤◌, Bool, true, false, List, [], ◌∷◌, ◌++◌, length, append_assoc, Option, Some, None, Result, Ok, Err, IfOk, unwrap_or, refl, ap, nat_lt, option_map, if◌then◌else◌, option_and_then, le-leb, each_next-rising, each_next, Numbers, Refused, posted_first, rising_count, are_admitted, if_admitted, shared_reply, IsErr, MatchResult, PlainReply}
+use Rattle.vers_cli.proofs.Names.{◌≡◌, ◌==◌, ◌||◌, ℕ, ◌+◌, ◌≤◌, Bool, true, false, List, [], ◌++◌, length, Option, Some, None, refl, ap, nat_lt, option_map, if◌then◌else◌, option_and_then, le-leb, each_next-rising, each_next, posted_first, rising_count, if_admitted}
 use Rattle.std.specs.List.Sorted.{IsStrictlyIncreasing}
-use Rattle.std.proofs.lemmas.Result.{IfOk-from_err}
 use Rattle.vers_rmq.specs.declared.rmq.fast_rmq.TheConstants.{MAX_LEN}
-use Rattle.postings.specs.Posted.{Posted, common}
+use Rattle.postings.specs.Posted.{Posted}
 use Rattle.postings.specs.Makers.{IsRefusedFor}
 use Rattle.postings.specs.declared.fault.PostingsError.{PostingsError}
 use Rattle.postings.specs.declared.fault.PostingsError.TheVariants.{NotAscending}
@@ -12,16 +11,6 @@ use Rattle.vers_cli.proofs.Rises.{rise_from, rise, fall}
 -- documents with their costs, and then others
 abbrev pub posted_then : List ℕ → List ℕ → Option Posted → Option Posted
 posted_then documents costs others = option_map (λ more. record { documents = documents ++ more.documents; costs = costs ++ more.costs }) others
-
-pub posted_then-none : (others : Option Posted) → posted_then [] [] others ≡ others
-posted_then-none None = refl
-posted_then-none (Some more) = refl
-
-pub posted_then-push : (documents costs : List ℕ) (d c : ℕ) (others : Option Posted)
-    → posted_then documents costs (option_map (posted_first d c) others) ≡ posted_then (documents ++ d ∷ []) (costs ++ c ∷ []) others
-posted_then-push documents costs d c None = refl
-posted_then-push documents costs d c (Some more) =
-    rw (append_assoc documents (d ∷ []) more.documents, append_assoc costs (c ∷ []) more.costs) refl
 
 -- how documents ascend after others, as `rise_after` tells it of numbers
 abbrev pub documents_after : ℕ → ℕ → Option Posted → Option (ℕ × ℕ)
@@ -59,17 +48,3 @@ pub not_admitted : (documents costs : List ℕ) (fault : PostingsError) → faul
 not_admitted documents costs fault is refused =
     let told : IsRefusedFor documents costs MAX_LEN NotAscending = rw is at refused in
     rw (not_rising documents (each_next nat_lt documents) refl told.2) refl
-
--- what is shared with documents that may be admitted
-among : (documents : List ℕ) (posted : Posted) (test : Bool)
-    → unwrap_or (option_map (λ (o : Posted). Numbers (common documents o.documents)) (if test then Some posted else None)) Refused
-    ≡ (if test then Numbers (common documents posted.documents) else Refused)
-among documents posted true = refl
-among documents posted false = refl
-
-pub shared : {R E : Type 0} (documents : List ℕ) (posted : Posted) (made : Result (Option Posted) E) (r : Result R E) (plain : R → PlainReply)
-    → IfOk made (λ others. others ≡ if_admitted posted)
-    → MatchResult made (λ others. IfOk r (λ reply. plain reply ≡ unwrap_or (option_map (λ (o : Posted). Numbers (common documents o.documents)) others) Refused)) (λ _. IsErr r)
-    → IfOk r (λ reply. plain reply ≡ shared_reply documents posted.documents)
-shared documents posted (Ok others) r plain is told = rw (is, among documents posted (are_admitted posted.documents)) at told
-shared documents posted (Err e) r plain is told = IfOk-from_err r _ told

@@ -1,5 +1,5 @@
 -- Numbers that ascend, read from the front.
-use Rattle.vers_cli.proofs.Names.{◌≡◌, ◌==◌, ◌<◌, ◌+◌, ◌-◌, ℕ, Bool, true, false, List, [], ◌∷◌, length, get_or, Option, Some, None, refl, sym, ap, ◌∙◌, arith, ◌||◌, ◌&&◌, All, nat_le, nat_lt, option_map, option_and_then, if◌then◌else◌, list_all, ne_eqb, and_parts, ltb-true, AllPass-from_list_all, same_Some, each_next, number_of, all_numbers, first_numbers, first_then}
+use Rattle.vers_cli.proofs.Names.{◌≡◌, ◌==◌, ◌<◌, ◌+◌, ◌-◌, ℕ, Bool, true, false, List, [], ◌∷◌, length, get_or, Option, Some, None, refl, ap, ◌∙◌, arith, ◌||◌, ◌&&◌, All, nat_le, nat_lt, option_map, option_and_then, if◌then◌else◌, list_all, ne_eqb, and_parts, ltb-true, AllPass-from_list_all, same_Some, each_next, number_of, all_numbers, first_numbers, first_then}
 use Rattle.std.proofs.lemmas.Bool.Decides.{nat_tests}
 use Rattle.vers_sorted.specs.Layout.{last_of}
 

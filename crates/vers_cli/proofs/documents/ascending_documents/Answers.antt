@@ -1,4 +1,4 @@
-use Rattle.vers_cli.proofs.Names.{Some, None, sym, ap, ◌∙◌, arith, option_and_then, words_in, all_numbers, posted_of}
+use Rattle.vers_cli.proofs.Names.{Some, None, sym, ap, ◌∙◌, option_and_then, words_in, all_numbers, posted_of}
 use Rattle.vers_cli.proofs.Pairs.{documents_after, documents_after-end, documents_after-next, rising_counted}
 use Rattle.vers_cli.proofs.documents.ascending_documents.Goals as goal
 
@@ -19,11 +19,3 @@ returns-in-Some-no_arguments c =
     rising_counted (option_and_then posted_of (all_numbers (words_in c.args.arguments.now))) (Some (c.loop-last.rise.len, c.loop-last.rise.last)) (c.loop-last.invariant.after
     ∙ ap (documents_after c.loop-last.rise.len c.loop-last.rise.last) c.in_default.ensures.pairs
     ∙ documents_after-end c.loop-last.rise.len c.loop-last.rise.last _ (Some tt) (sym c.no_arguments.ensures ∙ c.in-Some-no_arguments.is))
-
-pub loop-last-preserved : goal.loop-last-preserved
-loop-last-preserved c =
-    record {
-      after = c.loop-last.invariant.after ∙ ap (documents_after c.loop-last.rise.len c.loop-last.rise.last) c.in-Some.ensures.pairs
-          ∙ documents_after-next c.loop-last.rise.len c.loop-last.rise.last c.in-Some.last _ (option_and_then posted_of (all_numbers (words_in c.in-Some.others.now))) _ (sym c.if-not-admits.ensures);
-      within = omega (arith, c.loop-last.invariant.within, c.in-Some.ensures.shorter);
-    }

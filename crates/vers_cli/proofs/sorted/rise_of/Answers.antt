@@ -1,4 +1,4 @@
-use Rattle.vers_cli.proofs.Names.{refl, sym, ◌∙◌, arith, words_in, all_numbers, in_order}
+use Rattle.vers_cli.proofs.Names.{refl, sym, ◌∙◌, words_in, all_numbers, in_order}
 use Rattle.vers_cli.proofs.Rises.{rise_after-next, told, not_told}
 use Rattle.vers_cli.proofs.sorted.rise_of.Goals as goal
 
@@ -25,12 +25,4 @@ returns c =
       order = rise.1.0;
       len = rise.1.1;
       last = rise.1.2;
-    }
-
-pub loop-word-preserved : goal.loop-word-preserved
-loop-word-preserved c =
-    record {
-      after = c.loop-word.invariant.after ∙ rw (c.in-Some.ensures.words, ← c.number.ensures, c.in_ok-last.was)
-          (rise_after-next (in_order c.args.strictly) c.loop-word.rise.len c.loop-word.rise.last c.in_ok-last.last (all_numbers (words_in c.in-Some.others.now)) _ (sym c.if-not-admits.ensures));
-      within = omega (arith, c.loop-word.invariant.within, c.in-Some.ensures.shorter);
     }
