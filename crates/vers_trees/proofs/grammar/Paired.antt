@@ -125,10 +125,6 @@ open_is_paired F v d h b = let r = bit_is_paired F true v d h b in (r.1, subst (
 pub close_is_paired : (F : Forest) (c : ℕ) (d : Bool) → c < length (text F) → get_or (text F) c d ≡ false → (v : ℕ) × Paired F v c
 close_is_paired F c d h b = let r = bit_is_paired F false c d h b in (r.0, subst (λ (k : ℕ). Paired F r.0 k) r.3 r.2)
 
--- what closes at v does so at one place, and opens at one place
-pub closes_once : (l : List Bool) (v c d : ℕ) → Closes l v c → Closes l v d → c ≡ d
-closes_once l v c d p q = grind arith
-
 -- an opening place rises, and a closing place falls
 pub closes_rises : (l : List Bool) (v c : ℕ) (d : Bool) → Closes l v c → get_or l v d ≡ true
 closes_rises l v c d p = open_from_rise l v d (omega arith) (p.above (v + 1) (omega arith) (omega arith))
@@ -137,4 +133,4 @@ pub closes_falls : (l : List Bool) (v c : ℕ) (d : Bool) → Closes l v c → g
 closes_falls l v c d p = let x = p.above c p.after (omega arith) in close_from_fall l c d p.inside (omega (arith, ints))
 
 pub closes_paired : (F : Forest) (v c : ℕ) → Closes (text F) v c → Paired F v c
-closes_paired F v c p = grind (arith, ints, closes_once, paired_closes, open_is_paired F v false (omega arith) (closes_rises (text F) v c false p))
+closes_paired F v c p = grind (arith, ints, paired_closes, open_is_paired F v false (omega arith) (closes_rises (text F) v c false p))

@@ -71,10 +71,6 @@ count_none p (x ∷ xs) h = grind (arith, contains_later, contains_first, count_
 pub count_tree : (p : ℕ × ℕ → Bool) (X Y : Forest) → count_by p (pairs (tree X Y)) ≡ one_if (p (0, length (text X) + 1)) + (count_by (λ q. p (moved 1 q)) (pairs X) + count_by (λ q. p (moved (length (text X) + 2) q)) (pairs Y))
 count_tree p X Y = grind (arith, count_by-cons, count_by-append, count_by-map)
 
--- the tests at pairs moved to the right by the same number
-pub moved_lt : (n a x v : ℕ) → v ≡ n + x → ltb (n + a) v ≡ ltb a x
-moved_lt n a x v e = grind (arith, nat_tests)
-
 -- q has p between its numbers
 abbrev pub strictly_contains : ℕ × ℕ → ℕ × ℕ → Bool
 strictly_contains q p = ltb q.0 p.0 && ltb p.1 q.1
@@ -84,7 +80,7 @@ abbrev around : ℕ → Forest → ℕ → ℕ → ℕ
 around n F v c = count_by (λ q. strictly_contains (moved n q) (v, c)) (pairs F)
 
 around_moved : (n : ℕ) (F : Forest) (x y v c : ℕ) → v ≡ n + x → c ≡ n + y → around n F v c ≡ count_by (λ q. strictly_contains q (x, y)) (pairs F)
-around_moved n F x y v c e f = grind (arith, count_agree, moved_lt, nat_tests)
+around_moved n F x y v c e f = grind (arith, count_agree, nat_tests)
 
 -- none of the pairs that open at or after v, or close at or before c, is around (v, c)
 around_none : (n : ℕ) (F : Forest) (v c : ℕ) → (v ≤ n) ⊎ (n + length (text F) ≤ c + 1) → around n F v c ≡ 0

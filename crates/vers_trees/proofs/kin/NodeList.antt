@@ -3,7 +3,7 @@ use Rattle.vers_trees.proofs.Words.{◌≡◌, ℕ, zero, suc, ◌+◌, ◌<◌,
 use Rattle.vers_trees.proofs.walks.Lists.{opening_moved, places-tree}
 use Rattle.vers_trees.proofs.searches.Searches.{find_is, last_is}
 pub use Rattle.vers_trees.proofs.grammar.Grammar.{text-forest_of}
-use Rattle.vers_trees.proofs.grammar.Paired.{Closes, Paired, paired_closes, closes_paired, open_is_paired, close_is_paired, closes_once, closes_rises}
+use Rattle.vers_trees.proofs.grammar.Paired.{Closes, Paired, paired_closes, closes_paired, open_is_paired, close_is_paired, closes_rises}
 use Rattle.vers_trees.proofs.grammar.Pairs.{contains_first, contains_later, contains_map_cases, contains_from_paired, paired_from_contains}
 
 -- the nodes are the places of ones, so they ascend
@@ -26,7 +26,7 @@ find_only {X = X} test (x ∷ xs) y c t h = cond_both (test x) (Some x) (find te
 pub closing_is : (F : Forest) (v c : ℕ) → Paired F v c → closing F v ≡ c
 unfolding closing
 closing_is F v c p =
-    let f = find_only (λ (q : ℕ × ℕ). eqb q.0 v) (pairs F) (v, c) (contains_from_paired F v c p) ((Decides-eqb v v).1 refl) (λ q d t. let m = paired_closes F q.0 q.1 (paired_from_contains F q d) in grind (arith, closes_once, paired_closes)) in
+    let f = find_only (λ (q : ℕ × ℕ). eqb q.0 v) (pairs F) (v, c) (contains_from_paired F v c p) ((Decides-eqb v v).1 refl) (λ q d t. let m = paired_closes F q.0 q.1 (paired_from_contains F q d) in grind (arith, paired_closes)) in
     grind (arith, ints)
 
 pub closes_here : (l : List Bool) (b : IsBalanced l) (v c : ℕ) → Paired (forest_of l) v c → Closes l v c
@@ -43,9 +43,7 @@ pub record HasPair (l : List Bool) (v : ℕ) : Type 0 where
   pub closes : Closes l v (closing (forest_of l) v)
 
 pub has_pair : (l : List Bool) (b : IsBalanced l) (v c : ℕ) → Paired (forest_of l) v c → HasPair l v
-has_pair l b v c p =
-    let e = closing_is (forest_of l) v c p in
-    record { is_pair = rw e (contains_from_paired (forest_of l) v c p); closes = rw e (closes_here l b v c p) }
+has_pair l b v c p = grind (arith, ints, closing_is, contains_from_paired, closes_here)
 
 -- a one opens a node, a zero closes one, and each node opens at a one
 pub one_pair : (l : List Bool) (b : IsBalanced l) (v : ℕ) → v < length l → get_or l v false ≡ true → HasPair l v

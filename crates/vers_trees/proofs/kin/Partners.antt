@@ -1,7 +1,7 @@
 -- From one place of a pair a search for an excess that is one less finds the other.
 use Rattle.vers_trees.proofs.Words.{◌≡◌, ℕ, ◌+◌, ◌-◌, ◌<◌, ◌≤◌, ◌≢◌, Bool, true, false, List, get_or, pos, negsuc, ◌+ℤ◌, arith, ◌<ℤ◌, ap, ◌↔◌, ints, excess, IsFirstRiseAfter, IsLastRiseBefore, cases_Bool, eq-or-lt_of_le}
 use Rattle.vers_trees.proofs.grammar.Excess.{above_until, above_since, excess-is_walk, excess_after_open, excess_after_close}
-use Rattle.vers_trees.proofs.grammar.Paired.{Closes, closes_rises, closes_falls, closes_once}
+use Rattle.vers_trees.proofs.grammar.Paired.{Closes, closes_rises, closes_falls}
 
 pub after_from_closes : (l : List Bool) (v c : ℕ) → Closes l v c → IsFirstRiseAfter l v (negsuc 0) c
 after_from_closes l v c p = grind (arith, ints, excess_after_open l v false (omega arith) (closes_rises l v c false p))
@@ -36,7 +36,7 @@ nested l v c w d p q a b = grind (arith, Closes)
 
 -- a pair that opens at or before the end of another and closes past it opens before it
 pub opens_around : (l : List Bool) (v c q e : ℕ) → Closes l v c → Closes l q e → q ≤ c → c < e → q < v
-opens_around l v c q e p m h x = grind (arith, closes_once, Closes, nested)
+opens_around l v c q e p m h x = grind (arith, Closes, nested)
 
 -- a one at or before the place where a pair closes stands before it
 pub one_before : (l : List Bool) (v c w : ℕ) → Closes l v c → get_or l w false ≡ true → w ≤ c → w < c

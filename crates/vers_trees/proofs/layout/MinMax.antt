@@ -107,9 +107,5 @@ pub leaf_stands : (first i s e : ℕ) → StandsOver first i s e → first ≤ i
 leaf_stands first i s e p h =
     let o = one_part first i _ _ _ _ p (leaf first (p.level + p.height) i p.levels h (stands_within first i s e p)) in (omega arith, omega arith)
 
--- a node's part has a block
-pub stands_some : (first i s e : ℕ) → StandsOver first i s e → s < e
-stands_some first i s e p = grind (arith, ints, pow_pos)
-
 pub root_stands : (first s e : ℕ) → StandsOver first 0 s e → (s ≡ 0) × (e ≡ first + 1)
 root_stands first s e p = one_part first 0 _ _ _ _ p (root first (p.level + p.height) p.levels)

@@ -29,10 +29,6 @@ digits_before node odd left p = let most = odd_most _ _ p in grind (arith, digit
 pub adds_none : (a p : Reads) → AddsAtMost a a p
 adds_none a p = adds_weaker (adds_nothing a) (grind arith)
 
--- a node's number, from 1, has at least a digit
-pub digit_some : (n : ℕ) → 0 < n → 1 ≤ digits n
-digit_some n h = omega (arith, digits_half n h)
-
 digits_child : (m n : ℕ) → n / 2 ≡ m → 0 < n → digits n ≡ digits m + 1
 digits_child m n e h = omega (arith, digits_half n h, ap digits e)
 
@@ -41,7 +37,7 @@ pub one_of_two : (b : Bool) → bool_byte b ≤ 1
 one_of_two b = omega (arith, bit_value_le b, byte_value b)
 
 pub read_down : (a b c : Reads) (node child : ℕ) → (child + 1) / 2 ≡ node + 1 → AddsAtMost a b (only_nodes (digits (node + 1) - 1)) → AddsAtMost b c (only_nodes 1) → AddsAtMost a c (only_nodes (digits (child + 1) - 1))
-read_down a b c node child e p q = grind (arith, digits_child, digit_some, adds_then)
+read_down a b c node child e p q = grind (arith, digits_child, digits_half, adds_then)
 
 pub down_ends : (a b : Reads) (node first : ℕ) → node ≤ 2 * first → AddsAtMost a b (only_nodes (digits (node + 1) - 1)) → AddsAtMost a b (only_nodes (digits first))
 down_ends a b node first h p = grind (arith, digits_up, digits_child, adds_weaker)
@@ -51,11 +47,11 @@ pub read_up : (a b c : Reads) (first node up : ℕ) → node ≤ 2 * first → d
 read_up a b c first node up h d p q = grind (arith, digits_up, adds_then)
 
 pub up_ends : (a b : Reads) (first node : ℕ) → node ≤ 2 * first → AddsAtMost a b (only_nodes (digits (2 * first + 1) - digits (node + 1))) → AddsAtMost a b (only_nodes (2 * digits first))
-up_ends a b first node h p = grind (arith, digits_child, digit_some, adds_weaker)
+up_ends a b first node h p = grind (arith, digits_child, digits_half, adds_weaker)
 
 -- the last step up, which reads a node, and then nothing or the way down
 up_then : (a b c : Reads) (first node : ℕ) → node ≤ 2 * first → 0 < node → AddsAtMost a b (only_nodes (digits (2 * first + 1) - digits (node + 1))) → AddsAtMost b c (only_nodes 1) → AddsAtMost a c (only_nodes (digits first))
-up_then a b c first node h some p q = grind (arith, digits_child, digit_some, digits_up, adds_then)
+up_then a b c first node h some p q = grind (arith, digits_child, digits_half, digits_up, adds_then)
 
 pub up_then_down : (a b c d : Reads) (first node : ℕ) → node ≤ 2 * first → 0 < node → AddsAtMost a b (only_nodes (digits (2 * first + 1) - digits (node + 1))) → AddsAtMost b c (only_nodes 1) → AddsAtMost c d (only_nodes (digits first)) → AddsAtMost a d (only_nodes (2 * digits first))
 up_then_down a b c d first node h some p q r = adds_then (up_then a b c first node h some p q) r (grind arith)

@@ -9,10 +9,7 @@ pub overflow_sub-falls : goal.overflow_sub-falls
 overflow_sub-falls c = zeros_fit _ (covered_few c.args.word c.ranges.word.fits)
 
 pub overflow_sub-result : goal.overflow_sub-result
-overflow_sub-result c =
-    let n = count_ones (bit_or c.args.word (c.args.word * 2 % 18446744073709551616)) in let h = covered_few c.args.word c.ranges.word.fits in
-    let z = zeros_is n h in
-    less_fits c.args.rise (to_z w64 (of_z w64 (pos 64 -ℤ to_z w64 n))) c.ranges.rise c.requires (omega (arith, ints)) (omega (arith, ints))
+overflow_sub-result c = grind (arith, ints, covered_few, zeros_is, less_fits)
 
 pub returns : goal.returns
 returns c = λ t bits long is.

@@ -7,12 +7,7 @@ sum_back : (a b : ℤ) → FitsSigned w64 a → FitsSigned w64 b → FitsSigned 
 sum_back a b f g h = rw (to_z-of_z w64 a f, to_z-of_z w64 b g) (to_z-of_z w64 (a +ℤ b) h)
 
 pub overflow_add-left-2 : goal.overflow_add-left-2
-overflow_add-left-2 c =
-    let f : FitsSigned w64 c.args.left.total = search rules in let g : FitsSigned w64 c.args.right.greatest = search rules in
-    let k : FitsSigned w64 c.args.right.least = search rules in
-    let s = rw (to_z-of_z w64 c.args.right.greatest g, to_z-of_z w64 c.args.right.least k) at c.if-right.false in
-    let h : c.args.right.least ≤ℤ c.args.right.greatest = grind (arith, ints, s) in
-    rw (to_z-of_z w64 c.args.left.total f, to_z-of_z w64 c.args.right.greatest g) (c.requires.greatest h)
+overflow_add-left-2 c = grind (arith, ints, to_z-of_z)
 
 pub returns-clause-both : goal.returns-clause-both
 returns-clause-both c = λ h.

@@ -4,11 +4,7 @@ use Rattle.vers_trees.proofs.trees.bp.search.Searched.backward.Goals as goal
 use Rattle.vers_trees.proofs.trees.bp.search.Searched.backward.Goals.{then-i-eq0-via-then-i-eq0, then-i-eq0-via-else-i-eq0+then-i-len}
 
 pub returns-then-i-eq0-clause-value : goal.returns-then-i-eq0-clause-value
-returns-then-i-eq0-clause-value g c =
-    elim c.then-i-eq0.branch [
-      | then-i-eq0-via-then-i-eq0 w ↦ rw w.if-i-eq0.true (grind (arith, ints, none_before))
-      | then-i-eq0-via-else-i-eq0+then-i-len w ↦ sym (before_past c.args.self.bits.now c.args.i c.args.r (omega arith))
-    ]
+returns-then-i-eq0-clause-value g c = grind (arith, ints, none_before, before_past)
 
 pub returns-in-Ok-clause-value : goal.returns-in-Ok-clause-value
 returns-in-Ok-clause-value g c =
