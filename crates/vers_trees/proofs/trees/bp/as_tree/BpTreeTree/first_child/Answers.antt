@@ -1,5 +1,0 @@
-use Rattle.vers_trees.proofs.kin.Kin.{same_place}
-use Rattle.vers_trees.proofs.trees.bp.as_tree.BpTreeTree.first_child.Goals as goal
-
-pub returns : goal.returns
-returns g c = same_place _ _ c.first_child.ensures
