@@ -51,14 +51,9 @@ forest_of-text F = ap (λ (m : List Bool). (parse m).0) (sym (append-nil (text F
 pub closes_from_excess : (l : List Bool) (d : ℕ) → ((i : ℕ) → i ≤ length l → pos 0 ≤ℤ (excess l i +ℤ pos d)) → excess l (length l) +ℤ pos d ≡ pos 0 → closes d l ≡ true
 closes_from_excess [] zero a t = refl
 closes_from_excess [] (suc d) a t = grind (arith, ints, excess-zero)
-closes_from_excess (true ∷ l) d a t = closes_from_excess l (suc d)
-    (λ i x. let g = a (suc i) (omega arith) in let e = excess-cons true l i in omega (arith, ints))
-    (let e = excess-cons true l (length l) in omega (arith, ints))
-closes_from_excess (false ∷ l) zero a t =
-    let g = a 1 (omega arith) in let e = excess-cons false l 0 in let z = excess-zero l in absurd (omega (arith, ints))
-closes_from_excess (false ∷ l) (suc d) a t = closes_from_excess l d
-    (λ i x. let g = a (suc i) (omega arith) in let e = excess-cons false l i in omega (arith, ints))
-    (let e = excess-cons false l (length l) in omega (arith, ints))
+closes_from_excess (true ∷ l) d a t = closes_from_excess l (suc d) (λ i x. omega (arith, ints, a (suc i) (omega arith), excess-cons true l i)) (omega (arith, ints, excess-cons true l (length l)))
+closes_from_excess (false ∷ l) zero a t = absurd (omega (arith, ints, a 1 (omega arith), excess-cons false l 0, excess-zero l))
+closes_from_excess (false ∷ l) (suc d) a t = closes_from_excess l d (λ i x. omega (arith, ints, a (suc i) (omega arith), excess-cons false l i)) (omega (arith, ints, excess-cons false l (length l)))
 
 pub balanced_total : (l : List Bool) → IsBalanced l → excess l (length l) ≡ pos 0
 balanced_total l b = subst (λ (m : List Bool). excess m (length m) ≡ pos 0) b.written (total_is_zero b.forest)

@@ -40,14 +40,9 @@ excess_in_rest X Y i = rest_from_zero X Y i (total_is_zero X)
 pub never_negative : (F : Forest) (i : ℕ) → i ≤ length (text F) → pos 0 ≤ℤ excess (text F) i
 never_negative none i h = grind (arith, ints, excess-nil)
 never_negative (tree X Y) zero h = grind (arith, ints, excess-zero)
-never_negative (tree X Y) (suc i) h = ⊎_elim
-    (λ (a : length (text X) < i).
-    let len = length-tree X Y in let ih = never_negative Y (i - length (text X) - 1) (omega arith) in
-    let r = excess_in_rest X Y (i - length (text X) - 1) in
-    let e : excess (text (tree X Y)) (length (text X) + 2 + (i - length (text X) - 1)) ≡ excess (text (tree X Y)) (suc i) = ap (excess (text (tree X Y))) (omega arith) in
-    omega (arith, ints))
-    (λ (a : i ≤ length (text X)). let ih = never_negative X i a in let r = rw add-one at (excess_in_first X Y i a) in omega (arith, ints))
-    (cases_lt (length (text X)) i)
+never_negative (tree X Y) (suc i) h =
+    let e : length (text X) < i → excess (text (tree X Y)) (length (text X) + 2 + (i - length (text X) - 1)) ≡ excess (text (tree X Y)) (suc i) = λ a. ap (excess (text (tree X Y))) (omega arith) in
+    grind (arith, ints, cases_lt (length (text X)) i, length-tree X Y, never_negative X i, never_negative Y (i - length (text X) - 1), excess_in_rest X Y (i - length (text X) - 1), excess_in_first X Y i)
 
 -- each pair closes as the excess says
 closes_root : (X Y : Forest) → Closes (text (tree X Y)) 0 (length (text X) + 1)

@@ -150,9 +150,6 @@ abbrev pub closed_before : List Bool → ℕ → Option ℕ
 closed_before l zero = None
 closed_before l (suc u) = cond (get_or l u true) None (last_rise_before l u (negsuc 0))
 
-same_bit : (l : List Bool) (i : ℕ) → i < length l → get_or l i true ≡ get_or l i false
-same_bit l i h = get_or_default l i true false h
-
 pub first_child_is : (l : List Bool) (b : IsBalanced l) (v : ℕ) → HasPair l v → opened_here l (v + 1) ≡ first_of (children (forest_of l) v)
 unfolding nodes_under
 first_child_is l b v h = sym (first_in l b _ _ (λ w. option_decides (parent (forest_of l) w) (Some v)) (opened_here l (v + 1)) (cond_both (get_or l (v + 1) false) (Some (v + 1)) None (IsFirstNode l (λ w. parent (forest_of l) w ≡ Some v))
@@ -168,12 +165,12 @@ next_sibling_is l b v h =
     sym (next_in l b _ _ (λ w. option_decides (parent (forest_of l) w) (parent (forest_of l) v)) v (opened_here l (c + 1)) (grind (arith, ints, one_pair, bit_inside, same_parent, not_beside, last_beside)))
 
 pub last_child_is : (l : List Bool) (b : IsBalanced l) (v : ℕ) → HasPair l v → closed_before l (closing (forest_of l) v) ≡ last_of (children (forest_of l) v)
-last_child_is l b v h = grind (arith, ints, same_bit, last_child_closes, last_child_is_search, closes_rises, last_child_none)
+last_child_is l b v h = grind (arith, ints, get_or_default l (closing (forest_of l) v - 1) true false, last_child_closes, last_child_is_search, closes_rises, last_child_none)
 
 pub previous_sibling_is : (l : List Bool) (b : IsBalanced l) (v : ℕ) → HasPair l v → closed_before l v ≡ previous_of (siblings (forest_of l) v) v
 unfolding nodes_under
 previous_sibling_is l b zero h = sym (previous_in l b _ _ (λ w. option_decides (parent (forest_of l) w) (parent (forest_of l) 0)) 0 None (λ w k e. omega arith))
-previous_sibling_is l b (suc u) h = grind (arith, ints, inside, previous_sibling_none, same_bit, previous_sibling_is_search)
+previous_sibling_is l b (suc u) h = grind (arith, ints, inside, previous_sibling_none, get_or_default, previous_sibling_is_search)
 
 -- ---- what the calls on a node answer, by the searches that they make
 module _ (l : List Bool) (b : IsBalanced l) (v : ℕ) (n : IsNode (forest_of l) v) where

@@ -73,10 +73,6 @@ pub nodes_by : (l : List Bool) → IsBalanced l → nodes (forest_of l) ≡ plac
 nodes_by l b = nodes_are_ones (forest_of l) ∙ ap (places true) (text-forest_of l b)
 
 -- ---- the first and the last node that pass a test
-pub find_filtered : {X : Type 0} → (p t : X → Bool) (xs : List X) → find t (filter p xs) ≡ find (λ x. p x && t x) xs
-find_filtered {X = X} p t [] = refl
-find_filtered {X = X} p t (x ∷ xs) = grind (arith, find_filtered p t xs)
-
 pub filter_filtered : {X : Type 0} → (p t : X → Bool) (xs : List X) → filter t (filter p xs) ≡ filter (λ x. p x && t x) xs
 filter_filtered {X = X} p t [] = refl
 filter_filtered {X = X} p t (x ∷ xs) = grind (arith, filter_filtered p t xs)
@@ -85,15 +81,15 @@ pub first_filtered : {X : Type 0} → (t : X → Bool) (xs : List X) → slice_g
 first_filtered {X = X} t [] = refl
 first_filtered {X = X} t (x ∷ xs) = grind (arith, first_filtered t xs)
 
+-- so what is found is the same where the same pass
+find_by : (t u : ℕ → Bool) (xs ys : List ℕ) → filter t xs ≡ filter u ys → find t xs ≡ find u ys
+find_by t u xs ys e = sym (first_filtered t xs) ∙ ap (λ (zs : List ℕ). slice_get zs 0) e ∙ first_filtered u ys
+
 abbrev node_test : List Bool → (ℕ → Bool) → ℕ → Bool
 node_test l t v = get_or l v false && t v
 
 at_one : (l : List Bool) (t : ℕ → Bool) (P : ℕ → Type 0) → ((w : ℕ) → Decides (t w) (P w)) → (w : ℕ) → Decides (node_test l t w) ((get_or l w false ≡ true) × P w)
 at_one l t P d w = Decides-and (get_or l w false) (t w) (λ e. e, λ e. e) (d w)
-
-find_node : (l : List Bool) → IsBalanced l → (t : ℕ → Bool) → find t (nodes (forest_of l)) ≡ find (node_test l t) (range_with_len 0 (length l))
-unfolding places
-find_node l b t = ap (find t) (nodes_by l b) ∙ find_filtered (λ p. is_bit true (get_or l p false)) t (range_with_len 0 (length l))
 
 nodes_filtered : (l : List Bool) → IsBalanced l → (t : ℕ → Bool) → filter t (nodes (forest_of l)) ≡ filter (node_test l t) (range_with_len 0 (length l))
 unfolding places
@@ -109,13 +105,10 @@ IsLastNode l P o = MatchOption o ((w : ℕ) → HasPair l w → P w → ⊥) (λ
 -- what a filter by a test that decides P answers
 module _ (l : List Bool) (b : IsBalanced l) (t : ℕ → Bool) (P : ℕ → Type 0) (d : (w : ℕ) → Decides (t w) (P w)) where
   pub first_node : (o : Option ℕ) → IsFirstNode l P o → find t (nodes (forest_of l)) ≡ o
-  first_node None n = find_node l b t ∙ find_is (node_test l t) _ (at_one l t P d) 0 (length l) None (λ k x y q. n k (one_pair l b k (omega arith) q.0) q.1)
-  first_node (Some v) n =
-      find_node l b t ∙ find_is (node_test l t) _ (at_one l t P d) 0 (length l) (Some v) (record { from = omega arith; below = omega arith; holds = (opens l v n.0, n.1); first = λ k x y q. n.2 k y (one_pair l b k (omega arith) q.0) q.1 })
+  first_node o n = find_by t (node_test l t) (nodes (forest_of l)) (range_with_len 0 (length l)) (nodes_filtered l b t) ∙ find_is (node_test l t) _ (at_one l t P d) 0 (length l) o (grind (arith, one_pair, opens))
 
   pub last_node : (o : Option ℕ) → IsLastNode l P o → last_or None (filter t (nodes (forest_of l))) ≡ o
-  last_node None n = ap (last_or None) (nodes_filtered l b t) ∙ last_is (node_test l t) _ (at_one l t P d) (length l) None (λ k y q. n k (one_pair l b k y q.0) q.1)
-  last_node (Some v) n = ap (last_or None) (nodes_filtered l b t) ∙ last_is (node_test l t) _ (at_one l t P d) (length l) (Some v) (record { below = inside l v n.0; holds = (opens l v n.0, n.1); last = λ k x y q. n.2 k x (one_pair l b k y q.0) q.1 })
+  last_node o n = ap (last_or None) (nodes_filtered l b t) ∙ last_is (node_test l t) _ (at_one l t P d) (length l) o (grind (arith, one_pair, opens, inside))
 
   pub first_in : (o : Option ℕ) → IsFirstNode l P o → first_of (filter t (nodes (forest_of l))) ≡ o
   first_in o n = first_filtered t (nodes (forest_of l)) ∙ first_node o n
@@ -123,7 +116,7 @@ module _ (l : List Bool) (b : IsBalanced l) (t : ℕ → Bool) (P : ℕ → Type
 -- the nearest of them after u, and before u
 module _ (l : List Bool) (b : IsBalanced l) (t : ℕ → Bool) (P : ℕ → Type 0) (d : (w : ℕ) → Decides (t w) (P w)) (u : ℕ) where
   pub next_in : (o : Option ℕ) → IsFirstNode l (λ w. P w × (u < w)) o → next_of (filter t (nodes (forest_of l))) u ≡ o
-  next_in o n = find_filtered t (λ w. ltb u w) (nodes (forest_of l)) ∙ first_node l b _ _ (λ w. Decides-and (t w) (ltb u w) (d w) (Decides-ltb u w)) o n
+  next_in o n = sym (first_filtered (λ w. ltb u w) (filter t (nodes (forest_of l)))) ∙ ap (λ (zs : List ℕ). slice_get zs 0) (filter_filtered t (λ w. ltb u w) (nodes (forest_of l))) ∙ first_filtered (λ w. t w && ltb u w) (nodes (forest_of l)) ∙ first_node l b _ _ (λ w. Decides-and (t w) (ltb u w) (d w) (Decides-ltb u w)) o n
 
   pub previous_in : (o : Option ℕ) → IsLastNode l (λ w. P w × (w < u)) o → previous_of (filter t (nodes (forest_of l))) u ≡ o
   previous_in o n = ap (last_or None) (filter_filtered t (λ w. ltb w u) (nodes (forest_of l))) ∙ last_node l b _ _ (λ w. Decides-and (t w) (ltb w u) (d w) (Decides-ltb w u)) o n

@@ -50,10 +50,7 @@ place_in true s i e x left c le p m =
 met_by_place : (back : Bool) (s : Sought) (i e : ℕ) (x : Node) (left : ℤ) → Covers s.bits s.size i e x → Passed back s (start_of s.bits s.size (edge back i e)) left → HasPlace back s i e → IsMet back x left
 met_by_place false s i e x left c p f = grind (arith, ints, part_inside)
 met_by_place true s i e x left c p f =
-    let q = part_inside s.bits s.size i e x c (omega arith) in ⊎_elim
-    (λ (w : start_of s.bits s.size i ≡ f.0). let same = ap (excess s.bits) w in record { low = omega (arith, ints, clamps); high = omega (arith, ints, clamps) })
-    (λ (w : start_of s.bits s.size i < f.0). let lo = q.low f.0 w (omega arith) in let hi = q.high f.0 w (omega arith) in record { low = omega (arith, ints, clamps); high = omega (arith, ints, clamps) })
-    (eq-or-lt_of_le f.1)
+    let q = part_inside s.bits s.size i e x c (omega arith) in grind (arith, ints, clamps, eq-or-lt_of_le f.1, q.low f.0, q.high f.0)
 
 -- where it isn't met the search passes it
 pub passed_over : (back : Bool) (s : Sought) (i e : ℕ) (x : Node) (left : ℤ) → Covers s.bits s.size i e x → i ≤ e → Passed back s (start_of s.bits s.size (edge back i e)) left → (IsMet back x left → ⊥) → Passed back s (start_of s.bits s.size (edge back e i)) (left_past back left x)

@@ -13,10 +13,8 @@ leaves_covered l size first nodes so short b = record { short = short; covered =
         let place : first + s ≡ m = omega arith in ⊎_elim
         (λ (w : s < block_count size (length l)).
         let u : (s + 1) * size ≤ block_count size (length l) * size = mul-le-mul_right size (omega arith) in
-        record {
-          part = inl (subst (λ (k : ℕ). IsPart l (start_of l size s) (start_of l size e) (get_or nodes k empty_node)) place
-              (subst (λ (k : ℕ). IsPart l (start_of l size s) k (get_or nodes (first + s) empty_node)) (rw q1 (omega arith)) (subst (λ (k : ℕ). IsPart l k (min (s * size + size) (length l)) (get_or nodes (first + s) empty_node)) (omega arith) (b.part s w))));
-        })
+        let x : start_of l size s ≡ s * size = omega arith in let y : start_of l size e ≡ min (s * size + size) (length l) = rw q1 (omega arith) in
+        record { part = inl (rw (x, y, ← place) (b.part s w)) })
         (λ (w : block_count size (length l) ≤ s).
         let u : block_count size (length l) * size ≤ s * size = mul-le-mul_right size w in
         record { part = inr (omega arith, get_or_past nodes m empty_node (omega arith)) })

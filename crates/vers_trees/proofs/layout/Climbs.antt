@@ -24,11 +24,10 @@ module _ (s : Sought) (first : ℕ) (nodes : List Node) where
 
   -- ---- going down
   pub left_past_fits : (back : Bool) (place : ℕ) (left : ℤ) (x : Node) → LeadsTo back s first nodes place left → place < first → x ≡ get_or nodes (near_child back place) empty_node → FitsSigned w64 (left_past back left x)
-  left_past_fits back place left x p h e = go back p.ahead (stands_children first place p.start p.stop p.stands h) e
-    where
-      go : (back : Bool) → IsAhead back s p.start p.stop left → HasChildren first place p.start p.stop → x ≡ get_or nodes (near_child back place) empty_node → FitsSigned w64 (left_past back left x)
-      go false a c e = let k = a.place in left_fits false s (start_of s.bits s.size c.middle) (left -ℤ x.total) k.0 p.tree.short (omega arith) (remains_past false p.start c.middle x left (covers_at _ _ _ x p.tree e c.left) c.after a.passed) (omega arith) k.3
-      go true a c e = let k = a.place in left_fits true s (start_of s.bits s.size c.middle) (left +ℤ x.total) k.0 p.tree.short (omega arith) (remains_past true c.middle p.stop x left (covers_at _ _ _ x p.tree e c.right) c.before a.passed) (omega arith) k.3
+  left_past_fits false place left x p h e = let c = stands_children first place p.start p.stop p.stands h in let k = p.ahead.place in
+      left_fits false s (start_of s.bits s.size c.middle) (left -ℤ x.total) k.0 p.tree.short (omega arith) (remains_past false p.start c.middle x left (covers_at _ _ _ x p.tree e c.left) c.after p.ahead.passed) (omega arith) k.3
+  left_past_fits true place left x p h e = let c = stands_children first place p.start p.stop p.stands h in let k = p.ahead.place in
+      left_fits true s (start_of s.bits s.size c.middle) (left +ℤ x.total) k.0 p.tree.short (omega arith) (remains_past true c.middle p.stop x left (covers_at _ _ _ x p.tree e c.right) c.before p.ahead.passed) (omega arith) k.3
 
   pub to_near : (back : Bool) (place child : ℕ) (left : ℤ) (x : Node) → LeadsTo back s first nodes place left → place < first → x ≡ get_or nodes (near_child back place) empty_node → child ≡ near_child back place → IsMet back x left → LeadsTo back s first nodes child left
   to_near false place child left x p h e n i =

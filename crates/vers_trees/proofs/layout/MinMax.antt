@@ -97,15 +97,13 @@ parent_of_left first j s e p =
 pub parent_of_right : (first j s e : ℕ) → StandsOver first (2 * j + 2) s e → (u : ℕ) × StandsOver first j u e × StandsOver first (2 * j + 1) u s
 parent_of_right first j s e p = grind (arith, ints, one_part, parent_of first (2 * j + 2) j s e p (inr refl))
 
-leaf : (first h i : ℕ) → 2 ^ h ≡ first + 1 → first ≤ i → i ≤ 2 * first → StandsOver first i (i - first) (i - first + 1)
-leaf first h i lv a b = record { level = h; height = 0; offset = i - first; levels = ap (λ (n : ℕ). 2 ^ n) (let g : h + 0 ≡ h = omega arith in g) ∙ lv; inside = omega arith; place = omega arith; from = omega arith; upto = omega arith }
-
 pub stands_leaf : (first h k : ℕ) → 2 ^ h ≡ first + 1 → k ≤ first → StandsOver first (first + k) k (k + 1)
-stands_leaf first h k lv b = let e : first + k - first ≡ k = omega arith in rw e at (leaf first h (first + k) lv (omega arith) (omega arith))
+stands_leaf first h k lv b = record { level = h; height = 0; offset = k; levels = ap (λ (n : ℕ). 2 ^ n) (let g : h + 0 ≡ h = omega arith in g) ∙ lv; inside = omega arith; place = omega arith; from = omega arith; upto = omega arith }
 
 pub leaf_stands : (first i s e : ℕ) → StandsOver first i s e → first ≤ i → (s ≡ i - first) × (e ≡ s + 1)
 leaf_stands first i s e p h =
-    let o = one_part first i _ _ _ _ p (leaf first (p.level + p.height) i p.levels h (stands_within first i s e p)) in (omega arith, omega arith)
+    let w = stands_within first i s e p in let g : first + (i - first) ≡ i = omega arith in
+    let o = one_part first i _ _ _ _ p (rw g at (stands_leaf first (p.level + p.height) (i - first) p.levels (omega arith))) in (omega arith, omega arith)
 
 pub root_stands : (first s e : ℕ) → StandsOver first 0 s e → (s ≡ 0) × (e ≡ first + 1)
 root_stands first s e p = one_part first 0 _ _ _ _ p (root first (p.level + p.height) p.levels)

@@ -50,11 +50,6 @@ pub up_ends : (a b : Reads) (first node : ℕ) → node ≤ 2 * first → AddsAt
 up_ends a b first node h p = grind (arith, digits_child, digits_half, adds_weaker)
 
 -- the last step up, which reads a node, and then nothing or the way down
-up_then : (a b c : Reads) (first node : ℕ) → node ≤ 2 * first → 0 < node → AddsAtMost a b (only_nodes (digits (2 * first + 1) - digits (node + 1))) → AddsAtMost b c (only_nodes 1) → AddsAtMost a c (only_nodes (digits first))
-up_then a b c first node h some p q = grind (arith, digits_child, digits_half, digits_up, adds_then)
-
 pub up_then_down : (a b c d : Reads) (first node : ℕ) → node ≤ 2 * first → 0 < node → AddsAtMost a b (only_nodes (digits (2 * first + 1) - digits (node + 1))) → AddsAtMost b c (only_nodes 1) → AddsAtMost c d (only_nodes (digits first)) → AddsAtMost a d (only_nodes (2 * digits first))
-up_then_down a b c d first node h some p q r = adds_then (up_then a b c first node h some p q) r (grind arith)
-
-pub up_then_none : (a b c : Reads) (first node : ℕ) → node ≤ 2 * first → 0 < node → AddsAtMost a b (only_nodes (digits (2 * first + 1) - digits (node + 1))) → AddsAtMost b c (only_nodes 1) → AddsAtMost a c (only_nodes (2 * digits first))
-up_then_none a b c first node h some p q = adds_weaker (up_then a b c first node h some p q) (grind arith)
+up_then_down a b c d first node h some p q r =
+    let u : AddsAtMost a c (only_nodes (digits first)) = adds_then p q (grind (arith, digits_child, digits_half, digits_up)) in adds_then u r (grind arith)

@@ -9,14 +9,7 @@ pub grow_more : (leaves w : ℕ) → IsGrowing leaves w → w < leaves → IsGro
 grow_more leaves w g h = record { exponent = suc g.exponent; power = omega arith; short = inr (omega arith) }
 
 pub grown : (leaves w : ℕ) → leaves < 2 ^ 63 → IsGrowing leaves w → leaves ≤ w → IsWidth leaves w
-grown leaves w h g enough =
-    let n = pow_next g.exponent in let one = pow_pos g.exponent in let most = (clog_is_least leaves (g.exponent + 1)).0 (omega arith) in
-    let small = (clog_is_least leaves g.exponent).1 in
-    let exact : g.exponent + 1 ≡ max 1 (clog leaves) = ⊎_elim (λ (z : g.exponent ≡ 0). omega arith) (λ (s : 2 ^ g.exponent < leaves). ⊎_elim (λ (u : g.exponent < clog leaves). omega arith) (λ (u : clog leaves ≤ g.exponent). let k = small u in absurd (omega arith)) (cases_lt g.exponent (clog leaves))) g.short in
-    let few : g.exponent ≤ 62 = ⊎_elim (λ (z : g.exponent ≡ 0). omega arith) (λ (s : 2 ^ g.exponent < leaves). order g.exponent 62 (omega arith)) g.short in
-    let up = pow-le-pow_right {n = 2} (omega arith) {i = g.exponent + 1} {j = 63} (omega arith) in
-    let same : 2 ^ (g.exponent + 1) ≡ 2 ^ max 1 (clog leaves) = ap (λ (k : ℕ). 2 ^ k) exact in
-    record { power = omega arith; enough = enough; some = omega arith; bounded = omega arith }
+grown leaves w h g enough = grind (arith, pow_next g.exponent, pow_pos g.exponent, clog_is_least leaves (g.exponent + 1), clog_is_least leaves g.exponent, order g.exponent 62, pow-le-pow_right)
 
 -- ---- how many nodes there are
 width_is : (leaves w : ℕ) → IsWidth leaves w → w - 1 ≡ max 1 (2 ^ clog leaves - 1)

@@ -52,11 +52,7 @@ module _ (l : List Bool) (b : IsBalanced l) (v : ℕ) (r : ℤ) (some : pos 0 <�
       rw (before_is l c (negsuc 0) p.0 (before_from_closes l p.0 c m)) (
         p.1,
         (is p.0 p.1).1 (omega arith, omega (arith, ints)),
-        λ u a k pu.
-            let t = ((is u k).0 pu).1 in ⊎_elim
-            (λ (z : c < u). not_between l c v u _ q.last (omega (arith, ints)) (omega arith) (((is u k).0 pu).0) (omega arith) (opens l u k) t)
-            (λ (z : u ≤ c). let w = m.above u a z in omega (arith, ints))
-            (cases_lt c u),
+        λ u a k pu. grind (arith, ints, cases_lt c u, not_between l c v u _ q.last, (is u k).0 pu, opens l u k, m.above u a),
       )
 
 -- ---- the ancestors of a node
@@ -76,8 +72,7 @@ level_ancestor_is_search l b v t h some = by_answer (λ o. o ≡ level_ancestor 
     (λ e. sym (first_node l b _ _ (at_depth_decides (forest_of l) v t) None (grind (arith, ints, depth_is_excess, before_none, inside, eq-or-lt_of_le))))
     (λ a e.
     let m = above_from_before l b v t a some (opens l v h) (before_some l v (neg_ℤ (pos t)) a e) in let r = above_is_around l b v t a h m in
-    let k = r.2 in let da = depth_is_excess l b a k in let dv = depth_is_excess l b v h in
-    sym (first_node l b _ _ (at_depth_decides (forest_of l) v t) (Some a) (k, ((omega arith, omega arith), omega (arith, ints)), grind (arith, ints, depth_is_excess))))
+    sym (first_node l b _ _ (at_depth_decides (forest_of l) v t) (Some a) (grind (arith, ints, depth_is_excess))))
 
 -- no node is so deep
 depth_small : (l : List Bool) (b : IsBalanced l) (v : ℕ) → HasPair l v → depth (forest_of l) v < length l
@@ -91,12 +86,7 @@ too_far_up l b v t h far = first_node l b _ _ (at_depth_decides (forest_of l) v 
 -- ---- the neighbours on a level
 -- the nodes of the depth of v after it open past its tree, and those before it before it
 later_on_level : (l : List Bool) (b : IsBalanced l) (v : ℕ) → HasPair l v → (w : ℕ) → HasPair l w → ((depth (forest_of l) w ≡ depth (forest_of l) v) × (v < w)) ↔ ((closing (forest_of l) v < w) × (excess l (w + 1) ≡ excess l (closing (forest_of l) v + 1) +ℤ pos 1))
-later_on_level l b v h w k =
-    let dw = depth_is_excess l b w k in let dv = depth_is_excess l b v h in
-    let up = excess_after_open l w false (inside l w k) (opens l w k) in (
-      λ e. (grind (arith, ints), omega (arith, ints)),
-      λ e. (omega (arith, ints), omega arith),
-    )
+later_on_level l b v h w k = grind (arith, ints, depth_is_excess l b w k, depth_is_excess l b v h, excess_after_open l w false (inside l w k) (opens l w k), h.closes.above w)
 
 earlier_on_level : (l : List Bool) (b : IsBalanced l) (v : ℕ) → HasPair l v → (w : ℕ) → HasPair l w → ((depth (forest_of l) w ≡ depth (forest_of l) v) × (w < v)) ↔ ((w < v) × (excess l w +ℤ pos 1 ≡ excess l v +ℤ pos 1))
 earlier_on_level l b v h w k = grind (arith, ints, depth_is_excess)
@@ -133,12 +123,8 @@ too_deep l b t far = (first_in l b _ _ (λ w. Decides-eqb (depth (forest_of l) w
 -- below the first root a node opens where the excess rises from there
 below_first : (l : List Bool) (b : IsBalanced l) (t : ℕ) → 0 < t → (w : ℕ) → HasPair l w → (depth (forest_of l) w ≡ t) ↔ ((0 < w) × (excess l (w + 1) ≡ excess l (0 + 1) +ℤ pos t))
 below_first l b t some w k =
-    let z = excess-zero l in let d = depth_is_excess l b w k in
     let one = excess_after_open l 0 false (omega arith) (opens l 0 (opens_first l b (omega arith))) in
-    let r = excess_after_open l w false (inside l w k) (opens l w k) in (
-      λ e. (⊎_elim (λ (s : w < 1). let g : excess l w ≡ excess l 0 = ap (excess l) (omega arith) in absurd (omega (arith, ints))) (λ (s : 1 ≤ w). s) (cases_lt w 1), omega (arith, ints)),
-      λ e. omega (arith, ints),
-    )
+    grind (arith, ints, cases_lt w 1, excess-zero l, depth_is_excess l b w k, excess_after_open l w false (inside l w k) (opens l w k))
 
 pub level_leftmost_is_search : (l : List Bool) (b : IsBalanced l) (t : ℕ) → 0 < t → first_rise_after l 0 (pos t) ≡ first_of (level (forest_of l) t)
 unfolding level
@@ -156,8 +142,7 @@ last_root_is_search l b n e =
 before_end : (l : List Bool) (b : IsBalanced l) (n t : ℕ) → length l ≡ n + 1 → (w : ℕ) → HasPair l w → (depth (forest_of l) w ≡ t) ↔ ((w < n) × (excess l w +ℤ pos 1 ≡ excess l n +ℤ pos t))
 before_end l b n t e w k =
     let all : excess l (n + 1) ≡ pos 0 = ap (excess l) (sym e) ∙ balanced_total l b in
-    let r = excess_after_close l n false (omega arith) (closes_last l b n e) in let d = depth_is_excess l b w k in
-    (λ g. (omega arith, omega (arith, ints)), λ g. omega (arith, ints))
+    grind (arith, ints, inside, depth_is_excess l b w k, excess_after_close l n false (omega arith) (closes_last l b n e))
 
 pub level_rightmost_is_search : (l : List Bool) (b : IsBalanced l) (n t : ℕ) (o : Option ℕ) → length l ≡ n + 1 → 0 < t → last_rise_before l n (pos t) ≡ o → opens_for l o ≡ last_of (level (forest_of l) t)
 unfolding level

@@ -5,13 +5,7 @@ use Rattle.vers_trees.proofs.grammar.Excess.{excess_after_bit}
 -- the excess changes by at most as much as there are places between
 pub rise_within : (l : List Bool) (i j n : ℕ) (z : ℤ) → excess l j ≡ excess l i +ℤ z → j ≤ i + n → i ≤ j + n → (z ≤ℤ pos n) × (negsuc n ≤ℤ z)
 unfolding excess
-rise_within l i j n z e a b = ⊎_elim
-    (λ (h : i < j). let s = near i j (omega arith) in (omega (arith, ints, s), omega (arith, ints, s)))
-    (λ (h : j ≤ i). let s = near j i h in (omega (arith, ints, s), omega (arith, ints, s)))
-    (cases_lt i j)
-  where
-    near : (i j : ℕ) → i ≤ j → (count true l i ≤ count true l j) × (count false l i ≤ count false l j) × (count true l j ≤ count true l i + (j - i)) × (count false l j ≤ count false l i + (j - i))
-    near i j h = (count_up true l i j h, count_up false l i j h, count_near true l i j h, count_near false l i j h)
+rise_within l i j n z e a b = grind (arith, ints, cases_lt i j, count_up true l i j, count_up false l i j, count_near true l i j, count_near false l i j, count_up true l j i, count_up false l j i, count_near true l j i, count_near false l j i)
 
 pub fits_small : (z : ℤ) → z ≤ℤ pos (2 ^ 63 - 1) → negsuc (2 ^ 63 - 1) ≤ℤ z → FitsSigned w64 z
 fits_small z a b = grind (arith, ints)
@@ -95,10 +89,7 @@ part_joined l a m b x y p q =
     record {
       total = omega (arith, ints);
       low = λ j u v. grind (arith, ints, clamps);
-      high = λ j u v. ⊎_elim
-          (λ (w : m < j). let h = q.high j w v in omega (arith, ints, clamps))
-          (λ (w : j ≤ m). let h = p.high j u w in omega (arith, ints, clamps))
-          (cases_lt m j);
+      high = λ j u v. grind (arith, ints, clamps, cases_lt m j, q.high j, p.high j);
       least = by_lt_z (x.total +ℤ y.least) x.least
           (λ w. (q.least.0, omega arith, q.least.2, omega (arith, ints, clamps)))
           (λ w. (p.least.0, p.least.1, omega arith, omega (arith, ints, clamps)));

@@ -28,8 +28,7 @@ find_first test P d a zero = λ k x y p. omega arith
 find_first test P d a (suc n) = grind (arith, find_first test P d (a + 1) n)
 
 pub find_is : (test : ℕ → Bool) (P : ℕ → Type 0) → ((k : ℕ) → Decides (test k) (P k)) → (a n : ℕ) (o : Option ℕ) → MatchOption o ((k : ℕ) → a ≤ k → k < a + n → P k → ⊥) (IsFirst P a (a + n)) → find test (range_with_len a n) ≡ o
-find_is test P d a n o q = same_answer _ o ((k : ℕ) → a ≤ k → k < a + n → P k → ⊥) (IsFirst P a (a + n)) (find_first test P d a n) q (λ h j r. h j r.from r.below r.holds)
-    (λ i j h r. ⊎_elim (λ (e : i ≡ j). e) (λ (o : (i < j) ⊎ (j < i)). ⊎_elim (λ (x : i < j). absurd (r.first i h.from x h.holds)) (λ (x : j < i). absurd (h.first j r.from x r.holds)) o) (cases_order i j))
+find_is test P d a n o q = same_answer _ o _ (IsFirst P a (a + n)) (find_first test P d a n) q (λ h j r. h j r.from r.below r.holds) (λ i j h r. grind (arith, h.first j, r.first i))
 
 last_append : {X : Type 0} → (o : Option X) (xs ys : List X) → last_or o (xs ++ ys) ≡ last_or (last_or o xs) ys
 last_append o [] ys = refl
@@ -48,8 +47,7 @@ find_last test P d (suc n) =
     grind (arith, find_last test P d n)
 
 pub last_is : (test : ℕ → Bool) (P : ℕ → Type 0) → ((k : ℕ) → Decides (test k) (P k)) → (n : ℕ) (o : Option ℕ) → MatchOption o ((k : ℕ) → k < n → P k → ⊥) (IsLast P n) → last_or None (filter test (range_with_len 0 n)) ≡ o
-last_is test P d n o q = same_answer _ o ((k : ℕ) → k < n → P k → ⊥) (IsLast P n) (find_last test P d n) q (λ h j r. h j r.below r.holds)
-    (λ i j h r. ⊎_elim (λ (e : i ≡ j). e) (λ (o : (i < j) ⊎ (j < i)). ⊎_elim (λ (x : i < j). absurd (h.last j x r.below r.holds)) (λ (x : j < i). absurd (r.last i x h.below h.holds)) o) (cases_order i j))
+last_is test P d n o q = same_answer _ o _ (IsLast P n) (find_last test P d n) q (λ h j r. h j r.below r.holds) (λ i j h r. grind (arith, h.last j, r.last i))
 
 -- ---- where the excess rises by r, after i and before i
 abbrev rises_to : List Bool → ℕ → ℤ → ℕ → Type 0

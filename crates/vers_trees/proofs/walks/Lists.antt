@@ -33,11 +33,7 @@ filter_next p q a (suc n) h = grind (arith, filter_next p q (a + 1) n h)
 pub places-cons : (bit b : Bool) (l : List Bool) → places bit (b ∷ l) ≡ cond (is_bit bit b) (0 ∷ []) [] ++ shifted 1 (places bit l)
 unfolding places
 places-cons bit b l =
-    let more : List ℕ = filter (λ p. is_bit bit (get_or (b ∷ l) p false)) (range_with_len 1 (length l)) in
-    elim (is_bit bit b) as (λ (t : Bool). cond t (0 ∷ more) more ≡ cond t (0 ∷ []) [] ++ shifted 1 (places bit l)) [ true ↦ ap (λ (xs : List ℕ). 0 ∷ xs) rest | false ↦ rest ]
-  where
-    rest : filter (λ p. is_bit bit (get_or (b ∷ l) p false)) (range_with_len 1 (length l)) ≡ shifted 1 (places bit l)
-    rest = filter_next (λ p. is_bit bit (get_or (b ∷ l) p false)) (λ p. is_bit bit (get_or l p false)) 0 (length l) (λ i. ap (λ (m : ℕ). is_bit bit (get_or (b ∷ l) m false)) (let e : i + 1 ≡ suc i = omega arith in e))
+    rw (filter_next (λ p. is_bit bit (get_or (b ∷ l) p false)) (λ p. is_bit bit (get_or l p false)) 0 (length l) (λ i. ap (λ (m : ℕ). is_bit bit (get_or (b ∷ l) m false)) (let e : i + 1 ≡ suc i = omega arith in e))) (grind arith)
 
 shifted-zero : (xs : List ℕ) → shifted 0 xs ≡ xs
 shifted-zero [] = refl

@@ -17,9 +17,7 @@ walk_is step (suc n) p (v ∷ vs) h g = grind (arith, walk_is step n h.0 vs h.2 
 -- a walk meets no more than its steps
 pub walk_short : (step : ℕ → Option (ℕ × ℕ)) (n p : ℕ) → length (walked step n p) ≤ n
 walk_short step zero p = omega arith
-walk_short step (suc n) p =
-    let ih = λ (q : ℕ). walk_short step n q in
-    elim (step p) as (λ (o : Option (ℕ × ℕ)). length (met o (walked step n)) ≤ suc n) [ None ↦ omega arith | Some q ↦ let h = ih q.1 in omega arith ]
+walk_short step (suc n) p = grind (arith, walk_short step n)
 
 -- a walk meets a list whose members its steps find one after another
 steps_meet : (step : ℕ → Option (ℕ × ℕ)) (xs : List ℕ) (At : ℕ → ℕ → Type 0) → ((p i : ℕ) → At p i → slice_get xs i ≡ None → step p ≡ None) → ((p i v : ℕ) → At p i → slice_get xs i ≡ Some v → (q : ℕ) × (step p ≡ Some (v, q)) × At q (suc i)) → (p : ℕ) → At p 0 → MeetsJust step p xs
@@ -109,9 +107,8 @@ pub forwards : (l : List Bool) (v : ℕ) → IsBalanced l → IsNode (forest_of 
 forwards l v b n = walk_from l true (v + 1) (children (forest_of l) v) (meets_forwards l b v (node_pair l b v n)) (children_few l b v)
 
 pub backwards : (l : List Bool) (v c : ℕ) → IsBalanced l → IsNode (forest_of l) v → c ≡ closing (forest_of l) v → (siblings_left l false c ≡ reverse (children (forest_of l) v)) × IsWalkOfSiblings l false c
-backwards l v c b n e =
-    let xs = children (forest_of l) v in let r = length-reverse xs in let f = children_few l b v in
-    subst (λ (k : ℕ). (siblings_left l false k ≡ reverse xs) × IsWalkOfSiblings l false k) (sym e) (walk_from l false (closing (forest_of l) v) (reverse xs) (meets_backwards l b v (node_pair l b v n)) (omega arith))
+backwards l v c b n e = let r = length-reverse (children (forest_of l) v) in let f = children_few l b v in
+    rw e (walk_from l false (closing (forest_of l) v) (reverse (children (forest_of l) v)) (meets_backwards l b v (node_pair l b v n)) (omega arith))
 
 -- ---- the tree of a node
 pub subtree_inside : (bit : Bool) (l : List Bool) (v : ℕ) → IsBalanced l → IsNode (forest_of l) v → count bit l v + length (subtree (forest_of l) v) ≤ length (places bit l)
@@ -131,11 +128,8 @@ ones_are_nodes bits i b h =
     subst (λ (vs : List ℕ). Contains vs (get_or (places true bits) i (length bits))) (sym (nodes_by bits b)) (Contains-get_or (places true bits) i (length bits) (omega arith))
 
 -- ---- the nodes that zeros close, as a source of items
-length-zeros_from : (l : List Bool) (k n : ℕ) → k + n ≤ length (places false l) → length (take n (drop k (places false l))) ≡ n
-length-zeros_from l k n h = omega (arith, length-take n (drop k (places false l)), length-drop k (places false l))
-
 pub length-closed_by : (l : List Bool) (k n : ℕ) → k + n ≤ length (places false l) → length (closed_by l k n) ≡ n
-length-closed_by l k n h = length-map (take n (drop k (places false l))) (opening_of l) ∙ length-zeros_from l k n h
+length-closed_by l k n h = omega (arith, length-map (take n (drop k (places false l))) (opening_of l), length-take n (drop k (places false l)), length-drop k (places false l))
 
 -- a zero of number k + i is there, below the most bits that a list has
 pub zero_inside : (l : List Bool) (k n i : ℕ) → k + n ≤ length (places false l) → i < length (closed_by l k n) → k + i < length (places false l)
@@ -147,7 +141,7 @@ zeros_fit l = omega (arith, length-places false l, (count_le false l (length l))
 pub closed_item : (l : List Bool) (k n i c : ℕ) → k + n ≤ length (places false l) → i < length (closed_by l k n) → slice_get (places false l) (k + i) ≡ Some c → slice_get (closed_by l k n) i ≡ Some (opening_of l c)
 closed_item l k n i c h low at =
     let zs = take n (drop k (places false l)) in let few : i < n = omega (arith, low, length-closed_by l k n h) in
-    let inside : i < length zs = omega (arith, few, length-zeros_from l k n h) in
+    let inside : i < length zs = omega (arith, few, length-take n (drop k (places false l)), length-drop k (places false l)) in
     let is : get_or zs i 0 ≡ c = get_or-take n (drop k (places false l)) i 0 few ∙ get_or-drop k (places false l) i 0 ∙ get_or_from_slice_get (places false l) (k + i) c 0 at in
     slice_get-get_or (closed_by l k n) i 0 low ∙ ap Some (get_or-map (opening_of l) zs i 0 0 inside ∙ ap (opening_of l) is)
 

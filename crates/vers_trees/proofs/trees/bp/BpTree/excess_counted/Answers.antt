@@ -2,12 +2,6 @@ use Rattle.vers_trees.proofs.Words.{◌+◌, List, Bool, length, arith, w64, ap,
 use Rattle.vers_trees.proofs.searches.Beside.{few_ones, small_number, difference_is}
 use Rattle.vers_trees.proofs.trees.bp.BpTree.excess_counted.Goals as goal
 
-pub overflow_add-i : goal.overflow_add-i
-overflow_add-i g c = record { fits = omega (arith, ap length c.self.view_is) }
-
-pub overflow_add-zeros : goal.overflow_add-zeros
-overflow_add-zeros g c = record { fits = omega (arith, ap length c.self.view_is) }
-
 pub overflow_sub-zeros : goal.overflow_sub-zeros
 overflow_sub-zeros g c = few_ones _ _ _ c.rank1_counted-ones.ensures.value
 

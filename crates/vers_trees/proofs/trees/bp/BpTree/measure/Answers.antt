@@ -11,12 +11,3 @@ leaf_number (x ∷ xs) false e = grind (arith)
 pub returns-in-IsLeaf : goal.returns-in-IsLeaf
 returns-in-IsLeaf g c =
     rw c.in-IsLeaf.is (c.from.ensures ∙ leaf_number (children (forest_of c.args.self.now) c.args.node) c.is_leaf.result c.is_leaf.ensures)
-
-pub returns-in-NodeIndex : goal.returns-in-NodeIndex
-returns-in-NodeIndex g c = rw c.in-NodeIndex.is c.node_index.ensures
-
-pub returns-in-Depth : goal.returns-in-Depth
-returns-in-Depth g c = rw c.in-Depth.is c.depth.ensures
-
-pub returns-in-SubtreeSize : goal.returns-in-SubtreeSize
-returns-in-SubtreeSize g c = rw (c.in-SubtreeSize.is, c.unwrap_or.ensures, c.subtree_size.ensures) refl

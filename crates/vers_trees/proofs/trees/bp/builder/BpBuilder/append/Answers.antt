@@ -12,6 +12,3 @@ invariant_of-self-2 g c =
     let grown : c.append.new.self ≡ c.self.inside.bits ++ c.args.opens ∷ [] = c.in_ok-append.ensures.grown in
     rw (stored_sum g.row.BLOCK_SIZE c.self.inside.bits c.args.opens c.self.inside.excess c.step.result c.self.invariant room c.step.ensures).1
     (subst (λ (l : List Bool). IsBuilding g.row.BLOCK_SIZE l (c.self.inside.excess +ℤ bit_step c.args.opens)) (sym grown) (one_more_built g.row.BLOCK_SIZE c.self.inside.bits c.args.opens c.self.inside.excess c.self.invariant room))
-
-pub returns-clause-grown : goal.returns-clause-grown
-returns-clause-grown g c = rw (← c.self.view_is) c.in_ok-append.ensures.grown

@@ -1,6 +1,6 @@
 use Rattle.vers_trees.proofs.Words.{rules, false, ◌-ℤ◌, w64, FitsSigned, to_z, arith, to_z-of_z, not_from_Decides}
 use Rattle.vers_trees.proofs.layout.Climbs.{comes_from, ends_after, goes_down, goes_on, ends_there, rest_is}
-use Rattle.vers_trees.proofs.layout.Steps.{odd_most, digits_after, adds_none, read_up, up_ends, up_then_down, up_then_none}
+use Rattle.vers_trees.proofs.layout.Steps.{odd_most, digits_after, adds_none, read_up, up_ends, up_then_down}
 use Rattle.vers_trees.proofs.trees.bp.min_max.MinMaxTree.next_block_counted.Goals as goal
 
 pub returns-then-begin-self-clause-value : goal.returns-then-begin-self-clause-value
@@ -36,7 +36,7 @@ returns-in_err-left g c =
     let f : FitsSigned w64 c.node_counted-after.result.total = search rules in let i = c.loop-node.invariant in
     record {
       value = rw c.from_residual.ensures (λ s b. ends_there _ _ _ false _ _ c.node_counted-after.result (i.comes s (rw (to_z-of_z w64 c.args.left c.ranges.left) b)) c.loop-node-test.true c.node_counted-after.ensures.value (λ h. c.in_err-left.ensures (rw (to_z-of_z w64 c.node_counted-after.result.total f) h)));
-      adds = up_then_none _ _ _ c.args.self.now.first c.loop-node.node i.within c.loop-node-test.true i.reads c.node_counted-after.ensures.adds;
+      adds = up_then_down _ _ _ _ c.args.self.now.first c.loop-node.node i.within c.loop-node-test.true i.reads c.node_counted-after.ensures.adds (adds_none _ _);
     }
 
 pub loop-node-preserved : goal.loop-node-preserved

@@ -11,12 +11,8 @@ overflow_mul-start g c = record { fits = omega (arith, begins_inside c.args.size
 pub overflow_add-start : goal.overflow_add-start
 overflow_add-start g c = record { fits = omega (arith, begins_inside c.args.size c.len-len.result _ _ c.div_ceil-leaves.ensures c.requires.can.some c.loop-block-test.true) }
 
-pub node_of-requires : goal.node_of-requires
-node_of-requires g c = record {
-  order = omega (arith, begins_inside c.args.size c.len-len.result _ _ c.div_ceil-leaves.ensures c.requires.can.some c.loop-block-test.true);
-  inside = omega arith;
-  short = c.requires.can.short;
-}
+pub node_of-requires-clause-order : goal.node_of-requires-clause-order
+node_of-requires-clause-order g c = omega (arith, begins_inside c.args.size c.len-len.result _ _ c.div_ceil-leaves.ensures c.requires.can.some c.loop-block-test.true)
 
 pub loop-block-preserved : goal.loop-block-preserved
 loop-block-preserved g c =

@@ -34,9 +34,5 @@ pub returns-clause-adds : goal.returns-clause-adds
 returns-clause-adds g c =
     climbed_and_scanned true _ _ _ _ _ c.requires _ _ c.previous_block_counted.ensures.adds _ _ (omega arith) c.scan_backward.ensures.adds
 
-pub scan_backward-requires : goal.scan_backward-requires
-scan_backward-requires g c = record {
-  order = omega arith;
-  inside = omega (arith, ends_before _ c.in_ok-previous.previous _ ((let a = c.in_ok-previous.ensures in a.value) (sought c.args.self.bits.now g.row.BLOCK_SIZE c.args.i c.args.r) (begins true _ _ _ _ _ c.requires _ (answer_before c.args.self.bits.now g.row.BLOCK_SIZE c.args.i c.args.r (c.requires.last refl)) c.ranges.r c.in_ok-left.left c.in_ok-left.ensures)));
-  short = c.requires.indexed.short;
-}
+pub scan_backward-requires-clause-inside : goal.scan_backward-requires-clause-inside
+scan_backward-requires-clause-inside g c = omega (arith, ends_before _ c.in_ok-previous.previous _ ((let a = c.in_ok-previous.ensures in a.value) (sought c.args.self.bits.now g.row.BLOCK_SIZE c.args.i c.args.r) (begins true _ _ _ _ _ c.requires _ (answer_before c.args.self.bits.now g.row.BLOCK_SIZE c.args.i c.args.r (c.requires.last refl)) c.ranges.r c.in_ok-left.left c.in_ok-left.ensures)))

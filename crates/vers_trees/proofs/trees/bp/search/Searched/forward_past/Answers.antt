@@ -34,9 +34,5 @@ pub returns-clause-adds : goal.returns-clause-adds
 returns-clause-adds g c =
     climbed_and_scanned false _ _ _ _ _ c.requires _ _ c.next_block_counted.ensures.adds _ _ (omega arith) c.scan_forward.ensures.adds
 
-pub scan_forward-requires : goal.scan_forward-requires
-scan_forward-requires g c = record {
-  order = omega (arith, next_inside false _ _ _ _ _ c.requires _ (answer_after c.args.self.bits.now g.row.BLOCK_SIZE c.args.i c.args.r) c.ranges.r c.in_ok-left.left c.in_ok-left.ensures c.in_ok-next.next _ (let a = c.in_ok-next.ensures in a.value));
-  inside = omega (arith, c.len.ensures.value);
-  short = c.requires.indexed.short;
-}
+pub scan_forward-requires-clause-order : goal.scan_forward-requires-clause-order
+scan_forward-requires-clause-order g c = omega (arith, next_inside false _ _ _ _ _ c.requires _ (answer_after c.args.self.bits.now g.row.BLOCK_SIZE c.args.i c.args.r) c.ranges.r c.in_ok-left.left c.in_ok-left.ensures c.in_ok-next.next _ (let a = c.in_ok-next.ensures in a.value))
