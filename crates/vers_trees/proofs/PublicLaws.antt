@@ -1,5 +1,5 @@
 -- The laws that proofs of other crates may cite. A crate above imports this file and no other of this folder.
-use Rattle.vers_trees.proofs.Words.{◌≡◌, ℕ, suc, ◌+◌, ◌-◌, ◌*◌, ◌^◌, ◌<◌, ◌≤◌, ◌↔◌, ⊎_elim, Bool, true, false, not, List, [], ◌∷◌, ◌++◌, map, length, get_or, eqb, max, Option, Some, None, slice_get, option_map, Contains, enclosing, Forest, text, pairs, IsBalanced, forest_of, block_count, clog, node_count, nodes, IsNode, closing, parent, depth, level, first_of, last_of, next_of, previous_of, IsAlongLevel, arith, refl, sym, subst, ap, ◌∙◌, cases_lt, take, slice_get-get_or, get_or_from_slice_get, slice_get_within, length_push, map-append, take_all, take_more, Decides-eqb, length-filter_both, clog_least, pow_next, negsuc, first_rise_after, last_rise_before, ints, rules, Reads, AddsAtMost, IsWithin, superblock_count, get_reads, rank_reads, select_reads, levels, search_reads, enclose_reads, two_searches_reads, post_reads, tree_reads}
+use Rattle.vers_trees.proofs.Words.{◌≡◌, ℕ, suc, ◌+◌, ◌-◌, ◌*◌, ◌^◌, ◌<◌, ◌≤◌, ◌↔◌, ⊎_elim, Bool, true, false, not, List, [], ◌∷◌, ◌++◌, map, length, get_or, eqb, max, Option, Some, None, slice_get, option_map, Contains, enclosing, Forest, text, pairs, IsBalanced, forest_of, block_count, clog, node_count, nodes, IsNode, closing, parent, depth, level, first_of, last_of, next_of, previous_of, IsAlongLevel, arith, refl, sym, subst, ap, ◌∙◌, cases_lt, take, slice_get-get_or, get_or_from_slice_get, slice_get_within, length_push, map-append, take_all, take_more, Decides-eqb, length-filter_both, clog_least, div_ceil_times, pow_next, negsuc, first_rise_after, last_rise_before, ints, rules, Reads, AddsAtMost, IsWithin, superblock_count, get_reads, rank_reads, select_reads, levels, search_reads, enclose_reads, two_searches_reads, post_reads, tree_reads}
 -- reading from the left decides whether parentheses are balanced
 pub use Rattle.vers_trees.proofs.grammar.Grammar.{balance_decides}
 -- the forest of a balanced list writes down that list again, and that of a text is the one written down
@@ -8,7 +8,7 @@ use Rattle.vers_trees.proofs.grammar.Paired.{closes_rises, closes_falls, paired_
 use Rattle.vers_trees.proofs.grammar.Pairs.{contains_map, paired_from_contains, contains_from_paired}
 use Rattle.vers_trees.proofs.kin.Kin.{parent_is_search}
 use Rattle.vers_trees.proofs.kin.NodeList.{one_pair, bit_inside, node_pair, opens}
-use Rattle.vers_trees.proofs.layout.Widths.{some_counted, one_at_least}
+use Rattle.vers_trees.proofs.layout.Widths.{some_counted}
 use Rattle.vers_trees.proofs.levels.NodeLaws.{AscendsFrom, nodes_ascend, filter_ascends, next_member, member_before, first_member_before, last_by_number, member_passes, passing_holds}
 use Rattle.vers_trees.proofs.searches.Beside.{enclosing_open, enclosing_close}
 use Rattle.vers_trees.proofs.searches.Searches.{after_some, after_is, before_some, before_is, before_none, none_before}
@@ -71,18 +71,14 @@ pub ruleset written = (text-forest_of)
 -- ---- the tree over the blocks
 
 few_over : (b : ℕ) → 0 < b → b + max 1 (2 ^ clog b - 1) < 3 * b
-few_over b h = ⊎_elim
-    (λ (x : 0 < clog b).
-    let low : 2 ^ (clog b - 1) < b = ⊎_elim (λ (y : 2 ^ (clog b - 1) < b). y) (λ (y : b ≤ 2 ^ (clog b - 1)). let z = clog_least b (clog b - 1) y in absurd (omega arith)) (cases_lt (2 ^ (clog b - 1)) b) in
-    grind (arith, pow_next))
-    (λ (x : clog b ≤ 0).
-    let one : 2 ^ clog b ≡ 1 = ap (λ (n : ℕ). 2 ^ n) (let z : clog b ≡ 0 = omega arith in z) in
-    omega arith)
-    (cases_lt 0 (clog b))
+few_over b h =
+    let low : 0 < clog b → 2 ^ (clog b - 1) < b = λ x. grind (arith, cases_lt (2 ^ (clog b - 1)) b, clog_least b (clog b - 1)) in
+    let one : clog b ≤ 0 → 2 ^ clog b ≡ 1 = λ x. ap (λ (n : ℕ). 2 ^ n) (let z : clog b ≡ 0 = omega arith in z) in
+    grind (arith, cases_lt 0 (clog b), pow_next)
 
 -- it has fewer than three nodes a block
 pub few_nodes : (size n : ℕ) → 0 < size → 0 < n → node_count size n < 3 * block_count size n
-few_nodes size n s h = rw (some_counted size n h).0 (few_over (block_count size n) (one_at_least n size s h))
+few_nodes size n s h = rw (some_counted size n h).0 (few_over (block_count size n) (grind (arith, div_ceil_times)))
 
 -- ---- levels
 

@@ -28,14 +28,6 @@ above_since f w x a (suc b) le h ne = ⊎_elim
 pub turned : (f : ℕ → ℤ) → IsWalk f → IsWalk (λ i. pos 0 -ℤ f i)
 turned f w = record { up = λ i. let d = w.down i in omega (arith, ints); down = λ i. let u = w.up i in omega (arith, ints) }
 
-pub below_until : (f : ℕ → ℤ) → IsWalk f → (x : ℤ) (a b : ℕ) → a ≤ b → f a <ℤ x → ((k : ℕ) → a < k → k ≤ b → f k ≢ x) → f b <ℤ x
-below_until f w x a b le h ne =
-    omega (arith, ints, above_until (λ i. pos 0 -ℤ f i) (turned f w) (pos 0 -ℤ x) a b le (omega (arith, ints)) (λ k g m e. ne k g m (omega (arith, ints))))
-
-pub below_since : (f : ℕ → ℤ) → IsWalk f → (x : ℤ) (a b : ℕ) → a ≤ b → f b <ℤ x → ((k : ℕ) → a ≤ k → k < b → f k ≢ x) → f a <ℤ x
-below_since f w x a b le h ne =
-    omega (arith, ints, above_since (λ i. pos 0 -ℤ f i) (turned f w) (pos 0 -ℤ x) a b le (omega (arith, ints)) (λ k g m e. ne k g m (omega (arith, ints))))
-
 -- ---- what the excess is along a list
 pub excess-zero : (l : List Bool) → excess l 0 ≡ pos 0
 unfolding excess count

@@ -70,19 +70,11 @@ closes_moved l m p x y h at c =
       above = λ j u v. let r = c.above (j - p) (omega arith) (omega arith) in let aj = at (j - p) (omega arith) in let e : excess l (p + (j - p)) ≡ excess l j = ap (excess l) (omega arith) in omega (arith, ints);
     }
 
-closes_first : (X Y : Forest) (x y : ℕ) → Closes (text X) x y → Closes (text (tree X Y)) (1 + x) (1 + y)
-closes_first X Y x y = closes_moved (text (tree X Y)) (text X) 1 x y (grind (arith, ints, length-tree)) (λ j h.
-    let r = excess_in_first X Y j h in let s = excess_in_first X Y 0 (omega arith) in let z = excess-zero (text X) in grind (arith, ints))
-
-closes_rest : (X Y : Forest) (x y : ℕ) → Closes (text Y) x y → Closes (text (tree X Y)) (length (text X) + 2 + x) (length (text X) + 2 + y)
-closes_rest X Y x y = closes_moved (text (tree X Y)) (text Y) (length (text X) + 2) x y (grind (arith, length-tree)) (λ j h.
-    let r = excess_in_rest X Y j in let s = excess_in_rest X Y 0 in let z = excess-zero (text Y) in grind arith)
-
 pub paired_closes : (F : Forest) (v c : ℕ) → Paired F v c → Closes (text F) v c
 paired_closes none v c p = absurd p
 paired_closes (tree X Y) v c (inl p) = rw (p.0, p.1) (closes_root X Y)
-paired_closes (tree X Y) v c (inr (inl p)) = let a : v ≡ 1 + p.0 = (omega arith) in let b : c ≡ 1 + p.1 = (omega arith) in rw (a, b) (closes_first X Y p.0 p.1 (paired_closes X p.0 p.1 p.4))
-paired_closes (tree X Y) v c (inr (inr p)) = rw (p.2, p.3) (closes_rest X Y p.0 p.1 (paired_closes Y p.0 p.1 p.4))
+paired_closes (tree X Y) v c (inr (inl p)) = let a : v ≡ 1 + p.0 = (omega arith) in let b : c ≡ 1 + p.1 = (omega arith) in rw (a, b) (closes_moved (text (tree X Y)) (text X) 1 p.0 p.1 (grind (arith, ints, length-tree)) (λ j h. grind (arith, ints, excess_in_first X Y j h, excess_in_first X Y 0, excess-zero (text X))) (paired_closes X p.0 p.1 p.4))
+paired_closes (tree X Y) v c (inr (inr p)) = rw (p.2, p.3) (closes_moved (text (tree X Y)) (text Y) (length (text X) + 2) p.0 p.1 (grind (arith, length-tree)) (λ j h. grind (arith, ints, excess_in_rest X Y j, excess_in_rest X Y 0, excess-zero (text Y))) (paired_closes Y p.0 p.1 p.4))
 
 -- each bit is one end of a pair, a one where it opens and a zero where it closes
 abbrev end_at : Bool → ℕ → ℕ → ℕ

@@ -91,11 +91,8 @@ around_none n F v c (inr h) = count_none (λ q. strictly_contains (moved n q) (v
 pub pairs_around : (F : Forest) (v c : ℕ) → Paired F v c → pos (count_by (λ q. strictly_contains q (v, c)) (pairs F)) ≡ excess (text F) v
 pairs_around none v c p = absurd p
 pairs_around (tree X Y) v c (inl p) =
-    let t = count_tree (λ q. strictly_contains q (v, c)) X Y in
-    let a : one_if (strictly_contains (0, length (text X) + 1) (v, c)) ≡ 0 = ap one_if (and_left (ltb 0 v) (ltb c (length (text X) + 1)) (le-ltb 0 v (omega arith))) in
     let b = around_none 1 X v c (inl (omega arith)) in let d = around_none (length (text X) + 2) Y v c (inl (omega arith)) in
-    let z : excess (text (tree X Y)) v ≡ pos 0 = ap (excess (text (tree X Y))) p.0 ∙ excess-zero (text (tree X Y)) in
-    ap pos (let r : count_by (λ q. strictly_contains q (v, c)) (pairs (tree X Y)) ≡ 0 = omega arith in r) ∙ sym z
+    grind (arith, ints, excess-zero, and_left, le-ltb, count_tree (λ q. strictly_contains q (v, c)) X Y)
 pairs_around (tree X Y) v c (inr (inl p)) =
     let k = paired_closes X p.0 p.1 p.4 in let t = count_tree (λ q. strictly_contains q (v, c)) X Y in
     let b = around_moved 1 X p.0 p.1 v c (omega arith) (omega arith) in let d = around_none (length (text X) + 2) Y v c (inl (omega arith)) in

@@ -7,7 +7,7 @@ use Rattle.vers_trees.proofs.grammar.Grammar.{text-forest_of}
 use Rattle.vers_trees.proofs.grammar.Paired.{closes_rises, Closes, closes_falls}
 use Rattle.vers_trees.proofs.grammar.Pairs.{paired_from_contains, count_by-cons, count_by-append, count_by-map, count_agree, count_none, strictly_contains, pairs_around, contains_first, contains_later}
 use Rattle.vers_trees.proofs.kin.Partners.{nested, IsAbove, one_before, parent_is_nearest, no_parent, before_from_closes, opens_around, same_around, first_child_above, last_child_closes, last_child_above, after_from_closes}
-pub use Rattle.vers_trees.proofs.kin.NodeList.{HasPair, one_pair, bit_inside, paired_here, closes_to, closing_is, nodes_by, opens, inside, zero_pair, node_pair, IsFirstNode, first_in, last_node, next_in, previous_in, option_decides}
+pub use Rattle.vers_trees.proofs.kin.NodeList.{HasPair, one_pair, bit_inside, paired_here, closing_is, nodes_by, opens, inside, zero_pair, node_pair, IsFirstNode, first_in, last_node, next_in, previous_in, option_decides}
 
 -- ---- what a test tells
 pub Decides-leb : (a b : ℕ) → Decides (leb a b) (a ≤ b)
@@ -31,7 +31,7 @@ above_from_before l b v t a h o p =
 
 -- what stands above v is around it
 pub above_is_around : (l : List Bool) (b : IsBalanced l) (v t a : ℕ) → HasPair l v → IsAbove l v t a → (a < v) × (closing (forest_of l) v < closing (forest_of l) a) × HasPair l a
-above_is_around l b v t a h p = grind (arith, ints, one_pair, closes_rises, closes_to l b a p.close p.pair, p.before)
+above_is_around l b v t a h p = grind (arith, ints, one_pair, closes_rises, closing_is (forest_of l) a p.close (paired_here l b a p.close p.pair), p.before)
 
 pub above_parent : (l : List Bool) (b : IsBalanced l) (v p : ℕ) → HasPair l v → IsAbove l v 1 p → parent (forest_of l) v ≡ Some p
 unfolding parent
@@ -152,17 +152,11 @@ closed_before l (suc u) = cond (get_or l u true) None (last_rise_before l u (neg
 
 pub first_child_is : (l : List Bool) (b : IsBalanced l) (v : ℕ) → HasPair l v → opened_here l (v + 1) ≡ first_of (children (forest_of l) v)
 unfolding nodes_under
-first_child_is l b v h = sym (first_in l b _ _ (λ w. option_decides (parent (forest_of l) w) (Some v)) (opened_here l (v + 1)) (cond_both (get_or l (v + 1) false) (Some (v + 1)) None (IsFirstNode l (λ w. parent (forest_of l) w ≡ Some v))
-    (λ o.
-    let k = one_pair l b (v + 1) (omega arith) o in
-    (k, above_parent l b (v + 1) v k (first_child_above l v (closing (forest_of l) v) h.closes o), λ w x k e. let r = (parent_around l b w v k e).0 in omega arith))
-    (λ o w k e. no_child l b v w h o k e)))
+first_child_is l b v h = sym (first_in l b _ _ (λ w. option_decides (parent (forest_of l) w) (Some v)) (opened_here l (v + 1)) (grind (arith, ints, one_pair l b (v + 1), above_parent l b (v + 1) v, first_child_above l v (closing (forest_of l) v) h.closes, parent_around, no_child)))
 
 pub next_sibling_is : (l : List Bool) (b : IsBalanced l) (v : ℕ) → HasPair l v → opened_here l (closing (forest_of l) v + 1) ≡ next_of (siblings (forest_of l) v) v
 unfolding nodes_under
-next_sibling_is l b v h =
-    let c = closing (forest_of l) v in
-    sym (next_in l b _ _ (λ w. option_decides (parent (forest_of l) w) (parent (forest_of l) v)) v (opened_here l (c + 1)) (grind (arith, ints, one_pair, bit_inside, same_parent, not_beside, last_beside)))
+next_sibling_is l b v h = sym (next_in l b _ _ (λ w. option_decides (parent (forest_of l) w) (parent (forest_of l) v)) v (opened_here l (closing (forest_of l) v + 1)) (grind (arith, ints, one_pair, bit_inside, same_parent, not_beside, last_beside)))
 
 pub last_child_is : (l : List Bool) (b : IsBalanced l) (v : ℕ) → HasPair l v → closed_before l (closing (forest_of l) v) ≡ last_of (children (forest_of l) v)
 last_child_is l b v h = grind (arith, ints, get_or_default l (closing (forest_of l) v - 1) true false, last_child_closes, last_child_is_search, closes_rises, last_child_none)

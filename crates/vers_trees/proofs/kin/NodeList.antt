@@ -17,11 +17,8 @@ nodes_are_ones (tree X Y) =
 -- ---- where a node of a balanced list closes
 find_only : {X : Type 0} → (test : X → Bool) (xs : List X) (y : X) → Contains xs y → test y ≡ true → ((x : X) → Contains xs x → test x ≡ true → x ≡ y) → find test xs ≡ Some y
 find_only {X = X} test [] y c t h = grind arith
-find_only {X = X} test (x ∷ xs) y c t h = cond_both (test x) (Some x) (find test xs) (λ (o : Option X). o ≡ Some y) (λ e. ap Some (h x (contains_first x xs) e)) (λ e. find_only test xs y (later c e) t (λ z d g. h z (contains_later x xs z d) g))
-  where
-    later : Contains (x ∷ xs) y → test x ≡ false → Contains xs y
-    later (zero, l, e) f = absurd (cc)
-    later (suc k, l, e) f = (k, omega arith, e)
+find_only {X = X} test (x ∷ xs) y (zero, l, e) t h = grind arith
+find_only {X = X} test (x ∷ xs) y (suc k, l, e) t h = grind (arith, h x (contains_first x xs), find_only test xs y (k, omega arith, e) t (λ z d g. h z (contains_later x xs z d) g))
 
 pub closing_is : (F : Forest) (v c : ℕ) → Paired F v c → closing F v ≡ c
 unfolding closing
@@ -34,9 +31,6 @@ closes_here l b v c p = rw (text-forest_of l b) at (paired_closes (forest_of l) 
 
 pub paired_here : (l : List Bool) (b : IsBalanced l) (v c : ℕ) → Closes l v c → Paired (forest_of l) v c
 paired_here l b v c p = closes_paired (forest_of l) v c (rw (text-forest_of l b) p)
-
-pub closes_to : (l : List Bool) (b : IsBalanced l) (v c : ℕ) → Closes l v c → closing (forest_of l) v ≡ c
-closes_to l b v c p = closing_is (forest_of l) v c (paired_here l b v c p)
 
 pub record HasPair (l : List Bool) (v : ℕ) : Type 0 where
   pub is_pair : Contains (pairs (forest_of l)) (v, closing (forest_of l) v)
@@ -116,7 +110,7 @@ module _ (l : List Bool) (b : IsBalanced l) (t : ℕ → Bool) (P : ℕ → Type
 -- the nearest of them after u, and before u
 module _ (l : List Bool) (b : IsBalanced l) (t : ℕ → Bool) (P : ℕ → Type 0) (d : (w : ℕ) → Decides (t w) (P w)) (u : ℕ) where
   pub next_in : (o : Option ℕ) → IsFirstNode l (λ w. P w × (u < w)) o → next_of (filter t (nodes (forest_of l))) u ≡ o
-  next_in o n = sym (first_filtered (λ w. ltb u w) (filter t (nodes (forest_of l)))) ∙ ap (λ (zs : List ℕ). slice_get zs 0) (filter_filtered t (λ w. ltb u w) (nodes (forest_of l))) ∙ first_filtered (λ w. t w && ltb u w) (nodes (forest_of l)) ∙ first_node l b _ _ (λ w. Decides-and (t w) (ltb u w) (d w) (Decides-ltb u w)) o n
+  next_in o n = find_by (λ w. ltb u w) (λ w. t w && ltb u w) (filter t (nodes (forest_of l))) (nodes (forest_of l)) (filter_filtered t (λ w. ltb u w) (nodes (forest_of l))) ∙ first_node l b _ _ (λ w. Decides-and (t w) (ltb u w) (d w) (Decides-ltb u w)) o n
 
   pub previous_in : (o : Option ℕ) → IsLastNode l (λ w. P w × (w < u)) o → previous_of (filter t (nodes (forest_of l))) u ≡ o
   previous_in o n = ap (last_or None) (filter_filtered t (λ w. ltb w u) (nodes (forest_of l))) ∙ last_node l b _ _ (λ w. Decides-and (t w) (ltb w u) (d w) (Decides-ltb w u)) o n

@@ -4,18 +4,11 @@ use Rattle.vers_trees.proofs.grammar.Excess.{excess-zero, excess-append_left, ex
 use Rattle.vers_trees.proofs.grammar.Grammar.{forest_of-text}
 use Rattle.vers_trees.proofs.searches.Scans.{rise_fits, step_fits}
 
-excess_more : (l : List Bool) (b : Bool) → excess (l ++ b ∷ []) (length l + 1) ≡ excess l (length l) +ℤ bit_step b
-excess_more l b =
-    let long = length-append l (b ∷ []) in
-    excess_after_bit (l ++ b ∷ []) (length l) false (omega arith)
-    ∙ ap (λ (z : ℤ). z +ℤ bit_step (get_or (l ++ b ∷ []) (length l) false)) (excess-append_left l (b ∷ []) (length l) (omega arith))
-    ∙ ap (λ (x : Bool). excess l (length l) +ℤ bit_step x) (get_or_at l b [] false (length l) refl)
-
 pub nothing_built : (size : ℕ) (l : List Bool) → l ≡ [] → 0 < size → size ≤ 4294967296 → IsBuilding size l (pos 0)
 nothing_built size l e so b = rw e (record { short = omega arith; some = so; bounded = b; sum = excess-zero [] })
 
 pub one_more_built : (size : ℕ) (l : List Bool) (b : Bool) (total : ℤ) → IsBuilding size l total → length l < 9223372036854775807 → IsBuilding size (l ++ b ∷ []) (total +ℤ bit_step b)
-one_more_built size l b total h room = grind (arith, length-append, excess_more)
+one_more_built size l b total h room = grind (arith, length-append, excess_after_bit (l ++ b ∷ []) (length l) false, excess-append_left l (b ∷ []) (length l), get_or_at l b [] false (length l) refl)
 
 -- the excess of a list that is not too long fits
 pub built_fits : (size : ℕ) (l : List Bool) (total : ℤ) → IsBuilding size l total → FitsSigned w64 total

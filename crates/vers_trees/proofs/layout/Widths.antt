@@ -12,9 +12,6 @@ pub grown : (leaves w : ℕ) → leaves < 2 ^ 63 → IsGrowing leaves w → leav
 grown leaves w h g enough = grind (arith, pow_next g.exponent, pow_pos g.exponent, clog_is_least leaves (g.exponent + 1), clog_is_least leaves g.exponent, order g.exponent 62, pow-le-pow_right)
 
 -- ---- how many nodes there are
-width_is : (leaves w : ℕ) → IsWidth leaves w → w - 1 ≡ max 1 (2 ^ clog leaves - 1)
-width_is leaves w h = grind arith
-
 pub some_counted : (size n : ℕ) → 0 < n → (node_count size n ≡ block_count size n + max 1 (2 ^ clog (block_count size n) - 1)) × (levels size n ≡ max 1 (clog (block_count size n)) + 1)
 unfolding node_count levels
 some_counted size n h = grind arith
@@ -24,12 +21,9 @@ unfolding node_count
 no_nodes_counted size n nodes z e = rw (z, e) refl
 
 pub nodes_counted : (l : List Bool) (size first : ℕ) (nodes : List Node) → 0 < length l → IsWidth (block_count size (length l)) (first + 1) → length nodes ≡ first + block_count size (length l) → length nodes ≡ node_count size (length l)
-nodes_counted l size first nodes some w c = grind (arith, width_is, some_counted)
+nodes_counted l size first nodes some w c = grind (arith, some_counted)
 
 -- ---- the blocks
-pub no_blocks : (l : List Bool) (size first : ℕ) (nodes : List Node) → length nodes ≡ first → AreFirstBlocks l size first 0 nodes
-no_blocks l size first nodes e = record { counted = omega arith; part = λ k h. absurd (omega arith) }
-
 pub block_added : (l : List Bool) (size first n : ℕ) (nodes : List Node) (x : Node) → AreFirstBlocks l size first n nodes → IsPart l (n * size) (min (n * size + size) (length l)) x → AreFirstBlocks l size first (n + 1) (nodes ++ x ∷ [])
 block_added l size first n nodes x b p =
     let c = b.counted in
@@ -47,9 +41,6 @@ block_added l size first n nodes x b p =
 -- where block k begins
 pub begins_inside : (size n k leaves : ℕ) → leaves ≡ block_count size n → 0 < size → k < leaves → k * size < n
 begins_inside size n k leaves e so h = grind (arith, div_ceil_times, mul-le-mul_right)
-
-pub one_at_least : (n size : ℕ) → 0 < size → 0 < n → 0 < block_count size n
-one_at_least n size so h = grind (arith, div_ceil_times)
 
 pub tree_made : (l : List Bool) (size first : ℕ) (nodes : List Node) → 0 < size → 0 < length l → length l < 2 ^ 63 → IsWidth (block_count size (length l)) (first + 1) → CoveredFrom l size first nodes 0 → IsTreeOf l size first nodes
 tree_made l size first nodes so some short w c =

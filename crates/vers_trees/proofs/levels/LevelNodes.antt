@@ -1,7 +1,7 @@
 -- The nodes of one depth: which of them the searches find.
-use Rattle.vers_trees.proofs.Words.{◌≡◌, ℕ, ◌+◌, ◌-◌, ◌<◌, ◌≤◌, ◌≢◌, ◌↔◌, Bool, true, false, ◌&&◌, List, length, get_or, eqb, ℤ, pos, negsuc, neg_ℤ, ◌+ℤ◌, ◌<ℤ◌, Option, Some, None, arith, ⊎_elim, sym, ap, ◌∙◌, Decides, ints, cases_lt, Decides-eqb, Decides-and, eq-or-lt_of_le, count_le, excess, first_rise_after, last_rise_before, Forest, IsBalanced, forest_of, true_from_ne_false, false_from_ne_true, closing, is_ancestor, depth, level, level_ancestor, first_of, last_of, next_of, previous_of}
+use Rattle.vers_trees.proofs.Words.{◌≡◌, ℕ, ◌+◌, ◌-◌, ◌<◌, ◌≤◌, ◌≢◌, ◌↔◌, Bool, true, false, ◌&&◌, List, length, get_or, eqb, ℤ, pos, negsuc, neg_ℤ, ◌+ℤ◌, ◌-ℤ◌, ◌<ℤ◌, Option, Some, None, arith, ⊎_elim, sym, ap, ◌∙◌, Decides, ints, cases_lt, Decides-eqb, Decides-and, eq-or-lt_of_le, count_le, excess, first_rise_after, last_rise_before, Forest, IsBalanced, forest_of, true_from_ne_false, false_from_ne_true, closing, is_ancestor, depth, level, level_ancestor, first_of, last_of, next_of, previous_of}
 use Rattle.vers_trees.proofs.searches.Searches.{by_answer, after_some, after_none, before_some, before_is, before_none}
-use Rattle.vers_trees.proofs.grammar.Excess.{below_until, below_since, excess-zero, excess-is_walk, excess_after_open, excess_after_close, open_from_rise, close_from_fall}
+use Rattle.vers_trees.proofs.grammar.Excess.{turned, above_until, above_since, excess-zero, excess-is_walk, excess_after_open, excess_after_close, open_from_rise, close_from_fall}
 use Rattle.vers_trees.proofs.grammar.Grammar.{balanced_total, balanced_above}
 use Rattle.vers_trees.proofs.kin.Partners.{before_from_closes}
 pub use Rattle.vers_trees.proofs.kin.NodeList.{HasPair, one_pair, zero_pair, opens, inside, IsFirstNode, IsLastNode, first_node, first_in, last_node, next_in, previous_in, node_pair}
@@ -11,13 +11,13 @@ use Rattle.vers_trees.proofs.kin.Kin.{ancestor_decides, above_from_before, above
 -- after c the first of them is past a one
 opens_at : (l : List Bool) (c w : ℕ) (x : ℤ) → excess l (c + 1) <ℤ x → c < w → w < length l → excess l (w + 1) ≡ x → ((k : ℕ) → c < k → k < w → excess l (k + 1) ≢ x) → get_or l w false ≡ true
 opens_at l c w x h a i s n =
-    let low : excess l w <ℤ x = below_until (excess l) (excess-is_walk l) x (c + 1) w (omega arith) h (λ k y z e. let g : excess l (k - 1 + 1) ≡ excess l k = ap (excess l) (omega arith) in n (k - 1) (omega arith) (omega arith) (g ∙ e)) in
+    let low = above_until (λ i. pos 0 -ℤ excess l i) (turned (excess l) (excess-is_walk l)) (pos 0 -ℤ x) (c + 1) w (omega arith) (omega (arith, ints)) (λ k y z e. let g : excess l (k - 1 + 1) ≡ excess l k = ap (excess l) (omega arith) in n (k - 1) (omega arith) (omega arith) (omega (arith, ints))) in
     open_from_rise l w false i (omega (arith, ints))
 
 -- before v the last of them is at a zero
 closes_at : (l : List Bool) (c v : ℕ) (x : ℤ) → excess l v <ℤ x → c < v → v < length l → excess l c ≡ x → ((k : ℕ) → c < k → k < v → excess l k ≢ x) → get_or l c false ≡ false
 closes_at l c v x h a i s n =
-    let low : excess l (c + 1) <ℤ x = below_since (excess l) (excess-is_walk l) x (c + 1) v (omega arith) h (λ k y z e. n k (omega arith) z e) in
+    let low = above_since (λ i. pos 0 -ℤ excess l i) (turned (excess l) (excess-is_walk l)) (pos 0 -ℤ x) (c + 1) v (omega arith) (omega (arith, ints)) (λ k y z e. n k (omega arith) z (omega (arith, ints))) in
     close_from_fall l c false (omega arith) (omega (arith, ints))
 
 -- and right past no one between
@@ -88,16 +88,13 @@ too_far_up l b v t h far = first_node l b _ _ (at_depth_decides (forest_of l) v 
 later_on_level : (l : List Bool) (b : IsBalanced l) (v : ℕ) → HasPair l v → (w : ℕ) → HasPair l w → ((depth (forest_of l) w ≡ depth (forest_of l) v) × (v < w)) ↔ ((closing (forest_of l) v < w) × (excess l (w + 1) ≡ excess l (closing (forest_of l) v + 1) +ℤ pos 1))
 later_on_level l b v h w k = grind (arith, ints, depth_is_excess l b w k, depth_is_excess l b v h, excess_after_open l w false (inside l w k) (opens l w k), h.closes.above w)
 
-earlier_on_level : (l : List Bool) (b : IsBalanced l) (v : ℕ) → HasPair l v → (w : ℕ) → HasPair l w → ((depth (forest_of l) w ≡ depth (forest_of l) v) × (w < v)) ↔ ((w < v) × (excess l w +ℤ pos 1 ≡ excess l v +ℤ pos 1))
-earlier_on_level l b v h w k = grind (arith, ints, depth_is_excess)
-
 pub level_next_is_search : (l : List Bool) (b : IsBalanced l) (v : ℕ) → HasPair l v → first_rise_after l (closing (forest_of l) v) (pos 1) ≡ next_of (level (forest_of l) (depth (forest_of l) v)) v
 unfolding level
 level_next_is_search l b v h = sym (next_in l b _ _ (λ w. Decides-eqb (depth (forest_of l) w) (depth (forest_of l) v)) v _ (opened_after l b (closing (forest_of l) v) (pos 1) (omega (arith, ints)) _ (later_on_level l b v h)))
 
 pub level_prev_is_search : (l : List Bool) (b : IsBalanced l) (v : ℕ) (o : Option ℕ) → HasPair l v → last_rise_before l v (pos 1) ≡ o → opens_for l o ≡ previous_of (level (forest_of l) (depth (forest_of l) v)) v
 unfolding level
-level_prev_is_search l b v o h e = sym (previous_in l b _ _ (λ w. Decides-eqb (depth (forest_of l) w) (depth (forest_of l) v)) v _ (opened_before l b v (pos 1) (omega (arith, ints)) _ (earlier_on_level l b v h) (inside l v h) o e))
+level_prev_is_search l b v o h e = sym (previous_in l b _ _ (λ w. Decides-eqb (depth (forest_of l) w) (depth (forest_of l) v)) v _ (opened_before l b v (pos 1) (omega (arith, ints)) _ (λ w k. grind (arith, ints, depth_is_excess)) (inside l v h) o e))
 
 -- ---- the ends of a level
 -- a forest with a node opens at 0 and closes at its end
@@ -111,9 +108,7 @@ closes_last l b n e =
 
 pub first_root : (l : List Bool) (b : IsBalanced l) → 0 < length l → first_of (level (forest_of l) 0) ≡ Some 0
 unfolding level
-first_root l b h =
-    let k = opens_first l b h in let z = excess-zero l in let d = depth_is_excess l b 0 k in
-    first_in l b _ _ (λ w. Decides-eqb (depth (forest_of l) w) 0) (Some 0) (k, omega (arith, ints), λ w x k g. omega arith)
+first_root l b h = first_in l b _ _ (λ w. Decides-eqb (depth (forest_of l) w) 0) (Some 0) (grind (arith, ints, opens_first l b h, excess-zero l, depth_is_excess l b 0))
 
 -- no node is as deep as a forest is long
 pub too_deep : (l : List Bool) (b : IsBalanced l) (t : ℕ) → length l ≤ t → (first_of (level (forest_of l) t) ≡ None) × (last_of (level (forest_of l) t) ≡ None)

@@ -28,23 +28,18 @@ member_from n (suc i) (x ∷ xs) a h = omega (arith, member_from (x + 1) i xs a.
 
 in_order : (n i j : ℕ) (xs : List ℕ) → AscendsFrom n xs → i ≤ j → j < length xs → get_or xs i 0 + j ≤ get_or xs j 0 + i
 in_order n i j [] a h k = absurd (omega arith)
-in_order n zero zero (x ∷ xs) a h k = omega arith
-in_order n zero (suc j) (x ∷ xs) a h k = omega (arith, member_from (x + 1) j xs a.1 (omega arith))
+in_order n zero j (x ∷ xs) a h k = omega (arith, member_from x j (x ∷ xs) (omega arith, a.1) k)
 in_order n (suc i) j (x ∷ xs) a h k = grind (arith, in_order (x + 1) i (j - 1) xs a.1)
 
 pub next_member : (n i v : ℕ) (xs : List ℕ) → AscendsFrom n xs → slice_get xs i ≡ Some v → find (λ w. ltb v w) xs ≡ slice_get xs (suc i)
 next_member n i v xs a e =
     let m = slice_get_within xs i v e in let g = get_or_from_slice_get xs i v 0 e in
-    find_is (λ w. ltb v w) xs (suc i) m
-    (λ j h. le-ltb v (get_or xs j 0) (let r = in_order n j i xs a (omega arith) m in omega arith))
-    (λ h. lt-ltb v (get_or xs (suc i) 0) (let r = in_order n i (suc i) xs a (omega arith) h in omega arith))
+    find_is (λ w. ltb v w) xs (suc i) m (λ j h. grind (arith, le-ltb, in_order n j i xs a)) (λ h. grind (arith, lt-ltb, in_order n i (suc i) xs a))
 
 pub member_before : (n i v : ℕ) (xs : List ℕ) → AscendsFrom n xs → slice_get xs (suc i) ≡ Some v → last_or None (filter (λ w. ltb w v) xs) ≡ slice_get xs i
 member_before n i v xs a e =
     let m = slice_get_within xs (suc i) v e in let g = get_or_from_slice_get xs (suc i) v 0 e in
-    last_passing_is None (λ w. ltb w v) xs i (omega arith)
-    (λ j h. lt-ltb (get_or xs j 0) v (let r = in_order n j (suc i) xs a (omega arith) m in omega arith))
-    (λ j h k. le-ltb (get_or xs j 0) v (let r = in_order n (suc i) j xs a (omega arith) k in omega arith))
+    last_passing_is None (λ w. ltb w v) xs i (omega arith) (λ j h. grind (arith, lt-ltb, in_order n j (suc i) xs a)) (λ j h k. grind (arith, le-ltb, in_order n (suc i) j xs a))
 
 pub first_member_before : (n v : ℕ) (xs : List ℕ) → AscendsFrom n xs → slice_get xs 0 ≡ Some v → last_or None (filter (λ w. ltb w v) xs) ≡ None
 first_member_before n v xs a e =

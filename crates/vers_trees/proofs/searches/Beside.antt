@@ -12,16 +12,10 @@ pub right_after : (l : List Bool) (i : ℕ) (r d : ℤ) (b : Bool) → FitsSigne
 right_after l i r d b f h e q =
     let s = bit_is l (i + 1) (i + 1 + 1) b d refl h e q in grind (arith, ints, to_z-of_z, eqb-true, step_fits, after_is, after_some, stored_same)
 
-pub nothing_after : (l : List Bool) (i : ℕ) (r : ℤ) → length l ≤ i + 1 → IsTrue false ↔ (first_rise_after l i r ≡ Some (i + 1))
-nothing_after l i r h = ((λ t. absurd (cc)), (λ found. let a = (after_some l i r (i + 1) found).inside in absurd (omega arith)))
-
 -- ---- right before
-turned_step : (b : Bool) → bit_step (not b) ≡ pos 0 -ℤ bit_step b
-turned_step b = grind arith
-
 pub right_before : (l : List Bool) (i : ℕ) (r d : ℤ) (b : Bool) → FitsSigned w64 r → 0 < i → i < length l → b ≡ get_or l (i - 1) false → d ≡ bit_step (not b) → IsTrue (nat_eq (of_z w64 d) (of_z w64 r)) ↔ (last_rise_before l i r ≡ Some (i - 1))
 right_before l i r d b f some h e q =
-    let up = bit_is l (i - 1) i b (bit_step b) (omega arith) (omega arith) e refl in grind (arith, turned_step, to_z-of_z, eqb-true, step_fits, before_is, before_some, stored_same)
+    let up = bit_is l (i - 1) i b (bit_step b) (omega arith) (omega arith) e refl in grind (arith, to_z-of_z, eqb-true, step_fits, before_is, before_some, stored_same)
 
 -- ---- what the queries of a tree answer, in the words of the code
 pub enclosing_open : (l : List Bool) (i : ℕ) → get_or l i false ≡ true → last_rise_before l i (negsuc 0) ≡ enclosing l i

@@ -7,13 +7,10 @@ use Rattle.vers_trees.proofs.grammar.Excess.{excess-append_left, excess-append_r
 pub length-part : (l : List Bool) (p n : ℕ) → p + n ≤ length l → length (part l p n) ≡ n
 length-part l p n h = length-take-le n (drop p l) (let e = length-drop p l in omega arith)
 
-excess-drop : (l : List Bool) (p j : ℕ) → p ≤ length l → excess l (p + j) ≡ excess l p +ℤ excess (drop p l) j
-excess-drop l p j h = grind (arith, ints, excess-append_right, excess-append_left, take-append-drop p l, length-take-le p l h)
-
 pub excess-part : (l : List Bool) (p n j : ℕ) → p + n ≤ length l → j ≤ n → excess l (p + j) ≡ excess l p +ℤ excess (part l p n) j
 excess-part l p n j h i =
     let m = length-part l p n h in
-    grind (arith, ints, excess-append_left, excess-drop, ap (λ (m : List Bool). excess m j) (take-append-drop n (drop p l)))
+    grind (arith, ints, excess-append_left, excess-append_right, take-append-drop p l, length-take-le p l, ap (λ (m : List Bool). excess m j) (take-append-drop n (drop p l)))
 
 -- the excess of at most 64 bits, by the ones of their number
 excess-number : (bits : List Bool) (n : ℕ) → n ≤ 64 → length bits ≡ n → excess bits n ≡ pos (2 * count_ones (number bits)) -ℤ pos n

@@ -81,18 +81,12 @@ met_more from_end bits byte n value least greatest next place places least' grea
           let f = m.met x (omega (arith, m.around, near, q.0)) (omega (arith, m.around, near, q.0)) in
           rw q.1 (record { step = f.step; within = omega arith; sum = f.sum; first = f.first; place = f.place }))
           (noted_at least greatest next place places least' greatest' places' w inside x);
-      absent = λ x o. ⊎_elim
-          (λ (q : ((next < least) ⊎ (greatest < next)) × (next ≡ x) × (get_or places' x 7 ≡ place)). absurd (omega (arith, o)))
-          (λ (q : (((least ≤ next) × (next ≤ greatest)) ⊎ (next ≢ x)) × (get_or places' x 7 ≡ get_or places x 7)). q.1 ∙ m.absent x (⊎_elim (λ (z : x < least'). inl (omega arith)) (λ (z : greatest' < x). inr (omega arith)) o))
-          (noted_at least greatest next place places least' greatest' places' w inside x);
+      absent = λ x o. grind (arith, o, noted_at least greatest next place places least' greatest' places' w inside x, m.absent x);
     }
 
 -- the places stay digits
 pub few_more : (least greatest next p : ℕ) (places : List ℕ) (least' greatest' : ℕ) (places' : List ℕ) → IsNoted least greatest next p places least' greatest' places' → next < length places → p < 8 → ((x : ℕ) → get_or places x 7 < 8) → (x : ℕ) → get_or places' x 7 < 8
-few_more least greatest next p places least' greatest' places' w inside small old x = ⊎_elim
-    (λ (q : ((next < least) ⊎ (greatest < next)) × (next ≡ x) × (get_or places' x 7 ≡ p)). omega arith)
-    (λ (q : (((least ≤ next) × (next ≤ greatest)) ⊎ (next ≢ x)) × (get_or places' x 7 ≡ get_or places x 7)). omega arith)
-    (noted_at least greatest next p places least' greatest' places' w inside x)
+few_more least greatest next p places least' greatest' places' w inside small old x = omega (arith, noted_at least greatest next p places least' greatest' places' w inside x, old x)
 
 -- no place met
 pub sevens : (n x : ℕ) → ◌≡◌ {A = ℕ} (get_or (replicate n 7) x 7) 7

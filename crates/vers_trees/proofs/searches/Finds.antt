@@ -39,12 +39,6 @@ answer_here back s o a end place q b = a.some place (record { between = b; sum =
 comes_past : (back : Bool) (s : Sought) (block : ℕ) → 0 < s.size → 0 < s.from → s.from ≤ length s.bits → block ≡ (s.from - 1) / s.size → IsAfter back s.from (start_of s.bits s.size (edge back (block + 1) block))
 comes_past back s block so a b e = grind arith
 
-in_block : (back : Bool) (s : Sought) (j k : ℕ) → start_of s.bits s.size j ≤ k → k < start_of s.bits s.size (j + 1) → IsBetween back (start_of s.bits s.size (edge back j (j + 1))) (start_of s.bits s.size (edge back (j + 1) j)) k
-in_block back s j k a b = grind arith
-
-in_list : (back : Bool) (s : Sought) (j k : ℕ) → s.from ≤ length s.bits → IsAfter back s.from (start_of s.bits s.size (edge back j (j + 1))) → IsBetween back (start_of s.bits s.size (edge back j (j + 1))) (start_of s.bits s.size (edge back (j + 1) j)) k → IsBetween back s.from (edge back (length s.bits) 0) k
-in_list back s j k i a b = grind arith
-
 -- the block that a search backwards goes on in ends before the place that it begins at
 pub ends_before : (s : Sought) (j : ℕ) (rest : ℤ) → IsAhead true s j (j + 1) rest → j * s.size + s.size < s.from
 ends_before s j rest a = omega arith
@@ -85,13 +79,13 @@ module _ (back : Bool) (s : Sought) (first : ℕ) (nodes : List Node) (block : �
       next_answer x y (Ok place) e g q =
           let t = rw (e, g) at q in let re = ahead.passed.remains in let wh = whole in
           a.some place (record {
-            between = in_list back s j place p.inside ahead.passed.after t.between;
+            between = grind (arith, p.inside, ahead.passed.after, t.between);
             sum = omega (arith, ints);
             first = λ k b z. ⊎_elim (λ w. ahead.passed.none k w z) (λ w. t.first k w (omega (arith, ints))) (split back s.from (start_of s.bits s.size (edge back j (j + 1))) (up_to back place) k b);
           })
       next_answer x y (Err past) e g q =
           let re = ahead.passed.remains in let wh = whole in let k = ahead.place in
-          absurd ((rw (e, g) at q).none k.0 (in_block back s j k.0 k.1 k.2) (omega (arith, ints)))
+          absurd ((rw (e, g) at q).none k.0 (grind (arith, k.1, k.2)) (omega (arith, ints)))
 
 -- what it reads then: the tree's nodes, and the bits of a block
 module _ (back : Bool) (s : Sought) (first : ℕ) (nodes : List Node) (block : ℕ) (rise : ℤ) (p : IsPassed back s first nodes block rise) (a b : Reads) (h : AddsAtMost a b (only_nodes (2 * digits first))) where

@@ -86,9 +86,6 @@ below (b ∷ l) (suc j) h = omega (arith, ints, excess-cons b l (length l), exce
 pub count_is : (n : ℕ) → n ≤ 64 → to_z w64 n ≡ pos n
 count_is n h = to_z_pos w64 n (omega arith)
 
-pub count_fits : (n : ℕ) → n ≤ 64 → FitsSigned w64 (pos n)
-count_fits n h = fits_small (pos n) (omega (arith, ints)) (omega (arith, ints))
-
 pub zeros_fit : (n : ℕ) → n ≤ 64 → FitsSigned w64 (pos 64 -ℤ to_z w64 n)
 zeros_fit n h = rw (count_is n h) (fits_small (pos 64 -ℤ pos n) (omega (arith, ints)) (omega (arith, ints)))
 

@@ -1,5 +1,5 @@
 -- Lists of places: moved to the right, and those of a list that follows another.
-use Rattle.vers_trees.proofs.Words.{◌≡◌, ℕ, zero, suc, ◌+◌, ◌<◌, Bool, true, false, cond, List, [], ◌∷◌, ◌++◌, map, length, get_or, arith, subst, sym, refl, ap, ◌∙◌, negsuc, inl, inr, filter, All, range_with_len, map-append, append_assoc, All-nil, All-cons, All-head, All-tail, All-append, All-map, All-weaker, is_bit, places, moved, Forest, none, tree, text, opening_of, pairs_by_closing, postorder, Option, unwrap_or, add_assoc, cond_both, map-map}
+use Rattle.vers_trees.proofs.Words.{◌≡◌, ℕ, zero, suc, ◌+◌, ◌<◌, Bool, true, false, cond, List, [], ◌∷◌, ◌++◌, map, length, get_or, arith, subst, sym, refl, ap, ◌∙◌, negsuc, inl, inr, filter, All, range_with_len, map-append, append_assoc, All-nil, All-cons, All-head, All-tail, All-append, All-map, All-weaker, is_bit, places, moved, Forest, none, tree, text, opening_of, pairs_by_closing, postorder, Option, unwrap_or, add_assoc, zero-add, map-id, cond_both, map-map}
 use Rattle.vers_trees.proofs.grammar.Paired.{Paired, paired_closes}
 use Rattle.vers_trees.proofs.grammar.Pairs.{PairedIn}
 use Rattle.vers_trees.proofs.kin.Partners.{before_from_closes}
@@ -35,13 +35,9 @@ unfolding places
 places-cons bit b l =
     rw (filter_next (λ p. is_bit bit (get_or (b ∷ l) p false)) (λ p. is_bit bit (get_or l p false)) 0 (length l) (λ i. ap (λ (m : ℕ). is_bit bit (get_or (b ∷ l) m false)) (let e : i + 1 ≡ suc i = omega arith in e))) (grind arith)
 
-shifted-zero : (xs : List ℕ) → shifted 0 xs ≡ xs
-shifted-zero [] = refl
-shifted-zero (x ∷ xs) = let e : 0 + x ≡ x = omega arith in rw (e, shifted-zero xs) refl
-
 pub places-append : (bit : Bool) (k l : List Bool) → places bit (k ++ l) ≡ places bit k ++ shifted (length k) (places bit l)
 unfolding places
-places-append bit [] l = sym (shifted-zero (places bit l))
+places-append bit [] l = simp (zero-add, map-id)
 places-append bit (b ∷ k) l = grind (arith, places-cons, map-append, shifted-shifted, append_assoc, places-append bit k l)
 
 -- the places of a tree written down, and of what follows it
@@ -53,9 +49,7 @@ places-tree bit k l = grind (arith, places-cons, places-append, map-append, shif
 -- tests of a thing and of what it is made into
 pub filter_mapped : {X Y : Type 0} → (p : Y → Bool) (q : X → Bool) (f : X → Y) (xs : List X) → All (λ x. p (f x) ≡ q x) xs → filter p (map f xs) ≡ map f (filter q xs)
 filter_mapped p q f [] h = refl
-filter_mapped p q f (x ∷ xs) h =
-    let ih = filter_mapped p q f xs (All-tail (λ y. p (f y) ≡ q y) x xs h) in
-    rw (All-head (λ y. p (f y) ≡ q y) x xs h) (elim (q x) as (λ (b : Bool). cond b (f x ∷ filter p (map f xs)) (filter p (map f xs)) ≡ map f (cond b (x ∷ filter q xs) (filter q xs))) [ true ↦ ap (λ (ys : List _). f x ∷ ys) ih | false ↦ ih ])
+filter_mapped p q f (x ∷ xs) h = grind (arith, All-head (λ y. p (f y) ≡ q y) x xs h, filter_mapped p q f xs (All-tail (λ y. p (f y) ≡ q y) x xs h))
 
 -- ---- each of the places of a bit
 -- the list has the bit at the place
@@ -72,16 +66,13 @@ all_places bit (b ∷ l) =
     subst (All (HasBitAt bit (b ∷ l))) (sym (places-cons bit b l)) (All-append (HasBitAt bit (b ∷ l)) (cond (is_bit bit b) (0 ∷ []) []) (shifted 1 (places bit l)) first later)
 
 -- ---- the nodes of a forest in postorder open what the zeros of its text close, in their order
-closing-tree : (X Y : Forest) → closing_places (pairs_by_closing (tree X Y)) ≡ shifted 1 (closing_places (pairs_by_closing X)) ++ ((length (text X) + 1) ∷ shifted (length (text X) + 2) (closing_places (pairs_by_closing Y)))
-closing-tree X Y = simp (map-append, closing_moved)
-
 -- the zeros are where the pairs close, in this order
 pub closing_is_zeros : (F : Forest) → closing_places (pairs_by_closing F) ≡ places false (text F)
 unfolding places
 closing_is_zeros none = refl
 closing_is_zeros (tree X Y) =
     let n : length (text X) + 2 ≡ 1 + length (text X) + 1 = omega arith in let c : length (text X) + 1 ≡ 1 + length (text X) + 0 = omega arith in
-    rw (closing-tree X Y, closing_is_zeros X, closing_is_zeros Y, n, c) (sym (places-tree false (text X) (text Y)))
+    simp (map-append, closing_moved) (rw (closing_is_zeros X, closing_is_zeros Y, n, c) (sym (places-tree false (text X) (text Y))))
 
 -- each is a pair of the forest
 pub closing_paired : (F : Forest) → All (λ q. Paired F q.0 q.1) (pairs_by_closing F)

@@ -10,11 +10,7 @@ pub returns-then-depth-eq0-clause-value : goal.returns-then-depth-eq0-clause-val
 returns-then-depth-eq0-clause-value g c = c.open_counted.ensures.value ∙ last_root_is_search c.args.self.now c.requires.balanced (c.len-len.result - 1) (omega arith) ∙ ap (λ (d : ℕ). last_of (level (forest_of c.args.self.now) d)) (sym c.if-depth-eq0.true)
 
 pub returns-in_err-close-clause-value : goal.returns-in_err-close-clause-value
-returns-in_err-close-clause-value g c =
-    let m = c.in_err-close.ensures.value ∙ ap (last_rise_before c.args.self.now (c.len-len.result - 1)) (with_sign c.args.depth (omega arith)) in
-    c.from_residual.ensures ∙ level_rightmost_is_search c.args.self.now c.requires.balanced (c.len-len.result - 1) c.args.depth None (omega arith) (omega arith) (sym m)
+returns-in_err-close-clause-value g c = c.from_residual.ensures ∙ level_rightmost_is_search c.args.self.now c.requires.balanced (c.len-len.result - 1) c.args.depth None (omega arith) (omega arith) (sym (rw (with_sign c.args.depth (omega arith)) at c.in_err-close.ensures.value))
 
 pub returns-clause-value : goal.returns-clause-value
-returns-clause-value g c =
-    let m = c.in_ok-close.ensures.value ∙ ap (last_rise_before c.args.self.now (c.len-len.result - 1)) (with_sign c.args.depth (omega arith)) in
-    c.open_counted-2.ensures.value ∙ level_rightmost_is_search c.args.self.now c.requires.balanced (c.len-len.result - 1) c.args.depth (Some c.in_ok-close.close) (omega arith) (omega arith) (sym m)
+returns-clause-value g c = c.open_counted-2.ensures.value ∙ level_rightmost_is_search c.args.self.now c.requires.balanced (c.len-len.result - 1) c.args.depth (Some c.in_ok-close.close) (omega arith) (omega arith) (sym (rw (with_sign c.args.depth (omega arith)) at c.in_ok-close.ensures.value))

@@ -8,6 +8,4 @@ new-requires g c =
     (omega arith, (omega arith, (c.searched.ensures.indexed, subst (λ (l : List Bool). IsWalkOfSiblings l false c.end-end.result) (sym c.searched.ensures.bits) w.1)))
 
 pub returns : goal.returns
-returns g c =
-    let w = backwards c.args.self.now c.args.node c.end-end.result c.requires.balanced c.requires.is_node c.end-end.ensures.value in
-    rw (c.searched.ensures.bits, w.0) at c.new.ensures
+returns g c = rw (c.searched.ensures.bits, (backwards c.args.self.now c.args.node c.end-end.result c.requires.balanced c.requires.is_node c.end-end.ensures.value).0) at c.new.ensures

@@ -1,9 +1,9 @@
 use Rattle.vers_trees.proofs.Words.{◌*◌, ◌%◌, pos, ◌-ℤ◌, count_ones, bit_or, w64, to_z, of_z, arith, ints}
-use Rattle.vers_trees.proofs.searches.WordScans.{covered_few, count_fits, zeros_fit, zeros_is, less_fits, less_is, falls_counted}
+use Rattle.vers_trees.proofs.searches.WordScans.{covered_few, fits_small, zeros_fit, zeros_is, less_fits, less_is, falls_counted}
 use Rattle.vers_trees.proofs.trees.bp.scan.stays_above.Goals as goal
 
 pub overflow_cast-falls : goal.overflow_cast-falls
-overflow_cast-falls c = count_fits _ (covered_few c.args.word c.ranges.word.fits)
+overflow_cast-falls c = grind (arith, ints, covered_few, fits_small)
 
 pub overflow_sub-falls : goal.overflow_sub-falls
 overflow_sub-falls c = zeros_fit _ (covered_few c.args.word c.ranges.word.fits)

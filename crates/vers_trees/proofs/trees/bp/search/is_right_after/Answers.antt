@@ -1,9 +1,9 @@
 use Rattle.vers_trees.proofs.Words.{arith}
-use Rattle.vers_trees.proofs.searches.Beside.{right_after, nothing_after}
+use Rattle.vers_trees.proofs.searches.Beside.{right_after, after_some}
 use Rattle.vers_trees.proofs.trees.bp.search.is_right_after.Goals as goal
 
 pub returns-then-next-len-clause-value : goal.returns-then-next-len-clause-value
-returns-then-next-len-clause-value g c = nothing_after c.args.bits.now c.args.i c.args.r (omega arith)
+returns-then-next-len-clause-value g c = (λ t. absurd (cc), λ found. absurd (omega (arith, (after_some c.args.bits.now c.args.i c.args.r _ found).inside)))
 
 pub returns-clause-value : goal.returns-clause-value
 returns-clause-value g c =

@@ -17,11 +17,8 @@ returns g c = record {
   adds = up_ends _ _ c.args.self.now.first c.loop-node.node c.loop-node.invariant.within c.loop-node.invariant.reads;
 }
 
-pub descend_counted-requires : goal.descend_counted-requires
-descend_counted-requires g c = record {
-  within = c.loop-node.invariant.within;
-  leads = (c.requires.begins.0, goes_down _ _ _ false _ _ c.node_counted-after.result (c.loop-node.invariant.comes c.requires.begins.0 (rw (to_z-of_z w64 c.args.left c.ranges.left) c.requires.begins.1)) c.loop-node-test.true c.node_counted-after.ensures.value (c.reaches.ensures.0 c.if-reaches.true));
-}
+pub descend_counted-requires-clause-leads : goal.descend_counted-requires-clause-leads
+descend_counted-requires-clause-leads g c = (c.requires.begins.0, goes_down _ _ _ false _ _ c.node_counted-after.result (c.loop-node.invariant.comes c.requires.begins.0 (rw (to_z-of_z w64 c.args.left c.ranges.left) c.requires.begins.1)) c.loop-node-test.true c.node_counted-after.ensures.value (c.reaches.ensures.0 c.if-reaches.true))
 
 pub returns-then-reaches : goal.returns-then-reaches
 returns-then-reaches g c =

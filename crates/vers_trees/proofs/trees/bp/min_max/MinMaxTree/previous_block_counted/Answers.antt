@@ -14,13 +14,10 @@ returns g c = record {
   adds = up_ends _ _ c.args.self.now.first c.loop-node.node c.loop-node.invariant.within c.loop-node.invariant.reads;
 }
 
-pub descend_back_counted-requires : goal.descend_back_counted-requires
-descend_back_counted-requires g c =
+pub descend_back_counted-requires-clause-leads : goal.descend_back_counted-requires-clause-leads
+descend_back_counted-requires-clause-leads g c =
     let e = rest_is (λ y. to_z w64 c.loop-node.left-bits +ℤ y) c.node_counted-before.result.total c.in_ok-rest.rest (search rules) c.in_ok-rest.ensures in
-    record {
-      within = c.loop-node.invariant.within;
-      leads = (c.requires.begins.0, goes_down _ _ _ true _ _ c.node_counted-before.result (c.loop-node.invariant.comes c.requires.begins.0 (rw (to_z-of_z w64 c.args.left c.ranges.left) c.requires.begins.1)) c.loop-node-test.true c.node_counted-before.ensures.value (rw e at (c.meets.ensures.0 c.if-meets.true)));
-    }
+    (c.requires.begins.0, goes_down _ _ _ true _ _ c.node_counted-before.result (c.loop-node.invariant.comes c.requires.begins.0 (rw (to_z-of_z w64 c.args.left c.ranges.left) c.requires.begins.1)) c.loop-node-test.true c.node_counted-before.ensures.value (rw e at (c.meets.ensures.0 c.if-meets.true)))
 
 pub returns-then-meets : goal.returns-then-meets
 returns-then-meets g c =

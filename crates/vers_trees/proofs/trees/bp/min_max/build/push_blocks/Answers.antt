@@ -1,9 +1,9 @@
 use Rattle.vers_trees.proofs.Words.{◌≡◌, ℕ, List, [], ◌∷◌, ◌++◌, ◌+◌, ◌*◌, min, length, arith, sym, subst, ap, ◌∙◌, Node, IsPart, block_count, AreFirstBlocks}
-use Rattle.vers_trees.proofs.layout.Widths.{no_blocks, block_added, begins_inside}
+use Rattle.vers_trees.proofs.layout.Widths.{block_added, begins_inside}
 use Rattle.vers_trees.proofs.trees.bp.min_max.build.push_blocks.Goals as goal
 
 pub loop-block-init : goal.loop-block-init
-loop-block-init g c = no_blocks c.args.bits.now c.args.size c.args.first c.args.nodes.now.items (omega arith)
+loop-block-init g c = record { counted = omega arith; part = λ k h. absurd (omega arith) }
 
 pub overflow_mul-start : goal.overflow_mul-start
 overflow_mul-start g c = record { fits = omega (arith, begins_inside c.args.size c.len-len.result _ _ c.div_ceil-leaves.ensures c.requires.can.some c.loop-block-test.true) }
