@@ -6,7 +6,7 @@ use Rattle.vers_trees.proofs.grammar.Excess.{above_since, excess-is_walk, open_f
 use Rattle.vers_trees.proofs.grammar.Grammar.{text-forest_of}
 use Rattle.vers_trees.proofs.grammar.Paired.{closes_rises, Closes, closes_falls}
 use Rattle.vers_trees.proofs.grammar.Pairs.{paired_from_contains, count_by-cons, count_by-append, count_by-map, count_agree, count_none, strictly_contains, pairs_around, contains_first, contains_later}
-use Rattle.vers_trees.proofs.kin.Partners.{nested, IsAbove, one_before, parent_is_nearest, no_parent, before_from_closes, opens_around, same_around, first_child_above, last_child_closes, last_child_above, after_from_closes}
+use Rattle.vers_trees.proofs.kin.Partners.{nested, IsAbove, one_before, parent_is_nearest, no_parent, before_from_closes, opens_around, first_child_above, last_child_closes, last_child_above, after_from_closes}
 pub use Rattle.vers_trees.proofs.kin.NodeList.{HasPair, one_pair, bit_inside, paired_here, closing_is, nodes_by, opens, inside, zero_pair, node_pair, IsFirstNode, first_in, last_node, next_in, previous_in, option_decides}
 
 -- ---- what a test tells
@@ -35,9 +35,7 @@ above_is_around l b v t a h p = grind (arith, ints, one_pair, closes_rises, clos
 
 pub above_parent : (l : List Bool) (b : IsBalanced l) (v p : ℕ) → HasPair l v → IsAbove l v 1 p → parent (forest_of l) v ≡ Some p
 unfolding parent
-above_parent l b v p h a =
-    let r = above_is_around l b v 1 p h a in
-    last_node l b _ _ (λ w. proper_decides (forest_of l) w v) (Some p) (r.2, (r.0, r.1), grind (arith, parent_is_nearest))
+above_parent l b v p h a = last_node l b _ _ (λ w. proper_decides (forest_of l) w v) (Some p) (grind (arith, above_is_around l b v 1 p h a, parent_is_nearest))
 
 pub parent_is_search : (l : List Bool) (b : IsBalanced l) (v : ℕ) → HasPair l v → last_rise_before l v (negsuc 0) ≡ parent (forest_of l) v
 unfolding parent
@@ -56,9 +54,7 @@ pub has_parent : (l : List Bool) (b : IsBalanced l) (v q : ℕ) → HasPair l v 
 has_parent l b v q h k x y =
     by_answer (λ o. (p : ℕ) × (parent (forest_of l) v ≡ Some p) × (q ≤ p)) (last_rise_before l v (negsuc 0))
     (λ e. absurd (no_parent l v q (closing (forest_of l) q) (before_none l v (negsuc 0) (omega arith) e) k.closes x (omega arith)))
-    (λ p e.
-    let f : parent (forest_of l) v ≡ Some p = sym (parent_is_search l b v h) ∙ e in
-    (p, f, parent_is_nearest l v p q (closing (forest_of l) q) (parent_above l b v p h f) k.closes x (omega arith)))
+    (λ p e. (p, sym (parent_is_search l b v h) ∙ e, grind (arith, ints, parent_is_nearest l v p q (closing (forest_of l) q), parent_above l b v p h, parent_is_search l b v h, k.closes)))
 
 -- ---- how many
 pub depth_is_excess : (l : List Bool) (b : IsBalanced l) (v : ℕ) → HasPair l v → pos (depth (forest_of l) v) ≡ excess l v
@@ -96,7 +92,7 @@ same_parent : (l : List Bool) (b : IsBalanced l) (v : ℕ) → HasPair l v → H
 unfolding parent
 same_parent l b v h k =
     ap (last_or None) (filter_agree (λ a. is_proper_ancestor (forest_of l) a (closing (forest_of l) v + 1)) (λ a. is_proper_ancestor (forest_of l) a v) (nodes (forest_of l)) (λ a i.
-    let s = same_around l v (closing (forest_of l) v) (closing (forest_of l) (closing (forest_of l) v + 1)) a (closing (forest_of l) a) h.closes k.closes (node_pair l b a i).closes in
+    let q = (node_pair l b a i).closes in let x = h.closes in let y = k.closes in
     same_from_decides _ _ (grind (arith, ints, Decides-like, proper_decides)) (proper_decides (forest_of l) a v)))
 
 -- ---- children

@@ -70,10 +70,6 @@ enclose_at_close l v c p q b =
     record { before = omega arith; inside = q.inside; sum = omega (arith, ints); last = λ k x y e. let o = before_pair l v c q k y e in b.last k x o.0 o.1 }
 
 -- ---- what stands beside a tree, and the first and the last tree inside another
--- a tree and the one that opens right after it lie between the same pairs
-pub same_around : (l : List Bool) (v c d q e : ℕ) → Closes l v c → Closes l (c + 1) d → Closes l q e → ((q < v) × (c < e)) ↔ ((q < c + 1) × (d < e))
-same_around l v c d q e p n m = grind arith
-
 -- the first child opens right after the node
 pub first_child_above : (l : List Bool) (v c : ℕ) → Closes l v c → get_or l (v + 1) false ≡ true → IsAbove l (v + 1) 1 v
 first_child_above l v c p b = grind (arith, ints, one_before, excess_after_open l v false (omega arith) (closes_rises l v c false p))

@@ -14,6 +14,10 @@ one_more_built size l b total h room = grind (arith, length-append, excess_after
 pub built_fits : (size : ℕ) (l : List Bool) (total : ℤ) → IsBuilding size l total → FitsSigned w64 total
 built_fits size l total h = let z = excess-zero l in rise_fits l 0 (length l) total h.short (omega arith) (omega arith) (omega (arith, ints))
 
+-- where the machine has it as 0 it is 0
+pub even_built : (size : ℕ) (l m : List Bool) (total : ℤ) → IsBuilding size l total → of_z w64 total ≡ 0 → l ≡ m → excess m (length m) ≡ pos 0
+even_built size l m total h z e = rw (← e) (h.sum ∙ sym (to_z-of_z w64 total (built_fits size l total h)) ∙ ap (to_z w64) z)
+
 -- the excess with one more bit, as the machine has it
 pub stored_sum : (size : ℕ) (l : List Bool) (b : Bool) (total d : ℤ) → IsBuilding size l total → length l < 9223372036854775807 → d ≡ bit_step b → FitsSigned w64 (to_z w64 (of_z w64 total) +ℤ to_z w64 (of_z w64 d)) × (to_z w64 (of_z w64 (to_z w64 (of_z w64 total) +ℤ to_z w64 (of_z w64 d))) ≡ total +ℤ bit_step b)
 stored_sum size l b total d h room e =

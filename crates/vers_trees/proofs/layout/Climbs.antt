@@ -98,10 +98,6 @@ module _ (s : Sought) (first : ℕ) (nodes : List Node) where
   pub comes_from : (back : Bool) (begin : ℕ) (left : ℤ) (next : ℕ) → BeginsAt back s first nodes begin left → IsBeside back (first + begin) next → ComesTo back s first nodes next left
   comes_from back begin left next b o = comes_to back (first + begin) left next b.tree (record { start = begin; stop = begin + 1; stands = stands_leaf first b.tree.height begin b.tree.levels (begin_within back begin left b); passed = b.passed }) o
 
-  -- past the last block there is nothing left to pass
-  pub ends_after : (begin : ℕ) (left : ℤ) → BeginsAt false s first nodes begin left → first ≤ begin → HasNone false s
-  ends_after begin left b h k x y = grind (arith, mul-le-mul_right)
-
   -- ---- beside the passed part
   far_of : (back : Bool) (place : ℕ) (left : ℤ) (x : Node) → ComesTo back s first nodes place left → 0 < place → x ≡ get_or nodes place empty_node → Far back s first place left x
   far_of false place left x c some e =

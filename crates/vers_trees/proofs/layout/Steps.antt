@@ -2,17 +2,13 @@
 use Rattle.vers_trees.proofs.Words.{◌≡◌, ℕ, zero, suc, Bool, bool_byte, ◌+◌, ◌-◌, ◌*◌, ◌/◌, ◌%◌, ◌^◌, ◌<◌, ◌≤◌, arith, sym, ap, ◌∙◌, bit_at, pow-succ', le-mul_of_pos_right, pow_pos, shr-shr, bit_at_lowest, bit_at-suc, digits, Reads, AddsAtMost, only_nodes, digits_half, digits_up, adds_then, adds_weaker, adds_nothing, IsOddPart, bit_value_le, byte_value}
 
 -- a number whose lowest digits are zeros is what stands above them, with as many zeros behind it
-zeros_below : (i n : ℕ) → ((j : ℕ) → j < i → bit_at n j ≡ 0) → n / 2 ^ i * 2 ^ i ≡ n
+pub zeros_below : (i n : ℕ) → ((j : ℕ) → j < i → bit_at n j ≡ 0) → n / 2 ^ i * 2 ^ i ≡ n
 zeros_below zero n h = omega arith
 zeros_below (suc i) n h =
     let even : n % 2 ≡ 0 = sym (bit_at_lowest n) ∙ h 0 (omega arith) in let twice : 2 ^ suc i ≡ 2 * 2 ^ i = pow-succ' 2 i in
     let above : n / 2 / 2 ^ i ≡ n / 2 ^ suc i = shr-shr n 1 i ∙ ap (λ (k : ℕ). n / 2 ^ k) (let g : 1 + i ≡ suc i = omega arith in g) in
     let q : n / 2 ^ suc i * 2 ^ suc i ≡ n / 2 / 2 ^ i * (2 * 2 ^ i) = ap (λ (x : ℕ). x * 2 ^ suc i) (sym above) ∙ ap (λ (x : ℕ). n / 2 / 2 ^ i * x) twice in
     omega (arith, q, (zeros_below i (n / 2) (λ j a. sym (bit_at-suc n j) ∙ h (suc j) (omega arith))))
-
--- the digits from the lowest one up
-pub from_lowest_one : (i n : ℕ) → bit_at n i ≡ 1 → ((j : ℕ) → j < i → bit_at n j ≡ 0) → IsOddPart n (n / 2 ^ i)
-from_lowest_one i n one h = record { zeros = i; splits = sym (zeros_below i n h); ends = one }
 
 pub odd_most : (n odd : ℕ) → IsOddPart n odd → odd ≤ n
 odd_most n odd p = omega (arith, le-mul_of_pos_right odd (pow_pos p.zeros))

@@ -50,9 +50,6 @@ tree_made l size first nodes so some short w c =
     let n = (some_counted size (length l) some).1 in
     record { tree = record { height = max 1 (clog (block_count size (length l))); levels = sym p; fits = omega arith; covered = c; some = so; short = short; small = omega arith }; few = omega arith }
 
-pub indexed : (l : List Bool) (size first : ℕ) (nodes : List Node) → length l < 9223372036854775808 → 0 < size → size ≤ 4294967296 → length nodes ≡ node_count size (length l) → IsTreeOf l size first nodes → IsIndexed l size first nodes
-indexed l size first nodes h so b n t = record { short = h; some = so; bounded = b; counted = n; over = λ x. t }
-
 -- what is written through a slice of a vector is what the vector holds
 pub written_back : (new old : List Node) (n : ℕ) → n ≡ length new → take n (new ++ drop (length new) old) ≡ new
 written_back new old n e = ap (λ (m : ℕ). take m (new ++ drop (length new) old)) e ∙ take-append_seam new _

@@ -28,11 +28,11 @@ not_between l c v u x n ne a b i o e = grind (arith, ints, excess_after_open, eq
 module _ (l : List Bool) (b : IsBalanced l) (c : ℕ) (r : ℤ) (some : pos 0 <ℤ r) (P : ℕ → Type 0) (is : (w : ℕ) → HasPair l w → P w ↔ ((c < w) × (excess l (w + 1) ≡ excess l (c + 1) +ℤ r))) where
   opened_after : IsFirstNode l P (first_rise_after l c r)
   opened_after = by_answer (IsFirstNode l P) (first_rise_after l c r)
-      (λ e w k p. let q = (is w k).0 p in after_none l c r e w q.0 (inside l w k) q.1)
+      (λ e w k p. after_none l c r e w ((is w k).0 p).0 (inside l w k) ((is w k).0 p).1)
       (λ u e.
       let q = after_some l c r u e in
       let k = one_pair l b u q.inside (opens_at l c u (excess l (c + 1) +ℤ r) (omega (arith, ints)) q.after q.inside q.sum q.first) in
-      (k, (is u k).1 (q.after, q.sum), λ w x kw p. let m = (is w kw).0 p in q.first w m.0 x m.1))
+      (k, (is u k).1 (q.after, q.sum), λ w x kw p. q.first w ((is w kw).0 p).0 x ((is w kw).0 p).1))
 
 -- what opens for a place, if there is one
 abbrev pub opens_for : List Bool → Option ℕ → Option ℕ
@@ -129,10 +129,9 @@ level_leftmost_is_search l b t some = sym (first_in l b _ _ (λ w. Decides-eqb (
 pub last_root_is_search : (l : List Bool) (b : IsBalanced l) (n : ℕ) → length l ≡ n + 1 → last_rise_before l n (negsuc 0) ≡ last_of (level (forest_of l) 0)
 unfolding level
 last_root_is_search l b n e =
-    let p = zero_pair l b n (omega arith) (closes_last l b n e) in let k = p.1 in let q = p.3 in
-    let t : excess l (n + 1) ≡ pos 0 = ap (excess l) (sym e) ∙ balanced_total l b in let d = depth_is_excess l b p.0 k in
+    let p = zero_pair l b n (omega arith) (closes_last l b n e) in let q = p.3 in let t : excess l (n + 1) ≡ pos 0 = ap (excess l) (sym e) ∙ balanced_total l b in
     before_is l n (negsuc 0) p.0 (before_from_closes l p.0 n q)
-    ∙ sym (last_node l b _ _ (λ w. Decides-eqb (depth (forest_of l) w) 0) (Some p.0) (k, omega (arith, ints), λ w x k g. let u = q.above w x (omega arith) in let d = depth_is_excess l b w k in omega (arith, ints)))
+    ∙ sym (last_node l b _ _ (λ w. Decides-eqb (depth (forest_of l) w) 0) (Some p.0) (grind (arith, ints, depth_is_excess, inside)))
 
 before_end : (l : List Bool) (b : IsBalanced l) (n t : ℕ) → length l ≡ n + 1 → (w : ℕ) → HasPair l w → (depth (forest_of l) w ≡ t) ↔ ((w < n) × (excess l w +ℤ pos 1 ≡ excess l n +ℤ pos t))
 before_end l b n t e w k =

@@ -42,9 +42,7 @@ member_before n i v xs a e =
     last_passing_is None (λ w. ltb w v) xs i (omega arith) (λ j h. grind (arith, lt-ltb, in_order n j (suc i) xs a)) (λ j h k. grind (arith, le-ltb, in_order n (suc i) j xs a))
 
 pub first_member_before : (n v : ℕ) (xs : List ℕ) → AscendsFrom n xs → slice_get xs 0 ≡ Some v → last_or None (filter (λ w. ltb w v) xs) ≡ None
-first_member_before n v xs a e =
-    let g = get_or_from_slice_get xs 0 v 0 e in
-    none_passing None (λ w. ltb w v) xs (λ j h. le-ltb (get_or xs j 0) v (let r = in_order n 0 j xs a (omega arith) h in omega arith))
+first_member_before n v xs a e = none_passing None (λ w. ltb w v) xs (λ j h. grind (arith, le-ltb, in_order n 0 j xs a, get_or_from_slice_get xs 0 v 0 e))
 
 last_member : (o : Option ℕ) (x : ℕ) (xs : List ℕ) → last_or o (x ∷ xs) ≡ slice_get (x ∷ xs) (length xs)
 last_member o x [] = refl

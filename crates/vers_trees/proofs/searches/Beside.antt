@@ -3,19 +3,15 @@ use Rattle.vers_trees.proofs.Words.{◌≡◌, ◌↔◌, ℕ, ◌+◌, ◌-◌,
 pub use Rattle.vers_trees.proofs.searches.Searches.{after_some, after_is, before_some, before_is, before_past}
 use Rattle.vers_trees.proofs.searches.Scans.{step_fits, bit_is, fits_small}
 
--- two numbers that are the same are so as the machine has them
-stored_same : (d r : ℤ) → d ≡ r → IsTrue (nat_eq (of_z w64 d) (of_z w64 r))
-stored_same d r e = eq-eqb _ _ (ap (of_z w64) e)
-
 -- ---- right after
 pub right_after : (l : List Bool) (i : ℕ) (r d : ℤ) (b : Bool) → FitsSigned w64 r → i + 1 < length l → b ≡ get_or l (i + 1) false → d ≡ bit_step b → IsTrue (nat_eq (of_z w64 d) (of_z w64 r)) ↔ (first_rise_after l i r ≡ Some (i + 1))
 right_after l i r d b f h e q =
-    let s = bit_is l (i + 1) (i + 1 + 1) b d refl h e q in grind (arith, ints, to_z-of_z, eqb-true, step_fits, after_is, after_some, stored_same)
+    let s = bit_is l (i + 1) (i + 1 + 1) b d refl h e q in grind (arith, ints, to_z-of_z, eqb-true, step_fits, after_is, after_some)
 
 -- ---- right before
 pub right_before : (l : List Bool) (i : ℕ) (r d : ℤ) (b : Bool) → FitsSigned w64 r → 0 < i → i < length l → b ≡ get_or l (i - 1) false → d ≡ bit_step (not b) → IsTrue (nat_eq (of_z w64 d) (of_z w64 r)) ↔ (last_rise_before l i r ≡ Some (i - 1))
 right_before l i r d b f some h e q =
-    let up = bit_is l (i - 1) i b (bit_step b) (omega arith) (omega arith) e refl in grind (arith, to_z-of_z, eqb-true, step_fits, before_is, before_some, stored_same)
+    let up = bit_is l (i - 1) i b (bit_step b) (omega arith) (omega arith) e refl in grind (arith, to_z-of_z, eqb-true, step_fits, before_is, before_some)
 
 -- ---- what the queries of a tree answer, in the words of the code
 pub enclosing_open : (l : List Bool) (i : ℕ) → get_or l i false ≡ true → last_rise_before l i (negsuc 0) ≡ enclosing l i

@@ -46,9 +46,6 @@ next_sum true bits n e h =
 pub up_or_down : (from_end b : Bool) (value next : ℕ) → pos next ≡ pos value +ℤ step_along from_end b → (next ≡ value + 1) ⊎ (next + 1 ≡ value)
 up_or_down from_end b value next u = grind arith
 
-pub place_small : (from_end : Bool) (n : ℕ) → n < 8 → place_along from_end n < 8
-place_small from_end n h = grind arith
-
 -- what the code has after a step: the bounds, and the places
 pub record IsNoted (least greatest next p : ℕ) (places : List ℕ) (least' greatest' : ℕ) (places' : List ℕ) : Type 0 where
   pub lower : least' ≡ min least next
@@ -93,7 +90,3 @@ pub sevens : (n x : ℕ) → ◌≡◌ {A = ℕ} (get_or (replicate n 7) x 7) 7
 sevens zero x = refl
 sevens (suc n) zero = refl
 sevens (suc n) (suc x) = sevens n x
-
--- ---- tables
-pub entries_more : (from_end : Bool) (n : ℕ) (entries : List ℕ) (entry : ℕ) → n < length entries → AreEntries from_end n entries → ((bits : List Bool) → IsByte bits n → IsEntry from_end bits entry) → AreEntries from_end (n + 1) (set entries n entry)
-entries_more from_end n entries entry inside old new byte h bits is = grind (arith, get_or-set_other, get_or-set_same)

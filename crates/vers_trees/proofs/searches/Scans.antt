@@ -75,10 +75,6 @@ backward_bit l from p q end r rise d b h short o i j n e g =
       λ ne. (backward_more l p q end r rise d h short (omega arith) i j s (λ k x z. let same : excess l k ≡ excess l p = ap (excess l) (omega arith) in ne (rw t (omega (arith, ints))))).1,
     )
 
--- one bit more is read
-pub one_more_read : (a b c : Reads) (n m : ℕ) → m ≡ n + 1 → AddsAtMost a b (scan_reads n) → AddsAtMost b c get_reads → AddsAtMost a c (scan_reads m)
-one_more_read a b c n m e p q = adds_then p q (grind arith)
-
 -- ---- the node of a part
 pub part_start : (l : List Bool) (a : ℕ) (d : ℤ) → excess l (a + 1) ≡ excess l a +ℤ d → IsPart l a (a + 1) (record { total = d; least = d; greatest = d })
 part_start l a d s = grind arith

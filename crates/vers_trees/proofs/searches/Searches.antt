@@ -72,8 +72,7 @@ unfolding first_rise_after
 after_none l i r h k x y = (rw h at (find_first _ (rises_to l i r) (λ k. Decides-int_eq _ _) (i + 1) (length l - (i + 1)))) k (omega arith) (omega arith)
 
 pub none_after : (l : List Bool) (i : ℕ) (r : ℤ) → ((k : ℕ) → i < k → k < length l → excess l (k + 1) ≢ excess l (i + 1) +ℤ r) → first_rise_after l i r ≡ None
-unfolding first_rise_after
-none_after l i r h = find_is _ (rises_to l i r) (λ k. Decides-int_eq _ _) (i + 1) (length l - (i + 1)) None (λ k x y. h k (omega arith) (omega arith))
+none_after l i r h = by_answer (λ o. o ≡ None) (first_rise_after l i r) (λ e. refl) (λ j e. let f = after_some l i r j e in absurd (h j f.after f.inside f.sum))
 
 -- a place that the list doesn't have
 pub before_past : (l : List Bool) (i : ℕ) (r : ℤ) → length l ≤ i → last_rise_before l i r ≡ None
@@ -85,10 +84,7 @@ unfolding last_rise_before
 last_rise l i r g = rw (lt-ltb i (length l) g) (find_last _ (rises_from l i r) (λ k. Decides-int_eq _ _) i)
 
 pub before_some : (l : List Bool) (i : ℕ) (r : ℤ) (j : ℕ) → last_rise_before l i r ≡ Some j → IsLastRiseBefore l i r j
-before_some l i r j h = ⊎_elim
-    (λ (g : i < length l). let f : IsLast (rises_from l i r) i j = rw h at (last_rise l i r g) in record { before = f.below; inside = g; sum = f.holds; last = f.last })
-    (λ (g : length l ≤ i). let n = before_past l i r g in absurd (cc))
-    (cases_lt i (length l))
+before_some l i r j h = grind (arith, cases_lt i (length l), before_past l i r, last_rise l i r)
 
 pub before_is : (l : List Bool) (i : ℕ) (r : ℤ) (j : ℕ) → IsLastRiseBefore l i r j → last_rise_before l i r ≡ Some j
 unfolding last_rise_before
@@ -98,8 +94,4 @@ pub before_none : (l : List Bool) (i : ℕ) (r : ℤ) → i < length l → last_
 before_none l i r g h = rw h at (last_rise l i r g)
 
 pub none_before : (l : List Bool) (i : ℕ) (r : ℤ) → ((k : ℕ) → k < i → excess l k ≢ excess l i +ℤ r) → last_rise_before l i r ≡ None
-unfolding last_rise_before
-none_before l i r h = ⊎_elim
-    (λ (g : i < length l). rw (lt-ltb i (length l) g) (last_is _ (rises_from l i r) (λ k. Decides-int_eq _ _) i None h))
-    (λ (g : length l ≤ i). rw (le-ltb i (length l) g) refl)
-    (cases_lt i (length l))
+none_before l i r h = by_answer (λ o. o ≡ None) (last_rise_before l i r) (λ e. refl) (λ j e. let f = before_some l i r j e in absurd (h j f.before f.sum))

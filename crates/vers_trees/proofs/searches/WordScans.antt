@@ -99,10 +99,6 @@ pub less_is : (target rise d : ℤ) → FitsSigned w64 target → FitsSigned w64
     → IsTrue (lt_z (to_z w64 (of_z w64 target)) (to_z w64 (of_z w64 (to_z w64 (of_z w64 rise) -ℤ d)))) → target <ℤ (rise -ℤ d)
 less_is target rise d f g low a b t = grind (arith, ints, to_z-of_z, less_fits)
 
--- a word is read beside other bits
-pub word_counted : (a b c : Reads) (n m : ℕ) → n + 2 ≤ m → AddsAtMost a b (scan_reads n) → AddsAtMost b c get_bits_reads → AddsAtMost a c (scan_reads m)
-word_counted a b c n m e p q = adds_then p q (grind arith)
-
 -- ---- past a word that is read whole, where no sum along it comes down to r
 pub forward_word : (l : List Bool) (from p q n : ℕ) (r rise d : ℤ) (o : Option ℕ) (word : ℕ) → HasNoRise false l from p r rise → length l < 2 ^ 63 → from ≤ p → q ≡ p + n → q ≤ length l → n ≡ 64 → o ≡ part_number_or_zero l p n → o ≡ Some word
     → ((bits : List Bool) → length bits ≡ 64 → word ≡ number bits → r <ℤ (rise -ℤ pos (falls false bits))) → d ≡ pos (2 * count_ones word) -ℤ pos 64 → FitsSigned w64 (rise +ℤ to_z w64 (of_z w64 d)) × HasNoRise false l from q r (to_z w64 (of_z w64 (rise +ℤ to_z w64 (of_z w64 d))))

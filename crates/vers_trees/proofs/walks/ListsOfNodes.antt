@@ -23,9 +23,7 @@ outside v c w o = grind (arith, nat_tests, o)
 -- with those before v they are those before c + 1
 count_between : (v c : ℕ) (xs : List ℕ) → v ≤ c + 1 → count_by (between v c) xs + count_by (λ w. ltb w v) xs ≡ count_by (λ w. ltb w (c + 1)) xs
 count_between v c [] h = refl
-count_between v c (x ∷ xs) h =
-    let b = count_by-cons (λ w. ltb w v) x xs in let d = count_by-cons (λ w. ltb w (c + 1)) x xs in
-    grind (arith, ints, count_by-cons (between v c) x xs, count_between v c xs h)
+count_between v c (x ∷ xs) h = grind (arith, ints, count_by-cons (between v c) x xs, count_by-cons (λ w. ltb w v) x xs, count_by-cons (λ w. ltb w (c + 1)) x xs, count_between v c xs h)
 
 -- of numbers that ascend they are a part
 past_part : (v c n : ℕ) (xs : List ℕ) → AscendsFrom n xs → c < n → filter (between v c) xs ≡ []
@@ -61,14 +59,11 @@ places_in bit l v = filter (between v (closing (forest_of l) v)) (places bit l)
 
 pub as_part : (bit : Bool) (l : List Bool) (v : ℕ) → places_in bit l v ≡ take (length (places_in bit l v)) (drop (count bit l v) (places bit l))
 unfolding places_in
-as_part bit l v =
-    subst (λ (k : ℕ). places_in bit l v ≡ take (length (places_in bit l v)) (drop k (places bit l))) (below_counted bit l v) (between_is_part v (closing (forest_of l) v) 0 (places bit l) (places_ascend bit l))
+as_part bit l v = rw (← below_counted bit l v) (between_is_part v (closing (forest_of l) v) 0 (places bit l) (places_ascend bit l))
 
 pub part_counted : (bit : Bool) (l : List Bool) (v : ℕ) → HasPair l v → length (places_in bit l v) + count bit l v ≡ count bit l (closing (forest_of l) v + 1)
 unfolding places_in
-part_counted bit l v h =
-    let k = count_between v (closing (forest_of l) v) (places bit l) (omega arith) in let x = below_counted bit l v in
-    grind (arith, ints, below_counted, length-filter)
+part_counted bit l v h = grind (arith, ints, below_counted, length-filter, count_between v (closing (forest_of l) v) (places bit l))
 
 pub part_inside : (bit : Bool) (l : List Bool) (v : ℕ) → HasPair l v → count bit l v + length (places_in bit l v) ≤ length (places bit l)
 part_inside bit l v h = grind (arith, part_counted, below_counted, count_by-le-length)

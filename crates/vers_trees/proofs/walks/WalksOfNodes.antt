@@ -123,9 +123,7 @@ subtree_post_part l v b n = grind (arith, node_pair, places_in, part_size, subtr
 -- ---- handles
 pub ones_are_nodes : (bits : List Bool) (i : ℕ) → IsBalanced bits → i < count true bits (length bits) → IsNode (forest_of bits) (select true bits i)
 unfolding select
-ones_are_nodes bits i b h =
-    let n = length-places true bits in
-    subst (λ (vs : List ℕ). Contains vs (get_or (places true bits) i (length bits))) (sym (nodes_by bits b)) (Contains-get_or (places true bits) i (length bits) (omega arith))
+ones_are_nodes bits i b h = rw (nodes_by bits b) (Contains-get_or (places true bits) i (length bits) (omega (arith, length-places true bits)))
 
 -- ---- the nodes that zeros close, as a source of items
 pub length-closed_by : (l : List Bool) (k n : ℕ) → k + n ≤ length (places false l) → length (closed_by l k n) ≡ n
@@ -140,10 +138,9 @@ zeros_fit l = omega (arith, length-places false l, (count_le false l (length l))
 
 pub closed_item : (l : List Bool) (k n i c : ℕ) → k + n ≤ length (places false l) → i < length (closed_by l k n) → slice_get (places false l) (k + i) ≡ Some c → slice_get (closed_by l k n) i ≡ Some (opening_of l c)
 closed_item l k n i c h low at =
-    let zs = take n (drop k (places false l)) in let few : i < n = omega (arith, low, length-closed_by l k n h) in
-    let inside : i < length zs = omega (arith, few, length-take n (drop k (places false l)), length-drop k (places false l)) in
-    let is : get_or zs i 0 ≡ c = get_or-take n (drop k (places false l)) i 0 few ∙ get_or-drop k (places false l) i 0 ∙ get_or_from_slice_get (places false l) (k + i) c 0 at in
-    slice_get-get_or (closed_by l k n) i 0 low ∙ ap Some (get_or-map (opening_of l) zs i 0 0 inside ∙ ap (opening_of l) is)
+    let few : i < n = omega (arith, low, length-closed_by l k n h) in
+    let is = get_or-take n (drop k (places false l)) i 0 few ∙ get_or-drop k (places false l) i 0 ∙ get_or_from_slice_get (places false l) (k + i) c 0 at in
+    slice_get-get_or (closed_by l k n) i 0 low ∙ ap Some (get_or-map (opening_of l) (take n (drop k (places false l))) i 0 0 (omega (arith, length-take n (drop k (places false l)), length-drop k (places false l))) ∙ ap (opening_of l) is)
 
 -- the nodes that all zeros close are those of the forest, each after those below it
 pub closed_by_all : (l : List Bool) (n : ℕ) → IsBalanced l → n ≡ length (places false l) → closed_by l 0 n ≡ postorder (forest_of l)

@@ -1,4 +1,4 @@
-use Rattle.vers_trees.proofs.searches.Bytes.{IsNoted, met_nothing, sevens, met_more, few_more, place_small, up_or_down}
+use Rattle.vers_trees.proofs.searches.Bytes.{IsNoted, met_nothing, sevens, met_more, few_more, up_or_down}
 use Rattle.vers_trees.proofs.Words.{length-set, ints, ◌<◌, arith, refl, ◌∙◌, subst, sym}
 use Rattle.vers_trees.proofs.trees.bp.bytes.entry_of.Goals as goal
 
@@ -25,5 +25,5 @@ loop-step-preserved c =
       least = omega arith;
       greatest = omega arith;
       many = (grind (arith, ints, length-set)) ∙ i.many;
-      few = few_more _ _ _ _ c.loop-step.met.places _ _ _ w (omega arith) (subst (λ q. q < 8) (sym c.place_of-place.ensures) (place_small c.args.from_end c.loop-step.step (omega arith))) i.few;
+      few = few_more _ _ _ _ c.loop-step.met.places _ _ _ w (omega arith) (rw c.place_of-place.ensures (grind arith)) i.few;
     }

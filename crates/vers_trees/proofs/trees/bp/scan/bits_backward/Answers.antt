@@ -1,5 +1,5 @@
-use Rattle.vers_trees.proofs.Words.{◌-◌, arith, w64, to_z, of_z, sym, ap, ◌∙◌, to_z-of_z}
-use Rattle.vers_trees.proofs.searches.Scans.{backward_bit, one_more_read}
+use Rattle.vers_trees.proofs.Words.{◌-◌, arith, w64, to_z, of_z, sym, ap, ◌∙◌, to_z-of_z, adds_then}
+use Rattle.vers_trees.proofs.searches.Scans.{backward_bit}
 use Rattle.vers_trees.proofs.trees.bp.scan.bits_backward.Goals as goal
 
 pub overflow_sub-rise : goal.overflow_sub-rise
@@ -19,5 +19,5 @@ loop-place-preserved g c = record {
   high = omega arith;
   passed = λ to o n q. (backward_bit c.args.bits.now c.args.begin (c.loop-place.place - 1) c.loop-place.place to _ _ c.step-rise.result _ (c.loop-place.invariant.passed to o n q) c.requires.short (omega arith) (omega arith) n (omega arith) c.is_one_counted.ensures.value c.step-rise.ensures).2
       (λ z. c.if-rise-target.false (ap (of_z w64) (z ∙ to_z-of_z w64 c.args.target c.ranges.target)));
-  reads = one_more_read _ _ _ (c.args.end - c.loop-place.place) _ (omega arith) c.loop-place.invariant.reads c.is_one_counted.ensures.adds;
+  reads = adds_then c.loop-place.invariant.reads c.is_one_counted.ensures.adds (grind arith);
 }

@@ -1,5 +1,5 @@
-use Rattle.vers_trees.proofs.Words.{◌-◌, arith, w64, to_z, of_z, sym, ap, ◌∙◌, to_z-of_z}
-use Rattle.vers_trees.proofs.searches.Scans.{forward_bit, one_more_read}
+use Rattle.vers_trees.proofs.Words.{◌-◌, arith, w64, to_z, of_z, sym, ap, ◌∙◌, to_z-of_z, adds_then}
+use Rattle.vers_trees.proofs.searches.Scans.{forward_bit}
 use Rattle.vers_trees.proofs.trees.bp.scan.bits_forward.Goals as goal
 
 pub overflow_add-rise : goal.overflow_add-rise
@@ -17,5 +17,5 @@ pub loop-place-preserved : goal.loop-place-preserved
 loop-place-preserved g c = record {
   passed = λ from o q. (forward_bit c.args.bits.now from c.loop-place.place c.args.end _ _ c.step-rise.result _ (c.loop-place.invariant.passed from o q) c.requires.short (omega arith) c.loop-place-test.true c.requires.inside c.is_one_counted.ensures.value c.step-rise.ensures).2
       (λ z. c.if-rise-target.false (ap (of_z w64) (z ∙ to_z-of_z w64 c.args.target c.ranges.target)));
-  reads = one_more_read _ _ _ (c.loop-place.place - c.args.begin) _ (omega arith) c.loop-place.invariant.reads c.is_one_counted.ensures.adds;
+  reads = adds_then c.loop-place.invariant.reads c.is_one_counted.ensures.adds (grind arith);
 }

@@ -1,5 +1,5 @@
-use Rattle.vers_trees.proofs.Words.{◌+◌, ◌-◌, arith, w64, to_z, of_z, to_z-of_z}
-use Rattle.vers_trees.proofs.searches.WordScans.{backward_word, word_counted, read_some, byte_read, entry_ordered, backward_byte_found, backward_byte, rise_within}
+use Rattle.vers_trees.proofs.Words.{◌+◌, ◌-◌, arith, w64, to_z, of_z, to_z-of_z, adds_then}
+use Rattle.vers_trees.proofs.searches.WordScans.{backward_word, read_some, byte_read, entry_ordered, backward_byte_found, backward_byte, rise_within}
 use Rattle.vers_trees.proofs.trees.bp.scan.bytes_backward.Goals as goal
 
 pub unwrap-word-requires : goal.unwrap-word-requires
@@ -44,5 +44,5 @@ loop-stop-preserved-then-stays_above_back g c = record {
   high = omega arith;
   whole = omega arith;
   passed = (backward_word c.args.bits.now (c.loop-stop.stop - c.min-size.result) c.loop-stop.stop _ c.args.end _ _ c.word_step-rise.result _ _ c.loop-stop.invariant.passed c.requires.short (omega arith) (omega arith) c.requires.inside c.if-size-eq64.true c.get_bits_counted.ensures.value c.unwrap-word.ensures (c.stays_above_back.ensures c.if-stays_above_back.true) c.word_step-rise.ensures).1;
-  reads = word_counted _ _ _ _ _ (omega arith) c.loop-stop.invariant.reads c.get_bits_counted.ensures.adds;
+  reads = adds_then c.loop-stop.invariant.reads c.get_bits_counted.ensures.adds (grind arith);
 }

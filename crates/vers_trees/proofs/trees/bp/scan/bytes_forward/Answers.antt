@@ -1,5 +1,5 @@
-use Rattle.vers_trees.proofs.Words.{◌+◌, arith, w64, to_z, of_z, to_z-of_z}
-use Rattle.vers_trees.proofs.searches.WordScans.{forward_word, word_counted, read_some, byte_read, entry_ordered, forward_byte_found, forward_byte, rise_within}
+use Rattle.vers_trees.proofs.Words.{◌+◌, arith, w64, to_z, of_z, to_z-of_z, adds_then}
+use Rattle.vers_trees.proofs.searches.WordScans.{forward_word, read_some, byte_read, entry_ordered, forward_byte_found, forward_byte, rise_within}
 use Rattle.vers_trees.proofs.trees.bp.scan.bytes_forward.Goals as goal
 
 pub unwrap-word-requires : goal.unwrap-word-requires
@@ -44,5 +44,5 @@ loop-start-preserved-then-stays_above g c = record {
   high = omega arith;
   whole = omega arith;
   passed = (forward_word c.args.bits.now c.args.begin c.loop-start.start (c.loop-start.start + c.min-size.result) _ _ _ c.word_step-rise.result _ _ c.loop-start.invariant.passed c.requires.short (omega arith) (omega arith) (omega arith) c.if-size-eq64.true c.get_bits_counted.ensures.value c.unwrap-word.ensures (c.stays_above.ensures c.if-stays_above.true) c.word_step-rise.ensures).1;
-  reads = word_counted _ _ _ _ _ (omega arith) c.loop-start.invariant.reads c.get_bits_counted.ensures.adds;
+  reads = adds_then c.loop-start.invariant.reads c.get_bits_counted.ensures.adds (grind arith);
 }

@@ -9,6 +9,5 @@ overflow_add-self g c =
 pub invariant_of-self-2 : goal.invariant_of-self-2
 invariant_of-self-2 g c =
     let room : length c.self.inside.bits < 9223372036854775807 = omega arith in
-    let grown : c.append.new.self ≡ c.self.inside.bits ++ c.args.opens ∷ [] = c.in_ok-append.ensures.grown in
-    rw (stored_sum g.row.BLOCK_SIZE c.self.inside.bits c.args.opens c.self.inside.excess c.step.result c.self.invariant room c.step.ensures).1
-    (subst (λ (l : List Bool). IsBuilding g.row.BLOCK_SIZE l (c.self.inside.excess +ℤ bit_step c.args.opens)) (sym grown) (one_more_built g.row.BLOCK_SIZE c.self.inside.bits c.args.opens c.self.inside.excess c.self.invariant room))
+    rw ((stored_sum g.row.BLOCK_SIZE c.self.inside.bits c.args.opens c.self.inside.excess c.step.result c.self.invariant room c.step.ensures).1, c.in_ok-append.ensures.grown)
+    (one_more_built g.row.BLOCK_SIZE c.self.inside.bits c.args.opens c.self.inside.excess c.self.invariant room)

@@ -18,8 +18,7 @@ pub loop-block-preserved : goal.loop-block-preserved
 loop-block-preserved g c =
     let e : c.push.new.self.items ≡ c.loop-block.nodes.items ++ c.node_of.result ∷ [] = cc c.in_ok-push.ensures.items in
     let m : c.min-end.result ≡ min (c.loop-block.block * c.args.size + c.args.size) (length c.args.bits.now) = c.min-end.ensures ∙ ap (min (c.loop-block.block * c.args.size + c.args.size)) c.len-len.ensures.value in
-    subst (λ (l : List Node). AreFirstBlocks c.args.bits.now c.args.size c.args.first (c.loop-block.block + 1) l) (sym e)
-    (block_added c.args.bits.now c.args.size c.args.first c.loop-block.block c.loop-block.nodes.items c.node_of.result c.loop-block.invariant (subst (λ (n : ℕ). IsPart c.args.bits.now (c.loop-block.block * c.args.size) n c.node_of.result) m c.node_of.ensures))
+    rw e (block_added c.args.bits.now c.args.size c.args.first c.loop-block.block c.loop-block.nodes.items c.node_of.result c.loop-block.invariant (rw m at c.node_of.ensures))
 
 pub returns : goal.returns
 returns g c =
