@@ -24,7 +24,7 @@ above_since f w x a (suc b) le h ne = ⊎_elim
     above_since f w x a b (omega arith) (omega (arith, ints)) (λ k g m. ne k g (omega arith)))
     (eq-or-lt_of_le le)
 
--- the same of a walk below x, which turned over is one above
+-- a walk below x, turned over, is one above
 pub turned : (f : ℕ → ℤ) → IsWalk f → IsWalk (λ i. pos 0 -ℤ f i)
 turned f w = record { up = λ i. let d = w.down i in omega (arith, ints); down = λ i. let u = w.up i in omega (arith, ints) }
 

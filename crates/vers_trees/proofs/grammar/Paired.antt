@@ -54,9 +54,8 @@ closes_root X Y =
       inside = omega arith;
       back = omega (arith, ints);
       above = λ j h k.
-          let r = excess_in_first X Y (j - 1) (omega arith) in let n = never_negative X (j - 1) (omega arith) in
           let e : excess (text (tree X Y)) (j - 1 + 1) ≡ excess (text (tree X Y)) j = ap (excess (text (tree X Y))) (omega arith) in
-          omega (arith, ints);
+          omega (arith, ints, excess_in_first X Y (j - 1) (omega arith), never_negative X (j - 1) (omega arith));
     }
 
 -- what closes in a list closes where that stands in another, along which the excess goes on as along it

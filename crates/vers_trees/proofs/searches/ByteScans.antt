@@ -16,9 +16,8 @@ excess-part l p n j h i =
 excess-number : (bits : List Bool) (n : ℕ) → n ≤ 64 → length bits ≡ n → excess bits n ≡ pos (2 * count_ones (number bits)) -ℤ pos n
 unfolding excess limb
 excess-number bits n few e =
-    let c = count_limb bits 0 n few in let z = count_none true bits in let b = count_both bits n in
-    let whole : take 64 bits ≡ bits = take_all 64 bits (omega arith) in
-    let f : limb bits 0 % 2 ^ n ≡ number bits = rw whole (mod-eq_of_lt (number_below bits n (omega arith))) in grind (arith, ints)
+    let f : limb bits 0 % 2 ^ n ≡ number bits = rw (take_all 64 bits (omega arith)) (mod-eq_of_lt (number_below bits n (omega arith))) in
+    grind (arith, ints, count_limb bits 0 n few, count_none true bits, count_both bits n)
 
 pub total_of : (l : List Bool) (p n word : ℕ) (d : ℤ) → n ≤ 64 → p + n ≤ length l → word ≡ number (part l p n) → d ≡ pos (2 * count_ones word) -ℤ pos n → excess l (p + n) ≡ excess l p +ℤ d
 total_of l p n word d few h e q = grind (arith, ints, excess-number, length-part, excess-part l p n n h (omega arith))

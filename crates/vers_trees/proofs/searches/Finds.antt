@@ -35,7 +35,7 @@ answer_before l size i r h = record {
 pub answer_here : (back : Bool) (s : Sought) (o : Option ℕ) → IsAnswer back s o → (end place : ℕ) → IsRise back s.bits s.from end s.rise place → IsBetween back s.from (edge back (length s.bits) 0) place → Some place ≡ o
 answer_here back s o a end place q b = a.some place (record { between = b; sum = q.sum; first = q.first })
 
--- ---- where a search comes to past its block, and where the places of a block lie on its way
+-- ---- where a search comes to past its block
 comes_past : (back : Bool) (s : Sought) (block : ℕ) → 0 < s.size → 0 < s.from → s.from ≤ length s.bits → block ≡ (s.from - 1) / s.size → IsAfter back s.from (start_of s.bits s.size (edge back (block + 1) block))
 comes_past back s block so a b e = grind arith
 

@@ -40,16 +40,11 @@ none_below v n (x ∷ xs) a h = grind (arith, ints, count_by-cons, one_if, le-lt
 
 between_is_part : (v c n : ℕ) (xs : List ℕ) → AscendsFrom n xs → filter (between v c) xs ≡ take (length (filter (between v c) xs)) (drop (count_by (λ w. ltb w v) xs) xs)
 between_is_part v c n [] a = refl
-between_is_part v c n (x ∷ xs) a =
-    let k = count_by-cons (λ w. ltb w v) x xs in
-    ⊎_elim
+between_is_part v c n (x ∷ xs) a = ⊎_elim
     (λ (z : x < v).
-    let one : one_if (ltb x v) ≡ 1 = ap one_if (lt-ltb x v z) in
-    let e : suc (count_by (λ w. ltb w v) xs) ≡ count_by (λ w. ltb w v) (x ∷ xs) = omega arith in
-    subst (λ (k : ℕ). filter (between v c) (x ∷ xs) ≡ take (length (filter (between v c) (x ∷ xs))) (drop k (x ∷ xs))) e (rw (outside v c x (inl z)) (between_is_part v c (x + 1) xs a.1)))
-    (λ (z : v ≤ x).
-    let e = sym (none_below v x (x ∷ xs) (omega arith, a.1) z) in
-    subst (λ (k : ℕ). filter (between v c) (x ∷ xs) ≡ take (length (filter (between v c) (x ∷ xs))) (drop k (x ∷ xs))) e (first_part v c x (x ∷ xs) (omega arith, a.1) z))
+    let e : count_by (λ w. ltb w v) (x ∷ xs) ≡ suc (count_by (λ w. ltb w v) xs) = omega (arith, count_by-cons (λ w. ltb w v) x xs, ap one_if (lt-ltb x v z)) in
+    rw (e, outside v c x (inl z)) (between_is_part v c (x + 1) xs a.1))
+    (λ (z : v ≤ x). rw (none_below v x (x ∷ xs) (omega arith, a.1) z) (first_part v c x (x ∷ xs) (omega arith, a.1) z))
     (cases_lt x v)
 
 -- ---- the tree of a node is what opens, and what closes, from where it opens up to where it closes

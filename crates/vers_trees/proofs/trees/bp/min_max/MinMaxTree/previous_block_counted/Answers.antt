@@ -29,12 +29,10 @@ returns-then-meets g c =
     }
 
 pub returns-in_err-rest : goal.returns-in_err-rest
-returns-in_err-rest g c =
-    let f : FitsSigned w64 c.node_counted-before.result.total = search rules in let i = c.loop-node.invariant in
-    record {
-      value = rw c.from_residual.ensures (λ s b. ends_there _ _ _ true _ _ c.node_counted-before.result (i.comes s (rw (to_z-of_z w64 c.args.left c.ranges.left) b)) c.loop-node-test.true c.node_counted-before.ensures.value (λ h. c.in_err-rest.ensures (rw (to_z-of_z w64 c.node_counted-before.result.total f) h)));
-      adds = up_then_down _ _ _ _ c.args.self.now.first c.loop-node.node i.within c.loop-node-test.true i.reads c.node_counted-before.ensures.adds (adds_none _ _);
-    }
+returns-in_err-rest g c = record {
+  value = rw c.from_residual.ensures (λ s b. ends_there _ _ _ true _ _ c.node_counted-before.result (c.loop-node.invariant.comes s (rw (to_z-of_z w64 c.args.left c.ranges.left) b)) c.loop-node-test.true c.node_counted-before.ensures.value (λ h. c.in_err-rest.ensures (rw (to_z-of_z w64 c.node_counted-before.result.total (search rules)) h)));
+  adds = up_then_down _ _ _ _ c.args.self.now.first c.loop-node.node c.loop-node.invariant.within c.loop-node-test.true c.loop-node.invariant.reads c.node_counted-before.ensures.adds (adds_none _ _);
+}
 
 pub loop-node-preserved : goal.loop-node-preserved
 loop-node-preserved g c =

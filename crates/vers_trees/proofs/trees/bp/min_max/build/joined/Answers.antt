@@ -10,12 +10,7 @@ pub overflow_add-left-2 : goal.overflow_add-left-2
 overflow_add-left-2 c = grind (arith, ints, to_z-of_z)
 
 pub returns-clause-both : goal.returns-clause-both
-returns-clause-both c = λ h.
-    let f : FitsSigned w64 c.args.left.total = search rules in let g : FitsSigned w64 c.args.right.total = search rules in
-    let k : FitsSigned w64 c.args.right.least = search rules in let m : FitsSigned w64 c.args.right.greatest = search rules in
-    let n : FitsSigned w64 c.args.left.least = search rules in let o : FitsSigned w64 c.args.left.greatest = search rules in
-    let lo : FitsSigned w64 c.min.result = search rules in let hi : FitsSigned w64 c.max.result = search rules in
-    same_node _ (combined c.args.left c.args.right)
-    (sum_back c.args.left.total c.args.right.total f g (c.requires.total h))
-    (to_z-of_z w64 c.min.result lo ∙ (rw (to_z-of_z w64 c.args.left.least n, sum_back c.args.left.total c.args.right.least f k (c.requires.least h)) at c.min.ensures.value))
-    (to_z-of_z w64 c.max.result hi ∙ (rw (to_z-of_z w64 c.args.left.greatest o, sum_back c.args.left.total c.args.right.greatest f m (c.requires.greatest h)) at c.max.ensures.value))
+returns-clause-both c = λ h. same_node _ (combined c.args.left c.args.right)
+    (sum_back c.args.left.total c.args.right.total (search rules) (search rules) (c.requires.total h))
+    (to_z-of_z w64 c.min.result (search rules) ∙ (rw (to_z-of_z w64 c.args.left.least (search rules), sum_back c.args.left.total c.args.right.least (search rules) (search rules) (c.requires.least h)) at c.min.ensures.value))
+    (to_z-of_z w64 c.max.result (search rules) ∙ (rw (to_z-of_z w64 c.args.left.greatest (search rules), sum_back c.args.left.total c.args.right.greatest (search rules) (search rules) (c.requires.greatest h)) at c.max.ensures.value))
