@@ -14,7 +14,7 @@ pub use Rattle.std.proofs.lemmas.List.Sums.{sum_by-cons, sum_by-append, length-f
 pub use Rattle.std.proofs.lemmas.Nat.{ones-le, pow_pos, shr-shr, mod-pow-add, or_block, and_block, or_lt}
 pub use Rattle.std.proofs.lemmas.Nat.Bits.{bit_at_lowest, bit_at-suc, bit_at-trailing_zeros}
 pub use Rattle.std.proofs.lemmas.Option.{slice_get-get_or, get_or_from_slice_get, slice_get_within, slice_get_past, cond_some}
-pub use Rattle.std.proofs.lemmas.Result.{IfOk-weaker, IfOk-from_err}
+pub use Rattle.std.proofs.lemmas.Result.{IfOk-weaker}
 pub use Rattle.std.proofs.lemmas.Simd.{map-map}
 pub use Rattle.std.specs.Int.{bit_at, int_min, int_max}
 pub use Rattle.std.specs.Int.Signed.{lt_z}
@@ -27,7 +27,7 @@ unfoldable pub use Rattle.vers_bits.specs.Bits.{count, places, select, limb}
 pub use Rattle.vers_bits.specs.Walk.{TakesFirst}
 pub use Rattle.vers_rank.specs.Queries.{superblock_count, get_reads, rank_reads, select_reads, get_bits_reads}
 unfoldable pub use Rattle.vers_rank.specs.Queries.{part_number_or_zero}
-pub use Rattle.vers_tally.proofs.PublicLaws.{digits_half, digits_up, adds_then, adds_weaker, adds_nothing, within_itself, digits_below_pow, clog_least, clog_is_least, pow_next}
+pub use Rattle.vers_tally.proofs.PublicLaws.{digits_half, digits_up, adds_then, adds_weaker, adds_nothing, digits_below_pow, clog_least, clog_is_least, pow_next}
 pub use Rattle.vers_tally.specs.Ends.{Walking}
 pub use Rattle.vers_tally.specs.Reads.{Reads, AddsAtMost, IsWithin, only_nodes}
 unfoldable pub use Rattle.vers_tally.specs.Reads.{digits}

@@ -1,5 +1,5 @@
 -- The nodes around a node of a balanced list: its parent, its depth, how many come before it, and where its nearest children and siblings open.
-use Rattle.vers_trees.proofs.Words.{nat_tests, ◌≡◌, ℕ, zero, suc, ◌+◌, ◌-◌, ◌<◌, ◌≤◌, ◌<ℤ◌, Bool, true, false, ◌&&◌, List, [], ◌∷◌, get_or, ltb, leb, count_by, pos, negsuc, neg_ℤ, Some, arith, ⊎_elim, sym, refl, ap, ◌∙◌, Decides, lt-ltb, le-ltb, le-leb, Decides-ltb, Decides-and, leb_tells, length-filter, count, places, excess, last_rise_before, Forest, pairs, IsBalanced, forest_of, nodes, closing, is_ancestor, is_proper_ancestor, depth, parent, node_index, IsLastRiseBefore, ints, rules, common_steps, cond, length, Option, None, subst, filter, Contains, last_or, Decides-like, same_from_decides, cond_both, eq-or-lt_of_le, nodes_under, children, siblings, first_of, last_of, next_of, previous_of, get_or_default, ◌↔◌, IsTrue, is_some, not, count_both, first_rise_after, IsNode, ◌≢◌, slice_get, option_map, ◌==◌, slice_get-get_or, select, length-places, none, tree, text, ne_eqb, slice_get_within, false_from_ne_true}
+use Rattle.vers_trees.proofs.Words.{nat_tests, ◌≡◌, ℕ, zero, suc, ◌+◌, ◌-◌, ◌<◌, ◌≤◌, ◌<ℤ◌, Bool, true, false, ◌&&◌, List, [], ◌∷◌, get_or, ltb, leb, count_by, pos, negsuc, neg_ℤ, Some, arith, ⊎_elim, sym, refl, ap, ◌∙◌, Decides, lt-ltb, le-ltb, le-leb, Decides-ltb, Decides-and, leb_tells, length-filter, count, places, excess, last_rise_before, Forest, pairs, IsBalanced, forest_of, nodes, closing, is_ancestor, is_proper_ancestor, depth, parent, node_index, IsLastRiseBefore, ints, rules, common_steps, cond, length, Option, None, filter, Contains, last_or, Decides-like, same_from_decides, eq-or-lt_of_le, nodes_under, children, siblings, first_of, last_of, next_of, previous_of, get_or_default, ◌↔◌, IsTrue, is_some, not, count_both, first_rise_after, IsNode, ◌≢◌, slice_get, option_map, ◌==◌, slice_get-get_or, select, length-places, none, tree, text, ne_eqb, slice_get_within, false_from_ne_true}
 use Rattle.vers_trees.proofs.walks.Lists.{places-cons}
 use Rattle.vers_trees.proofs.searches.Searches.{before_some, before_none, by_answer, before_is, after_is}
 use Rattle.vers_trees.proofs.grammar.Excess.{above_since, excess-is_walk, open_from_rise, excess_after_open, excess_after_close}
@@ -133,10 +133,10 @@ previous_sibling_none l b v h some o =
 pub previous_sibling_is_search : (l : List Bool) (b : IsBalanced l) (v : ℕ) → HasPair l v → 0 < v → get_or l (v - 1) false ≡ false → last_rise_before l (v - 1) (negsuc 0) ≡ previous_of (siblings (forest_of l) v) v
 unfolding nodes_under
 previous_sibling_is_search l b v h some o =
-    let p = zero_pair l b (v - 1) (omega arith) o in let k = p.1 in let at : closing (forest_of l) p.0 + 1 ≡ v = omega arith in
-    let same : parent (forest_of l) v ≡ parent (forest_of l) p.0 = ap (parent (forest_of l)) (sym at) ∙ same_parent l b p.0 k (subst (HasPair l) (sym at) h) in
+    let p = zero_pair l b (v - 1) (omega arith) o in let at : closing (forest_of l) p.0 + 1 ≡ v = omega arith in
+    let same = same_parent l b p.0 p.1 in
     before_is l (v - 1) (negsuc 0) p.0 (before_from_closes l p.0 (v - 1) p.3)
-    ∙ sym (previous_in l b _ _ (λ w. option_decides (parent (forest_of l) w) (parent (forest_of l) v)) v (Some p.0) (k, (sym same, omega arith), λ w y kw e. not_beside l b p.0 w k kw y (omega arith) (e.0 ∙ same)))
+    ∙ sym (previous_in l b _ _ (λ w. option_decides (parent (forest_of l) w) (parent (forest_of l) v)) v (Some p.0) (grind (arith, ints, not_beside l b p.0)))
 
 -- ---- by one bit: what opens at a place, and what closes right before it
 abbrev pub opened_here : List Bool → ℕ → Option ℕ

@@ -16,8 +16,7 @@ leaves_covered l size first nodes so short b = record { short = short; covered =
         let x : start_of l size s ≡ s * size = omega arith in let y : start_of l size e ≡ min (s * size + size) (length l) = rw q1 (omega arith) in
         record { part = inl (rw (x, y, ← place) (b.part s w)) })
         (λ (w : block_count size (length l) ≤ s).
-        let u : block_count size (length l) * size ≤ s * size = mul-le-mul_right size w in
-        record { part = inr (omega arith, get_or_past nodes m empty_node (omega arith)) })
+        record { part = inr (omega (arith, mul-le-mul_right size w), get_or_past nodes m empty_node (omega arith)) })
         (cases_lt s (block_count size (length l)))
 
 pub same_node : (a b : Node) → a.total ≡ b.total → a.least ≡ b.least → a.greatest ≡ b.greatest → a ≡ b

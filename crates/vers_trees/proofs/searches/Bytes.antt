@@ -1,5 +1,5 @@
 -- Numbers by their octal digits, and what an entry of a table of bytes is packed of.
-use Rattle.vers_trees.proofs.Words.{◌≡◌, ℕ, zero, suc, ◌+◌, ◌-◌, ◌*◌, ◌/◌, ◌%◌, ◌^◌, ◌<◌, ◌≤◌, List, [], ◌∷◌, length, drop, get_or, arith, ap, ◌∙◌, ◌≢◌, ◌⊎◌, inl, inr, Bool, true, false, pos, ◌+ℤ◌, ◌-ℤ◌, cond, min, max, ⊎_elim, refl, replicate, nat_eq, set, pow-suc, pow-le-pow_right, drop-cons, length-drop, get_or-drop, get_or-set_same, get_or-set_other, shr-shr, IsByte, IsEntry, sum_along, place_along, octal, AreEntries, HasMet, step_along, ints, cases_lt, bit_at-number, excess, bit_step}
+use Rattle.vers_trees.proofs.Words.{◌≡◌, ℕ, zero, suc, ◌+◌, ◌-◌, ◌*◌, ◌/◌, ◌%◌, ◌^◌, ◌<◌, ◌≤◌, List, [], ◌∷◌, length, drop, get_or, arith, ap, ◌∙◌, ◌≢◌, ◌⊎◌, inr, Bool, true, false, pos, ◌+ℤ◌, ◌-ℤ◌, cond, min, max, ⊎_elim, refl, replicate, nat_eq, set, pow-suc, pow-le-pow_right, drop-cons, length-drop, get_or-drop, get_or-set_same, get_or-set_other, shr-shr, IsByte, sum_along, place_along, octal, HasMet, step_along, ints, cases_lt, bit_at-number, excess, bit_step}
 use Rattle.vers_trees.proofs.grammar.Excess.{excess-zero, excess_after_bit}
 
 -- each of the digits is below 8
@@ -62,8 +62,7 @@ pub met_more : (from_end : Bool) (bits : List Bool) (byte n value least greatest
     → place ≡ place_along from_end n → pos next ≡ pos value +ℤ step_along from_end (nat_eq (byte / 2 ^ place % 2) 1) → next < length places → IsNoted least greatest next place places least' greatest' places'
     → HasMet from_end bits (n + 1) next least' greatest' places'
 met_more from_end bits byte n value least greatest next place places least' greatest' places' is h m e u inside w =
-    let bit : get_or bits (place_along from_end n) false ≡ nat_eq (byte / 2 ^ place % 2) 1 =
-    (grind (arith, ints, bit_at-number)) in
+    let bit : get_or bits (place_along from_end n) false ≡ nat_eq (byte / 2 ^ place % 2) 1 = grind (arith, ints, bit_at-number) in
     let s = next_sum from_end bits n is.eight h ∙ ap (λ (c : Bool). sum_along from_end bits n +ℤ step_along from_end c) bit in
     let sum : pos next ≡ sum_along from_end bits (n + 1) +ℤ pos 8 = omega (arith, ints) in let near = up_or_down from_end _ value next u in
     let last = λ (k : ℕ) (y : k < n + 1) (z : n ≤ k). ap (sum_along from_end bits) (let g : k + 1 ≡ n + 1 = omega arith in g) in

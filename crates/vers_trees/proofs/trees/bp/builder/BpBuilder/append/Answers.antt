@@ -1,4 +1,4 @@
-use Rattle.vers_trees.proofs.Words.{◌≡◌, ◌<◌, Bool, List, [], ◌∷◌, ◌++◌, length, ◌+ℤ◌, arith, sym, subst, bit_step, IsBuilding}
+use Rattle.vers_trees.proofs.Words.{◌<◌, length, arith}
 use Rattle.vers_trees.proofs.layout.Building.{one_more_built, stored_sum}
 use Rattle.vers_trees.proofs.trees.bp.builder.BpBuilder.append.Goals as goal
 
