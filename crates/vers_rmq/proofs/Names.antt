@@ -1,5 +1,5 @@
 -- The names of specs/ and of other crates that many proofs use.
-pub use Rattle.std.proofs.Common.{Bool, List, Some, [], ap, arith, bit_and, bit_or, false, get_or, inl, inr, leb, length, max, min, refl, rules, subst, suc, sym, true, zero, ℕ, ◌%◌, ◌*◌, ◌++◌, ◌+◌, ◌-◌, ◌/◌, ◌<◌, ◌^◌, ◌∙◌, ◌∷◌, ◌≡◌, ◌≢◌, ◌≤◌}
+pub use Rattle.std.proofs.Common.{Bool, List, Some, [], ap, arith, bit_and, bit_or, false, get_or, inl, inr, leb, length, min, refl, rules, subst, suc, sym, true, zero, ℕ, ◌%◌, ◌*◌, ◌++◌, ◌+◌, ◌-◌, ◌/◌, ◌<◌, ◌^◌, ◌∙◌, ◌∷◌, ◌≡◌, ◌≢◌, ◌≤◌}
 pub use Rattle.std.proofs.Math.Nat.{mul-le-mul_left, pow-le-pow_right, pow-suc}
 pub use Rattle.std.proofs.lemmas.Bool.{cases_lt, cond-false, cond-true, le-leb, lt-leb}
 pub use Rattle.std.proofs.lemmas.List.{get_or_append_left, get_or_push, length_push}
@@ -15,6 +15,5 @@ pub use Rattle.vers_rmq.specs.declared.rmq.least.PlacedItem.{PlacedItem}
 pub use Rattle.vers_rmq.specs.inside.Blocks.{AreAllBlocks, AreBlocks, IsBlock, block_end, no_masks}
 pub use Rattle.vers_rmq.specs.inside.Candidates.{IsLeastItem, lesser_item}
 pub use Rattle.vers_rmq.specs.inside.Masks.{AddsOne, AreMasks, IsFirstSet, IsLastSet, IsPrefixMask, IsSuffixMask, PrefixUpTo, SuffixFrom, part_end}
-pub use Rattle.vers_rmq.specs.inside.Tables.{HoldsPlaces, IsTable, reach}
 pub use Rattle.vers_tally.proofs.PublicLaws.{clog_is, clog_up, digits-le, pow_next}
 pub use Rattle.vers_tally.specs.Reads.{AddsAtMost, only_items}

@@ -1,5 +1,6 @@
 -- The table of places.
-use Rattle.vers_rmq.proofs.Names.{◌≡◌, ℕ, ◌+◌, ◌-◌, ◌*◌, ◌^◌, ◌<◌, ◌≤◌, List, [], ◌∷◌, ◌++◌, length, get_or, refl, ap, inl, inr, arith, mul-le-mul_left, pow_pos, cases_lt, length_push, get_or_push, get_or_append_left, clog, PlacedItem, IsFirstLeast, lesser, IsLeastItem, lesser_item, HoldsPlaces, IsTable, reach, clog_is, clog_up, pow_next, digits-le}
+use Rattle.vers_rmq.proofs.Names.{◌≡◌, ℕ, ◌+◌, ◌-◌, ◌*◌, ◌^◌, ◌<◌, ◌≤◌, List, [], ◌∷◌, ◌++◌, length, get_or, refl, ap, inl, inr, arith, mul-le-mul_left, pow_pos, cases_lt, length_push, get_or_push, get_or_append_left, clog, PlacedItem, IsFirstLeast, lesser, IsLeastItem, lesser_item, clog_is, clog_up, pow_next, digits-le}
+use Rattle.vers_rmq.specs.inside.Tables.{HoldsPlaces, IsTable, reach}
 use Rattle.vers_rmq.proofs.Minima.{least_at, least_join, least_ends, item_at, item_ends}
 
 -- a place of the table has one level

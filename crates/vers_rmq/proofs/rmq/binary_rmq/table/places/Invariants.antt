@@ -1,4 +1,5 @@
-use Rattle.vers_rmq.proofs.Names.{◌≡◌, ◌+◌, ◌-◌, ◌*◌, ◌^◌, ◌<◌, length, HoldsPlaces}
+use Rattle.vers_rmq.proofs.Names.{◌≡◌, ◌+◌, ◌-◌, ◌*◌, ◌^◌, ◌<◌, length}
+use Rattle.vers_rmq.specs.inside.Tables.{HoldsPlaces}
 use Rattle.vers_rmq.proofs.rmq.binary_rmq.table.places.Given as goal
 
 abbrev pub invariant-loop-i : goal.invariant-loop-i
