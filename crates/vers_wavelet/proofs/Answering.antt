@@ -19,9 +19,6 @@ get_begins ls n p h =
     let e : 0 + value ls p ≡ get_or (values ls n) p 0 = omega (arith, get_or-values ls n p 0 h) in
     ap Some e ∙ sym (slice_get-get_or (values ls n) p 0 (omega (arith, h, length-values ls n)))
 
-pub get_past : (ls : List (List Bool)) (n p : ℕ) → n ≤ p → None ≡ slice_get (values ls n) p
-get_past ls n p h = sym (slice_get_past (values ls n) p (omega (arith, h, length-values ls n)))
-
 pub get_goes : (v : List Bool) (ls : List (List Bool)) (p i number more : ℕ) (b : Bool) (o : Option ℕ) → o ≡ Some number → length ls ≡ i → get_or v p false ≡ b
     → more ≡ number + bit_value b * 2 ^ i → Some (more + value ls (next b v p)) ≡ option_map (λ y. y + value (v ∷ ls) p) o
 get_goes v ls p i number more b o is long bit e =
@@ -59,9 +56,7 @@ rank_goes v ls s end c i start to b o is long bit from last =
 
 pub rank_ends : (o : Option ℕ) (n s end : ℕ) → IfSome o (λ c. (c ≤ end) × (end ≤ n) × (0 ≤ 64)) → o ≡ option_map (λ c. way [] s end - way [] s (end - c)) o
 rank_ends None n s end kept = refl
-rank_ends (Some c) n s end kept =
-    let e : c ≡ way [] s end - way [] s (end - c) = omega (arith, kept.0, way_none s end, way_none s (end - c)) in
-    ap Some e
+rank_ends (Some c) n s end kept = grind (arith, end, kept, way_none)
 
 -- ---- occurrences found
 
@@ -94,5 +89,4 @@ select_found {ls} levels s rank (Some p) seeks =
 
 pub select_answers : {ls : List (List Bool)} {n : ℕ} → AreLevels ls n → length ls ≤ 64 → (rank s r t : ℕ) (o : Option ℕ) → Seeks ls n t (way ls t 0 + r) 0 o → r ≡ rank → t ≡ s
     → o ≡ (if leb (length ls) 64 then slice_get (occurrences (values ls n) 0 n (s % 2 ^ length ls)) rank else None)
-select_answers {ls} {n} levels few rank s r t o seeks same_rank same_symbol =
-    of_words (length ls) o _ few (rw (← same_rank, ← same_symbol) (select_found levels t r o seeks))
+select_answers {ls} {n} levels few rank s r t o seeks same_rank same_symbol = grind (arith, few, of_words, select_found)

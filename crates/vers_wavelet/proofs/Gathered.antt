@@ -5,7 +5,7 @@ use Rattle.vers_wavelet.proofs.Counting.{split_apart}
 use Rattle.vers_wavelet.proofs.Digits.{digit_value, top_digit, one_split}
 use Rattle.vers_wavelet.proofs.Lists.{count_is, first_hits, length-values}
 use Rattle.vers_wavelet.proofs.Steps.{even_rest, even_first, start_le, way_equal}
-use Rattle.vers_wavelet.proofs.Values.{next_none, split_all, tests_add, value-lt, value_is, way_none, way_is, way-up}
+use Rattle.vers_wavelet.proofs.Values.{next_none, split_all, value-lt, value_is, way_none, way_is, way-up}
 
 -- ---- numbers by their digits from the lowest on
 
@@ -65,7 +65,7 @@ or_equal ls s zero = refl
 or_equal ls s (suc n) =
     let same : cond {A = ℕ} (eqb (turned (length ls) (value ls n)) (turned (length ls) s)) 1 0 ≡ cond (eqb (value ls n) (s % 2 ^ length ls)) 1 0 =
     ap {B = ℕ} (λ t. cond t 1 0) (turned_tests (length ls) (value ls n) s (value-lt ls n)) in
-    omega (arith, or_equal ls s n, same, tests_add (turned (length ls) (value ls n)) (turned (length ls) s))
+    grind (arith, or_equal ls s n, same, nat_tests)
 
 -- those of the zeros lie before s too where they are equal to it but for a first digit that is 1
 with_zeros : (bit : Bool) (l : List Bool) (ls : List (List Bool)) (s : ℕ)

@@ -39,9 +39,7 @@ less_between p q up (x ∷ xs) (suc k) h off on =
     omega (arith, count_cons p x xs, count_cons q x xs, one_up (p x) (q x) (up x), less_between p q up xs k (omega arith) off on)
 
 kth_member : (xs : List ℕ) (i x : ℕ) → IsKth xs i x → Contains xs x
-kth_member xs i x kth =
-    let r = found_between (λ y. ltb y x) (λ y. leb y x) xs (omega (arith, kth.less, kth.more)) in
-    (r.0, r.1, any_default xs r.0 x 0 r.1 ∙ omega (arith, ltb-false _ x r.2, leb-true _ x r.3))
+kth_member xs i x kth = grind (arith, found_between, any_default, ltb-false, leb-true)
 
 -- of n members not above s the last by size
 pub predecessor_is : (xs : List ℕ) (n s x : ℕ) → n ≡ count_by (λ y. leb y s) xs → 0 < n → IsKth xs (n - 1) x → IsPredecessor xs s x

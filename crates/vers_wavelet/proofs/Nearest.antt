@@ -50,11 +50,8 @@ nearest_same false xs below equal s x low high some is =
 
 pub nearest_is : (up : Bool) (xs : List ℕ) (below s x i : ℕ) → below ≡ count_by (λ y. ltb y s) xs → below ≡ count_by (λ y. leb y s) xs → (up ≡ true → below < length xs) → (up ≡ false → 0 < below)
     → i ≡ below - bool_byte (not up) → x ≡ get_or (by_size xs) i 0 → nearest up xs s ≡ Some x
-nearest_is true xs below s x i low high more some at is =
-    least_from_is xs s below low ∙ kth_some xs below x (more refl) (is ∙ ap (λ k. get_or (by_size xs) k 0) (omega (arith, at)))
-nearest_is false xs below s x i low high more some at is =
-    greatest_up_to_is xs s below high (some refl)
-    ∙ kth_some xs (below - 1) x (omega (arith, some refl, high, count_by-le-length (λ y. leb y s) xs)) (is ∙ ap (λ k. get_or (by_size xs) k 0) at)
+nearest_is true xs below s x i low high more some at is = grind (arith, below, low, high, more, some, least_from_is, kth_some)
+nearest_is false xs below s x i low high more some at is = grind (arith, below, low, high, more, some, greatest_up_to_is, kth_some, count_by-le-length)
 
 pub nearest_none : (up : Bool) (xs : List ℕ) (below s : ℕ) → below ≡ count_by (λ y. ltb y s) xs → below ≡ count_by (λ y. leb y s) xs → (up ≡ true → below ≡ length xs) → (up ≡ false → below ≡ 0) → nearest up xs s ≡ None
 nearest_none true xs below s low high all none = least_from_is xs s below low ∙ kth_none xs below (omega (arith, all refl))

@@ -11,9 +11,7 @@ all_moved g l n long =
     omega (arith, split_all l (λ p. g (next (get_or l p false) l p)) g g (same false) (same true) n long)
 
 digit_low : (l : List Bool) (ls : List (List Bool)) (p i : ℕ) → i < length ls → digit (value (l ∷ ls) p) i ≡ digit (value ls (next (get_or l p false) l p)) i
-digit_low l ls p i h =
-    let b : Bool = get_or l p false in
-    ap (λ v. digit v i) (value_is l ls p b refl) ∙ ap (λ d. eqb d 1) (bit_at_cat_low (bit_value b) (length ls) (value ls (next b l p)) i h)
+digit_low l ls p i h = grind (arith, value_is, bit_at_cat_low, value, next)
 
 bit_of_value : (b : Bool) → eqb (bit_at (bit_value b) 0) 1 ≡ b
 bit_of_value true = refl

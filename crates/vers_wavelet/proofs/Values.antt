@@ -87,14 +87,11 @@ under_step false l ls s y i e small h =
     (λ p on. le-ltb _ y (omega (arith, value_is l ls p true on))) i h in
     omega (arith, parts, no_hits (start true l), no_hits (next true l i))
 
-pub tests_add : (v s : ℕ) → cond (eqb v s) 1 0 + cond (ltb v s) 1 0 ≡ cond (ltb v (s + 1)) 1 0
-tests_add v s = grind (arith, nat_tests)
-
 -- those that hold s are those below s + 1 and not below s
 pub equal_under : (ls : List (List Bool)) (s n : ℕ) → equal ls s n + under ls s n ≡ under ls (s + 1) n
 unfolding equal under
 equal_under ls s zero = refl
-equal_under ls s (suc n) = omega (arith, equal_under ls s n, tests_add (value ls n) s)
+equal_under ls s (suc n) = grind (arith, equal_under ls s n, nat_tests)
 
 -- a bit that is one of its kind is that bit
 pub same_bit : (b c : Bool) → is_bit b c ≡ true → c ≡ b

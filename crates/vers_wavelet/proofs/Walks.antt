@@ -42,5 +42,4 @@ adds_each_back k n m s e down up = adds_then down (rw e at up) (omega arith)
 -- where no place is left, the ends are as far apart as those of the way down
 pub narrowed_ended : {ls : List (List Bool)} {s from to k a b less : ℕ} → a ≡ b → Narrowed ls s from to k a b less
     → (less + under ls (s % 2 ^ length ls) from ≡ under ls (s % 2 ^ length ls) to) × (a + way ls s to ≡ b + way ls s from)
-narrowed_ended {ls} {s} {from} {to} {k} {a} {b} {less} e n =
-    (omega (arith, n.less_is, ap (under (drop k ls) (s % 2 ^ (length ls - k))) e), omega (arith, ap (way (drop k ls) s) e, n.from_is, n.to_is))
+narrowed_ended {ls} {s} {from} {to} {k} {a} {b} {less} e n = grind (arith, from, less, under)

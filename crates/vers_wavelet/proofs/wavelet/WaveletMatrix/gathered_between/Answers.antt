@@ -11,8 +11,7 @@ returns-clause-start g c = λ some.
     rw (c.levels.ensures.wide, c.levels.ensures.items) at (gathered_is c.levels.ensures.levels c.args.symbol c.args.start c.narrow-part.result.start (omega (arith, c.requires.order)) (c.narrow-part.ensures.leads some))
 
 pub returns-clause-end : goal.returns-clause-end
-returns-clause-end g c =
-    omega (arith, rw (c.levels.ensures.wide, c.levels.ensures.items) at (count_is c.levels.ensures.levels c.args.symbol c.args.start c.args.end c.narrow-part.result.start c.narrow-part.result.end c.requires.order c.requires.within c.narrow-part.ensures.kept))
+returns-clause-end g c = grind (arith, count_is)
 
 pub returns-clause-adds : goal.returns-clause-adds
 returns-clause-adds g c = rw (← c.levels.ensures.wide) c.narrow-part.ensures.adds

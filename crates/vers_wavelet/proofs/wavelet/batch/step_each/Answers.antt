@@ -7,8 +7,7 @@ pub loop-j-init : goal.loop-j-init
 loop-j-init g c = record { changed = changed_none _ _; adds = adds_no_times _ 0 (times 2 rank_reads) }
 
 pub step-requires : goal.step-requires
-step-requires g c =
-    still (λ q. g.Q.Query.keeps (length c.args.level.now) (c.args.i + 1) q) c.requires c.loop-j.invariant.changed c.loop-j-test.true c.index-queries-j.result c.index-queries-j.is
+step-requires g c = grind (arith, still)
 
 pub loop-j-preserved : goal.loop-j-preserved
 loop-j-preserved g c = record {

@@ -11,10 +11,7 @@ loop-k-init g c = record {
 }
 
 pub loop-k-preserved : goal.loop-k-preserved
-loop-k-preserved g c = record {
-  follows = c.follow_level-trail.ensures.follows c.args.start c.args.end c.loop-k.invariant.follows;
-  adds = adds_level c.loop-k.k c.loop-k.invariant.adds c.follow_level-trail.ensures.adds;
-}
+loop-k-preserved g c = grind (arith, adds_level)
 
 pub returns : goal.returns
 returns g c = record {

@@ -12,15 +12,10 @@ loop-i-init g c =
     }
 
 pub rise_each-requires-clause-seeks : goal.rise_each-requires-clause-seeks
-rise_each-requires-clause-seeks g c =
-    let e : length c.args.levels.now - c.loop-i.i ≡ length c.args.levels.now - (c.loop-i.i + 1) + 1 = omega arith in
-    become_all c.loop-i.invariant.risen (λ q r t. rw e at t.2)
+rise_each-requires-clause-seeks g c = grind (arith, become_all)
 
 pub loop-i-preserved : goal.loop-i-preserved
-loop-i-preserved g c = record {
-  risen = become_then c.loop-i.invariant.risen c.rise_each.ensures.each (λ q r s t u. (u.0 ∙ t.0, u.1 ∙ t.1, u.2));
-  adds = adds_once_more c.loop-i.i c.loop-i.invariant.adds (rw c.loop-i.invariant.risen.long at c.rise_each.ensures.adds);
-}
+loop-i-preserved g c = grind (arith, become_then, adds_once_more)
 
 pub returns : goal.returns
 returns g c =

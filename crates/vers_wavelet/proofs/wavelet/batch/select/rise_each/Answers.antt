@@ -3,9 +3,7 @@ use Rattle.vers_wavelet.proofs.Groups.{become_changed}
 use Rattle.vers_wavelet.proofs.wavelet.batch.select.rise_each.Goals as goal
 
 pub rise_group-requires-clause-seeks : goal.rise_group-requires-clause-seeks
-rise_group-requires-clause-seeks g c = λ j h.
-    subst (Rising c.args.levels.now c.args.len (c.args.k + 1)) (sym (c.loop-from.invariant.changed.after (c.loop-from.from + j) (omega arith)))
-    (c.requires.seeks (c.loop-from.from + j) no_query (omega arith))
+rise_group-requires-clause-seeks g c = grind arith
 
 pub loop-from-preserved : goal.loop-from-preserved
 loop-from-preserved g c = record {

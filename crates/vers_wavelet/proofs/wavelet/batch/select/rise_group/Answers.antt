@@ -4,13 +4,10 @@ use Rattle.vers_wavelet.proofs.Groups.{changed_item, place_above}
 use Rattle.vers_wavelet.proofs.wavelet.batch.select.rise_group.Goals as goal
 
 pub found-above-requires-clause-slot : goal.found-above-requires-clause-slot
-found-above-requires-clause-slot g c =
-    (c.find_all.ensures.places (length c.args.levels.now - (c.args.k + 1)) c.loop-j.j _ (c.new-group.ensures.numbers c.loop-j.j c.loop-j-test.true)).slot
+found-above-requires-clause-slot g c = grind arith
 
 pub rise-requires-clause-seeks : goal.rise-requires-clause-seeks
-rise-requires-clause-seeks g c =
-    subst (Rising c.args.levels.now c.args.len (c.args.k + 1)) (sym (c.loop-j.invariant.after (c.args.from + c.loop-j.j) (omega arith)))
-    (c.requires.seeks c.loop-j.j c.loop-j-test.true)
+rise-requires-clause-seeks g c = grind arith
 
 pub rise-requires-clause-above : goal.rise-requires-clause-above
 rise-requires-clause-above g c = λ v p at some from.

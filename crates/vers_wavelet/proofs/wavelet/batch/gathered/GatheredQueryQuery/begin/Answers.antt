@@ -16,9 +16,4 @@ returns-then-is_known-clause-same c =
     ]
 
 pub returns-else-is_known-clause-same : goal.returns-else-is_known-clause-same
-returns-else-is_known-clause-same c =
-    λ ls levels e. elim c.if-levels-le64.branch [
-      | then-levels-le64 w ↦
-          if_second_fails (length ls) 64 c.args.self.place (length (values ls c.args.len)) _ (omega (arith, e, w.if-levels-le64.true)) (omega (arith, leb-false c.args.self.place c.args.len (sym w.is_known-is ∙ c.if-is_known.false), length-values ls c.args.len))
-      | else-levels-le64 w ↦ if_first_fails (length ls) 64 _ _ _ (omega (arith, e, w.if-levels-le64.false))
-    ]
+returns-else-is_known-clause-same c = grind (arith, if_second_fails, leb-false, length-values, if_first_fails)

@@ -3,14 +3,10 @@ use Rattle.vers_wavelet.proofs.Groups.{slot_put, number_put, for_both}
 use Rattle.vers_wavelet.proofs.wavelet.batch.group.Group.append_number.Goals as goal
 
 pub returns-clause-slot : goal.returns-clause-slot
-returns-clause-slot c =
-    rw (get_or-set_same c.args.self.now.slots c.args.j c.next_slot.result 0 (omega arith))
-    (slot_put _ _ _ _ _ c.args.bit c.next_slot.ensures c.append_if.ensures.count c.append_if-2.ensures.count)
+returns-clause-slot c = grind (arith, get_or-set_same, slot_put)
 
 pub returns-clause-number : goal.returns-clause-number
-returns-clause-number c =
-    rw (get_or-set_same c.args.self.now.slots c.args.j c.next_slot.result 0 (omega arith))
-    (number_put _ _ _ _ _ _ c.args.bit c.next_slot.ensures c.append_if.ensures.last c.append_if-2.ensures.last)
+returns-clause-number c = grind (arith, get_or-set_same, number_put)
 
 pub returns-clause-slots : goal.returns-clause-slots
 returns-clause-slots c = λ h low. get_or-set_other c.args.self.now.slots c.args.j h c.next_slot.result 0 (omega arith)

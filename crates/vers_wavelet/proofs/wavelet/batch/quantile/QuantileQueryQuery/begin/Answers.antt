@@ -8,6 +8,4 @@ returns-then-has_answer-clause-same c =
     λ ls levels e. quantile_begins ls c.args.len c.args.self.start c.args.self.end c.args.self.i (omega (arith, e, all.0)) all.1 all.2
 
 pub returns-else-has_answer-clause-same : goal.returns-else-has_answer-clause-same
-returns-else-has_answer-clause-same c =
-    λ ls levels e. quantile_none ls c.args.len c.args.self.start c.args.self.end c.args.self.i (λ t.
-    both_ways c.has_answer.result c.if-has_answer.false (c.has_answer.ensures.1 (omega (arith, e, t.0), t.1, t.2)))
+returns-else-has_answer-clause-same c = grind (arith, quantile_none)

@@ -50,6 +50,4 @@ pub bounds-levels-k : goal.bounds-levels-k
 bounds-levels-k g c = c.requires.within
 
 pub is_of_bit-requires : goal.is_of_bit-requires
-is_of_bit-requires g c =
-    let up = rw (c.in-Some.is) at c.requires.seeks.rises in
-    omega (arith, up.within, level_length c.args.levels.now c.args.len c.args.k c.index-levels-k.result c.requires.levels.even c.index-levels-k.is c.requires.within)
+is_of_bit-requires g c = grind (arith, level_length)
