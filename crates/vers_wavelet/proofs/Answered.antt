@@ -1,6 +1,6 @@
 -- What is found in a range, by the relations over the members at its places.
-use Rattle.vers_wavelet.proofs.Names.{◌≡◌, ℕ, ◌+◌, ◌<◌, ◌≤◌, List, [], length, Option, Some, None, refl, sym, ap, ◌∙◌, subst, arith, inl, inr, ◌↔◌, slice_range, IsSome, IfSome, Any, cases_lt, range_members, kth_by_size, greatest_up_to, least_from, IsKth, IsPredecessor, IsSuccessor}
-use Rattle.vers_wavelet.proofs.Members.{never}
+use Rattle.vers_wavelet.proofs.Names.{◌≡◌, ℕ, ◌+◌, ◌<◌, ◌≤◌, List, [], length, Option, Some, None, refl, sym, ap, ◌∙◌, subst, arith, ◌↔◌, slice_range, IsSome, IfSome, Any, range_members, kth_by_size, greatest_up_to, least_from, IsKth, IsPredecessor, IsSuccessor}
+use Rattle.vers_wavelet.proofs.Members.{never, not_lt}
 use Rattle.vers_wavelet.proofs.BySize.{kth_none, kth_is}
 use Rattle.vers_wavelet.proofs.Ranges.{members_inside, members_past, members_reversed, range_has_kth}
 use Rattle.vers_wavelet.proofs.Nearest.{none_up_to, none_from, greatest_up_to_predecessor, greatest_up_to_some, least_from_successor, least_from_some}
@@ -8,13 +8,8 @@ use Rattle.vers_wavelet.proofs.Nearest.{none_up_to, none_from, greatest_up_to_pr
 -- what is found in some list of members, and not in an empty one, is found in a range within the list
 inside : (find : List ℕ → Option ℕ) (xs : List ℕ) (a b : ℕ) → find [] ≡ None → IsSome (find (range_members xs a b)) → (a ≤ b) × (b ≤ length xs)
 inside find xs a b none some =
-    elim (cases_lt (length xs) b) [
-      | inl past ↦ never (subst IsSome (ap find (members_past xs a b past) ∙ none) some)
-      | inr within ↦ elim (cases_lt b a) [
-        | inl reversed ↦ never (subst IsSome (ap find (members_reversed xs a b (omega arith)) ∙ none) some)
-        | inr order ↦ (order, within)
-      ]
-    ]
+    let empty = λ (e : range_members xs a b ≡ []). never {X = ⊥} (subst IsSome (ap find e ∙ none) some) in
+    (not_lt (λ reversed. empty (members_reversed xs a b (omega arith))), not_lt (λ past. empty (members_past xs a b past)))
 
 if_some : (o : Option ℕ) (P : ℕ → Type 0) → ((x : ℕ) → o ≡ Some x → P x) → IfSome o P
 if_some None P each = tt

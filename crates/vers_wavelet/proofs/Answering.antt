@@ -1,5 +1,5 @@
 -- What queries that go level by level answer.
-use Rattle.vers_wavelet.proofs.Names.{◌≡◌, ℕ, ◌+◌, ◌-◌, ◌*◌, ◌%◌, ◌^◌, ◌&&◌, ◌<◌, ◌≤◌, Bool, false, leb, List, [], ◌∷◌, length, get_or, refl, sym, ap, ◌∙◌, arith, Option, Some, None, option_map, slice_get, IfSome, if◌then◌else◌, le-leb, lt-leb, slice_get-get_or, slice_get_past, bit_value, value, values, next, way, digit, AreLevels, Seeks, occurrences}
+use Rattle.vers_wavelet.proofs.Names.{◌≡◌, ℕ, ◌+◌, ◌-◌, ◌*◌, ◌%◌, ◌^◌, ◌&&◌, ◌<◌, ◌≤◌, Bool, false, leb, List, [], ◌∷◌, length, get_or, refl, sym, ap, ◌∙◌, arith, Option, Some, None, option_map, slice_get, IfSome, if◌then◌else◌, le-leb, lt-leb, slice_get-get_or, bit_value, value, values, next, way, digit, AreLevels, Seeks, occurrences}
 use Rattle.vers_wavelet.proofs.Values.{value_is, value_none, next-up, way_is, way_none}
 use Rattle.vers_wavelet.proofs.Members.{never}
 use Rattle.vers_wavelet.proofs.Steps.{rise_none, rise_all, rise_below, way_within}
@@ -28,14 +28,6 @@ pub get_ends : (o : Option ℕ) (p : ℕ) → o ≡ option_map (λ y. y + value 
 get_ends None p = refl
 get_ends (Some y) p = let e : y ≡ y + value [] p = omega (arith, value_none p) in ap Some e
 
--- ---- occurrences counted
-
-pub rank_begins : {ls : List (List Bool)} {n : ℕ} → AreLevels ls n → (s end : ℕ) → end ≤ n
-    → way ls s end - way ls s (end - end) ≡ length (occurrences (values ls n) 0 end (s % 2 ^ length ls))
-rank_begins {ls} levels s end within =
-    let none : end - end ≡ 0 = omega arith in
-    ap (λ i. way ls s end - way ls s i) none ∙ count_is levels s 0 end (way ls s 0) (way ls s end) (omega arith) within (omega arith)
-
 -- an answer where two tests pass, and where one fails
 pub if_both : {X : Type 0} (a b c d : ℕ) (o : Option X) → a ≤ b → c ≤ d → o ≡ (if leb a b && leb c d then o else None)
 if_both a b c d o h l = sym (ap (λ t. if t && leb c d then o else None) (le-leb a b h) ∙ ap (λ t. if t then o else None) (le-leb c d l))
@@ -45,6 +37,15 @@ if_first_fails a b c d o h = sym (ap (λ t. if t && leb c d then o else None) (l
 
 pub if_second_fails : {X : Type 0} (a b c d : ℕ) (o : Option X) → a ≤ b → d < c → None ≡ (if leb a b && leb c d then o else None)
 if_second_fails a b c d o h l = sym (ap (λ t. if t && leb c d then o else None) (le-leb a b h) ∙ ap (λ t. if t then o else None) (lt-leb c d l))
+
+-- ---- occurrences counted
+
+pub rank_begins : {ls : List (List Bool)} {n : ℕ} → AreLevels ls n → (s end : ℕ) → length ls ≤ 64 → end ≤ n
+    → Some (way ls s end - way ls s (end - end)) ≡ (if leb (length ls) 64 && leb end (length (values ls n)) then Some (length (occurrences (values ls n) 0 end (s % 2 ^ length ls))) else None)
+rank_begins {ls} {n} levels s end few within =
+    let none : end - end ≡ 0 = omega arith in
+    ap (λ i. Some (way ls s end - way ls s i)) none ∙ ap Some (count_is levels s 0 end (way ls s 0) (way ls s end) (omega arith) within (omega arith))
+    ∙ if_both (length ls) 64 end (length (values ls n)) _ few (omega (arith, length-values ls n))
 
 pub rank_goes : (v : List Bool) (ls : List (List Bool)) (s end c i start to : ℕ) (b : Bool) (o : Option ℕ) → o ≡ Some c → length ls ≡ i → b ≡ digit s i
     → start ≡ next b v (end - c) → to ≡ next b v end
@@ -72,7 +73,7 @@ pub turn_known : {ls : List (List Bool)} {n : ℕ} → AreLevels ls n → (s ran
     → Seeks ls n s (way ls s 0 + rank) (length ls) (Some (first + rank))
 turn_known {ls} {n} levels s rank first o is begun inside =
     let e : first ≡ way ls s 0 = cc in
-    rw e (record { rises = rise_none ls n s (way ls s 0 + rank) (omega (arith, e)); some = λ h. refl })
+    rw e (record { rises = rise_none ls n s (way ls s 0 + rank) _ refl (omega (arith, e)); some = λ h. refl })
 
 pub turn_past : {ls : List (List Bool)} {n : ℕ} → AreLevels ls n → (s rank first : ℕ) (o : Option ℕ) → o ≡ Some first → o ≡ Some (way ls s 0) → n ≤ first + rank
     → Seeks ls n s (way ls s 0 + rank) (length ls) None

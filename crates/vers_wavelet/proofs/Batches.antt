@@ -1,5 +1,5 @@
 -- Lists whose items are changed one by one.
-use Rattle.vers_wavelet.proofs.Names.{Changed, rules, ◌≡◌, ◌≢◌, ℕ, suc, ◌+◌, ◌<◌, ◌≤◌, List, [], ◌∷◌, length, set, get_or, get_or-set_same, get_or-set_other, length-set, refl, sym, ap, ◌∙◌, subst, arith, inl, inr, map, All, cases_lt, any_default, Reads, AddsAtMost, times, adds_then, Become}
+use Rattle.vers_wavelet.proofs.Names.{Changed, rules, ◌≡◌, ℕ, suc, ◌+◌, ◌<◌, List, [], ◌∷◌, length, set, get_or, get_or-set_same, get_or-set_other, length-set, refl, sym, ap, ◌∙◌, arith, inl, inr, map, All, cases_lt, any_default, Reads, AddsAtMost, times, adds_then, Become}
 
 pub changed_none : {Q : Type 0} (R : Q → Q → Type 0) (xs : List Q) → Changed R xs xs 0
 changed_none R xs = record { long = refl; first = λ p d h l. absurd (omega arith); others = λ p d h. refl }
@@ -10,24 +10,15 @@ pub changed_more : {Q : Type 0} {R : Q → Q → Type 0} {xs ys : List Q} {j : �
 changed_more {Q} {R} {xs} {ys} {j} before inside x y at becomes = record {
   long = length-set ys j y ∙ before.long;
   first = λ p d h l. elim (cases_lt p j) [
-    | inl lower ↦
-        let ne : p ≢ j = omega arith in
-        subst (λ (z : Q). R (get_or xs p d) z) (sym (get_or-set_other ys j p y d ne)) (before.first p d lower l)
+    | inl lower ↦ rw (get_or-set_other ys j p y d (omega arith)) (before.first p d lower l)
     | inr last ↦
         let e : p ≡ j = omega arith in
         let within : j < length ys = omega (arith, before.long) in
-        let from : get_or xs p d ≡ x = ap (λ n. get_or xs n d) e ∙ sym (before.others j d (omega arith)) ∙ any_default ys j d x within ∙ sym at in
-        let to : get_or (set ys j y) p d ≡ y = ap (λ n. get_or (set ys j y) n d) e ∙ get_or-set_same ys j y d within in
-        subst (λ (z : Q). R z (get_or (set ys j y) p d)) (sym from) (subst (λ (z : Q). R x z) (sym to) becomes)
+        let from : get_or xs j d ≡ x = sym (before.others j d (omega arith)) ∙ any_default ys j d x within ∙ sym at in
+        rw (e, get_or-set_same ys j y d within, from) becomes
   ];
-  others = λ p d h.
-      let ne : p ≢ j = omega arith in
-      get_or-set_other ys j p y d ne ∙ before.others p d (omega arith);
+  others = λ p d h. get_or-set_other ys j p y d (omega arith) ∙ before.others p d (omega arith);
 }
-
--- all of them
-pub changed_all : {Q : Type 0} {R : Q → Q → Type 0} {xs ys : List Q} {j : ℕ} → Changed R xs ys j → length xs ≤ j → Become R xs ys
-changed_all done past = record { long = done.long; each = λ p d h. done.first p d (omega arith) h }
 
 -- one change after another
 pub become_then : {Q : Type 0} {R S T : Q → Q → Type 0} {xs ys zs : List Q} → Become R xs ys → Become S ys zs → ((x y z : Q) → R x y → S y z → T x z) → Become T xs zs
@@ -49,10 +40,6 @@ become_map {Q} {B} {R} f g (x ∷ xs) (y ∷ ys) change same =
     let first : f y ≡ g x = same x y (change.each 0 x (omega arith)) in
     let others : map f ys ≡ map g xs = become_map f g xs ys (record { long = omega (arith, change.long); each = λ p d h. change.each (suc p) d (omega arith) }) same in
     ap (λ b. b ∷ map f ys) first ∙ ap (λ bs. g x ∷ bs) others
-
--- what held of all holds of an item that is still as it was
-pub still : {Q : Type 0} {R : Q → Q → Type 0} (P : Q → Type 0) {xs ys : List Q} {j : ℕ} → All P xs → Changed R xs ys j → j < length xs → (x : Q) → x ≡ get_or ys j x → P x
-still P {xs} {ys} {j} all before inside x at = subst P (sym (before.others j x (omega arith)) ∙ sym at) (all j x inside)
 
 -- the same change by what follows from the relation
 pub become_weaker : {Q : Type 0} {R S : Q → Q → Type 0} {xs ys : List Q} → Become R xs ys → ((x y : Q) → R x y → S x y) → Become S xs ys

@@ -1,11 +1,11 @@
 -- Where the way down of a symbol ends: behind the symbols whose digits from the lowest to the highest make a lesser number, and those that are equal and stand before.
-use Rattle.vers_wavelet.proofs.Names.{◌≡◌, ℕ, zero, suc, ◌+◌, ◌*◌, ◌%◌, ◌^◌, ◌<◌, ◌≤◌, Bool, true, false, cond, ltb, eqb, List, [], ◌∷◌, length, get_or, refl, sym, ap, ◌∙◌, arith, add-one, inl, inr, mod-lt, mod-one, mod-eq_of_lt, slice_get, Some, count_by, cases_eq, eq-eqb, ne_eqb, nat_tests, take_all, pow_pos, bit_value, start, next, value, values, hits, equal, way, digit, Even, AreLevels, turned, gathered}
-use Rattle.vers_wavelet.proofs.Answering.{get_begins}
+use Rattle.vers_wavelet.proofs.Names.{◌≡◌, ℕ, zero, suc, ◌+◌, ◌*◌, ◌%◌, ◌^◌, ◌<◌, ◌≤◌, Bool, true, false, cond, ltb, eqb, List, [], ◌∷◌, length, get_or, refl, sym, ap, ◌∙◌, arith, add-one, mod-lt, mod-one, mod-eq_of_lt, slice_get, leb, ◌&&◌, if◌then◌else◌, None, Some, count_by, nat_tests, take_all, pow_pos, bit_value, start, next, value, values, hits, equal, way, digit, Even, AreLevels, turned, gathered}
+use Rattle.vers_wavelet.proofs.Answering.{get_begins, if_both}
 use Rattle.vers_wavelet.proofs.Counting.{split_apart}
 use Rattle.vers_wavelet.proofs.Digits.{digit_value, top_digit, one_split}
 use Rattle.vers_wavelet.proofs.Lists.{count_is, first_hits, length-values}
 use Rattle.vers_wavelet.proofs.Steps.{even_rest, even_first, start_le, way_equal}
-use Rattle.vers_wavelet.proofs.Values.{next_none, split_all, value-lt, value_is, way_none, way_is, way-up}
+use Rattle.vers_wavelet.proofs.Values.{hits_all, next_none, split_all, value-lt, value_is, way_none, way_is, way-up}
 
 -- ---- numbers by their digits from the lowest on
 
@@ -32,10 +32,7 @@ turned_apart (suc k) s t e =
 
 turned_tests : (k v s : ℕ) → v < 2 ^ k → eqb (turned k v) (turned k s) ≡ eqb v (s % 2 ^ k)
 turned_tests k v s small =
-    elim (cases_eq v (s % 2 ^ k)) [
-      | inl same ↦ eq-eqb _ _ (turned_same k v s (mod-eq_of_lt small ∙ same)) ∙ sym (eq-eqb _ _ same)
-      | inr other ↦ ne_eqb _ _ (λ e. other (sym (mod-eq_of_lt small) ∙ turned_apart k v s e)) ∙ sym (ne_eqb _ _ other)
-    ]
+    grind (arith, nat_tests, mod-eq_of_lt small, turned_same k v s, turned_apart k v s)
 
 -- a symbol's first digit becomes its last
 turned_value : (l : List Bool) (ls : List (List Bool)) (p : ℕ) (b : Bool) → get_or l p false ≡ b → turned (suc (length ls)) (value (l ∷ ls) p) ≡ 2 * turned (length ls) (value ls (next b l p)) + bit_value b
@@ -76,8 +73,7 @@ with_zeros false l ls s = let same : turned (length ls) s + 0 ≡ turned (length
 
 none_before : (s n : ℕ) → hits (lies_before [] (turned 0 s)) n ≡ 0
 unfolding turned
-none_before s zero = refl
-none_before s (suc n) = omega (arith, none_before s n)
+none_before s n = hits_all _ false n (λ p. refl)
 
 way_first : (ls : List (List Bool)) (n : ℕ) → Even ls n → (s : ℕ) → way ls s 0 ≡ hits (lies_before ls (turned (length ls) s)) n
 way_first [] n even s = way_none s 0 ∙ sym (none_before s n)
@@ -107,6 +103,11 @@ gathered_is {ls} {n} levels s p to within leads =
     ap (λ (l : List ℕ). count_by (λ y. ltb (turned k y) t) l) (sym (take_all n (values ls n) (omega (arith, length-values ls n)))) ∙ first_hits (λ y. ltb (turned k y) t) ls n n (omega arith) in
     let first : way ls s 0 ≡ hits (lies_before ls t) n = way_first ls n levels.even s ∙ ap (λ x. hits (lies_before ls x) n) (sym same) in
     omega (arith, leads, counted, first, count_is levels s 0 p (way ls s 0) (way ls s p) (omega arith) within (omega arith), way-up ls s 0 p (omega arith))
+
+pub gathered_begins : {ls : List (List Bool)} {n : ℕ} → AreLevels ls n → (s p : ℕ) → length ls ≤ 64 → p ≤ n
+    → Some (way ls s p) ≡ (if leb (length ls) 64 && leb p (length (values ls n)) then Some (gathered (record { width = length ls; items = values ls n }) p (s % 2 ^ length ls)) else None)
+gathered_begins {ls} {n} levels s p few within =
+    ap Some (gathered_is levels s p _ within refl) ∙ if_both (length ls) 64 p (length (values ls n)) _ few (omega (arith, length-values ls n))
 
 -- the same of the symbol at the place
 pub gathered_here : {ls : List (List Bool)} {n : ℕ} → AreLevels ls n → (p to c : ℕ) → p < n → to ≡ way ls (value ls p) p → c ≡ 0 + value ls p

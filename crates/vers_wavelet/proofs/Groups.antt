@@ -1,28 +1,13 @@
 -- Groups of queries that ask a level together.
-use Rattle.vers_wavelet.proofs.Names.{◌≡◌, ◌≢◌, ℕ, ◌+◌, ◌-◌, ◌<◌, ◌≤◌, Bool, true, false, cond, not, List, length, get_or, set, get_or-set_same, get_or-set_other, length-set, refl, sym, ap, ◌∙◌, subst, arith, Some, inl, inr, cases_lt, any_default, each_at, select, start, digit, Become, HasNumber, HasPlace, asked}
+use Rattle.vers_wavelet.proofs.Names.{◌≡◌, ◌≢◌, ℕ, ◌+◌, ◌-◌, ◌<◌, ◌≤◌, Bool, true, false, List, length, get_or, set, get_or-set_same, get_or-set_other, length-set, ap, ◌∙◌, arith, Some, inl, inr, cases_lt, any_default, each_at, select, start, digit, Become, HasNumber, HasPlace, asked}
 use Rattle.vers_rank.specs.Batches.{Changed}
 use Rattle.vers_wavelet.specs.declared.wavelet.batch.select.SelectQuery.{SelectQuery}
-use Rattle.vers_wavelet.specs.declared.wavelet.batch.group.Asked.{Asked}
 use Rattle.vers_wavelet.specs.declared.wavelet.batch.group.Group.{Group}
 
 -- what holds of zeros and of ones holds of either
 pub for_both : (P : Bool → Type 0) → P false → P true → (b : Bool) → P b
 for_both P zeros ones true = ones
 for_both P zeros ones false = zeros
-
--- a number that was appended to those of its kind
-module _ (zeros ones more_zeros more_ones : Asked) (slot : ℕ) where
-  pub slot_put : (bit : Bool) → slot ≡ (cond bit ones zeros).count → more_zeros.count ≡ zeros.count + cond (not bit) 1 0
-      → more_ones.count ≡ ones.count + cond bit 1 0
-      → slot < (cond bit more_ones more_zeros).count
-  slot_put true is z o = omega arith
-  slot_put false is z o = omega arith
-
-  pub number_put : (number : ℕ) (bit : Bool) → slot ≡ (cond bit ones zeros).count
-      → (not bit ≡ true → get_or more_zeros.numbers zeros.count 0 ≡ number)
-      → (bit ≡ true → get_or more_ones.numbers ones.count 0 ≡ number) → get_or (cond bit more_ones more_zeros).numbers slot 0 ≡ number
-  number_put number true is z o = rw is (o refl)
-  number_put number false is z o = rw is (z refl)
 
 -- what a query asked is kept while others ask
 pub number_kept : {v : List Bool} {i j : ℕ} {q : SelectQuery} {old new : Group} → get_or new.slots j 0 ≡ get_or old.slots j 0
@@ -56,9 +41,7 @@ place_found {v} {i} {j} {q} {old} {new} slots counts found has =
 pub become_changed : {Q : Type 0} {d : Q} {R : Q → Q → Type 0} {n : ℕ} {xs ys : List Q} → Changed d R 0 n xs ys → length xs ≤ n → Become R xs ys
 become_changed {Q} {d} {R} {n} {xs} {ys} is all = record {
   long = is.long;
-  each = λ p e h.
-      let at : R (get_or xs p d) (get_or ys p d) = each_at is p (omega arith) (omega arith) in
-      subst (λ (x : Q). R x (get_or ys p e)) (any_default xs p d e h) (subst (λ (y : Q). R (get_or xs p d) y) (any_default ys p d e (omega (arith, h, is.long))) at);
+  each = λ p e h. rw (← any_default xs p d e h, ← any_default ys p d e (omega (arith, h, is.long))) (each_at is p (omega arith) (omega arith));
 }
 
 -- what was found for a query
@@ -72,15 +55,12 @@ pub changed_item : {Q : Type 0} {d : Q} {R : Q → Q → Type 0} {from n : ℕ} 
     → Changed d R from (n + 1) xs (set ys (from + n) y)
 changed_item {Q} {d} {R} {from} {n} {xs} {ys} is inside y becomes =
     let i : ℕ = from + n in
-    let zs : List Q = set ys i y in
-    let other : (p : ℕ) → p ≢ i → get_or zs p d ≡ get_or ys p d = λ p ne. get_or-set_other ys i p y d ne in
-    let same : get_or zs i d ≡ y = get_or-set_same ys i y d (omega (arith, inside, is.long)) in
-    let here : R (get_or xs i d) (get_or zs i d) = subst (λ (x : Q). R x (get_or zs i d)) (is.after i (omega arith)) (subst (λ (z : Q). R (get_or ys i d) z) (sym same) becomes) in
+    let other : (p : ℕ) → p ≢ i → get_or (set ys i y) p d ≡ get_or ys p d = λ p ne. get_or-set_other ys i p y d ne in
     record {
       long = length-set ys i y ∙ is.long;
       each = λ j h. elim (cases_lt j n) [
-        | inl lower ↦ subst (λ (z : Q). R (get_or xs (from + j) d) z) (sym (other (from + j) (omega arith))) (is.each j lower)
-        | inr last ↦ let e : n ≡ j = omega arith in subst (λ (m : ℕ). R (get_or xs (from + m) d) (get_or zs (from + m) d)) e here
+        | inl lower ↦ rw (other (from + j) (omega arith)) (is.each j lower)
+        | inr last ↦ let e : j ≡ n = omega arith in rw (e, get_or-set_same ys i y d (omega (arith, inside, is.long)), ← is.after i (omega arith)) becomes
       ];
       before = λ j h. other j (omega arith) ∙ is.before j h;
       after = λ j h. other j (omega arith) ∙ is.after j (omega arith);

@@ -1,7 +1,7 @@
 -- What places and counts of the levels say of the list of symbols.
 use Rattle.vers_wavelet.proofs.Names.{◌≡◌, ℕ, zero, suc, ◌+◌, ◌-◌, ◌%◌, ◌^◌, ◌<◌, ◌≤◌, Bool, true, cond, ltb, leb, eqb, List, ◌∷◌, ◌++◌, length, get_or, take, drop, refl, sym, ap, ◌∙◌, subst, arith, add-one, inl, inr, filter, slice_range, slice_get, Option, Some, None, IsSome, IfSome, All, ◌↔◌, count_by, range_with_len, take-add, drop-cons, drop_more, cases_lt, eq-eqb, nat_tests, map-id, get_or_at, take-append-drop, length-append, length-take, length-drop, filter-append, length-filter, sum_by-append, sum_by-cons, sum_by_more, length-range_with_len, get_or-range_with_len, length-map-range_with_len, get_or-map-range_with_len, take-map-range_with_len, slice_get-get_or, slice_get_past, value, values, hits, under, equal, way, AreLevels, KthOf, occurrences, IsKth}
 use Rattle.vers_wavelet.proofs.Values.{way-up, equal_under, value-lt, hits_more, hits_same}
-use Rattle.vers_wavelet.proofs.Members.{never}
+use Rattle.vers_wavelet.proofs.Members.{never, not_lt}
 use Rattle.vers_wavelet.proofs.Steps.{way_equal, way_more, way_parts}
 
 pub length-values : (ls : List (List Bool)) (n : ℕ) → length (values ls n) ≡ n
@@ -101,10 +101,7 @@ unfolding occurrences
 found_is {ls} {n} levels s a r from to p start e f few within holds leads =
     let v : ℕ = s % 2 ^ length ls in
     let q = λ (i : ℕ). eqb (get_or (values ls n) i 0) v in
-    let order : a ≤ p = elim (cases_lt p a) [
-      | inl before ↦ absurd (omega (arith, way_more ls n levels.even s p within holds, way-up ls s (p + 1) a (omega arith)))
-      | inr fine ↦ fine
-    ] in
+    let order : a ≤ p = grind (arith, e, leads, way_more ls n levels.even s p within holds, way-up ls s (p + 1) a) in
     let many : length (occurrences (values ls n) a n v) ≡ to - from = sym (count_is levels s a n from to start (omega arith) (omega (arith, e, f))) in
     let before : count_by q (range_with_len a (p - a)) ≡ r =
     (let held = occurrences_are ls n a p v order (omega arith) in
@@ -122,10 +119,7 @@ pub found_or_none : {ls : List (List Bool)} {n : ℕ} → AreLevels ls n → (s 
     → IfSome o (λ p. value ls p ≡ s % 2 ^ length ls) → IfSome o (λ p. way ls s p ≡ from + r) → (IsSome o → from + r < way ls s n) × (from + r < way ls s n → IsSome o)
     → o ≡ slice_get (occurrences (values ls n) a n (s % 2 ^ length ls)) r
 found_or_none {ls} {n} levels s a r from None start e within holds leads some =
-    found_none levels s a r from (way ls s n) start e refl (elim (cases_lt (from + r) (way ls s n)) [
-      | inl inside ↦ never (some.1 inside)
-      | inr past ↦ omega arith
-    ])
+    found_none levels s a r from (way ls s n) start e refl (omega (arith, not_lt {a = from + r} {b = way ls s n} (λ inside. never (some.1 inside))))
 found_or_none {ls} {n} levels s a r from (Some p) start e within holds leads some = grind (arith, from, start, within, holds, leads, some, found_is)
 
 -- ---- members by size

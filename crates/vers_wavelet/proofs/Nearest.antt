@@ -61,15 +61,11 @@ nearest_none false xs below s low high all none = greatest_up_to_none xs s (omeg
 
 one_predecessor : (xs : List ℕ) (s x y : ℕ) → IsPredecessor xs s x → IsPredecessor xs s y → x ≡ y
 one_predecessor xs s x y p q =
-    let above = p.greatest q.member.0 y q.member.1 (omega (arith, q.member.2, q.within)) in
-    let below = q.greatest p.member.0 x p.member.1 (omega (arith, p.member.2, p.within)) in
-    omega (arith, p.member.2, q.member.2, above, below)
+    omega (arith, p.member.2, q.member.2, p.within, q.within, p.greatest q.member.0 y q.member.1, q.greatest p.member.0 x p.member.1)
 
 one_successor : (xs : List ℕ) (s x y : ℕ) → IsSuccessor xs s x → IsSuccessor xs s y → x ≡ y
 one_successor xs s x y p q =
-    let below = p.least q.member.0 y q.member.1 (omega (arith, q.member.2, q.within)) in
-    let above = q.least p.member.0 x p.member.1 (omega (arith, p.member.2, p.within)) in
-    omega (arith, p.member.2, q.member.2, above, below)
+    omega (arith, p.member.2, q.member.2, p.within, q.within, p.least q.member.0 y q.member.1, q.least p.member.0 x p.member.1)
 
 -- a search finds just what is in a relation, if it finds something there where something is in it, and only one number is
 just_where : (o : Option ℕ) (R : ℕ → Type 0) → ((x y : ℕ) → R x → R y → x ≡ y) → (IsSome o → (x : ℕ) × (o ≡ Some x) × R x)

@@ -1,5 +1,5 @@
 -- Occurrences of a symbol from a place on.
-use Rattle.vers_wavelet.proofs.Names.{◌≡◌, ℕ, ◌<◌, ◌≤◌, List, length, slice_get, Option, Some, None, refl, sym, arith, inl, inr, ◌↔◌, IsSome, IfSome, cases_lt, le-leb, lt-leb, slice_get_past, Symbols, as_word, low_bits_of, places_of, place_from}
+use Rattle.vers_wavelet.proofs.Names.{◌≡◌, ℕ, ◌<◌, ◌≤◌, List, length, slice_get, Option, Some, None, refl, sym, ◌↔◌, IsSome, IfSome, nat_tests, arith, le-leb, slice_get_past, Symbols, as_word, low_bits_of, places_of, place_from}
 use Rattle.vers_wavelet.proofs.Members.{never}
 use Rattle.vers_wavelet.proofs.Lists.{no_places}
 
@@ -10,13 +10,5 @@ unfolding as_word
 offset_place symbols o i s (Some p) value some = rw (le-leb symbols.width 64 (some.0 refl).0) (sym value)
 offset_place symbols o i s None value some =
     let places : List ℕ = places_of symbols o (length symbols.items) s in
-    elim (cases_lt 64 symbols.width) [
-      | inl wide ↦ rw (lt-leb symbols.width 64 wide) refl
-      | inr narrow ↦ rw (le-leb symbols.width 64 narrow) (elim (cases_lt i (length places)) [
-        | inr few ↦ sym (slice_get_past places i few)
-        | inl so_many ↦ elim (cases_lt o (length symbols.items)) [
-          | inl inside ↦ never (some.1 (narrow, inside, so_many))
-          | inr past ↦ absurd (omega (arith, so_many, no_places symbols.items o (length symbols.items) (low_bits_of symbols s) past))
-        ]
-      ])
-    ]
+    let refused = λ (narrow : symbols.width ≤ 64) (inside : o < length symbols.items) (many : i < length places). never {X = ⊥} (some.1 (narrow, inside, many)) in
+    grind (arith, nat_tests, refused, slice_get_past places i, no_places symbols.items o (length symbols.items) (low_bits_of symbols s))

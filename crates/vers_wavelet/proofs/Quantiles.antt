@@ -1,9 +1,10 @@
 -- Members by size, from one level to the next.
-use Rattle.vers_wavelet.proofs.Names.{◌≡◌, ℕ, ◌+◌, ◌-◌, ◌*◌, ◌^◌, ◌&&◌, ◌<◌, ◌≤◌, Bool, false, cond, leb, List, [], ◌∷◌, length, get_or, drop, refl, sym, ap, ◌∙◌, arith, inl, inr, Option, Some, None, option_map, slice_get, slice_range, IfSome, if◌then◌else◌, cases_lt, length-take, slice_get-get_or, slice_get_past, bit_value, values, next, KthOf, HasRoom, member, by_size}
+use Rattle.vers_wavelet.proofs.Names.{◌≡◌, ℕ, ◌+◌, ◌-◌, ◌*◌, ◌^◌, ◌&&◌, ◌<◌, ◌≤◌, Bool, false, cond, leb, List, [], ◌∷◌, length, get_or, drop, refl, sym, ap, ◌∙◌, arith, Option, Some, None, option_map, slice_get, slice_range, IfSome, if◌then◌else◌, nat_tests, length-take, slice_get-get_or, slice_get_past, bit_value, values, next, KthOf, HasRoom, member, by_size}
 use Rattle.vers_wavelet.proofs.BySize.{length-by_size, kth_at, at_kth}
 use Rattle.vers_wavelet.proofs.Steps.{kth_step, kth-lt}
 use Rattle.vers_wavelet.proofs.Lists.{length-values, length-part, kth_is}
-use Rattle.vers_wavelet.proofs.Answering.{if_both, if_first_fails, if_second_fails}
+use Rattle.vers_wavelet.proofs.Answering.{if_both}
+use Rattle.vers_wavelet.proofs.Members.{not_lt}
 
 -- ---- the member of a range
 
@@ -48,20 +49,10 @@ quantile_begins ls n a b i few within h =
 pub quantile_none : (ls : List (List Bool)) (n a b i : ℕ) → ((length ls ≤ 64) × (b ≤ n) × (a + i < b) → ⊥)
     → None ≡ (if leb (length ls) 64 && leb b (length (values ls n)) then slice_get (by_size (slice_range (values ls n) a b)) i else None)
 quantile_none ls n a b i refused =
-    let o : Option ℕ = slice_get (by_size (slice_range (values ls n) a b)) i in
-    elim (cases_lt 64 (length ls)) [
-      | inl wide ↦ if_first_fails (length ls) 64 b (length (values ls n)) o wide
-      | inr few ↦ elim (cases_lt n b) [
-        | inl past ↦ if_second_fails (length ls) 64 b (length (values ls n)) o few (omega (arith, length-values ls n))
-        | inr within ↦ elim (cases_lt (a + i) b) [
-          | inl inside ↦ absurd (refused (few, within, inside))
-          | inr short ↦
-              let xs : List ℕ = slice_range (values ls n) a b in
-              let none : o ≡ None = slice_get_past (by_size xs) i (omega (arith, length-by_size xs, length-take (b - a) (drop a (values ls n)))) in
-              sym none ∙ if_both (length ls) 64 b (length (values ls n)) o few (omega (arith, length-values ls n))
-        ]
-      ]
-    ]
+    let xs : List ℕ = slice_range (values ls n) a b in
+    let none : b ≤ a + i → slice_get (by_size xs) i ≡ None = λ short. slice_get_past (by_size xs) i (omega (arith, length-by_size xs, length-take (b - a) (drop a (values ls n)))) in
+    let some = λ (few : length ls ≤ 64) (within : b ≤ n). not_lt (λ inside. refused (few, within, inside)) in
+    grind (arith, nat_tests, none, some, length-values ls n)
 
 pub quantile_goes : (v : List Bool) (ls : List (List Bool)) (a b i j to end number more k : ℕ) (bit : Bool) (o : Option ℕ) → o ≡ Some number → length ls ≡ k
     → a + i < b → b ≤ length v → to ≡ next bit v a → end ≡ next bit v b → to + j < end → j + cond bit (next false v b - next false v a) 0 ≡ i

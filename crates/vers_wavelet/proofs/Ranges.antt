@@ -1,7 +1,7 @@
 -- The members of a range by size, and symbols that are numbers of the machine.
-use Rattle.vers_wavelet.proofs.Names.{◌≡◌, ℕ, ◌+◌, ◌-◌, ◌<◌, ◌≤◌, List, [], length, get_or, Option, Some, None, refl, sym, ap, ◌∙◌, subst, arith, inl, inr, slice_range, IsSome, ◌↔◌, nil_from_length, cases_lt, le-leb, lt-leb, by_size, range_members, kth_by_size, as_word}
+use Rattle.vers_wavelet.proofs.Names.{◌≡◌, ℕ, ◌+◌, ◌-◌, ◌<◌, ◌≤◌, List, [], length, get_or, Option, Some, None, refl, sym, ap, ◌∙◌, subst, arith, slice_range, IsSome, ◌↔◌, nil_from_length, cases_lt, le-leb, lt-leb, by_size, range_members, kth_by_size, as_word}
 use Rattle.vers_wavelet.proofs.BySize.{kth_some, kth_none}
-use Rattle.vers_wavelet.proofs.Members.{part_length, never}
+use Rattle.vers_wavelet.proofs.Members.{part_length, never, not_lt}
 use Rattle.vers_wavelet.proofs.Items.{whole_range}
 
 -- ---- the members of a range
@@ -16,10 +16,7 @@ members_past items a b past = rw (lt-leb b (length items) past) refl
 
 few_members : (items : List ℕ) (a b : ℕ) → length (range_members items a b) ≤ b - a
 few_members items a b =
-    elim (cases_lt (length items) b) [
-      | inl past ↦ omega (arith, ap length (members_past items a b past))
-      | inr within ↦ omega (arith, ap length (members_inside items a b within), part_length items a b within)
-    ]
+    grind (arith, cases_lt (length items) b, members_past items a b, members_inside items a b, part_length items a b)
 
 pub members_reversed : (items : List ℕ) (a b : ℕ) → b ≤ a → range_members items a b ≡ []
 members_reversed items a b order = nil_from_length (range_members items a b) (omega (arith, few_members items a b))
@@ -41,13 +38,9 @@ kth_few items a b i few = kth_none (range_members items a b) i (omega (arith, fe
 -- a range has a member of a number where it ends within the list and has so many places
 pub range_has_kth : (items : List ℕ) (a b i : ℕ) → IsSome (kth_by_size (range_members items a b) i) ↔ (b ≤ length items) × (a + i < b)
 range_has_kth items a b i = (
-  λ some. elim (cases_lt (length items) b) [
-    | inl past ↦ never (subst IsSome (kth_past items a b i past) some)
-    | inr within ↦ elim (cases_lt (a + i) b) [
-      | inl so_many ↦ (within, so_many)
-      | inr few ↦ never (subst IsSome (kth_few items a b i few) some)
-    ]
-  ],
+  λ some.
+      let none = λ (e : kth_by_size (range_members items a b) i ≡ None). never {X = ⊥} (subst IsSome e some) in
+      (not_lt (λ past. none (kth_past items a b i past)), not_lt (λ few. none (kth_few items a b i (omega arith)))),
   λ inside. subst IsSome (sym (kth_inside items a b i _ inside.0 inside.1 refl)) refl,
 )
 

@@ -1,5 +1,5 @@
 -- One level of a search.
-use Rattle.vers_wavelet.proofs.Names.{◌≡◌, ℕ, zero, suc, ◌+◌, ◌-◌, ◌*◌, ◌%◌, ◌^◌, ◌<◌, ◌≤◌, Bool, false, cond, List, [], ◌∷◌, length, take, drop, get_or, refl, sym, ap, ◌∙◌, subst, arith, add-one, inl, inr, drop-cons, pow-suc, mod-lt, mod-eq_of_lt, mul-le-mul_right, mod-one, cases_lt, pow_pos, length-drop, drop_all, take_all, bit_value, bit_value_le, count, select, select_holds, Reads, IsWithin, times, start, next, value, under, equal, way, digit, Even, AreLevels, Narrowed, KthOf, HasRoom, Searched, Rises}
+use Rattle.vers_wavelet.proofs.Names.{◌≡◌, ℕ, zero, suc, ◌+◌, ◌-◌, ◌*◌, ◌%◌, ◌^◌, ◌<◌, ◌≤◌, Bool, false, cond, List, [], ◌∷◌, length, take, drop, get_or, refl, sym, ap, ◌∙◌, subst, arith, add-one, drop-cons, pow-suc, mod-lt, mod-eq_of_lt, mul-le-mul_right, mod-one, pow_pos, length-drop, drop_all, take_all, bit_value, bit_value_le, count, select, select_holds, Reads, IsWithin, times, start, next, value, under, equal, way, digit, Even, AreLevels, Narrowed, KthOf, HasRoom, Searched, Rises}
 use Rattle.vers_wavelet.proofs.Digits.{top_digit, one_split}
 use Rattle.vers_wavelet.proofs.Values.{same_bit, value-lt, under_all, under_step, equal_under, next_none, next-up, next-le, none_under, all_equal, value_is, value_none, way_none, way_is, way-up, equal_more}
 
@@ -29,11 +29,7 @@ kth_step bit l ls a b i j x order within small e k =
     }
 
 pub kth-lt : (ls : List (List Bool)) (a b i x : ℕ) → KthOf ls a b i x → a + i < b → x < 2 ^ length ls
-kth-lt ls a b i x kth h =
-    elim (cases_lt x (2 ^ length ls)) [
-      | inl small ↦ small
-      | inr high ↦ absurd (omega (arith, h, kth.less, under_all ls x a high, under_all ls x b high))
-    ]
+kth-lt ls a b i x kth h = grind (arith, h, kth.less, under_all ls x a, under_all ls x b)
 
 module _ (ls : List (List Bool)) (k : ℕ) (h : k < length ls) where
   pub level_at : (v : List Bool) → v ≡ get_or ls k v → drop k ls ≡ v ∷ drop (k + 1) ls
@@ -76,18 +72,15 @@ way_equal (l ∷ ls) n even s i h =
 pub way_more : (ls : List (List Bool)) (n : ℕ) → Even ls n → (s i : ℕ) → i < n → value ls i ≡ s % 2 ^ length ls → way ls s (i + 1) ≡ way ls s i + 1
 way_more ls n even s i h e = omega (arith, way_equal ls n even s i (omega arith), way_equal ls n even s (i + 1) (omega arith), equal_more ls (s % 2 ^ length ls) i e)
 
-pub way_low : (ls : List (List Bool)) (s k : ℕ) → way (drop k ls) s 0 ≤ way ls s 0
-way_low ls s zero = omega arith
-way_low [] s (suc k) = omega arith
-way_low (l ∷ ls) s (suc k) = omega (arith, way_low ls s k, way-up ls s 0 (next (digit s (length ls)) l 0) (omega arith), way_is l ls s 0)
-
-pub way_high : (ls : List (List Bool)) (n : ℕ) → Even ls n → (s k : ℕ) → way ls s n ≤ way (drop k ls) s n
-way_high ls n even s zero = omega arith
-way_high [] n even s (suc k) = omega arith
-way_high (l ∷ ls) n even s (suc k) =
+-- the places that hold s lie between those of a level below
+pub way_between : (ls : List (List Bool)) (n : ℕ) → Even ls n → (s k : ℕ) → (way (drop k ls) s 0 ≤ way ls s 0) × (way ls s n ≤ way (drop k ls) s n)
+way_between ls n even s zero = (omega arith, omega arith)
+way_between [] n even s (suc k) = (omega arith, omega arith)
+way_between (l ∷ ls) n even s (suc k) =
     let bit : Bool = digit s (length ls) in
+    let below = way_between ls n (even_rest l ls n even) s k in
     let down : next bit l n ≤ n = omega (arith, next-le bit l n, even_first l ls n even) in
-    omega (arith, way_high ls n (even_rest l ls n even) s k, way-up ls s (next bit l n) n down, way_is l ls s n)
+    (omega (arith, below.0, way-up ls s 0 (next bit l 0) (omega arith), way_is l ls s 0), omega (arith, below.1, way-up ls s (next bit l n) n down, way_is l ls s n))
 
 pub even_drop : (ls : List (List Bool)) (n : ℕ) → Even ls n → (k : ℕ) → Even (drop k ls) n
 even_drop ls n even zero = even
@@ -134,27 +127,19 @@ module _ (ls : List (List Bool)) (s k : ℕ) (h : k < length ls) (v : List Bool)
     holds_here = up.holds ∙ ap (λ m. s % 2 ^ m) (sym (levels_left ls k h))
 
     -- what leads to a symbol that is s is among those of its digit
-    pub rise_inside : way ls s 0 ≤ target → target < way ls s n → (start bit v ≤ q) × (q < next bit v n)
-    rise_inside low high = (
-      elim (cases_lt q (start bit v)) [
-        | inl less ↦
-            let more = way_more lower n (even_drop ls n even (k + 1)) s q up.within holds_here in
-            let order = way-up lower s (q + 1) (start bit v) (omega arith) in
-            absurd (omega (arith, up.leads, more, order, way_down 0, ap (way lower s) (next_none bit v), way_low ls s k))
-        | inr fine ↦ fine
-      ],
-      elim (cases_lt q (next bit v n)) [
-        | inl fine ↦ fine
-        | inr past ↦ absurd (omega (arith, up.leads, way-up lower s (next bit v n) q past, way_down n, way_high ls n even s k))
-      ],
-    )
+    pub rise_inside : way ls s 0 ≤ target → target < way ls s n → (start bit v ≤ q) × (q < next bit v (length v))
+    rise_inside low high =
+        let more = way_more lower n (even_drop ls n even (k + 1)) s q up.within holds_here in
+        let between = way_between ls n even s k in (
+          grind (arith, up.leads, more, way-up lower s (q + 1) (start bit v), way_down 0, ap (way lower s) (next_none bit v), between.0),
+          grind (arith, up.leads, way-up lower s (next bit v (length v)) q, way_down (length v), ap (way (drop k ls) s) long, between.1),
+        )
 
-    pub rise_to : start bit v ≤ q → q < next bit v n → Rises ls n s target k (select bit v (q - start bit v))
+    pub rise_to : start bit v ≤ q → q < next bit v (length v) → Rises ls n s target k (select bit v (q - start bit v))
     unfolding next
     rise_to from before =
         let r : ℕ = q - start bit v in
-        let e : count bit v (length v) ≡ count bit v n = ap (count bit v) long in
-        let few : r < count bit v (length v) = omega (arith, before, from, e) in
+        let few : r < count bit v (length v) = omega (arith, before, from) in
         let at' = select_holds bit v r (length v) (omega arith) few in
         let p : ℕ = select bit v r in
         let back : next bit v p ≡ q = omega (arith, at'.2, from) in
@@ -164,10 +149,10 @@ module _ (ls : List (List Bool)) (s k : ℕ) (h : k < length ls) (v : List Bool)
           leads = rw (way_down p, back) up.leads;
         }
 
-pub rise_none : (ls : List (List Bool)) (n s target : ℕ) → target < n → Rises ls n s target (length ls) target
-rise_none ls n s target h =
-    let none : drop (length ls) ls ≡ [] = drop_all (length ls) ls (omega arith) in
-    let end : length ls - length ls ≡ 0 = omega arith in
+pub rise_none : (ls : List (List Bool)) (n s target k : ℕ) → k ≡ length ls → target < n → Rises ls n s target k target
+rise_none ls n s target k e h =
+    let none : drop k ls ≡ [] = drop_all k ls (omega arith) in
+    let end : length ls - k ≡ 0 = omega arith in
     record { within = h; holds = rw (none, end) (value_none target ∙ omega arith); leads = rw none (way_none s target) }
 
 -- one level of a search by size
@@ -175,28 +160,27 @@ module _ (ls : List (List Bool)) (k : ℕ) (h : k < length ls) (v : List Bool) (
   abbrev weight : ℕ
   weight = 2 ^ (length ls - (k + 1))
 
-  pub searched_more : (bit : Bool) (from to th a b i j number : ℕ) → a ≤ b → b ≤ length v → j + cond bit (next false v b - next false v a) 0 ≡ i
-      → Searched ls from to th k a b i number
-      → Searched ls from to th (k + 1) (next bit v a) (next bit v b) j (number + bit_value bit * weight)
-  searched_more bit from to th a b i j number order within e s = record {
+  -- the members by size of a range, by those of the places that go on with the bit
+  pub searched_more : (bit : Bool) {from to a b c d number made : ℕ} (th more : ℕ) → a ≤ b → b ≤ length v → c ≡ next bit v a → d ≡ next bit v b
+      → more ≡ th + cond bit (next false v b - next false v a) 0 → made ≡ number + bit_value bit * weight
+      → ((j : ℕ) → Searched ls from to (th + j) k a b j number)
+      → (j : ℕ) → Searched ls from to (more + j) (k + 1) c d j made
+  searched_more bit {from} {to} {a} {b} {c} {d} {number} {made} th more order within first last e is s j = record {
     each = λ x small kth.
+        let i : ℕ = j + cond bit (next false v b - next false v a) 0 in
         let left = levels_left ls k h in
-        let here = kth_step bit v (drop (k + 1) ls) a b i j x order within (rw left small) e kth in
-        let sum : number + (bit_value bit * weight + x) ≡ number + bit_value bit * weight + x = omega arith in
+        let here = kth_step bit v (drop (k + 1) ls) a b i j x order within (rw left small) refl (rw (first, last) at kth) in
+        let member : more + j ≡ th + i = omega (arith, e) in
+        let sum : made + x ≡ number + (bit_value bit * weight + x) = omega (arith, is) in
         let deeper : length ls - k ≡ suc (length ls - (k + 1)) = omega arith in
         let fits : bit_value bit * weight + x < 2 ^ (length ls - k) =
         rw deeper (omega (arith, pow-suc 2 (length ls - (k + 1)), mul-le-mul_right weight (bit_value_le bit))) in
-        rw (← sum) (s.each (bit_value bit * weight + x) fits (rw (level_at ls k h v at, ← left) here));
+        rw (member, sum) ((s i).each (bit_value bit * weight + x) fits (rw (level_at ls k h v at, ← left) here));
   }
 
   -- one level of the symbol at a place
   read_here : (bit : Bool) (p : ℕ) → get_or v p false ≡ bit → value (drop k ls) p ≡ bit_value bit * weight + value (drop (k + 1) ls) (next bit v p)
   read_here bit p is = rw (level_at ls k h v at, value_is v (drop (k + 1) ls) p bit is, levels_left ls k h)
-
-  pub read_more : (bit : Bool) (p number x : ℕ) → get_or v p false ≡ bit
-      → number + value (drop k ls) p ≡ x
-      → number + bit_value bit * weight + value (drop (k + 1) ls) (next bit v p) ≡ x
-  read_more bit p number x is e = omega (arith, e, read_here bit p is)
 
   -- where the digits of s from the level on are held, the bit is the first of them, and the next level holds the others
   pub held_more : (bit : Bool) (s p : ℕ) → get_or v p false ≡ bit → value (drop k ls) p ≡ s % 2 ^ (length ls - k)
@@ -228,27 +212,18 @@ searched_all {ls} {from} {to} {th} {k} {a} {b} {i} {number} e s order =
 pub levels_from : (ls : List (List Bool)) (k : ℕ) → take (length ls - k) (drop k ls) ≡ drop k ls
 levels_from ls k = take_all (length ls - k) (drop k ls) (omega (arith, length-drop k ls))
 
-pub read_all : (ls : List (List Bool)) (k p number x : ℕ) → k ≡ length ls → number + value (drop k ls) p ≡ x → number ≡ x
-read_all ls k p number x e s = omega (arith, s, ap (λ m. value m p) (drop_all k ls (omega arith)) ∙ value_none p)
-
 pub narrowed_none : (ls : List (List Bool)) (s from to : ℕ) → Narrowed ls s from to 0 from to 0
 narrowed_none ls s from to =
     let e : length ls - 0 ≡ length ls = omega arith in
     record { less_is = ap (λ n. 0 + under ls (s % 2 ^ n) to + under ls (s % 2 ^ length ls) from) e ∙ omega arith ∙ ap (λ n. under ls (s % 2 ^ n) from + under ls (s % 2 ^ length ls) to) (sym e); from_is = refl; to_is = refl }
 
 pub narrowed_all : {ls : List (List Bool)} {s from to k a b less : ℕ} → k ≡ length ls → Narrowed ls s from to k a b less
-    → (less + under ls (s % 2 ^ length ls) from ≡ under ls (s % 2 ^ length ls) to) × (a ≡ way ls s from) × (b ≡ way ls s to)
+    → (less + under ls (s % 2 ^ length ls) from ≡ under ls (s % 2 ^ length ls) to) × (a ≡ way ls s from) × (a + way ls s to ≡ b + way ls s from)
 narrowed_all {ls} {s} {from} {to} {k} {a} {b} {less} e n =
     let none : drop k ls ≡ [] = drop_all k ls (omega arith) in
-    let z : length ls - k ≡ 0 = omega arith in (
-      omega (arith, rw (none, z, mod-one s) at n.less_is, none_under a, none_under b),
-      sym (way_none s a) ∙ rw none at n.from_is,
-      sym (way_none s b) ∙ rw none at n.to_is,
-    )
-
--- below the last level, or where no place is left, the ends are as far apart as those of the way down
-pub narrowed_kept : {ls : List (List Bool)} {s from to k a b less : ℕ} → k ≡ length ls → Narrowed ls s from to k a b less → a + way ls s to ≡ b + way ls s from
-narrowed_kept {ls} {s} {from} {to} e n = let all = narrowed_all e n in omega (arith, all.1, all.2)
+    let z : length ls - k ≡ 0 = omega arith in
+    let first = sym (way_none s a) ∙ rw none at n.from_is in
+    (omega (arith, rw (none, z, mod-one s) at n.less_is, none_under a, none_under b), first, omega (arith, first, way_none s b, rw none at n.to_is))
 
 -- the way down of a place, below the last level
 pub way_all : (ls : List (List Bool)) (s k p from : ℕ) → k ≡ length ls → way (drop k ls) s p ≡ way ls s from → p ≡ way ls s from
@@ -263,10 +238,7 @@ pub ruleset narrowing = (next-le, next-up, narrowed_none)
 pub ruleset searching = (searched_none, next-le, next-up)
 
 pub way_within : {ls : List (List Bool)} {n : ℕ} → AreLevels ls n → (s : ℕ) → way ls s n ≤ n
-way_within {ls} {n} levels s = omega (arith, way_high ls n levels.even s (length ls), ap (λ m. way m s n) (drop_all (length ls) ls (omega arith)) ∙ way_none s n)
-
-pub rise_first : {ls : List (List Bool)} {n : ℕ} (s target : ℕ) → target < n → Rises ls n s target (length ls - 0) target
-rise_first {ls} {n} s target within = let e : length ls - 0 ≡ length ls = omega arith in rw e (rise_none ls n s target within)
+way_within {ls} {n} levels s = omega (arith, (way_between ls n levels.even s (length ls)).1, ap (λ m. way m s n) (drop_all (length ls) ls (omega arith)) ∙ way_none s n)
 
 pub rise_at : {ls : List (List Bool)} {n s target m q : ℕ} (k : ℕ) → m ≡ k + 1 → Rises ls n s target m q → Rises ls n s target (k + 1) q
 rise_at k e up = rw e at up

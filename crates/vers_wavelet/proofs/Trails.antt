@@ -1,5 +1,5 @@
 -- The way down to a nearest symbol, level by level, and what it finds.
-use Rattle.vers_wavelet.proofs.Names.{◌≡◌, ℕ, ◌+◌, ◌-◌, ◌*◌, ◌%◌, ◌^◌, ◌<◌, ◌≤◌, Bool, true, false, true≢false, not, cond, leb, ltb, List, length, get_or, drop, refl, sym, ap, subst, ◌∙◌, arith, beq, slice_range, Some, None, count_by, length-drop, count_by-le-length, bit_value, next, under, way, values, digit, AreLevels, KthOf, Searched, Leaves, Follows, nearest, IsKth}
+use Rattle.vers_wavelet.proofs.Names.{◌≡◌, ℕ, ◌+◌, ◌-◌, ◌*◌, ◌%◌, ◌^◌, ◌<◌, ◌≤◌, Bool, true, false, true≢false, not, cases_Bool, cond, leb, ltb, List, length, get_or, drop, refl, sym, ap, subst, ◌∙◌, arith, beq, slice_range, Some, None, count_by, length-drop, count_by-le-length, bit_value, next, under, way, values, digit, AreLevels, KthOf, Leaves, Follows, nearest, IsKth}
 use Rattle.vers_wavelet.specs.declared.wavelet.nearest.Trail.{Trail}
 use Rattle.vers_wavelet.proofs.Values.{next_both, next-le, next-up}
 use Rattle.vers_wavelet.proofs.Steps.{digit_from, narrowed_more, searched_more, narrowed_none, searched_none, kth-lt}
@@ -43,11 +43,7 @@ module _ (ls : List (List Bool)) (n s from to k : ℕ) (h : k < length ls) (v : 
     few = omega (arith, few, f.few);
     narrowed = rw (first, last, less) (narrowed_more ls s k h v at bit is (omega (arith, f.order, f.within)) (omega (arith, f.within)) f.order f.narrowed);
     digits = omega (arith, f.digits, digit_from s m k h);
-    searched = λ j.
-        let z : ℕ = cond bit (next false v t.part.end - next false v t.part.start) 0 in
-        let th : u.part.less + j ≡ t.part.less + (j + z) = omega (arith, less) in
-        rw (th, first, last, ← prefix_more f.digits) (searched_more ls k h v at bit from to (t.part.less + (j + z)) t.part.start t.part.end (j + z) j (s % 2 ^ m - s % 2 ^ (m - k))
-        f.order (omega (arith, f.within)) refl (f.searched (j + z)));
+    searched = searched_more ls k h v at bit t.part.less u.part.less f.order (omega (arith, f.within)) first last less (sym (prefix_more f.digits)) f.searched;
     leaves = leaves;
   }
 
@@ -59,38 +55,26 @@ module _ (ls : List (List Bool)) (n s from to k : ℕ) (h : k < length ls) (v : 
       leaves_as up ls n s from to t u same (passed_same up bit v t.part.start t.part.end t.part.less u.part.start u.part.end u.part.less f.order (omega (arith, f.within)) first last less empty) f.leaves
 
   -- the other places were left beside
-  left_found : (up : Bool) (a b less c d more number : ℕ) → bit ≡ not up → a ≤ b → b ≤ length v → c ≡ next bit v a → d ≡ next bit v b
-      → more ≡ less + cond bit (next false v b - next false v a) 0 → next up v a < next up v b → number ≡ s % 2 ^ m - s % 2 ^ (m - k)
-      → ((j : ℕ) → Searched ls from to (less + j) k a b j (s % 2 ^ m - s % 2 ^ (m - k)))
-      → (0 < cond up 1 more) × Searched ls from to (cond up (more + (d - c)) (more - 1)) (k + 1) (next up v a) (next up v b) (cond up 0 (next up v b - next up v a - 1))
-      (number + bit_value up * 2 ^ (m - (k + 1)))
-  left_found true a b less c d more number other order within e f g some is' searched =
-      let z : ℕ = next false v b - next false v a in
-      let none : cond bit z 0 ≡ 0 = ap {B = ℕ} (λ t. cond t z 0) other in
-      let th : more + (d - c) ≡ less + z = omega (arith, g, none, e, f, ap (λ t. next t v a) other, ap (λ t. next t v b) other) in
-      let same : 0 + z ≡ z = omega arith in
-      (omega arith, rw (th, is') (searched_more ls k h v at true from to (less + z) a b z 0 (s % 2 ^ m - s % 2 ^ (m - k)) order within same (searched z)))
-  left_found false a b less c d more number other order within e f g some is' searched =
-      let z : ℕ = next false v b - next false v a in
-      let all : cond bit z 0 ≡ z = ap {B = ℕ} (λ t. cond t z 0) other in
-      let th : more - 1 ≡ less + (z - 1) = omega (arith, g, all, some) in
-      let same : z - 1 + 0 ≡ z - 1 = omega arith in
-      (omega (arith, g, all, some), rw (th, is') (searched_more ls k h v at false from to (less + (z - 1)) a b (z - 1) (z - 1) (s % 2 ^ m - s % 2 ^ (m - k)) order within same (searched (z - 1))))
-
   pub leaves_new : (up : Bool) (t u : Trail) → Follows up ls n s from to k t → u.part.start ≡ next bit v t.part.start → u.part.end ≡ next bit v t.part.end
       → u.part.less ≡ t.part.less + cond bit (next false v t.part.end - next false v t.part.start) 0
       → u.beside.level ≡ k + 1 → u.beside.start ≡ next up v t.part.start → u.beside.end ≡ next up v t.part.end → bit ≡ not up
       → next up v t.part.start < next up v t.part.end → Leaves up ls n s from to u
   leaves_new up t u f first last less deep left right other some =
-      let found = λ (number : ℕ) (e : number ≡ s % 2 ^ m - s % 2 ^ (m - k)). left_found up t.part.start t.part.end t.part.less u.part.start u.part.end u.part.less number other f.order (omega (arith, f.within)) first last less some e f.searched in
+      let a : ℕ = t.part.start in
+      let b : ℕ = t.part.end in
+      let z : ℕ = cond up (next false v b - next false v a) 0 in
+      let j : ℕ = cond up 0 (next up v b - next up v a - 1) in
+      let th : cond up (u.part.less + (u.part.end - u.part.start)) (u.part.less - 1) ≡ t.part.less + z + j = grind (arith, first, last, less, some, other, cases_Bool up) in
+      let behind : 0 < cond up 1 u.part.less = grind (arith, less, some, other, cases_Bool up) in
       rw (deep, left, right) (record {
         order = omega (arith, some);
-        within = omega (arith, next-le up v t.part.end);
+        within = omega (arith, next-le up v b);
         none = λ q. absurd (omega (arith, q, some));
-        some = λ q. (omega arith, omega arith, (found (s % 2 ^ m - s % 2 ^ (m - k)) refl).0);
+        some = λ q. (omega arith, omega arith, behind);
         found = λ q number e.
             let here : m - (k + 1) + 1 ≡ m - k = omega arith in
-            (found number (omega (arith, e, ap (λ i. s % 2 ^ i) here))).1;
+            let is' : number ≡ s % 2 ^ m - s % 2 ^ (m - k) = omega (arith, e, ap (λ i. s % 2 ^ i) here) in
+            rw (th, is') (searched_more ls k h v at up t.part.less (t.part.less + z) f.order (omega (arith, f.within)) refl refl refl refl f.searched j);
       })
 
 -- before the first level

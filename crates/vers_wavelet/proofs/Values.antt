@@ -1,5 +1,5 @@
 -- How places and counts of symbols go from one level to the next.
-use Rattle.vers_wavelet.proofs.Names.{◌≡◌, ℕ, zero, suc, ◌+◌, ◌-◌, ◌*◌, ◌^◌, ◌<◌, ◌≤◌, Bool, true, false, cond, ltb, leb, eqb, List, [], ◌∷◌, length, get_or, refl, sym, ap, ◌∙◌, arith, add-one, add-zero, inl, inr, pow-suc, mul-le-mul_right, cases_Bool, cases_lt, lt-ltb, le-ltb, le-leb, leb-true, ltb-true, eq-eqb, nat_tests, bit_value, bit_value_le, hits, is_bit, count, count_le, count_up, count_near, count_both, count_past, count_more_yes, count_more_no, start, next, value, under, equal, way, digit}
+use Rattle.vers_wavelet.proofs.Names.{◌≡◌, ℕ, zero, suc, ◌+◌, ◌-◌, ◌*◌, ◌^◌, ◌<◌, ◌≤◌, Bool, true, false, cond, ltb, leb, List, [], ◌∷◌, length, get_or, refl, ap, ◌∙◌, arith, add-one, add-zero, inl, inr, pow-suc, mul-le-mul_right, cases_Bool, cases_lt, lt-ltb, le-ltb, le-leb, leb-true, ltb-true, eq-eqb, nat_tests, bit_value, bit_value_le, hits, is_bit, count, count_le, count_up, count_near, count_both, count_past, count_more_yes, count_more_no, start, next, value, under, equal, way, digit}
 
 pub next_none : (b : Bool) (l : List Bool) → next b l 0 ≡ start b l
 unfolding next count
@@ -39,13 +39,10 @@ pub hits_same : (q r : ℕ → Bool) (n : ℕ) → ((p : ℕ) → p < n → q p 
 hits_same q r zero h = refl
 hits_same q r (suc n) h = omega (arith, hits_same q r n (λ p k. h p (omega arith)), ap {B = ℕ} (λ t. cond t 1 0) (h n (omega arith)))
 
-no_hits : (n : ℕ) → hits (λ p. false) n ≡ 0
-no_hits zero = refl
-no_hits (suc n) = omega (arith, no_hits n)
-
-all_hits : (n : ℕ) → hits (λ p. true) n ≡ n
-all_hits zero = refl
-all_hits (suc n) = omega (arith, all_hits n)
+-- a test that all places pass, or none
+pub hits_all : (q : ℕ → Bool) (b : Bool) (n : ℕ) → ((p : ℕ) → q p ≡ b) → hits q n ≡ cond b n 0
+hits_all q b zero h = grind (arith, cases_Bool b)
+hits_all q b (suc n) h = grind (arith, cases_Bool b, hits_all q b n h, h n)
 
 -- the zeros and the ones of a level go to places of their own in the next
 pub split_hits : (l : List Bool) (h f g : ℕ → Bool) → ((p : ℕ) → get_or l p false ≡ false → h p ≡ f (next false l p))
@@ -56,20 +53,14 @@ split_hits l h f g low high (suc i) within =
     let before = split_hits l h f g low high i (omega (arith, within)) in
     let inside : i < length l = omega (arith, within) in
     rw (← add-one i) (elim (cases_Bool (get_or l i false)) [
-      | inl on ↦
-          let goes = ap (hits g) (next_yes true l i inside (ap (is_bit true) on)) ∙ hits_more g (next true l i) in
-          let stays = ap (hits f) (next_no false l i inside (ap (is_bit false) on)) in
-          omega (arith, before, ap {B = ℕ} (λ t. cond t 1 0) (high i on), hits_more h i, goes, stays)
-      | inr off ↦
-          let goes = ap (hits f) (next_yes false l i inside (ap (is_bit false) off)) ∙ hits_more f (next false l i) in
-          let stays = ap (hits g) (next_no true l i inside (ap (is_bit true) off)) in
-          omega (arith, before, ap {B = ℕ} (λ t. cond t 1 0) (low i off), hits_more h i, goes, stays)
+      | inl on ↦ grind (arith, before, high i on, hits_more, next_yes true l i inside, next_no false l i inside)
+      | inr off ↦ grind (arith, before, low i off, hits_more, next_yes false l i inside, next_no true l i inside)
     ])
 
 -- all symbols are below what no number of so many digits reaches
 pub under_all : (ls : List (List Bool)) (y n : ℕ) → 2 ^ length ls ≤ y → under ls y n ≡ n
 unfolding under
-under_all ls y n h = hits_same _ (λ p. true) n (λ p k. lt-ltb (value ls p) y (omega (arith, value-lt ls p))) ∙ all_hits n
+under_all ls y n h = hits_all _ true n (λ p. lt-ltb (value ls p) y (omega (arith, value-lt ls p)))
 
 -- those below a symbol y, whose first digit is the bit and whose others are s, by those that go on with that digit
 pub under_step : (bit : Bool) (l : List Bool) (ls : List (List Bool)) (s y i : ℕ) → y ≡ bit_value bit * 2 ^ length ls + s → s ≤ 2 ^ length ls
@@ -80,12 +71,13 @@ under_step true l ls s y i e small h =
     let parts = split_hits l (λ p. ltb (value (l ∷ ls) p) y) (λ p. true) (λ p. ltb (value ls p) s)
     (λ p off. lt-ltb _ y (omega (arith, value_is l ls p false off, value-lt ls (next false l p))))
     (λ p on. ap (λ v. ltb v y) (value_is l ls p true on) ∙ ltb_shift (1 * 2 ^ length ls) (value ls (next true l p)) s y e) i h in
-    omega (arith, parts, all_hits (next false l i))
+    omega (arith, parts, hits_all (λ p. true) true (next false l i) (λ p. refl))
 under_step false l ls s y i e small h =
     let parts = split_hits l (λ p. ltb (value (l ∷ ls) p) y) (λ p. ltb (value ls p) s) (λ p. false)
     (λ p off. ap (λ v. ltb v y) (value_is l ls p false off) ∙ ltb_shift (0 * 2 ^ length ls) (value ls (next false l p)) s y e)
     (λ p on. le-ltb _ y (omega (arith, value_is l ls p true on))) i h in
-    omega (arith, parts, no_hits (start true l), no_hits (next true l i))
+    let none = λ (n : ℕ). hits_all (λ p. false) false n (λ p. refl) in
+    omega (arith, parts, none (start true l), none (next true l i))
 
 -- those that hold s are those below s + 1 and not below s
 pub equal_under : (ls : List (List Bool)) (s n : ℕ) → equal ls s n + under ls s n ≡ under ls (s + 1) n
@@ -100,11 +92,7 @@ same_bit b c e = grind arith
 -- the part of the bit has room in the next level
 pub next-le : (b : Bool) (l : List Bool) (i : ℕ) → next b l i ≤ length l
 unfolding next
-next-le true l i =
-    elim (cases_lt i (length l)) [
-      | inl in' ↦ omega (arith, count_both l (length l), count_up true l i (length l) (omega arith))
-      | inr past ↦ omega (arith, count_both l (length l), count_past true l i past)
-    ]
+next-le true l i = grind (arith, cases_lt i (length l), count_both l (length l), count_up true l i (length l), count_past true l i)
 next-le false l i = omega (arith, count_le false l i)
 
 pub next-up : (b : Bool) (l : List Bool) (i j : ℕ) → i ≤ j → next b l i ≤ next b l j
@@ -120,8 +108,7 @@ pub ruleset parts = (next_both, next-le, next-up)
 
 -- the zeros of a range of one place
 pub next_single : (l : List Bool) (i j : ℕ) (b : Bool) → j ≡ i + 1 → i < length l → b ≡ get_or l i false → next false l j ≡ cond b (next false l i) (next false l i + 1)
-next_single l i j true e h is = ap (next false l) e ∙ next_no false l i h (ap (is_bit false) (sym is))
-next_single l i j false e h is = ap (next false l) e ∙ next_yes false l i h (ap (is_bit false) (sym is))
+next_single l i j b e h is = grind (arith, e, is, cases_Bool b, next_yes false l i h, next_no false l i h)
 
 pub next_up_to_place : (l : List Bool) (i : ℕ) → next false l i ≤ i
 unfolding next
@@ -129,11 +116,11 @@ next_up_to_place l i = omega (arith, count_le false l i)
 
 pub none_under : (i : ℕ) → under [] 0 i ≡ 0
 unfolding under
-none_under i = hits_same _ (λ p. false) i (λ p h. le-ltb (value [] p) 0 (omega arith)) ∙ no_hits i
+none_under i = hits_all _ false i (λ p. le-ltb (value [] p) 0 (omega arith))
 
 pub all_equal : (i : ℕ) → equal [] 0 i ≡ i
 unfolding equal
-all_equal i = hits_same _ (λ p. true) i (λ p h. eq-eqb (value [] p) 0 (value_none p)) ∙ all_hits i
+all_equal i = hits_all _ true i (λ p. eq-eqb (value [] p) 0 (value_none p))
 
 pub next_near : (b : Bool) (l : List Bool) (i j : ℕ) → i ≤ j → next b l j ≤ next b l i + (j - i)
 unfolding next
@@ -173,8 +160,7 @@ of_zeros l z p zeros h =
 
 -- a place that holds the bit has its own place in the next level
 pub next-lt : (b : Bool) (l : List Bool) (i : ℕ) → i < length l → get_or l i false ≡ b → next b l i < length l
-next-lt true l i h e = omega (arith, next-le true l (i + 1), next_yes true l i h (ap (is_bit true) e))
-next-lt false l i h e = omega (arith, next-le false l (i + 1), next_yes false l i h (ap (is_bit false) e))
+next-lt b l i h e = grind (arith, e, cases_Bool b, next-le b l (i + 1), next_yes b l i h)
 
 -- ---- the way down
 

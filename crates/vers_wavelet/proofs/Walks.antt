@@ -1,5 +1,5 @@
 -- The length of a walk's level, and what walks read.
-use Rattle.vers_wavelet.proofs.Names.{rules, ◌≡◌, ℕ, ◌+◌, ◌-◌, ◌*◌, ◌%◌, ◌^◌, ◌<◌, ◌≤◌, Bool, List, length, drop, get_or, ap, ◌∙◌, arith, Reads, AddsAtMost, times, adds_nothing, adds_then, adds_weaker, rank_reads, select_reads, adds_times, under, way, Even, Narrowed}
+use Rattle.vers_wavelet.proofs.Names.{rules, ◌≡◌, ℕ, ◌+◌, ◌*◌, ◌%◌, ◌^◌, ◌<◌, ◌≤◌, Bool, List, length, get_or, ap, ◌∙◌, arith, Reads, AddsAtMost, times, adds_nothing, adds_weaker, rank_reads, adds_times, under, way, Even, Narrowed}
 use Rattle.vers_wavelet.proofs.Steps.{times_less}
 
 pub level_length : (ls : List (List Bool)) (n k : ℕ) (v : List Bool) → Even ls n → v ≡ get_or ls k v → k < length ls → length v ≡ n
@@ -17,27 +17,6 @@ adds_none a n = adds_no_times a n rank_reads
 -- two ranks more, for one level more
 pub adds_level : {a b c : Reads} (k : ℕ) → AddsAtMost a b (times (2 * k) rank_reads) → AddsAtMost b c (times 2 rank_reads) → AddsAtMost a c (times (2 * (k + 1)) rank_reads)
 adds_level k before more = adds_fewer (2 * k + 2) (2 * (k + 1)) (omega arith) (adds_times (2 * k) 2 rank_reads before more)
-
--- a walk down and one back up are within four selects of each level
-pub adds_back : {a b c : Reads} (k s : ℕ) → AddsAtMost a b (times k rank_reads) → AddsAtMost b c (times k (select_reads s)) → AddsAtMost a c (times (4 * k) (select_reads s))
-adds_back k s down up = adds_then down up (omega arith)
-
-pub adds_down : {a b : Reads} (k s : ℕ) → AddsAtMost a b (times k rank_reads) → AddsAtMost a b (times (4 * k) (select_reads s))
-adds_down k s down = adds_weaker down (omega arith)
-
-pub adds_twice : {a b : Reads} (k : ℕ) → AddsAtMost a b (times (4 * k) rank_reads) → AddsAtMost a b (times 2 (times (2 * k) rank_reads))
-adds_twice k adds = adds_weaker adds (omega arith)
-
--- the same of n queries, which are asked level by level
-pub adds_each : {a b : Reads} (k n : ℕ) → AddsAtMost a b (times k (times n (times 2 rank_reads))) → AddsAtMost a b (times n (times (2 * k) rank_reads))
-adds_each k n adds = adds_weaker adds (omega arith)
-
-pub adds_each_down : {a b : Reads} (k n s : ℕ) → AddsAtMost a b (times k (times n (times 2 rank_reads))) → AddsAtMost a b (times n (times (4 * k) (select_reads s)))
-adds_each_down k n s down = adds_weaker down (omega arith)
-
-pub adds_each_back : {a b c : Reads} (k n m s : ℕ) → m ≡ n → AddsAtMost a b (times k (times n (times 2 rank_reads))) → AddsAtMost b c (times k (times m (select_reads s)))
-    → AddsAtMost a c (times n (times (4 * k) (select_reads s)))
-adds_each_back k n m s e down up = adds_then down (rw e at up) (omega arith)
 
 -- where no place is left, the ends are as far apart as those of the way down
 pub narrowed_ended : {ls : List (List Bool)} {s from to k a b less : ℕ} → a ≡ b → Narrowed ls s from to k a b less

@@ -1,4 +1,4 @@
-use Rattle.vers_wavelet.proofs.Names.{arith, both_ways, false≢true, low_bits_of}
+use Rattle.vers_wavelet.proofs.Names.{arith, false≢true}
 use Rattle.vers_wavelet.proofs.Lists.{no_places}
 use Rattle.vers_wavelet.proofs.wavelet.WaveletMatrix.gathered_range_u64_counted.Goals as goal
 use Rattle.vers_wavelet.proofs.wavelet.WaveletMatrix.gathered_range_u64_counted.Goals.{then-not-fits_word-via-then-not-fits_word, then-not-fits_word-via-else-not-fits_word+then-range-len, then-not-fits_word-via-else-not-fits_word+else-range-len+then-range}

@@ -1,6 +1,5 @@
-use Rattle.vers_wavelet.proofs.Names.{length}
+use Rattle.vers_wavelet.proofs.Names.{adds_weaker, arith}
 use Rattle.vers_wavelet.proofs.Ranges.{members_inside}
-use Rattle.vers_wavelet.proofs.Walks.{adds_twice}
 use Rattle.vers_wavelet.proofs.wavelet.WaveletMatrix.nearest_in.Goals as goal
 
 pub returns-clause-found : goal.returns-clause-found
@@ -15,4 +14,4 @@ pub find_nearest-requires-clause-levels : goal.find_nearest-requires-clause-leve
 find_nearest-requires-clause-levels g c = rw c.len.ensures.value c.levels.ensures.levels
 
 pub returns-clause-adds : goal.returns-clause-adds
-returns-clause-adds g c = rw (← c.levels.ensures.wide) (adds_twice (length c.levels.result.now) c.find_nearest.ensures.adds)
+returns-clause-adds g c = rw (← c.levels.ensures.wide) (adds_weaker c.find_nearest.ensures.adds (omega arith))

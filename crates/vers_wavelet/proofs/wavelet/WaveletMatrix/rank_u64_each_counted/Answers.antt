@@ -1,7 +1,6 @@
-use Rattle.vers_wavelet.proofs.Names.{length, ◌∙◌}
+use Rattle.vers_wavelet.proofs.Names.{adds_weaker, arith, ◌∙◌}
 use Rattle.vers_wavelet.proofs.Batches.{become_map}
 use Rattle.vers_wavelet.proofs.Answering.{rank_ends}
-use Rattle.vers_wavelet.proofs.Walks.{adds_each}
 use Rattle.vers_wavelet.proofs.wavelet.WaveletMatrix.rank_u64_each_counted.Goals as goal
 
 pub returns-clause-value : goal.returns-clause-value
@@ -13,4 +12,4 @@ pub ask_each-requires : goal.ask_each-requires
 ask_each-requires g c = rw c.len.ensures.value c.levels.ensures.levels
 
 pub returns-clause-adds : goal.returns-clause-adds
-returns-clause-adds g c = rw (← c.levels.ensures.wide) (adds_each (length c.levels.result.now) (length c.args.queries.now) c.ask_each.ensures.adds)
+returns-clause-adds g c = rw (← c.levels.ensures.wide) (adds_weaker c.ask_each.ensures.adds (omega arith))

@@ -2,9 +2,6 @@ use Rattle.vers_wavelet.proofs.Names.{arith}
 use Rattle.vers_wavelet.proofs.Lists.{get_decides}
 use Rattle.vers_wavelet.proofs.wavelet.WaveletMatrix.select_offset_u64_counted.Goals as goal
 
-pub find_from-requires-clause-wide : goal.find_from-requires-clause-wide
-find_from-requires-clause-wide g c = c.fits_word.ensures.0 c.if-not-fits_word.false
-
 pub returns-clause-answered : goal.returns-clause-answered
 returns-clause-answered g c =
     let some = get_decides _ _ c.args.rank c.find_from.ensures.value in

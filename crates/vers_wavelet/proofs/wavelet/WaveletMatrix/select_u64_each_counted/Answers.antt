@@ -1,7 +1,6 @@
-use Rattle.vers_wavelet.proofs.Names.{◌≡◌, ◌%◌, ◌^◌, ℕ, Bool, List, leb, length, ap, refl, sym, Some, None, ◌∙◌, slice_get, if◌then◌else◌, values, way, AreLevels, occurrences}
+use Rattle.vers_wavelet.proofs.Names.{adds_weaker, adds_then, arith, ◌≡◌, ◌%◌, ◌^◌, ℕ, Bool, List, leb, length, ap, refl, sym, Some, None, ◌∙◌, slice_get, if◌then◌else◌, values, way, AreLevels, occurrences}
 use Rattle.vers_wavelet.proofs.Batches.{become_map, become_then, become_all}
 use Rattle.vers_wavelet.proofs.Answering.{of_words, of_wide, select_ends, select_answers}
-use Rattle.vers_wavelet.proofs.Walks.{adds_each_down, adds_each_back}
 use Rattle.vers_wavelet.proofs.wavelet.WaveletMatrix.select_u64_each_counted.Goals as goal
 
 pub climb_each-requires-clause-begun : goal.climb_each-requires-clause-begun
@@ -33,8 +32,8 @@ pub climb_each-requires-clause-levels : goal.climb_each-requires-clause-levels
 climb_each-requires-clause-levels g c = rw c.len-len.ensures.value c.levels-levels.ensures.levels
 
 pub returns-then-levels-gt64-clause-adds : goal.returns-then-levels-gt64-clause-adds
-returns-then-levels-gt64-clause-adds g c = rw (← c.levels-levels.ensures.wide) (adds_each_down (length c.levels-levels.result.now) (length c.args.queries.now) _ c.ask_each.ensures.adds)
+returns-then-levels-gt64-clause-adds g c = rw (← c.levels-levels.ensures.wide) (adds_weaker c.ask_each.ensures.adds (omega arith))
 
 pub returns-clause-adds : goal.returns-clause-adds
 returns-clause-adds g c = rw (← c.levels-levels.ensures.wide, ← c.len-len.ensures.value)
-    (adds_each_back (length c.levels-levels.result.now) (length c.args.queries.now) _ _ c.ask_each.ensures.each.long c.ask_each.ensures.adds c.climb_each.ensures.adds)
+    (adds_then c.ask_each.ensures.adds (rw c.ask_each.ensures.each.long at c.climb_each.ensures.adds) (omega arith))

@@ -1,4 +1,4 @@
-use Rattle.vers_wavelet.proofs.Names.{◌≡◌, ◌+◌, ◌-◌, ◌*◌, ◌%◌, ◌^◌, ℕ, arith, ap, ◌∙◌, refl, sym, ◌≤◌, bit_value}
+use Rattle.vers_wavelet.proofs.Names.{◌≡◌, ◌+◌, ◌-◌, ◌*◌, ◌%◌, ◌^◌, ℕ, arith, ap, ◌∙◌, refl, sym, bit_value}
 use Rattle.vers_wavelet.proofs.Digits.{room_none, room_left, room_more, top_digit}
 use Rattle.vers_wavelet.proofs.wavelet.digits.copy_digits.Goals as goal
 
@@ -10,9 +10,6 @@ loop-i-init g c =
       same = refl;
       copied = omega (arith, c.requires.zero, ap (λ n. g.D.Digits.number c.args.from.now % 2 ^ n) e);
     }
-
-pub put_digit-requires-clause-room : goal.put_digit-requires-clause-room
-put_digit-requires-clause-room g c = room_left c.args.high c.loop-i.i (omega arith) c.loop-i.invariant.room
 
 pub loop-i-preserved : goal.loop-i-preserved
 loop-i-preserved g c =
@@ -28,11 +25,3 @@ loop-i-preserved g c =
       same = put.same ∙ c.loop-i.invariant.same;
       copied = omega (arith, put.value, top, c.loop-i.invariant.copied);
     }
-
-last : (low high i : ℕ) → low ≤ high → i ≡ high - low → high - i ≡ low
-last low high i order e = omega arith
-
-pub returns : goal.returns
-returns g c =
-    let e : c.args.high - c.loop-i.i ≡ c.args.low = last c.args.low c.args.high c.loop-i.i c.requires.order (omega arith) in
-    record { value = rw e at c.loop-i.invariant.copied; room = rw e at c.loop-i.invariant.room; same = c.loop-i.invariant.same }

@@ -1,5 +1,5 @@
 use Rattle.vers_wavelet.proofs.Names.{◌*◌, arith, length}
-use Rattle.vers_wavelet.proofs.Steps.{narrowed_all, narrowed_kept}
+use Rattle.vers_wavelet.proofs.Steps.{narrowed_all}
 use Rattle.vers_wavelet.proofs.Trails.{follows_none}
 use Rattle.vers_wavelet.proofs.Walks.{adds_none, adds_fewer, adds_level, narrowed_ended}
 use Rattle.vers_wavelet.proofs.wavelet.nearest.follow.Goals as goal
@@ -16,7 +16,7 @@ loop-k-preserved g c = grind (arith, adds_level)
 pub returns : goal.returns
 returns g c = record {
   order = c.loop-k.invariant.follows.order;
-  kept = narrowed_kept (omega arith) c.loop-k.invariant.follows.narrowed;
+  kept = (narrowed_all (omega arith) c.loop-k.invariant.follows.narrowed).2;
   less = (narrowed_all (omega arith) c.loop-k.invariant.follows.narrowed).0;
   leaves = c.loop-k.invariant.follows.leaves;
   adds = adds_fewer (2 * c.loop-k.k) (2 * length c.args.levels.now) (omega arith) c.loop-k.invariant.adds;

@@ -1,4 +1,4 @@
-use Rattle.vers_wavelet.proofs.Names.{◌≡◌, ◌+◌, ◌-◌, arith, length, ◌∙◌, times, select_reads, superblock_count}
+use Rattle.vers_wavelet.proofs.Names.{◌≡◌, ◌-◌, arith, length, times, select_reads, superblock_count}
 use Rattle.vers_wavelet.proofs.Batches.{become_all, become_then, become_weaker, become_with, adds_once_more}
 use Rattle.vers_wavelet.proofs.Walks.{adds_no_times}
 use Rattle.vers_wavelet.proofs.wavelet.batch.select.climb_each.Goals as goal

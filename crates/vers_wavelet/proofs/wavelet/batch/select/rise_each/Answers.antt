@@ -1,4 +1,4 @@
-use Rattle.vers_wavelet.proofs.Names.{◌≡◌, ◌+◌, arith, sym, subst, length, select_reads, superblock_count, changed_on, adds_times, Rising, no_query}
+use Rattle.vers_wavelet.proofs.Names.{◌≡◌, arith, length, select_reads, superblock_count, changed_on, adds_times}
 use Rattle.vers_wavelet.proofs.Groups.{become_changed}
 use Rattle.vers_wavelet.proofs.wavelet.batch.select.rise_each.Goals as goal
 

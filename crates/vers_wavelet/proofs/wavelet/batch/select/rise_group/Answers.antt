@@ -1,4 +1,4 @@
-use Rattle.vers_wavelet.proofs.Names.{◌≡◌, ℕ, ◌+◌, ◌-◌, Bool, List, length, get_or, ap, sym, subst, ◌∙◌, arith, any_default, HasPlace, Rising, no_query}
+use Rattle.vers_wavelet.proofs.Names.{◌≡◌, ℕ, ◌+◌, ◌-◌, Bool, List, length, get_or, ap, sym, subst, ◌∙◌, arith, any_default, HasPlace, no_query}
 use Rattle.vers_wavelet.specs.declared.wavelet.batch.select.SelectQuery.{SelectQuery}
 use Rattle.vers_wavelet.proofs.Groups.{changed_item, place_above}
 use Rattle.vers_wavelet.proofs.wavelet.batch.select.rise_group.Goals as goal

@@ -19,23 +19,5 @@ returns-then-has_member g c = record {
 pub returns : goal.returns
 returns g c = record { level = omega arith; node = node_all c.args.levels.now c.args.len c.requires.few; from = omega arith; inside = omega arith }
 
-pub overflow_add-level : goal.overflow_add-level
-overflow_add-level g c = omega arith
-
-pub overflow_sub-level : goal.overflow_sub-level
-overflow_sub-level g c = omega arith
-
-pub offset_bounds-self-level : goal.offset_bounds-self-level
-offset_bounds-self-level g c = omega arith
-
-pub bounds-self-level : goal.bounds-self-level
-bounds-self-level g c = omega arith
-
 pub has_member-requires : goal.has_member-requires
 has_member-requires g c = node_order c.requires.way c.requires.few c.loop-j.j _ c.loop-j-test.true
-
-pub loop-j-init : goal.loop-j-init
-loop-j-init g c = tt
-
-pub loop-j-preserved : goal.loop-j-preserved
-loop-j-preserved g c = tt

@@ -1,4 +1,4 @@
-use Rattle.vers_wavelet.proofs.Names.{length-set, ◌≡◌, ◌+◌, ◌-◌, ◌*◌, ℕ, arith, cond, false, length, ap, ◌∙◌, refl, next}
+use Rattle.vers_wavelet.proofs.Names.{length-set, ◌≡◌, ◌+◌, ◌-◌, ◌*◌, arith, length, ap, ◌∙◌}
 use Rattle.vers_wavelet.proofs.Digits.{room_left, room_more}
 use Rattle.vers_wavelet.proofs.Steps.{searched_more, searched_all}
 use Rattle.vers_wavelet.proofs.Ways.{nodes_set}
@@ -37,12 +37,8 @@ loop-k-preserved g c =
       deep = omega (arith, c.loop-k-test.true);
       room = rw put.value (room_more to.result.bit _ _ _ room);
       kept = omega (arith, to.ensures.left, i.kept);
-      searched = λ j.
-          let skipped : ℕ = cond to.result.bit (next false c.index-levels-k.result c.loop-k.choice.end - next false c.index-levels-k.result c.loop-k.choice.start) 0 in
-          let th : c.args.i - to.result.left + j ≡ c.args.i - c.loop-k.choice.left + (j + skipped) = omega (arith, to.ensures.left, i.kept) in
-          rw (th, to.ensures.start, to.ensures.end, put.value) (searched_more c.args.levels.now c.loop-k.k c.loop-k-test.true c.index-levels-k.result c.index-levels-k.is to.result.bit
-          0 c.args.len (c.args.i - c.loop-k.choice.left + (j + skipped)) c.loop-k.choice.start c.loop-k.choice.end (j + skipped) j c.loop-k.number
-          (omega (arith, i.order)) (omega (arith, long)) refl (i.searched (j + skipped)));
+      searched = searched_more c.args.levels.now c.loop-k.k c.loop-k-test.true c.index-levels-k.result c.index-levels-k.is to.result.bit
+          (c.args.i - c.loop-k.choice.left) (c.args.i - to.result.left) (omega (arith, i.order)) (omega (arith, long)) to.ensures.start to.ensures.end (omega (arith, to.ensures.left, i.kept)) put.value i.searched;
       way = record {
         long = length-set _ c.loop-k.k _ ∙ i.way.long;
         each = nodes_set c.args.levels.now c.args.len c.loop-k.k _ _ (omega (arith, c.requires.few, i.way.long)) i.way.each
@@ -65,38 +61,5 @@ returns g c =
 pub begin-from-requires : goal.begin-from-requires
 begin-from-requires g c = record { few = c.requires.few; within = c.requires.within; way = c.requires.way }
 
-pub overflow_sub-choice : goal.overflow_sub-choice
-overflow_sub-choice g c = c.begin-from.ensures.from
-
-pub overflow_sub-self : goal.overflow_sub-self
-overflow_sub-self g c = c.loop-k.invariant.kept
-
-pub offset_bounds-self-k : goal.offset_bounds-self-k
-offset_bounds-self-k g c = omega arith
-
-pub bounds-self-k : goal.bounds-self-k
-bounds-self-k g c = omega arith
-
-pub offset_bounds-levels-k : goal.offset_bounds-levels-k
-offset_bounds-levels-k g c = omega arith
-
-pub bounds-levels-k : goal.bounds-levels-k
-bounds-levels-k g c = c.loop-k-test.true
-
 pub choose_level-choice-requires : goal.choose_level-choice-requires
-choose_level-choice-requires g c = record {
-  order = c.loop-k.invariant.order;
-  within = omega (arith, c.loop-k.invariant.within, level_length c.args.levels.now c.args.len c.loop-k.k c.index-levels-k.result c.requires.levels c.index-levels-k.is c.loop-k-test.true);
-}
-
-pub overflow_add-k : goal.overflow_add-k
-overflow_add-k g c = omega arith
-
-pub overflow_sub-levels : goal.overflow_sub-levels
-overflow_sub-levels g c = omega arith
-
-pub overflow_sub-result : goal.overflow_sub-result
-overflow_sub-result g c = c.loop-k.invariant.kept
-
-pub overflow_sub-result-2 : goal.overflow_sub-result-2
-overflow_sub-result-2 g c = omega arith
+choose_level-choice-requires g c = grind (arith, level_length)

@@ -1,5 +1,5 @@
 use Rattle.vers_wavelet.proofs.Lists.{length-values}
-use Rattle.vers_wavelet.proofs.Names.{slice_get_past, leb-true, ltb-true, ltb-false, sym, ◌∙◌, arith, length}
+use Rattle.vers_wavelet.proofs.Names.{slice_get_past, leb-true, ltb-true, ltb-false, arith}
 use Rattle.vers_wavelet.proofs.Answering.{of_words, of_wide, get_begins}
 use Rattle.vers_wavelet.proofs.wavelet.batch.get.GetQueryQuery.begin.Goals as goal
 use Rattle.vers_wavelet.proofs.wavelet.batch.get.GetQueryQuery.begin.Goals.{then-levels-le64, else-levels-le64}

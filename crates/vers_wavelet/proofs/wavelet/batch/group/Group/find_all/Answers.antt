@@ -1,4 +1,4 @@
-use Rattle.vers_wavelet.proofs.Names.{arith, ℕ, subst, refl, length, AddsAtMost, times, select_reads, superblock_count, adds_times}
+use Rattle.vers_wavelet.proofs.Names.{arith, adds_times}
 use Rattle.vers_wavelet.proofs.Groups.{for_both, place_found}
 use Rattle.vers_wavelet.proofs.wavelet.batch.group.Group.find_all.Goals as goal
 

@@ -1,4 +1,4 @@
-use Rattle.vers_wavelet.proofs.Names.{arith, both_ways}
+use Rattle.vers_wavelet.proofs.Names.{arith}
 use Rattle.vers_wavelet.proofs.Quantiles.{quantile_begins, quantile_none}
 use Rattle.vers_wavelet.proofs.wavelet.batch.quantile.QuantileQueryQuery.begin.Goals as goal
 

@@ -1,18 +1,11 @@
-use Rattle.vers_wavelet.proofs.Names.{leb-true, leb-false, sym, ◌≤◌, arith, length, ap, ◌∙◌, Some, values}
+use Rattle.vers_wavelet.proofs.Names.{leb-true, leb-false, arith}
 use Rattle.vers_wavelet.proofs.Lists.{length-values}
-use Rattle.vers_wavelet.proofs.Answering.{rank_begins, if_both, if_first_fails, if_second_fails}
+use Rattle.vers_wavelet.proofs.Answering.{rank_begins, if_first_fails, if_second_fails}
 use Rattle.vers_wavelet.proofs.wavelet.batch.rank.RankQueryQuery.begin.Goals as goal
 use Rattle.vers_wavelet.proofs.wavelet.batch.rank.RankQueryQuery.begin.Goals.{then-levels-le64, else-levels-le64}
 
 pub returns-then-is_known-clause-same : goal.returns-then-is_known-clause-same
-returns-then-is_known-clause-same c =
-    λ ls levels e. elim c.if-levels-le64.branch [
-      | then-levels-le64 w ↦
-          let within : c.args.self.end ≤ c.args.len = leb-true _ _ (sym w.is_known-is ∙ c.if-is_known.true) in
-          ap Some (rank_begins levels c.args.self.symbol c.args.self.end within)
-          ∙ if_both (length ls) 64 c.args.self.end _ _ (omega (arith, e, w.if-levels-le64.true)) (omega (arith, within, length-values ls c.args.len))
-      | else-levels-le64 w ↦ absurd (omega (arith, w.if-levels-le64.false, leb-true c.args.levels 64 (sym w.is_known-is ∙ c.if-is_known.true)))
-    ]
+returns-then-is_known-clause-same c = grind (arith, rank_begins, leb-true)
 
 pub returns-else-is_known-clause-same : goal.returns-else-is_known-clause-same
 returns-else-is_known-clause-same c = grind (arith, if_second_fails, leb-false, length-values, if_first_fails)
