@@ -1,24 +1,5 @@
 -- Lists whose items are changed one by one.
-use Rattle.vers_wavelet.proofs.Names.{Changed, rules, ◌≡◌, ℕ, suc, ◌+◌, ◌<◌, List, [], ◌∷◌, length, set, get_or, get_or-set_same, get_or-set_other, length-set, refl, sym, ap, ◌∙◌, arith, inl, inr, map, All, cases_lt, any_default, Reads, AddsAtMost, times, adds_then, Become}
-
-pub changed_none : {Q : Type 0} (R : Q → Q → Type 0) (xs : List Q) → Changed R xs xs 0
-changed_none R xs = record { long = refl; first = λ p d h l. absurd (omega arith); others = λ p d h. refl }
-
--- one item more
-pub changed_more : {Q : Type 0} {R : Q → Q → Type 0} {xs ys : List Q} {j : ℕ} → Changed R xs ys j → j < length xs → (x y : Q) → x ≡ get_or ys j x → R x y
-    → Changed R xs (set ys j y) (j + 1)
-changed_more {Q} {R} {xs} {ys} {j} before inside x y at becomes = record {
-  long = length-set ys j y ∙ before.long;
-  first = λ p d h l. elim (cases_lt p j) [
-    | inl lower ↦ rw (get_or-set_other ys j p y d (omega arith)) (before.first p d lower l)
-    | inr last ↦
-        let e : p ≡ j = omega arith in
-        let within : j < length ys = omega (arith, before.long) in
-        let from : get_or xs j d ≡ x = sym (before.others j d (omega arith)) ∙ any_default ys j d x within ∙ sym at in
-        rw (e, get_or-set_same ys j y d within, from) becomes
-  ];
-  others = λ p d h. get_or-set_other ys j p y d (omega arith) ∙ before.others p d (omega arith);
-}
+use Rattle.vers_wavelet.proofs.Names.{rules, ◌≡◌, ℕ, suc, ◌+◌, List, [], ◌∷◌, refl, ap, ◌∙◌, arith, map, All, Reads, AddsAtMost, times, adds_then, Become}
 
 -- one change after another
 pub become_then : {Q : Type 0} {R S T : Q → Q → Type 0} {xs ys zs : List Q} → Become R xs ys → Become S ys zs → ((x y z : Q) → R x y → S y z → T x z) → Become T xs zs

@@ -1,5 +1,5 @@
 -- The way down to a nearest symbol, level by level, and what it finds.
-use Rattle.vers_wavelet.proofs.Names.{◌≡◌, ℕ, ◌+◌, ◌-◌, ◌*◌, ◌%◌, ◌^◌, ◌<◌, ◌≤◌, Bool, true, false, true≢false, not, cases_Bool, cond, leb, ltb, List, length, get_or, drop, refl, sym, ap, subst, ◌∙◌, arith, beq, slice_range, Some, None, count_by, length-drop, count_by-le-length, bit_value, next, under, way, values, digit, AreLevels, KthOf, Leaves, Follows, nearest, IsKth}
+use Rattle.vers_wavelet.proofs.Names.{◌≡◌, ℕ, ◌+◌, ◌-◌, ◌*◌, ◌%◌, ◌^◌, ◌<◌, ◌≤◌, Bool, true, false, not, cases_Bool, cond, leb, ltb, List, length, get_or, drop, refl, sym, ap, subst, ◌∙◌, arith, beq, slice_range, Some, None, count_by, length-drop, count_by-le-length, bit_value, next, under, way, values, digit, AreLevels, KthOf, Leaves, Follows, nearest}
 use Rattle.vers_wavelet.specs.declared.wavelet.nearest.Trail.{Trail}
 use Rattle.vers_wavelet.proofs.Values.{next_both, next-le, next-up}
 use Rattle.vers_wavelet.proofs.Steps.{digit_from, narrowed_more, searched_more, narrowed_none, searched_none, kth-lt}
@@ -119,23 +119,15 @@ module _ {ls : List (List Bool)} {n : ℕ} (levels : AreLevels ls n) (s from to 
 
   -- there is none
   pub found_none : (up : Bool) → Leaves up ls n s from to t → t.beside.start ≡ t.beside.end → nearest up xs (s % 2 ^ length ls) ≡ None
-  found_none true l empty = nearest_none true xs t.part.less (s % 2 ^ length ls) low (omega (arith, high, last)) (λ q. omega (arith, l.none empty, last, length-part ls n from to order within)) (λ q. absurd (true≢false q))
-  found_none false l empty = nearest_none false xs t.part.less (s % 2 ^ length ls) low (omega (arith, high, last)) (λ q. absurd (true≢false (sym q))) (λ q. l.none empty)
-
-  member_beside : (up : Bool) (number x : ℕ) → Leaves up ls n s from to t → t.beside.start < t.beside.end → number + s % 2 ^ (length ls - t.beside.level + 1) ≡ s % 2 ^ length ls
-      → KthOf (drop t.beside.level ls) t.beside.start t.beside.end (cond up 0 (t.beside.end - t.beside.start - 1)) x → t.beside.start + cond up 0 (t.beside.end - t.beside.start - 1) < t.beside.end
-      → IsKth xs (cond up (t.part.less + (t.part.end - t.part.start)) (t.part.less - 1)) (number + bit_value up * 2 ^ (length ls - t.beside.level) + x)
-  member_beside up number x l some is kth inside =
-      let small : x < 2 ^ (length ls - t.beside.level) = subst (λ (i : ℕ). x < 2 ^ i) (length-drop t.beside.level ls) (kth-lt (drop t.beside.level ls) _ _ _ x kth inside) in
-      (kth_is ls n from to _ _ order within).0 ((l.found some number is).each x small kth)
+  found_none up l empty = nearest_none up xs t.part.less (s % 2 ^ length ls) low (omega (arith, high, last)) (λ q. omega (arith, rw q at (l.none empty), last, length-part ls n from to order within)) (λ q. rw q at (l.none empty))
 
   -- it was left beside
   pub found_beside : (up : Bool) (number x : ℕ) → Leaves up ls n s from to t → t.beside.start < t.beside.end → number + s % 2 ^ (length ls - t.beside.level + 1) ≡ s % 2 ^ length ls
       → KthOf (drop t.beside.level ls) t.beside.start t.beside.end (cond up 0 (t.beside.end - t.beside.start - 1)) x → nearest up xs (s % 2 ^ length ls) ≡ Some (number + bit_value up * 2 ^ (length ls - t.beside.level) + x)
-  found_beside true number x l some is kth =
-      let member = member_beside true number x l some is kth (omega (arith, some)) in
-      let same : t.part.less + (t.part.end - t.part.start) ≡ t.part.less = omega (arith, last) in
-      nearest_is true xs t.part.less (s % 2 ^ length ls) _ _ low (omega (arith, high, last)) (λ q. omega (arith, same, member.more, count_by-le-length (λ y. leb y (number + 1 * 2 ^ (length ls - t.beside.level) + x)) xs)) (λ q. absurd (true≢false q)) (omega (arith, same)) (kth_place _ _ _ member)
-  found_beside false number x l some is kth =
-      let member = member_beside false number x l some is kth (omega (arith, some)) in
-      nearest_is false xs t.part.less (s % 2 ^ length ls) _ _ low (omega (arith, high, last)) (λ q. absurd (true≢false (sym q))) (λ q. (l.some some).2) refl (kth_place _ _ _ member)
+  found_beside up number x l some is kth =
+      let i : ℕ = cond up 0 (t.beside.end - t.beside.start - 1) in
+      let inside : t.beside.start + i < t.beside.end = grind (arith, some, cases_Bool up) in
+      let small : x < 2 ^ (length ls - t.beside.level) = subst (λ (i : ℕ). x < 2 ^ i) (length-drop t.beside.level ls) (kth-lt (drop t.beside.level ls) _ _ _ x kth inside) in
+      let member = (kth_is ls n from to _ _ order within).0 ((l.found some number is).each x small kth) in
+      let many = count_by-le-length (λ y. leb y (number + bit_value up * 2 ^ (length ls - t.beside.level) + x)) xs in
+      nearest_is up xs t.part.less (s % 2 ^ length ls) _ _ low (omega (arith, high, last)) (λ q. grind (arith, q, last, member.more, many)) (λ q. grind (arith, q, (l.some some).2)) (grind (arith, last, cases_Bool up)) (kth_place _ _ _ member)

@@ -1,5 +1,5 @@
 -- How places and counts of symbols go from one level to the next.
-use Rattle.vers_wavelet.proofs.Names.{◌≡◌, ℕ, zero, suc, ◌+◌, ◌-◌, ◌*◌, ◌^◌, ◌<◌, ◌≤◌, Bool, true, false, cond, ltb, leb, List, [], ◌∷◌, length, get_or, refl, ap, ◌∙◌, arith, add-one, add-zero, inl, inr, pow-suc, mul-le-mul_right, cases_Bool, cases_lt, lt-ltb, le-ltb, le-leb, leb-true, ltb-true, eq-eqb, nat_tests, bit_value, bit_value_le, hits, is_bit, count, count_le, count_up, count_near, count_both, count_past, count_more_yes, count_more_no, start, next, value, under, equal, way, digit}
+use Rattle.vers_wavelet.proofs.Names.{◌≡◌, ℕ, zero, suc, ◌+◌, ◌-◌, ◌*◌, ◌^◌, ◌<◌, ◌≤◌, Bool, true, false, cond, ltb, leb, List, [], ◌∷◌, length, get_or, refl, ap, ◌∙◌, arith, add-one, add-zero, inl, inr, pow-suc, mul-le-mul_right, cases_Bool, cases_lt, lt-ltb, le-ltb, le-leb, leb-true, ltb-true, eq-eqb, nat_tests, bit_value, bit_value_le, hits, is_bit, count, count_le, count_up, count_near, count_both, count_past, count_more_yes, count_more_no, select, select_holds, start, next, value, under, equal, way, digit}
 
 pub next_none : (b : Bool) (l : List Bool) → next b l 0 ≡ start b l
 unfolding next count
@@ -149,18 +149,30 @@ pub split_all : (l : List Bool) (h f g : ℕ → Bool) → ((p : ℕ) → get_or
 split_all l h f g low high n long =
     rw (← long) (omega (arith, split_hits l h f g low high (length l) (omega arith), ap (hits f) (next_false_all l), ap (hits g) (next_true_all l)))
 
-pub of_ones : (l : List Bool) (z p : ℕ) → z ≡ count false l (length l) → p < length l
-    → (leb z p ≡ true → (start true l ≤ p) × (p < next true l (length l))) × ((start true l ≤ p) × (p < next true l (length l)) → leb z p ≡ true)
-of_ones l z p zeros h = (λ t. (omega (arith, zeros, leb-true z p t), omega (arith, h, next_true_all l)), λ t. le-leb z p (omega (arith, zeros, t.0)))
-
-pub of_zeros : (l : List Bool) (z p : ℕ) → z ≡ count false l (length l) → p < length l
-    → (ltb p z ≡ true → (start false l ≤ p) × (p < next false l (length l))) × ((start false l ≤ p) × (p < next false l (length l)) → ltb p z ≡ true)
-of_zeros l z p zeros h =
-    let all = next_false_all l in (λ t. (omega arith, omega (arith, zeros, all, ltb-true p z t)), λ t. lt-ltb p z (omega (arith, zeros, all, t.1)))
+pub of_kind : (bit : Bool) (l : List Bool) (z p : ℕ) → z ≡ count false l (length l) → p < length l
+    → (cond bit (leb z p) (ltb p z) ≡ true → (start bit l ≤ p) × (p < next bit l (length l))) × ((start bit l ≤ p) × (p < next bit l (length l)) → cond bit (leb z p) (ltb p z) ≡ true)
+of_kind true l z p zeros h = (λ t. (omega (arith, zeros, leb-true z p t), omega (arith, h, next_true_all l)), λ t. le-leb z p (omega (arith, zeros, t.0)))
+of_kind false l z p zeros h = (λ t. (omega arith, omega (arith, zeros, next_false_all l, ltb-true p z t)), λ t. lt-ltb p z (omega (arith, zeros, next_false_all l, t.1)))
 
 -- a place that holds the bit has its own place in the next level
 pub next-lt : (b : Bool) (l : List Bool) (i : ℕ) → i < length l → get_or l i false ≡ b → next b l i < length l
 next-lt b l i h e = grind (arith, e, cases_Bool b, next-le b l (i + 1), next_yes b l i h)
+
+-- each place of a level is where a place of the level above goes on
+of_bit : (b : Bool) (l : List Bool) (r : ℕ) → r < count b l (length l) → (i : ℕ) × (i < length l) × (next (get_or l i false) l i ≡ start b l + r)
+unfolding next
+of_bit b l r h =
+    let at = select_holds b l r (length l) (omega arith) h in
+    let i : ℕ = select b l r in
+    (i, at.0, ap (λ c. start c l + count c l i) (same_bit b _ at.1) ∙ ap (λ n. start b l + n) at.2)
+
+pub from_above : (l : List Bool) (p : ℕ) → p < length l → (i : ℕ) × (i < length l) × (next (get_or l i false) l i ≡ p)
+from_above l p h =
+    let zeros : ℕ = count false l (length l) in
+    elim (cases_lt p zeros) [
+      | inl low ↦ let a = of_bit false l p low in (a.0, a.1, omega (arith, a.2))
+      | inr high ↦ let a = of_bit true l (p - zeros) (omega (arith, count_both l (length l))) in (a.0, a.1, omega (arith, a.2))
+    ]
 
 -- ---- the way down
 

@@ -11,9 +11,6 @@ adds_fewer m n h adds = adds_weaker adds (times_less m n rank_reads h)
 pub adds_no_times : (a : Reads) (n : ℕ) (r : Reads) → AddsAtMost a a (times n r)
 adds_no_times a n r = adds_weaker (adds_nothing a) (search rules)
 
-pub adds_none : (a : Reads) (n : ℕ) → AddsAtMost a a (times n rank_reads)
-adds_none a n = adds_no_times a n rank_reads
-
 -- two ranks more, for one level more
 pub adds_level : {a b c : Reads} (k : ℕ) → AddsAtMost a b (times (2 * k) rank_reads) → AddsAtMost b c (times 2 rank_reads) → AddsAtMost a c (times (2 * (k + 1)) rank_reads)
 adds_level k before more = adds_fewer (2 * k + 2) (2 * (k + 1)) (omega arith) (adds_times (2 * k) 2 rank_reads before more)

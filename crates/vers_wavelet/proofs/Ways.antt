@@ -1,31 +1,15 @@
 -- The way down of a walk by size, and that a list of symbols has one list of levels.
-use Rattle.vers_wavelet.proofs.Names.{◌≡◌, ℕ, ◌+◌, ◌-◌, ◌*◌, ◌^◌, ◌<◌, ◌≤◌, Bool, true, false, List, [], ◌∷◌, length, get_or, set, get_or-set_same, get_or-set_other, refl, sym, ap, ◌∙◌, subst, arith, inl, inr, cases_eq, cases_lt, same_lists, slice_range, bit_value, count, select, any_default, count_both, select_holds, start, next, value, values, Even, AreLevels, KthOf, by_size, IsNode, IsWay}
+use Rattle.vers_wavelet.proofs.Names.{◌≡◌, ℕ, ◌+◌, ◌-◌, ◌*◌, ◌^◌, ◌<◌, ◌≤◌, Bool, false, List, [], ◌∷◌, length, get_or, set, get_or-set_same, get_or-set_other, refl, sym, ap, ◌∙◌, subst, arith, inl, inr, cases_eq, same_lists, slice_range, bit_value, any_default, next, value, values, Even, AreLevels, KthOf, by_size, IsNode, IsWay}
 use Rattle.vers_wavelet.specs.declared.wavelet.way.Node.{Node}
 use Rattle.vers_wavelet.specs.declared.wavelet.way.Way.{Way}
 use Rattle.vers_wavelet.proofs.Digits.{room_none, one_split}
-use Rattle.vers_wavelet.proofs.Values.{same_bit, value_is, value-lt}
+use Rattle.vers_wavelet.proofs.Values.{from_above, value_is, value-lt}
 use Rattle.vers_wavelet.proofs.Steps.{even_first, even_rest, searched_none}
 use Rattle.vers_wavelet.proofs.Lists.{length-values, get_or-values, kth_is}
 use Rattle.vers_wavelet.proofs.BySize.{kth_place}
 use Rattle.vers_wavelet.proofs.Items.{sorted_member}
 
 -- ---- one list of levels
-
--- each place of a level is where a place of the level above goes on
-of_bit : (b : Bool) (l : List Bool) (r : ℕ) → r < count b l (length l) → (i : ℕ) × (i < length l) × (next (get_or l i false) l i ≡ start b l + r)
-unfolding next
-of_bit b l r h =
-    let at = select_holds b l r (length l) (omega arith) h in
-    let i : ℕ = select b l r in
-    (i, at.0, ap (λ c. start c l + count c l i) (same_bit b _ at.1) ∙ ap (λ n. start b l + n) at.2)
-
-from_above : (l : List Bool) (p : ℕ) → p < length l → (i : ℕ) × (i < length l) × (next (get_or l i false) l i ≡ p)
-from_above l p h =
-    let zeros : ℕ = count false l (length l) in
-    elim (cases_lt p zeros) [
-      | inl low ↦ let a = of_bit false l p low in (a.0, a.1, omega (arith, a.2))
-      | inr high ↦ let a = of_bit true l (p - zeros) (omega (arith, count_both l (length l))) in (a.0, a.1, omega (arith, a.2))
-    ]
 
 same_parts : (l m : List Bool) (ls ms : List (List Bool)) (i : ℕ) → length ls ≡ length ms → value (l ∷ ls) i ≡ value (m ∷ ms) i
     → (get_or l i false ≡ get_or m i false) × (value ls (next (get_or l i false) l i) ≡ value ms (next (get_or m i false) m i))

@@ -1,13 +1,13 @@
-use Rattle.vers_wavelet.proofs.Names.{◌*◌, arith, length}
+use Rattle.vers_wavelet.proofs.Names.{rank_reads, ◌*◌, arith, length}
 use Rattle.vers_wavelet.proofs.Steps.{narrowed_all}
 use Rattle.vers_wavelet.proofs.Trails.{follows_none}
-use Rattle.vers_wavelet.proofs.Walks.{adds_none, adds_fewer, adds_level, narrowed_ended}
+use Rattle.vers_wavelet.proofs.Walks.{adds_no_times, adds_fewer, adds_level, narrowed_ended}
 use Rattle.vers_wavelet.proofs.wavelet.nearest.follow.Goals as goal
 
 pub loop-k-init : goal.loop-k-init
 loop-k-init g c = record {
   follows = follows_none c.args.is_up c.args.levels.now c.args.len (g.D.Digits.number c.args.symbol.now) c.args.start c.args.end c.requires.order c.requires.within;
-  adds = adds_none _ 0;
+  adds = adds_no_times _ 0 rank_reads;
 }
 
 pub loop-k-preserved : goal.loop-k-preserved

@@ -1,8 +1,8 @@
-use Rattle.vers_wavelet.proofs.Names.{length-set, ◌≡◌, ◌+◌, ◌-◌, ◌*◌, arith, length, ap, ◌∙◌}
+use Rattle.vers_wavelet.proofs.Names.{rank_reads, length-set, ◌≡◌, ◌+◌, ◌-◌, ◌*◌, arith, length, ap, ◌∙◌}
 use Rattle.vers_wavelet.proofs.Digits.{room_left, room_more}
 use Rattle.vers_wavelet.proofs.Steps.{searched_more, searched_all}
 use Rattle.vers_wavelet.proofs.Ways.{nodes_set}
-use Rattle.vers_wavelet.proofs.Walks.{adds_none, adds_fewer, adds_level, level_length}
+use Rattle.vers_wavelet.proofs.Walks.{adds_no_times, adds_fewer, adds_level, level_length}
 use Rattle.vers_wavelet.proofs.wavelet.way.Way.find.Goals as goal
 
 pub loop-k-init : goal.loop-k-init
@@ -18,7 +18,7 @@ loop-k-init g c =
           let same : c.args.i - (c.args.i - from.result.node.from) + j ≡ from.result.node.from + j = omega (arith, from.ensures.from) in
           rw same (from.ensures.node.searched j);
       way = c.requires.way;
-      adds = adds_none _ _;
+      adds = adds_no_times _ _ rank_reads;
     }
 
 pub put_digit-requires : goal.put_digit-requires
@@ -57,9 +57,6 @@ returns g c =
       way = i.way;
       adds = adds_fewer (2 * c.loop-k.k) (2 * length c.args.levels.now) (omega arith) i.adds;
     }
-
-pub begin-from-requires : goal.begin-from-requires
-begin-from-requires g c = record { few = c.requires.few; within = c.requires.within; way = c.requires.way }
 
 pub choose_level-choice-requires : goal.choose_level-choice-requires
 choose_level-choice-requires g c = grind (arith, level_length)
