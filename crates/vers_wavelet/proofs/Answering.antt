@@ -1,5 +1,6 @@
 -- What queries that go level by level answer.
-use Rattle.vers_wavelet.proofs.Names.{◌≡◌, ℕ, ◌+◌, ◌-◌, ◌*◌, ◌%◌, ◌^◌, ◌&&◌, ◌<◌, ◌≤◌, Bool, false, leb, List, [], ◌∷◌, length, get_or, refl, sym, ap, ◌∙◌, arith, Option, Some, None, option_map, slice_get, IfSome, if◌then◌else◌, le-leb, lt-leb, slice_get-get_or, bit_value, value, values, next, way, digit, AreLevels, Seeks, occurrences}
+use Rattle.vers_wavelet.proofs.Names.{◌≡◌, ℕ, ◌+◌, ◌-◌, ◌*◌, ◌%◌, ◌^◌, ◌&&◌, ◌<◌, ◌≤◌, Bool, false, leb, List, [], ◌∷◌, length, get_or, refl, sym, ap, ◌∙◌, arith, Option, Some, None, option_map, add-zero, slice_get, IfSome, if◌then◌else◌, le-leb, lt-leb, slice_get-get_or, bit_value, value, values, next, way, digit, AreLevels, Seeks, occurrences}
+use Rattle.std.proofs.lemmas.Iterator.Adapters.{option_map_id}
 use Rattle.vers_wavelet.proofs.Values.{value_is, value_none, next-up, way_is, way_none}
 use Rattle.vers_wavelet.proofs.Members.{never}
 use Rattle.vers_wavelet.proofs.Steps.{rise_none, rise_all, rise_below, way_within}
@@ -25,18 +26,11 @@ get_goes v ls p i number more b o is long bit e =
     let whole : more + value ls (next b v p) ≡ number + value (v ∷ ls) p = omega (arith, e, rw long at (value_is v ls p b bit)) in rw (is, whole)
 
 pub get_ends : (o : Option ℕ) (p : ℕ) → o ≡ option_map (λ y. y + value [] p) o
-get_ends None p = refl
-get_ends (Some y) p = let e : y ≡ y + value [] p = omega (arith, value_none p) in ap Some e
+get_ends o p = simp (value_none, add-zero, option_map_id)
 
--- an answer where two tests pass, and where one fails
+-- an answer where two tests pass
 pub if_both : {X : Type 0} (a b c d : ℕ) (o : Option X) → a ≤ b → c ≤ d → o ≡ (if leb a b && leb c d then o else None)
 if_both a b c d o h l = sym (ap (λ t. if t && leb c d then o else None) (le-leb a b h) ∙ ap (λ t. if t then o else None) (le-leb c d l))
-
-pub if_first_fails : {X : Type 0} (a b c d : ℕ) (o : Option X) → b < a → None ≡ (if leb a b && leb c d then o else None)
-if_first_fails a b c d o h = sym (ap (λ t. if t && leb c d then o else None) (lt-leb a b h))
-
-pub if_second_fails : {X : Type 0} (a b c d : ℕ) (o : Option X) → a ≤ b → d < c → None ≡ (if leb a b && leb c d then o else None)
-if_second_fails a b c d o h l = sym (ap (λ t. if t && leb c d then o else None) (le-leb a b h) ∙ ap (λ t. if t then o else None) (lt-leb c d l))
 
 -- ---- occurrences counted
 
@@ -66,8 +60,7 @@ pub select_goes : (v : List Bool) (ls : List (List Bool)) (s p i to : ℕ) (b : 
 select_goes v ls s p i to b o is long bit at = rw (is, at, bit, ← long, way_is v ls s p)
 
 pub select_ends : (o : Option ℕ) (s : ℕ) → o ≡ option_map (λ p. way [] s p) o
-select_ends None s = refl
-select_ends (Some p) s = ap Some (sym (way_none s p))
+select_ends o s = simp (way_none, option_map_id)
 
 pub turn_known : {ls : List (List Bool)} {n : ℕ} → AreLevels ls n → (s rank first : ℕ) (o : Option ℕ) → o ≡ Some first → o ≡ Some (way ls s 0) → first + rank < n
     → Seeks ls n s (way ls s 0 + rank) (length ls) (Some (first + rank))

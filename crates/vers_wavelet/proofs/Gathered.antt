@@ -4,8 +4,8 @@ use Rattle.vers_wavelet.proofs.Answering.{get_begins, if_both}
 use Rattle.vers_wavelet.proofs.Counting.{split_apart}
 use Rattle.vers_wavelet.proofs.Digits.{digit_value, top_digit, one_split}
 use Rattle.vers_wavelet.proofs.Lists.{count_is, first_hits, length-values}
-use Rattle.vers_wavelet.proofs.Steps.{even_rest, even_first, start_le, way_equal}
-use Rattle.vers_wavelet.proofs.Values.{hits_all, next_none, split_all, value-lt, value_is, way_none, way_is, way-up}
+use Rattle.vers_wavelet.proofs.Steps.{value_parts, even_rest, even_first, start_le, way_equal}
+use Rattle.vers_wavelet.proofs.Values.{hits_all, next_none, split_all, value-lt, way_none, way_is, way-up}
 
 -- ---- numbers by their digits from the lowest on
 
@@ -39,10 +39,8 @@ turned_value : (l : List Bool) (ls : List (List Bool)) (p : ℕ) (b : Bool) → 
 turned_value l ls p b is =
     let k : ℕ = length ls in
     let v : ℕ = value (l ∷ ls) p in
-    let w : ℕ = value ls (next b l p) in
-    let small : w < 2 ^ k = value-lt ls (next b l p) in
-    let parts = one_split (digit v k) b (2 ^ k) (v % 2 ^ k) w (mod-lt v (pow_pos k)) small (sym (top v k) ∙ mod-eq_of_lt (value-lt (l ∷ ls) p) ∙ value_is l ls p b is) in
-    turned_more k v ∙ ap (λ d. 2 * turned k v + bit_value d) parts.0 ∙ ap (λ x. 2 * x + bit_value b) (turned_same k v w (parts.1 ∙ sym (mod-eq_of_lt small)))
+    let parts = value_parts l ls p b is in
+    turned_more k v ∙ ap (λ d. 2 * turned k v + bit_value d) parts.0 ∙ ap (λ x. 2 * x + bit_value b) (turned_same k v _ (parts.1 ∙ sym (mod-eq_of_lt (value-lt ls (next b l p)))))
 
 low_test : (bit : Bool) (a t : ℕ) → ltb (2 * a + 0) (2 * t + bit_value bit) ≡ ltb a (t + bit_value bit)
 low_test bit a t = grind (arith, nat_tests)

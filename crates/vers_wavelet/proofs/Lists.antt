@@ -88,8 +88,7 @@ nth_passing : (q : ℕ → Bool) (a m p d r : ℕ) → a ≤ p → p < a + m →
 nth_passing q a m p d r low high on e =
     let i : ℕ = p - a in
     let at : get_or (range_with_len a m) i d ≡ p = get_or-range_with_len a m i d (omega arith) ∙ omega arith in
-    let taken : take i (range_with_len a m) ≡ range_with_len a i =
-    ap (take i) (sym (map-id (range_with_len a m))) ∙ take-map-range_with_len (λ (x : ℕ). x) a m i (omega arith) ∙ map-id (range_with_len a i) in
+    let taken = simp map-id at (take-map-range_with_len (λ (x : ℕ). x) a m i (omega arith)) in
     let found = filter_at q (range_with_len a m) i d (omega (arith, length-range_with_len a m)) (ap q at ∙ on) in
     ap (λ n. get_or (filter q (range_with_len a m)) n d) (sym (ap (count_by q) taken ∙ e)) ∙ found.1 ∙ at
 

@@ -1,6 +1,6 @@
 -- Neighbours of a number in a list: of its members in ascending order the last up to the number, and the first from it on.
-use Rattle.vers_wavelet.proofs.Names.{◌≡◌, ℕ, ◌+◌, ◌-◌, ◌<◌, ◌≤◌, subst, Bool, true, false, not, ltb, leb, List, [], length, get_or, Option, Some, None, refl, sym, ap, ◌∙◌, arith, inl, inr, ◌↔◌, IsSome, Any, count_by, cases_lt, le-leb, lt-leb, lt-ltb, le-ltb, ltb-true, ltb-false, count_by-le-length, find_is, none_passing, last_passing_is, bool_byte, by_size, kth_by_size, greatest_up_to, least_from, nearest, IsPredecessor, IsSuccessor}
-use Rattle.vers_wavelet.proofs.Members.{kth_same, predecessor_is, successor_is, any_not_above, some_not_above, any_not_below, some_not_below, never}
+use Rattle.vers_wavelet.proofs.Names.{◌≡◌, ℕ, ◌+◌, ◌-◌, ◌<◌, ◌≤◌, subst, Bool, true, false, not, ltb, leb, List, [], length, get_or, Option, Some, None, refl, sym, ap, ◌∙◌, arith, ◌↔◌, IsSome, Any, count_by, le-leb, lt-leb, lt-ltb, le-ltb, ltb-true, ltb-false, count_by-le-length, find_is, none_passing, last_passing_is, bool_byte, by_size, kth_by_size, greatest_up_to, least_from, nearest, IsPredecessor, IsSuccessor}
+use Rattle.vers_wavelet.proofs.Members.{not_lt, kth_same, predecessor_is, successor_is, any_not_above, some_not_above, any_not_below, some_not_below, never}
 use Rattle.vers_wavelet.proofs.BySize.{length-by_size, below_first, not_above_first, kth_some, kth_none, kth_is}
 use Rattle.vers_wavelet.proofs.Ranges.{members_past, members_reversed, narrow_word, wide_word}
 
@@ -90,10 +90,7 @@ predecessor_found xs s any =
 
 pub greatest_up_to_some : (xs : List ℕ) (s : ℕ) → IsSome (greatest_up_to xs s) ↔ Any (λ y. y ≤ s) xs
 greatest_up_to_some xs s = (
-  λ is. elim (cases_lt 0 (count_by (λ y. leb y s) xs)) [
-    | inl some ↦ any_not_above xs (count_by (λ y. leb y s) xs) s refl some
-    | inr none ↦ never (subst IsSome (greatest_up_to_none xs s (omega (arith, none))) is)
-  ],
+  λ is. any_not_above xs _ s refl (not_lt (λ none. never (subst IsSome (greatest_up_to_none xs s (omega (arith, none))) is))),
   λ any. subst IsSome (sym (predecessor_found xs s any).1) refl,
 )
 
@@ -111,10 +108,7 @@ successor_found xs s any =
 
 pub least_from_some : (xs : List ℕ) (s : ℕ) → IsSome (least_from xs s) ↔ Any (λ y. s ≤ y) xs
 least_from_some xs s = (
-  λ is. elim (cases_lt (count_by (λ y. ltb y s) xs) (length xs)) [
-    | inl some ↦ any_not_below xs (count_by (λ y. ltb y s) xs) s refl some
-    | inr all ↦ never (subst IsSome (least_from_is xs s (count_by (λ y. ltb y s) xs) refl ∙ kth_none xs (count_by (λ y. ltb y s) xs) all) is)
-  ],
+  λ is. any_not_below xs _ s refl (not_lt (λ all. never (subst IsSome (least_from_is xs s _ refl ∙ kth_none xs _ (omega (arith, all))) is))),
   λ any. subst IsSome (sym (successor_found xs s any).1) refl,
 )
 

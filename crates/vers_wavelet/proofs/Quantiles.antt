@@ -19,20 +19,17 @@ item_is ls n a b i x h within kth =
     kth_at (slice_range (values ls n) a b) i x (omega (arith, length-part ls n a b (omega arith) within))
     ((kth_is ls n a b i x (omega arith) within).0 kth)
 
-member_is : (ls : List (List Bool)) (a b i x : ℕ) → a + i < b → KthOf ls a b i x → member ls a b i ≡ x
-unfolding member
-member_is ls a b i x h kth = item_is ls b a b i x h (omega arith) kth
-
 member-lt : (ls : List (List Bool)) (a b i : ℕ) → a + i < b → member ls a b i < 2 ^ length ls
 member-lt ls a b i h = kth-lt ls a b i (member ls a b i) (kth_member ls a b i h) h
 
 member_goes : (bit : Bool) (v : List Bool) (ls : List (List Bool)) (a b i j : ℕ) → a + i < b → b ≤ length v → next bit v a + j < next bit v b
     → j + cond bit (next false v b - next false v a) 0 ≡ i
     → member (v ∷ ls) a b i ≡ bit_value bit * 2 ^ length ls + member ls (next bit v a) (next bit v b) j
+unfolding member
 member_goes bit v ls a b i j h within order left =
     let c : ℕ = next bit v a in
     let d : ℕ = next bit v b in
-    member_is (v ∷ ls) a b i _ h
+    item_is (v ∷ ls) b a b i _ h (omega arith)
     (kth_step bit v ls a b i j (member ls c d j) (omega arith) within (member-lt ls c d j order) left (kth_member ls c d j order))
 
 -- ---- queries

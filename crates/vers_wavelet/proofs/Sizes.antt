@@ -1,7 +1,7 @@
 -- How often a digit is a one, level by level, and what the levels take.
-use Rattle.vers_wavelet.proofs.Names.{◌≡◌, ℕ, zero, suc, ◌+◌, ◌-◌, ◌<◌, Bool, true, false, eqb, List, [], ◌∷◌, length, get_or, refl, sym, ap, ◌∙◌, arith, bit_at, range_with_len, sum_by, AllZip, each_same, map-id, length-map, get_or-map, sum_by-map-range_with_len_more, bit_at_cat_low, bit_at_cat_high, bit_value, is_bit, count, count_both, index_size, digit_list, next, value, values, hits, digit, Even, AreLevels}
-use Rattle.vers_wavelet.proofs.Values.{hits_same, split_all, value_is, value-lt}
-use Rattle.vers_wavelet.proofs.Steps.{even_first, even_rest}
+use Rattle.vers_wavelet.proofs.Names.{◌≡◌, ℕ, zero, suc, ◌+◌, ◌<◌, Bool, true, false, List, [], ◌∷◌, length, get_or, refl, sym, ap, ◌∙◌, arith, range_with_len, sum_by, AllZip, each_same, map-id, length-map, get_or-map, sum_by-map-range_with_len_more, bit_at_cat_low, is_bit, count, count_both, index_size, digit_list, next, value, values, hits, digit, Even, AreLevels}
+use Rattle.vers_wavelet.proofs.Values.{hits_same, split_all, value_is}
+use Rattle.vers_wavelet.proofs.Steps.{value_parts, even_first, even_rest}
 use Rattle.vers_wavelet.proofs.Lists.{length-values, get_or-values, taken_hits}
 
 -- the places of a level take all places of the next, each once
@@ -13,26 +13,13 @@ all_moved g l n long =
 digit_low : (l : List Bool) (ls : List (List Bool)) (p i : ℕ) → i < length ls → digit (value (l ∷ ls) p) i ≡ digit (value ls (next (get_or l p false) l p)) i
 digit_low l ls p i h = grind (arith, value_is, bit_at_cat_low, value, next)
 
-bit_of_value : (b : Bool) → eqb (bit_at (bit_value b) 0) 1 ≡ b
-bit_of_value true = refl
-bit_of_value false = refl
-
-digit_here : (l : List Bool) (ls : List (List Bool)) (p : ℕ) → digit (value (l ∷ ls) p) (length ls) ≡ get_or l p false
-digit_here l ls p =
-    let b : Bool = get_or l p false in
-    let m : ℕ = length ls in
-    let none : m - m ≡ 0 = omega arith in
-    ap (λ v. digit v m) (value_is l ls p b refl)
-    ∙ ap (λ d. eqb d 1) (bit_at_cat_high (bit_value b) m (value ls (next b l p)) m (value-lt ls (next b l p)) (omega arith))
-    ∙ ap (λ j. eqb (bit_at (bit_value b) j) 1) none ∙ bit_of_value b
-
 -- the ones of a level are the symbols whose digit there is 1
 hits_digit : (ls : List (List Bool)) (n : ℕ) → Even ls n → (k i : ℕ) → k + (i + 1) ≡ length ls → (v : List Bool) → v ≡ get_or ls k v
     → hits (λ p. digit (value ls p) i) n ≡ hits (λ p. get_or v p false) n
 hits_digit [] n even k i e v at = absurd (omega arith)
 hits_digit (l ∷ ls) n even zero i e v at =
     let here : i ≡ length ls = omega arith in
-    hits_same _ _ n (λ p h. ap (digit (value (l ∷ ls) p)) here ∙ digit_here l ls p ∙ ap (λ m. get_or m p false) (sym at))
+    hits_same _ _ n (λ p h. ap (digit (value (l ∷ ls) p)) here ∙ (value_parts l ls p _ refl).0 ∙ ap (λ m. get_or m p false) (sym at))
 hits_digit (l ∷ ls) n even (suc k) i e v at =
     hits_same _ (λ p. digit (value ls (next (get_or l p false) l p)) i) n (λ p h. digit_low l ls p i (omega arith))
     ∙ all_moved (λ q. digit (value ls q) i) l n (even_first l ls n even)
@@ -64,9 +51,7 @@ size_of_level ls n levels k i e v at =
     rw (zeros, ones, same) refl
 
 pub sum_more : (f : ℕ → ℕ) (i : ℕ) → sum_by f (range_with_len 0 (i + 1)) ≡ sum_by f (range_with_len 0 i) + f i
-sum_more f i =
-    let same = λ (k : ℕ). ap (sum_by f) (map-id (range_with_len 0 k)) in
-    sym (same (i + 1)) ∙ sum_by-map-range_with_len_more f (λ (x : ℕ). x) 0 i i (omega arith) ∙ ap (λ k. k + f i) (same i)
+sum_more f i = simp map-id at (sum_by-map-range_with_len_more f (λ (x : ℕ). x) 0 i i (omega arith))
 
 -- a clone of each level is the level
 pub same_levels : (ls ms : List (List Bool)) → AllZip (λ x y. y ≡ x) ls ms → ms ≡ ls

@@ -3,14 +3,6 @@ use Rattle.vers_wavelet.proofs.Names.{◌≡◌, ℕ, zero, suc, ◌+◌, ◌-�
 use Rattle.vers_wavelet.proofs.Digits.{top_digit, one_split}
 use Rattle.vers_wavelet.proofs.Values.{same_bit, value-lt, under_all, under_step, equal_under, next_none, next-up, next-le, none_under, all_equal, value_is, value_none, way_none, way_is, way-up, equal_more}
 
-equal_step : (bit : Bool) (l : List Bool) (ls : List (List Bool)) (s y i : ℕ) → y ≡ bit_value bit * 2 ^ length ls + s → s < 2 ^ length ls
-    → i ≤ length l
-    → equal (l ∷ ls) y i + equal ls s (start bit l) ≡ equal ls s (next bit l i)
-equal_step bit l ls s y i e small h =
-    let below = under_step bit l ls s y i e (omega arith) h in
-    let not_above = under_step bit l ls (s + 1) (y + 1) i (omega arith) (omega arith) h in
-    omega (arith, below, not_above, equal_under (l ∷ ls) y i, equal_under ls s (start bit l), equal_under ls s (next bit l i))
-
 cond_gap : (bit : Bool) (a b : ℕ) → a ≤ b → cond bit b 0 ≡ cond bit a 0 + cond bit (b - a) 0
 cond_gap bit a b order = grind arith
 
@@ -35,13 +27,18 @@ module _ (ls : List (List Bool)) (k : ℕ) (h : k < length ls) where
   pub level_at : (v : List Bool) → v ≡ get_or ls k v → drop k ls ≡ v ∷ drop (k + 1) ls
   level_at v at = drop-cons ls k v h ∙ ap (λ x. x ∷ drop (suc k) ls) (sym at) ∙ ap (λ n. v ∷ drop n ls) (sym (add-one k))
 
-  pub levels_left : length (drop (k + 1) ls) ≡ length ls - (k + 1)
-  levels_left = length-drop (k + 1) ls
-
 -- the digits of s from level k on: the first of them, and the others
 pub digit_from : (s m k : ℕ) → k < m → s % 2 ^ (m - k) ≡ bit_value (digit s (m - (k + 1))) * 2 ^ (m - (k + 1)) + s % 2 ^ (m - (k + 1))
 digit_from s m k h =
     let e : m - k ≡ m - (k + 1) + 1 = omega arith in rw e (top_digit s (m - (k + 1)))
+
+-- the digits of a symbol from a level on: the bit at its place, and the others
+pub value_parts : (l : List Bool) (ls : List (List Bool)) (p : ℕ) (b : Bool) → get_or l p false ≡ b → (digit (value (l ∷ ls) p) (length ls) ≡ b) × (value (l ∷ ls) p % 2 ^ length ls ≡ value ls (next b l p))
+value_parts l ls p b is =
+    let k : ℕ = length ls in
+    let v : ℕ = value (l ∷ ls) p in
+    let whole = ap (λ n. v % 2 ^ n) (add-one k) ∙ mod-eq_of_lt (value-lt (l ∷ ls) p) ∙ value_is l ls p b is in
+    one_split (digit v k) b (2 ^ k) _ _ (mod-lt v (pow_pos k)) (value-lt ls (next b l p)) (sym (top_digit v k) ∙ whole)
 
 -- ---- the way down
 
@@ -65,8 +62,12 @@ way_equal (l ∷ ls) n even s i h =
     let here = way_equal ls n (even_rest l ls n even) s (next bit l i) (omega (arith, next-le bit l i, even_first l ls n even)) in
     let first = way_equal ls n (even_rest l ls n even) s (start bit l) (omega (arith, start_le bit l, even_first l ls n even)) in
     let small = mod-lt s (pow_pos (length ls)) in
-    let step = equal_step bit l ls (s % 2 ^ length ls) (s % 2 ^ length (l ∷ ls)) i whole small (omega (arith, even_first l ls n even)) in
-    omega (arith, step, here, first, way_is l ls s i, way_is l ls s 0, ap (way ls s) (next_none bit l))
+    let r : ℕ = s % 2 ^ length ls in
+    let y : ℕ = s % 2 ^ length (l ∷ ls) in
+    let inside : i ≤ length l = omega (arith, even_first l ls n even) in
+    let below = under_step bit l ls r y i whole (omega arith) inside in
+    let not_above = under_step bit l ls (r + 1) (y + 1) i (omega (arith, whole)) (omega arith) inside in
+    omega (arith, below, not_above, equal_under (l ∷ ls) y i, equal_under ls r (start bit l), equal_under ls r (next bit l i), here, first, way_is l ls s i, way_is l ls s 0, ap (way ls s) (next_none bit l))
 
 -- a place that holds s has a place of its own there
 pub way_more : (ls : List (List Bool)) (n : ℕ) → Even ls n → (s i : ℕ) → i < n → value ls i ≡ s % 2 ^ length ls → way ls s (i + 1) ≡ way ls s i + 1
@@ -95,10 +96,10 @@ module _ (ls : List (List Bool)) (s k : ℕ) (h : k < length ls) (v : List Bool)
   lower = drop (k + 1) ls
 
   whole : s % 2 ^ (length ls - k) ≡ bit_value bit * 2 ^ length lower + rest
-  whole = rw (is, levels_left ls k h) (digit_from s (length ls) k h)
+  whole = rw (is, length-drop (k + 1) ls) (digit_from s (length ls) k h)
 
   small : rest < 2 ^ length lower
-  small = rw (levels_left ls k h) (mod-lt s (pow_pos (length ls - (k + 1))))
+  small = rw (length-drop (k + 1) ls) (mod-lt s (pow_pos (length ls - (k + 1))))
 
   under_at : (i : ℕ) → i ≤ length v
       → under (drop k ls) (s % 2 ^ (length ls - k)) i + under lower rest (start bit v)
@@ -106,7 +107,7 @@ module _ (ls : List (List Bool)) (s k : ℕ) (h : k < length ls) (v : List Bool)
   under_at i within = rw (level_at ls k h v at) (under_step bit v lower rest _ i whole (omega (arith, small)) within)
 
   pub way_down : (i : ℕ) → way (drop k ls) s i ≡ way lower s (next bit v i)
-  way_down i = rw (level_at ls k h v at, way_is v lower s i, levels_left ls k h, ← is)
+  way_down i = rw (level_at ls k h v at, way_is v lower s i, length-drop (k + 1) ls, ← is)
 
   -- the two ends of a range, one level down
   pub narrowed_more : {from to a b less : ℕ} → a ≤ length v → b ≤ length v → a ≤ b
@@ -123,13 +124,10 @@ module _ (ls : List (List Bool)) (s k : ℕ) (h : k < length ls) (v : List Bool)
     long : length v ≡ n
     long = ap length at ∙ even k v h
 
-    holds_here : value lower q ≡ s % 2 ^ length lower
-    holds_here = up.holds ∙ ap (λ m. s % 2 ^ m) (sym (levels_left ls k h))
-
     -- what leads to a symbol that is s is among those of its digit
     pub rise_inside : way ls s 0 ≤ target → target < way ls s n → (start bit v ≤ q) × (q < next bit v (length v))
     rise_inside low high =
-        let more = way_more lower n (even_drop ls n even (k + 1)) s q up.within holds_here in
+        let more = way_more lower n (even_drop ls n even (k + 1)) s q up.within (up.holds ∙ ap (λ m. s % 2 ^ m) (sym (length-drop (k + 1) ls))) in
         let between = way_between ls n even s k in (
           grind (arith, up.leads, more, way-up lower s (q + 1) (start bit v), way_down 0, ap (way lower s) (next_none bit v), between.0),
           grind (arith, up.leads, way-up lower s (next bit v (length v)) q, way_down (length v), ap (way (drop k ls) s) long, between.1),
@@ -168,7 +166,7 @@ module _ (ls : List (List Bool)) (k : ℕ) (h : k < length ls) (v : List Bool) (
   searched_more bit {from} {to} {a} {b} {c} {d} {number} {made} th more order within first last e is s j = record {
     each = λ x small kth.
         let i : ℕ = j + cond bit (next false v b - next false v a) 0 in
-        let left = levels_left ls k h in
+        let left = length-drop (k + 1) ls in
         let here = kth_step bit v (drop (k + 1) ls) a b i j x order within (rw left small) refl (rw (first, last) at kth) in
         let member : more + j ≡ th + i = omega (arith, e) in
         let sum : made + x ≡ number + (bit_value bit * weight + x) = omega (arith, is) in
@@ -178,16 +176,13 @@ module _ (ls : List (List Bool)) (k : ℕ) (h : k < length ls) (v : List Bool) (
         rw (member, sum) ((s i).each (bit_value bit * weight + x) fits (rw (level_at ls k h v at, ← left) here));
   }
 
-  -- one level of the symbol at a place
-  read_here : (bit : Bool) (p : ℕ) → get_or v p false ≡ bit → value (drop k ls) p ≡ bit_value bit * weight + value (drop (k + 1) ls) (next bit v p)
-  read_here bit p is = rw (level_at ls k h v at, value_is v (drop (k + 1) ls) p bit is, levels_left ls k h)
-
   -- where the digits of s from the level on are held, the bit is the first of them, and the next level holds the others
   pub held_more : (bit : Bool) (s p : ℕ) → get_or v p false ≡ bit → value (drop k ls) p ≡ s % 2 ^ (length ls - k)
       → (bit ≡ digit s (length ls - (k + 1))) × (value (drop (k + 1) ls) (next bit v p) ≡ s % 2 ^ (length ls - (k + 1)))
   held_more bit s p is holds =
-      let small : value (drop (k + 1) ls) (next bit v p) < weight = omega (arith, value-lt (drop (k + 1) ls) (next bit v p), ap (λ n. 2 ^ n) (levels_left ls k h)) in
-      one_split bit (digit s (length ls - (k + 1))) weight _ _ small (mod-lt s (pow_pos (length ls - (k + 1)))) (sym (read_here bit p is) ∙ holds ∙ digit_from s (length ls) k h)
+      let small : value (drop (k + 1) ls) (next bit v p) < weight = omega (arith, value-lt (drop (k + 1) ls) (next bit v p), ap (λ n. 2 ^ n) (length-drop (k + 1) ls)) in
+      let here : value (drop k ls) p ≡ bit_value bit * weight + value (drop (k + 1) ls) (next bit v p) = rw (level_at ls k h v at, value_is v (drop (k + 1) ls) p bit is, length-drop (k + 1) ls) in
+      one_split bit (digit s (length ls - (k + 1))) weight _ _ small (mod-lt s (pow_pos (length ls - (k + 1)))) (sym here ∙ holds ∙ digit_from s (length ls) k h)
 
 -- with no level read yet
 pub held_all : (ls : List (List Bool)) (p : ℕ) → value ls p ≡ value ls p % 2 ^ (length ls - 0)
@@ -196,8 +191,8 @@ held_all ls p = let e : length ls - 0 ≡ length ls = omega arith in sym (ap (λ
 pub all_levels : (width k : ℕ) {number : ℕ} → HasRoom width k number → HasRoom width (k - 0) number
 all_levels width k room = let e : k - 0 ≡ k = omega arith in rw e room
 
-pub searched_none : (ls : List (List Bool)) (from to i : ℕ) → Searched ls from to i 0 from to i 0
-searched_none ls from to i = record { each = λ x small k. let e : 0 + x ≡ x = omega arith in rw e k }
+pub searched_none : (ls : List (List Bool)) (from to th i number : ℕ) → th ≡ i → number ≡ 0 → Searched ls from to th 0 from to i number
+searched_none ls from to th i number e z = record { each = λ x small k. let sum : number + x ≡ x = omega arith in rw (sum, e) k }
 
 pub searched_all : {ls : List (List Bool)} {from to th k a b i number : ℕ} → k ≡ length ls → Searched ls from to th k a b i number → a + i < b → KthOf ls from to th number
 searched_all {ls} {from} {to} {th} {k} {a} {b} {i} {number} e s order =

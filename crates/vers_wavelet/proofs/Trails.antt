@@ -89,10 +89,7 @@ follows_none up ls n s from to order within =
       few = omega arith;
       narrowed = narrowed_none ls s from to;
       digits = omega (arith, all);
-      searched = λ j.
-          let none : s % 2 ^ length ls - s % 2 ^ (length ls - 0) ≡ 0 = omega (arith, all) in
-          let same : 0 + j ≡ j = omega arith in
-          rw (none, same) (searched_none ls from to j);
+      searched = λ j. searched_none ls from to _ j _ (omega arith) (omega (arith, all));
       leaves = record { order = omega arith; within = omega arith; none = λ q. grind arith; some = λ q. absurd (omega (arith, q)); found = λ q number e. absurd (omega (arith, q)) };
     }
 

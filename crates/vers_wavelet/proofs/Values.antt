@@ -5,13 +5,9 @@ pub next_none : (b : Bool) (l : List Bool) → next b l 0 ≡ start b l
 unfolding next count
 next_none b l = add-zero (start b l)
 
-pub next_yes : (b : Bool) (l : List Bool) (i : ℕ) → i < length l → is_bit b (get_or l i false) ≡ true → next b l (i + 1) ≡ next b l i + 1
+pub next_more : (b : Bool) (l : List Bool) (i : ℕ) → i < length l → next b l (i + 1) ≡ next b l i + cond (is_bit b (get_or l i false)) 1 0
 unfolding next
-next_yes b l i h on = omega (arith, count_more_yes b l i h on)
-
-pub next_no : (b : Bool) (l : List Bool) (i : ℕ) → i < length l → is_bit b (get_or l i false) ≡ false → next b l (i + 1) ≡ next b l i
-unfolding next
-next_no b l i h off = omega (arith, count_more_no b l i h off)
+next_more b l i h = grind (arith, cases_Bool (is_bit b (get_or l i false)), count_more_yes b l i h, count_more_no b l i h)
 
 pub value_is : (l : List Bool) (ls : List (List Bool)) (i : ℕ) (b : Bool) → get_or l i false ≡ b → value (l ∷ ls) i ≡ bit_value b * 2 ^ length ls + value ls (next b l i)
 unfolding value
@@ -52,10 +48,7 @@ split_hits l h f g low high zero within = omega (arith, ap (hits f) (next_none f
 split_hits l h f g low high (suc i) within =
     let before = split_hits l h f g low high i (omega (arith, within)) in
     let inside : i < length l = omega (arith, within) in
-    rw (← add-one i) (elim (cases_Bool (get_or l i false)) [
-      | inl on ↦ grind (arith, before, high i on, hits_more, next_yes true l i inside, next_no false l i inside)
-      | inr off ↦ grind (arith, before, low i off, hits_more, next_yes false l i inside, next_no true l i inside)
-    ])
+    rw (← add-one i) (grind (arith, cases_Bool (get_or l i false), before, low i, high i, hits_more, next_more true l i inside, next_more false l i inside))
 
 -- all symbols are below what no number of so many digits reaches
 pub under_all : (ls : List (List Bool)) (y n : ℕ) → 2 ^ length ls ≤ y → under ls y n ≡ n
@@ -108,7 +101,7 @@ pub ruleset parts = (next_both, next-le, next-up)
 
 -- the zeros of a range of one place
 pub next_single : (l : List Bool) (i j : ℕ) (b : Bool) → j ≡ i + 1 → i < length l → b ≡ get_or l i false → next false l j ≡ cond b (next false l i) (next false l i + 1)
-next_single l i j b e h is = grind (arith, e, is, cases_Bool b, next_yes false l i h, next_no false l i h)
+next_single l i j b e h is = grind (arith, e, is, cases_Bool b, next_more false l i h)
 
 pub next_up_to_place : (l : List Bool) (i : ℕ) → next false l i ≤ i
 unfolding next
@@ -156,7 +149,7 @@ of_kind false l z p zeros h = (λ t. (omega arith, omega (arith, zeros, next_fal
 
 -- a place that holds the bit has its own place in the next level
 pub next-lt : (b : Bool) (l : List Bool) (i : ℕ) → i < length l → get_or l i false ≡ b → next b l i < length l
-next-lt b l i h e = grind (arith, e, cases_Bool b, next-le b l (i + 1), next_yes b l i h)
+next-lt b l i h e = grind (arith, e, cases_Bool b, next-le b l (i + 1), next_more b l i h)
 
 -- each place of a level is where a place of the level above goes on
 of_bit : (b : Bool) (l : List Bool) (r : ℕ) → r < count b l (length l) → (i : ℕ) × (i < length l) × (next (get_or l i false) l i ≡ start b l + r)

@@ -60,7 +60,7 @@ node_all ls n few = record {
   order = omega arith;
   within = omega arith;
   room = room_none 64 (length ls - 0) (omega arith);
-  searched = λ j. let e : 0 + j ≡ j = omega arith in rw e (searched_none ls 0 n j);
+  searched = λ j. searched_none ls 0 n _ j _ (omega arith) refl;
 }
 
 -- one node more

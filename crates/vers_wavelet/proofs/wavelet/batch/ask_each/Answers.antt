@@ -1,5 +1,5 @@
-use Rattle.vers_wavelet.proofs.Names.{◌≡◌, ◌+◌, ◌-◌, ℕ, Bool, List, [], arith, length, drop, ap, ◌∙◌, refl, drop_all, times, rank_reads}
-use Rattle.vers_wavelet.proofs.Steps.{level_at, levels_left}
+use Rattle.vers_wavelet.proofs.Names.{length-drop, ◌≡◌, ◌+◌, ◌-◌, ℕ, Bool, List, [], arith, length, drop, ap, ◌∙◌, refl, drop_all, times, rank_reads}
+use Rattle.vers_wavelet.proofs.Steps.{level_at}
 use Rattle.vers_wavelet.proofs.Batches.{become_weaker, become_then, become_all, adds_once_more}
 use Rattle.vers_wavelet.proofs.Walks.{adds_no_times}
 use Rattle.vers_wavelet.proofs.wavelet.batch.ask_each.Goals as goal
@@ -25,7 +25,7 @@ loop-k-preserved g c =
     let v : List Bool = c.index-levels-k.result in
     let long : length v ≡ c.args.len = ap length c.index-levels-k.is ∙ c.requires.even k v c.loop-k-test.true in
     let parts = level_at ls k c.loop-k-test.true v c.index-levels-k.is in
-    let left = levels_left ls k c.loop-k-test.true in
+    let left = length-drop (k + 1) ls in
     record {
       asked = become_then c.loop-k.invariant.asked c.step_each.ensures.each (λ q r s t u. (u.0 ∙ t.0, rw long at u.1, u.2 (drop (k + 1) ls) left ∙ rw parts at t.2));
       adds = adds_once_more k c.loop-k.invariant.adds (rw c.loop-k.invariant.asked.long at c.step_each.ensures.adds);

@@ -1,5 +1,6 @@
-use Rattle.vers_wavelet.proofs.Names.{◌≡◌, ◌+◌, ◌-◌, ◌*◌, ◌%◌, ◌^◌, ℕ, arith, ap, ◌∙◌, refl, sym, bit_value}
-use Rattle.vers_wavelet.proofs.Digits.{room_none, room_left, room_more, top_digit}
+use Rattle.vers_wavelet.proofs.Names.{◌≡◌, ◌-◌, ◌%◌, ◌^◌, ℕ, arith, ap, ◌∙◌, refl}
+use Rattle.vers_wavelet.proofs.Digits.{room_none, room_left, room_more}
+use Rattle.vers_wavelet.proofs.Steps.{digit_from}
 use Rattle.vers_wavelet.proofs.wavelet.digits.copy_digits.Goals as goal
 
 pub loop-i-init : goal.loop-i-init
@@ -14,12 +15,9 @@ loop-i-init g c =
 pub loop-i-preserved : goal.loop-i-preserved
 loop-i-preserved g c =
     let s : ℕ = g.D.Digits.number c.args.from.now in
-    let j : ℕ = c.args.high - (c.loop-i.i + 1) in
-    let e : c.args.high - c.loop-i.i ≡ j + 1 = omega arith in
     let room = room_left c.args.high c.loop-i.i (omega arith) c.loop-i.invariant.room in
     let put = c.put_digit.ensures in
-    let top : s % 2 ^ (c.args.high - c.loop-i.i) ≡ bit_value c.digit-bit.result * 2 ^ j + s % 2 ^ j =
-    ap (λ n. s % 2 ^ n) e ∙ top_digit s j ∙ ap (λ b. bit_value b * 2 ^ j + s % 2 ^ j) (sym c.digit-bit.ensures) in
+    let top = rw (← c.digit-bit.ensures) at (digit_from s c.args.high c.loop-i.i (omega arith)) in
     record {
       room = rw (put.same, put.value) (room_more c.digit-bit.result _ _ _ room);
       same = put.same ∙ c.loop-i.invariant.same;
