@@ -1,5 +1,5 @@
 -- Where the way down of a symbol ends: behind the symbols whose digits from the lowest to the highest make a lesser number, and those that are equal and stand before.
-use Rattle.vers_wavelet.proofs.Names.{◌≡◌, ℕ, zero, suc, ◌+◌, ◌*◌, ◌%◌, ◌^◌, ◌<◌, ◌≤◌, Bool, true, false, cond, ltb, eqb, List, [], ◌∷◌, length, get_or, refl, sym, ap, ◌∙◌, arith, add-one, mod-lt, mod-one, mod-eq_of_lt, slice_get, leb, ◌&&◌, if◌then◌else◌, None, Some, count_by, nat_tests, take_all, pow_pos, bit_value, start, next, value, values, hits, equal, way, digit, Even, AreLevels, turned, gathered}
+use Rattle.vers_wavelet.proofs.Names.{◌≡◌, ℕ, zero, suc, ◌+◌, ◌*◌, ◌%◌, ◌^◌, ◌<◌, ◌≤◌, Bool, true, false, cond, ltb, eqb, List, [], ◌∷◌, length, get_or, refl, sym, ap, ◌∙◌, arith, cases_Bool, add-one, mod-lt, mod-one, mod-eq_of_lt, slice_get, leb, ◌&&◌, if◌then◌else◌, None, Some, count_by, nat_tests, take_all, pow_pos, bit_value, start, next, value, values, hits, equal, way, digit, Even, AreLevels, turned, gathered}
 use Rattle.vers_wavelet.proofs.Answering.{get_begins, if_both}
 use Rattle.vers_wavelet.proofs.Counting.{split_apart}
 use Rattle.vers_wavelet.proofs.Digits.{digit_value, top_digit, one_split}
@@ -42,11 +42,8 @@ turned_value l ls p b is =
     let parts = value_parts l ls p b is in
     turned_more k v ∙ ap (λ d. 2 * turned k v + bit_value d) parts.0 ∙ ap (λ x. 2 * x + bit_value b) (turned_same k v _ (parts.1 ∙ sym (mod-eq_of_lt (value-lt ls (next b l p)))))
 
-low_test : (bit : Bool) (a t : ℕ) → ltb (2 * a + 0) (2 * t + bit_value bit) ≡ ltb a (t + bit_value bit)
-low_test bit a t = grind (arith, nat_tests)
-
-high_test : (bit : Bool) (a t : ℕ) → ltb (2 * a + 1) (2 * t + bit_value bit) ≡ ltb a t
-high_test bit a t = grind (arith, nat_tests)
+last_test : (b bit : Bool) (a t : ℕ) → ltb (2 * a + bit_value b) (2 * t + bit_value bit) ≡ ltb a (cond b t (t + bit_value bit))
+last_test b bit a t = grind (arith, nat_tests, cases_Bool b, cases_Bool bit)
 
 -- ---- counts over the places of a level
 
@@ -84,8 +81,8 @@ way_first (l ∷ ls) n even s =
     let test : (p : ℕ) (b : Bool) → get_or l p false ≡ b → lies_before (l ∷ ls) (turned (suc k) s) p ≡ ltb (2 * turned k (value ls (next b l p)) + bit_value b) (2 * t + bit_value bit) =
     λ p b is. ap (λ x. ltb x (turned (suc k) s)) (turned_value l ls p b is) ∙ ap (λ x. ltb (2 * turned k (value ls (next b l p)) + bit_value b) x) (turned_more k s) in
     let parts = split_all l (lies_before (l ∷ ls) (turned (suc k) s)) (lies_before ls (t + bit_value bit)) (lies_before ls t)
-    (λ p off. test p false off ∙ low_test bit (turned k (value ls (next false l p))) t)
-    (λ p on. test p true on ∙ high_test bit (turned k (value ls (next true l p))) t) n long in
+    (λ p off. test p false off ∙ last_test false bit (turned k (value ls (next false l p))) t)
+    (λ p on. test p true on ∙ last_test true bit (turned k (value ls (next true l p))) t) n long in
     let equals = way_equal ls n rest s (start bit l) (omega (arith, start_le bit l, long)) in
     omega (arith, parts, with_zeros bit l ls s, way_first ls n rest s, equals, way_is l ls s 0, ap (way ls s) (next_none bit l))
 

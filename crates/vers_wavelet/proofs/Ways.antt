@@ -1,10 +1,10 @@
 -- The way down of a walk by size, and that a list of symbols has one list of levels.
-use Rattle.vers_wavelet.proofs.Names.{◌≡◌, ℕ, ◌+◌, ◌-◌, ◌*◌, ◌^◌, ◌<◌, ◌≤◌, Bool, false, List, [], ◌∷◌, length, get_or, set, get_or-set_same, get_or-set_other, refl, sym, ap, ◌∙◌, subst, arith, inl, inr, cases_eq, same_lists, slice_range, bit_value, any_default, next, value, values, Even, AreLevels, KthOf, by_size, IsNode, IsWay}
+use Rattle.vers_wavelet.proofs.Names.{◌≡◌, ℕ, ◌-◌, ◌<◌, ◌≤◌, Bool, false, List, [], ◌∷◌, length, get_or, set, get_or-set_same, get_or-set_other, refl, sym, ap, ◌∙◌, subst, arith, inl, inr, cases_eq, same_lists, slice_range, any_default, next, value, values, Even, AreLevels, KthOf, by_size, IsNode, IsWay}
 use Rattle.vers_wavelet.specs.declared.wavelet.way.Node.{Node}
 use Rattle.vers_wavelet.specs.declared.wavelet.way.Way.{Way}
-use Rattle.vers_wavelet.proofs.Digits.{room_none, one_split}
-use Rattle.vers_wavelet.proofs.Values.{from_above, value_is, value-lt}
-use Rattle.vers_wavelet.proofs.Steps.{even_first, even_rest, searched_none}
+use Rattle.vers_wavelet.proofs.Digits.{room_none}
+use Rattle.vers_wavelet.proofs.Values.{from_above}
+use Rattle.vers_wavelet.proofs.Steps.{value_parts, even_first, even_rest, searched_none}
 use Rattle.vers_wavelet.proofs.Lists.{length-values, get_or-values, kth_is}
 use Rattle.vers_wavelet.proofs.BySize.{kth_place}
 use Rattle.vers_wavelet.proofs.Items.{sorted_member}
@@ -14,11 +14,9 @@ use Rattle.vers_wavelet.proofs.Items.{sorted_member}
 same_parts : (l m : List Bool) (ls ms : List (List Bool)) (i : ℕ) → length ls ≡ length ms → value (l ∷ ls) i ≡ value (m ∷ ms) i
     → (get_or l i false ≡ get_or m i false) × (value ls (next (get_or l i false) l i) ≡ value ms (next (get_or m i false) m i))
 same_parts l m ls ms i long same =
-    let b : Bool = get_or l i false in
-    let c : Bool = get_or m i false in
-    let w : 2 ^ length ms ≡ 2 ^ length ls = ap (λ n. 2 ^ n) (sym long) in
-    one_split b c (2 ^ length ls) _ _ (value-lt ls (next b l i)) (omega (arith, w, value-lt ms (next c m i)))
-    (sym (value_is l ls i b refl) ∙ same ∙ value_is m ms i c refl ∙ ap (λ n. bit_value c * n + value ms (next c m i)) w)
+    let first = value_parts l ls i _ refl in
+    let second = value_parts m ms i _ refl in
+    (cc (first.0, second.0), cc (first.1, second.1))
 
 same_levels : (ls ms : List (List Bool)) (n : ℕ) → Even ls n → Even ms n → length ls ≡ length ms → ((p : ℕ) → p < n → value ls p ≡ value ms p) → ls ≡ ms
 same_levels [] [] n even other long same = refl
