@@ -11,9 +11,6 @@ count_cons q x xs = sum_by-cons (λ y. cond (q y) 1 0) x xs
 one_up : (b c : Bool) → (b ≡ true → c ≡ true) → one b ≤ one c
 one_up b c h = grind arith
 
-one_between : (b c : Bool) → one b < one c → (b ≡ false) × (c ≡ true)
-one_between b c h = grind arith
-
 count-le : (p q : ℕ → Bool) (xs : List ℕ) → ((y : ℕ) → p y ≡ true → q y ≡ true) → count_by p xs ≤ count_by q xs
 count-le p q xs up = sum_by-le-sum_by (λ y. cond (p y) 1 0) (λ y. cond (q y) 1 0) xs (λ y. one_up (p y) (q y) (up y))
 
@@ -23,7 +20,7 @@ found_between : (p q : ℕ → Bool) (xs : List ℕ) → count_by p xs < count_b
 found_between p q [] h = absurd (omega arith)
 found_between p q (x ∷ xs) h =
     elim (cases_lt (one (p x)) (one (q x))) [
-      | inl here ↦ let tests = one_between (p x) (q x) here in (zero, omega arith, tests.0, tests.1)
+      | inl here ↦ (zero, omega arith, grind (arith, here), grind (arith, here))
       | inr fine ↦
           let r = found_between p q xs (omega (arith, count_cons p x xs, count_cons q x xs)) in
           (suc r.0, omega (arith, r.1), r.2, r.3)

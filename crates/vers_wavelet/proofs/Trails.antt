@@ -7,12 +7,6 @@ use Rattle.vers_wavelet.proofs.BySize.{kth_place}
 use Rattle.vers_wavelet.proofs.Lists.{length-part, below_is, not_above_is, kth_is}
 use Rattle.vers_wavelet.proofs.Nearest.{nearest_same, nearest_is, nearest_none}
 
--- where nothing is left beside, as many symbols as before are not beyond the digits that were followed
-passed_same : (up bit : Bool) (v : List Bool) (a b less c d more : ℕ) → a ≤ b → b ≤ length v → c ≡ next bit v a → d ≡ next bit v b → more ≡ less + cond bit (next false v b - next false v a) 0
-    → (bit ≡ not up → next up v a ≡ next up v b) → cond up (more + (d - c)) more ≡ cond up (less + (b - a)) less
-passed_same up bit v a b less c d more order within e f g empty =
-    grind (arith, next_both v a b order within, next-up true v a b order, next-up false v a b order)
-
 leaves_as : (up : Bool) (ls : List (List Bool)) (n s from to : ℕ) (t u : Trail) → u.beside ≡ t.beside
     → cond up (u.part.less + (u.part.end - u.part.start)) u.part.less ≡ cond up (t.part.less + (t.part.end - t.part.start)) t.part.less
     → Leaves up ls n s from to t → Leaves up ls n s from to u
@@ -52,7 +46,10 @@ module _ (ls : List (List Bool)) (n s from to k : ℕ) (h : k < length ls) (v : 
       → u.part.less ≡ t.part.less + cond bit (next false v t.part.end - next false v t.part.start) 0 → u.beside ≡ t.beside
       → (bit ≡ not up → next up v t.part.start ≡ next up v t.part.end) → Leaves up ls n s from to u
   leaves_kept up t u f first last less same empty =
-      leaves_as up ls n s from to t u same (passed_same up bit v t.part.start t.part.end t.part.less u.part.start u.part.end u.part.less f.order (omega (arith, f.within)) first last less empty) f.leaves
+      let a : ℕ = t.part.start in
+      let b : ℕ = t.part.end in
+      let passed : cond up (u.part.less + (u.part.end - u.part.start)) u.part.less ≡ cond up (t.part.less + (b - a)) t.part.less = grind (arith, first, last, less, empty, next_both v a b f.order, next-up true v a b f.order, next-up false v a b f.order, f.within, long) in
+      leaves_as up ls n s from to t u same passed f.leaves
 
   -- the other places were left beside
   pub leaves_new : (up : Bool) (t u : Trail) → Follows up ls n s from to k t → u.part.start ≡ next bit v t.part.start → u.part.end ≡ next bit v t.part.end
