@@ -4,7 +4,8 @@ use Rattle.vers_trees.proofs.trees.bp.scan.bits_forward.Goals as goal
 
 pub overflow_add-rise : goal.overflow_add-rise
 overflow_add-rise g c =
-    (forward_bit c.args.bits.now c.requires.passed.0 c.loop-place.place c.args.end _ _ c.step-rise.result _ (c.loop-place.invariant.passed c.requires.passed.0 c.requires.passed.1 (rw (to_z-of_z w64 c.args.target c.ranges.target, to_z-of_z w64 c.args.rise c.ranges.rise) c.requires.passed.2)) c.requires.short (omega arith) c.loop-place-test.true c.requires.inside c.is_one_counted.ensures.value c.step-rise.ensures).0
+    let o = c.requires.passed.1 in
+    (forward_bit c.args.bits.now c.requires.passed.0 c.loop-place.place c.args.end _ _ c.step-rise.result _ (c.loop-place.invariant.passed c.requires.passed.0 o (rw (to_z-of_z w64 c.args.target c.ranges.target, to_z-of_z w64 c.args.rise c.ranges.rise) c.requires.passed.2)) c.requires.short (omega arith) c.loop-place-test.true c.requires.inside c.is_one_counted.ensures.value c.step-rise.ensures).0
 
 pub returns-then-rise-target-clause-value : goal.returns-then-rise-target-clause-value
 returns-then-rise-target-clause-value g c = λ from o q.
