@@ -7,5 +7,3 @@ pub mod documents;
 pub mod genome;
 pub mod levels;
 pub mod prices;
-#[cfg(test)]
-mod tests;

@@ -1,0 +1,139 @@
+//! What no contract says: values that were worked out by hand.
+use std::alloc::{Allocator, Global};
+use std::test::Fail;
+use test_alloc::{asked, first_wrong};
+use vers_uses::budget::{Window, has_more};
+use vers_uses::documents::Documents;
+use vers_uses::genome::Genome;
+use vers_uses::levels::{nodes_on_level, take_steps};
+use vers_uses::prices::Prices;
+use vers_vecs::elias_fano::is_ascending;
+use vers_vecs::tally::Tally;
+use vers_vecs::trees::bp::{BpBuilder, BpTree, BuildError};
+
+// Where four documents start, in a text of 40 bytes.
+const STARTS: [u64; 4] = [2, 10, 10, 25];
+
+// Bytes, and the document that holds each.
+const HOLDERS: [(u64, Option<usize>); 5] = [
+    (1, None),
+    (2, Some(0)),
+    (10, Some(2)),
+    (39, Some(3)),
+    (40, None),
+];
+
+#[test]
+fn documents_of_bytes(rt: HostRuntime) -> Result<(), Fail> {
+    assert!(rt; is_ascending(&STARTS));
+    let wrong = asked(
+        Documents::new(rt.alloc(), &STARTS, 40),
+        |texts: &Documents<Global>| first_wrong(texts, &HOLDERS, Documents::document_of),
+    );
+    assert_eq!(rt; wrong?, None, "the row of a byte");
+    Ok(())
+}
+
+// The bases of which the Gs and Cs are asked.
+const BASES: [u8; 8] = *b"ACGTGGCA";
+
+// How many Gs and Cs a stretch has, the places of two of them, and those of the next after two places.
+fn told<A: Allocator + Copy>(genome: &Genome<A>) -> (usize, [Option<usize>; 2], [Option<u64>; 2]) {
+    (
+        genome.gc_between(1, 5),
+        [genome.nth_gc(4), genome.nth_gc(5)],
+        [genome.next_gc(2), genome.next_gc(6)],
+    )
+}
+
+#[test]
+fn bases_of_a_genome(rt: HostRuntime) -> Result<(), Fail> {
+    let answers = asked(Genome::from_bases(rt.alloc(), &BASES), told::<Global>)?;
+    assert_eq!(rt; answers, (3, [Some(6), None], [Some(4), None]));
+    Ok(())
+}
+
+// Whether the second half of the bases has more Gs and Cs than the first, and how many ranks tell it.
+fn more_in_the_second<A: Allocator + Copy>(genome: &Genome<A>) -> (bool, u64) {
+    let mut tally = Tally::new();
+    let first = Window { from: 0, to: 4 };
+    let second = Window { from: 4, to: 8 };
+    let is_more = has_more(genome, first, second, &mut tally);
+    (is_more, tally.rank_calls())
+}
+
+#[test]
+fn more_in_the_second_window(rt: HostRuntime) -> Result<(), Fail> {
+    let answer = asked(
+        Genome::from_bases(rt.alloc(), &BASES),
+        more_in_the_second::<Global>,
+    );
+    assert_eq!(rt; answer?, (true, 4));
+    Ok(())
+}
+
+// Stretches of days, and the cheapest day of each.
+const CHEAPEST: [((usize, usize), Option<usize>); 4] = [
+    ((0, 4), Some(1)),
+    ((2, 4), Some(3)),
+    ((2, 5), None),
+    ((2, 2), None),
+];
+
+fn cheapest<A: Allocator + Copy>(prices: &Prices<A>, days: (usize, usize)) -> Option<usize> {
+    prices.cheapest(days.0, days.1)
+}
+
+#[test]
+fn cheapest_days(rt: HostRuntime) -> Result<(), Fail> {
+    let by_day = Vec::from_slice(rt.alloc(), &[9, 6, 10, 6])?;
+    let wrong = asked(Prices::new(by_day), |prices: &Prices<Global>| {
+        first_wrong(prices, &CHEAPEST, cheapest)
+    });
+    assert_eq!(rt; wrong?, None, "the row of days");
+    Ok(())
+}
+
+// Two trees: a node with two children, each of which has a leaf, and a leaf.
+const STEPS: [bool; 12] = [
+    true, true, true, false, false, true, true, false, false, false, true, false,
+];
+
+// The places of the nodes of each depth.
+const LEVELS: [(u64, &[usize]); 4] = [(0, &[0, 10]), (1, &[1, 5]), (2, &[2, 6]), (3, &[])];
+
+// The trees that the steps build.
+fn built(alloc: Global) -> Result<BpTree<8, Global>, BuildError> {
+    let mut builder = BpBuilder::new(alloc);
+    match take_steps(&mut builder, &STEPS) {
+        Ok(()) => builder.build(),
+        Err(_) => Err(BuildError::Memory),
+    }
+}
+
+// Whether the nodes of a depth stand at these places. Only balanced parentheses have levels.
+fn has_level(alloc: Global, tree: &BpTree<8, Global>, depth: u64, places: &[usize]) -> bool {
+    let nodes_stand_there = |nodes: &Vec<usize, Global>| nodes.as_slice() == places;
+    tree.is_balanced() && asked(nodes_on_level(alloc, tree, depth), nodes_stand_there) == Ok(true)
+}
+
+// The first depth whose nodes stand elsewhere.
+fn wrong_depth(alloc: Global, tree: &BpTree<8, Global>) -> Option<u64> {
+    for (depth, places) in LEVELS.iter() {
+        if !has_level(alloc, tree, *depth, places) {
+            return Some(*depth);
+        }
+    }
+    None
+}
+
+#[test]
+fn nodes_of_each_level(rt: HostRuntime) -> Result<(), Fail> {
+    let alloc = rt.alloc();
+    let wrong = asked(
+        built(alloc),
+        |tree: &BpTree<8, Global>| wrong_depth(alloc, tree),
+    );
+    assert_eq!(rt; wrong?, None, "a depth");
+    Ok(())
+}

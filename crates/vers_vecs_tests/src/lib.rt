@@ -1,5 +1,0 @@
-//! A use of the library through its facade alone.
-#![tactic(auto)]
-
-#[cfg(test)]
-mod paths;
