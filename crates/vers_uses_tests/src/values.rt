@@ -1,7 +1,7 @@
 //! What no contract says: values that were worked out by hand.
 use std::alloc::{Allocator, Global};
 use std::test::Fail;
-use test_alloc::{asked, first_wrong};
+use test_alloc::asked;
 use vers_uses::budget::{Window, has_more};
 use vers_uses::documents::Documents;
 use vers_uses::genome::Genome;
@@ -9,6 +9,7 @@ use vers_uses::levels::{nodes_on_level, take_steps};
 use vers_uses::prices::Prices;
 use vers_vecs::elias_fano::is_ascending;
 use vers_vecs::tally::Tally;
+use vers_vecs::trees::TreeBuilder;
 use vers_vecs::trees::bp::{BpBuilder, BpTree, BuildError};
 
 // Where four documents start, in a text of 40 bytes.
@@ -23,14 +24,21 @@ const HOLDERS: [(u64, Option<usize>); 5] = [
     (40, None),
 ];
 
+// The first of the bytes that is said to be held otherwise.
+fn wrong_byte<A: Allocator + Copy>(texts: &Documents<A>) -> Option<u64> {
+    for (byte, document) in HOLDERS.iter() {
+        if texts.document_of(*byte) != *document {
+            return Some(*byte);
+        }
+    }
+    None
+}
+
 #[test]
 fn documents_of_bytes(rt: HostRuntime) -> Result<(), Fail> {
     assert!(rt; is_ascending(&STARTS));
-    let wrong = asked(
-        Documents::new(rt.alloc(), &STARTS, 40),
-        |texts: &Documents<Global>| first_wrong(texts, &HOLDERS, Documents::document_of),
-    );
-    assert_eq!(rt; wrong?, None, "the row of a byte");
+    let texts = Documents::new(rt.alloc(), &STARTS, 40);
+    assert_eq!(rt; asked(texts, wrong_byte::<Global>)?, None, "a byte");
     Ok(())
 }
 
@@ -48,7 +56,8 @@ fn told<A: Allocator + Copy>(genome: &Genome<A>) -> (usize, [Option<usize>; 2], 
 
 #[test]
 fn bases_of_a_genome(rt: HostRuntime) -> Result<(), Fail> {
-    let answers = asked(Genome::from_bases(rt.alloc(), &BASES), told::<Global>)?;
+    let genome = Genome::from_bases(rt.alloc(), &BASES);
+    let answers = asked(genome, told::<Global>)?;
     assert_eq!(rt; answers, (3, [Some(6), None], [Some(4), None]));
     Ok(())
 }
@@ -64,15 +73,12 @@ fn more_in_the_second<A: Allocator + Copy>(genome: &Genome<A>) -> (bool, u64) {
 
 #[test]
 fn more_in_the_second_window(rt: HostRuntime) -> Result<(), Fail> {
-    let answer = asked(
-        Genome::from_bases(rt.alloc(), &BASES),
-        more_in_the_second::<Global>,
-    );
-    assert_eq!(rt; answer?, (true, 4));
+    let genome = Genome::from_bases(rt.alloc(), &BASES);
+    assert_eq!(rt; asked(genome, more_in_the_second::<Global>)?, (true, 4));
     Ok(())
 }
 
-// Stretches of days, and the cheapest day of each.
+// Days from one up to another, and the cheapest of them.
 const CHEAPEST: [((usize, usize), Option<usize>); 4] = [
     ((0, 4), Some(1)),
     ((2, 4), Some(3)),
@@ -80,17 +86,25 @@ const CHEAPEST: [((usize, usize), Option<usize>); 4] = [
     ((2, 2), None),
 ];
 
-fn cheapest<A: Allocator + Copy>(prices: &Prices<A>, days: (usize, usize)) -> Option<usize> {
-    prices.cheapest(days.0, days.1)
+// The first of the days of which another one is said to be the cheapest.
+fn wrong_days<A: Allocator + Copy>(prices: &Prices<A>) -> Option<(usize, usize)> {
+    for ((from, to), day) in CHEAPEST.iter() {
+        if prices.cheapest(*from, *to) != *day {
+            return Some((*from, *to));
+        }
+    }
+    None
 }
 
 #[test]
 fn cheapest_days(rt: HostRuntime) -> Result<(), Fail> {
     let by_day = Vec::from_slice(rt.alloc(), &[9, 6, 10, 6])?;
-    let wrong = asked(Prices::new(by_day), |prices: &Prices<Global>| {
-        first_wrong(prices, &CHEAPEST, cheapest)
-    });
-    assert_eq!(rt; wrong?, None, "the row of days");
+    let prices = Prices::new(by_day);
+    assert_eq!(rt;
+        asked(prices, wrong_days::<Global>)?,
+        None,
+        "from a day up to another"
+    );
     Ok(())
 }
 
@@ -103,8 +117,7 @@ const STEPS: [bool; 12] = [
 const LEVELS: [(u64, &[usize]); 4] = [(0, &[0, 10]), (1, &[1, 5]), (2, &[2, 6]), (3, &[])];
 
 // The trees that the steps build.
-fn built(alloc: Global) -> Result<BpTree<8, Global>, BuildError> {
-    let mut builder = BpBuilder::new(alloc);
+fn built<B: TreeBuilder + Drop>(mut builder: B) -> Result<B::Tree, BuildError> {
     match take_steps(&mut builder, &STEPS) {
         Ok(()) => builder.build(),
         Err(_) => Err(BuildError::Memory),
@@ -113,8 +126,13 @@ fn built(alloc: Global) -> Result<BpTree<8, Global>, BuildError> {
 
 // Whether the nodes of a depth stand at these places. Only balanced parentheses have levels.
 fn has_level(alloc: Global, tree: &BpTree<8, Global>, depth: u64, places: &[usize]) -> bool {
-    let nodes_stand_there = |nodes: &Vec<usize, Global>| nodes.as_slice() == places;
-    tree.is_balanced() && asked(nodes_on_level(alloc, tree, depth), nodes_stand_there) == Ok(true)
+    if !tree.is_balanced() {
+        return false;
+    }
+    match nodes_on_level(alloc, tree, depth) {
+        Ok(nodes) => nodes.as_slice() == places,
+        Err(_) => false,
+    }
 }
 
 // The first depth whose nodes stand elsewhere.
@@ -130,10 +148,8 @@ fn wrong_depth(alloc: Global, tree: &BpTree<8, Global>) -> Option<u64> {
 #[test]
 fn nodes_of_each_level(rt: HostRuntime) -> Result<(), Fail> {
     let alloc = rt.alloc();
-    let wrong = asked(
-        built(alloc),
-        |tree: &BpTree<8, Global>| wrong_depth(alloc, tree),
-    );
+    let trees = built(BpBuilder::<8, Global>::new(alloc));
+    let wrong = asked(trees, |tree: &BpTree<8, Global>| wrong_depth(alloc, tree));
     assert_eq!(rt; wrong?, None, "a depth");
     Ok(())
 }
