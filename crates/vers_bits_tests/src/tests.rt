@@ -1,5 +1,6 @@
-//! What is done and asked stands in tables. A test holds no list and asserts once, of what helpers over any
-//! allocator found: a test that holds lists, or asserts often, is slow to prove.
+//! What is done and asked stands in tables. A test holds no list and asserts once, of what helpers found: a test
+//! that holds lists, or asserts often, is slow to prove. Only what the tries with refused memory reach is over any
+//! allocator: a helper is faster to prove for `Global`, and slower for a refusing heap.
 use std::process::Abort;
 
 mod chunks;

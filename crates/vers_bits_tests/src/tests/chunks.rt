@@ -2,7 +2,7 @@
 use crate::tests::assert_none_wrong;
 use crate::tests::pattern::{bit, pattern};
 use crate::tests::queries::{Change, is_made};
-use std::alloc::Allocator;
+use std::alloc::Global;
 use vers_bits::bit_vec::{BitVec, GrowError};
 
 const LENGTHS: [usize; 15] = [
@@ -18,22 +18,18 @@ fn ones_of_pattern(len: usize) -> u64 {
     ones
 }
 
-fn are_equal<A: Allocator + Copy>(one: &BitVec<A>, other: &BitVec<A>) -> bool {
+fn are_equal(one: &BitVec<Global>, other: &BitVec<Global>) -> bool {
     *one == *other
 }
 
 // Whether a list is not equal to what it was once a bit is turned. The bit is turned back.
-fn is_turn_seen<A: Allocator + Copy>(
-    list: &mut BitVec<A>,
-    before: &BitVec<A>,
-    place: usize,
-) -> bool {
+fn is_turn_seen(list: &mut BitVec<Global>, before: &BitVec<Global>, place: usize) -> bool {
     let turn = Change::FlipBit(place);
     is_made(list, turn) && !are_equal(list, before) && is_made(list, turn)
 }
 
 // Whether that holds of each bit, and the list is equal to what it was when all are turned back.
-fn is_each_turn_seen<A: Allocator + Copy>(list: &mut BitVec<A>, before: &BitVec<A>) -> bool {
+fn is_each_turn_seen(list: &mut BitVec<Global>, before: &BitVec<Global>) -> bool {
     for place in 0..before.len() {
         if !is_turn_seen(list, before, place) {
             return false;
@@ -43,7 +39,7 @@ fn is_each_turn_seen<A: Allocator + Copy>(list: &mut BitVec<A>, before: &BitVec<
 }
 
 // Whether two lists of one length that were made alike are equal, and unequal with one bit turned.
-fn compares<A: Allocator + Copy>(list: &BitVec<A>, another: Result<BitVec<A>, GrowError>) -> bool {
+fn compares(list: &BitVec<Global>, another: Result<BitVec<Global>, GrowError>) -> bool {
     match another {
         Ok(mut other) => are_equal(list, &other) && is_each_turn_seen(&mut other, list),
         Err(_) => false,
@@ -51,12 +47,12 @@ fn compares<A: Allocator + Copy>(list: &BitVec<A>, another: Result<BitVec<A>, Gr
 }
 
 // Whether a list of the pattern has its ones, and is equal to another one, and to none with one bit turned.
-fn counts_and_compares<A: Allocator + Copy>(list: &BitVec<A>, len: usize) -> bool {
+fn counts_and_compares(list: &BitVec<Global>, len: usize) -> bool {
     list.count_ones() == ones_of_pattern(len) && compares(list, pattern(list.allocator(), 0, len))
 }
 
 // The same of a list that was made.
-fn is_right<A: Allocator + Copy>(made: Result<BitVec<A>, GrowError>, len: usize) -> bool {
+fn is_right(made: Result<BitVec<Global>, GrowError>, len: usize) -> bool {
     match made {
         Ok(list) => counts_and_compares(&list, len),
         Err(_) => false,
@@ -64,7 +60,7 @@ fn is_right<A: Allocator + Copy>(made: Result<BitVec<A>, GrowError>, len: usize)
 }
 
 // The first length at which a list of the pattern is counted or compared wrong.
-fn first_wrong_length<A: Allocator + Copy>(alloc: A) -> Option<(usize, usize)> {
+fn first_wrong_length(alloc: Global) -> Option<(usize, usize)> {
     for len in &LENGTHS {
         if !is_right(pattern(alloc, 0, *len), *len) {
             return Some((*len, 0));

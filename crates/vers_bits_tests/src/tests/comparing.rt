@@ -1,6 +1,6 @@
 //! Equality and hashes.
 use crate::tests::assert_none_wrong;
-use std::alloc::Allocator;
+use std::alloc::Global;
 use std::hash::{BuildHasher, BuildHasherDefault, FoldHasher};
 use vers_bits::bit_vec::{BitVec, GrowError};
 
@@ -17,24 +17,24 @@ const PAIRS: [(Packed, Packed, bool); 6] = [
     ((&[5], 3), (&[1, 0, 1], 1), true),
 ];
 
-fn hash_of<A: Allocator + Copy>(list: &BitVec<A>) -> u64 {
+fn hash_of(list: &BitVec<Global>) -> u64 {
     BuildHasherDefault::<FoldHasher>::default().hash_one(list)
 }
 
 // Whether lists are equal, as their hashes are too, or differ, as told.
-fn compares<A: Allocator + Copy>(one: &BitVec<A>, other: &BitVec<A>, are_equal: bool) -> bool {
+fn compares(one: &BitVec<Global>, other: &BitVec<Global>, are_equal: bool) -> bool {
     (*one == *other) == are_equal && (hash_of(one) == hash_of(other)) == are_equal
 }
 
 // The same of a list and one that is made.
-fn compares_with<A: Allocator + Copy>(one: &BitVec<A>, other: Packed, are_equal: bool) -> bool {
+fn compares_with(one: &BitVec<Global>, other: Packed, are_equal: bool) -> bool {
     match BitVec::pack_sequence_u64(one.allocator(), other.0, other.1) {
         Ok(other) => compares(one, &other, are_equal),
         Err(_) => false,
     }
 }
 
-fn is_pair<A: Allocator + Copy>(alloc: A, one: Packed, other: Packed, are_equal: bool) -> bool {
+fn is_pair(alloc: Global, one: Packed, other: Packed, are_equal: bool) -> bool {
     match BitVec::pack_sequence_u64(alloc, one.0, one.1) {
         Ok(one) => compares_with(&one, other, are_equal),
         Err(_) => false,
@@ -42,7 +42,7 @@ fn is_pair<A: Allocator + Copy>(alloc: A, one: Packed, other: Packed, are_equal:
 }
 
 // The first pair, by its number counted from 0, that compares otherwise.
-fn first_wrong_pair<A: Allocator + Copy>(alloc: A) -> Option<(usize, usize)> {
+fn first_wrong_pair(alloc: Global) -> Option<(usize, usize)> {
     for (row, (one, other, are_equal)) in PAIRS.iter().enumerate() {
         if !is_pair(alloc, *one, *other, *are_equal) {
             return Some((row, 0));
@@ -57,7 +57,7 @@ fn lists_are_compared_and_hashed(rt: HostRuntime) {
 }
 
 // Appends ten ones and drops them again.
-fn appended_and_dropped<A: Allocator + Copy>(list: &mut BitVec<A>) -> u64 {
+fn appended_and_dropped(list: &mut BitVec<Global>) -> u64 {
     if list.append_bits(u64::MAX, 10).is_ok() {
         list.drop_last(10);
     }
@@ -65,10 +65,7 @@ fn appended_and_dropped<A: Allocator + Copy>(list: &mut BitVec<A>) -> u64 {
 }
 
 // The hash of a list, or of what it is with ten ones appended and dropped. None where it was not made.
-fn hash_of_made<A: Allocator + Copy>(
-    made: Result<BitVec<A>, GrowError>,
-    is_changed: bool,
-) -> Option<u64> {
+fn hash_of_made(made: Result<BitVec<Global>, GrowError>, is_changed: bool) -> Option<u64> {
     match made {
         Ok(mut list) => {
             if is_changed {
@@ -82,7 +79,7 @@ fn hash_of_made<A: Allocator + Copy>(
 }
 
 // Whether the bits 10 have one hash, made in two ways.
-fn has_one_hash<A: Allocator + Copy>(alloc: A) -> bool {
+fn has_one_hash(alloc: Global) -> bool {
     let plain = hash_of_made(BitVec::from_bits(alloc, &[3, 0]), false);
     plain.is_some() && plain == hash_of_made(BitVec::from_bits(alloc, &[1, 0]), true)
 }

@@ -1,7 +1,7 @@
 //! Lists that are changed by scripts, and splits.
 use crate::tests::assert_none_wrong;
 use crate::tests::queries::{Change, Line, Query, first_wrong_line};
-use std::alloc::Allocator;
+use std::alloc::Global;
 use std::test::Fail;
 use vers_bits::bit_vec::{BitVec, GrowError, LengthMismatch, OutOfRange, SplitCause, SplitError};
 
@@ -13,7 +13,7 @@ enum Start {
     Ones(usize),
 }
 
-fn start_of<A: Allocator + Copy>(alloc: A, start: Start) -> Result<BitVec<A>, GrowError> {
+fn start_of(alloc: Global, start: Start) -> Result<BitVec<Global>, GrowError> {
     match start {
         Start::WithCapacity(len) => BitVec::with_capacity(alloc, len),
         Start::Zeros(len) => BitVec::from_zeros(alloc, len),
@@ -128,10 +128,7 @@ const SCRIPTS: [(Start, &[Line]); 7] = [
 ];
 
 // The first wrong line of a script over a list; as many as there are lines where it was not made.
-fn wrong_line_of<A: Allocator + Copy>(
-    made: Result<BitVec<A>, GrowError>,
-    script: &[Line],
-) -> Option<usize> {
+fn wrong_line_of(made: Result<BitVec<Global>, GrowError>, script: &[Line]) -> Option<usize> {
     match made {
         Ok(mut list) => first_wrong_line(&mut list, script),
         Err(_) => Some(script.len()),
@@ -139,7 +136,7 @@ fn wrong_line_of<A: Allocator + Copy>(
 }
 
 // The first script that goes wrong, and its line.
-fn first_wrong_script<A: Allocator + Copy>(alloc: A) -> Option<(usize, usize)> {
+fn first_wrong_script(alloc: Global) -> Option<(usize, usize)> {
     for (number, (start, script)) in SCRIPTS.iter().enumerate() {
         if let Some(line) = wrong_line_of(start_of(alloc, *start), script) {
             return Some((number, line));
@@ -163,19 +160,19 @@ fn faults_have_messages(rt: HostRuntime) -> Result<(), Fail> {
 }
 
 // Whether a list has `len` bits, at most 64, with a number.
-fn is_list<A: Allocator + Copy>(list: &BitVec<A>, len: usize, number: u64) -> bool {
+fn is_list(list: &BitVec<Global>, len: usize, number: u64) -> bool {
     list.len() == len && list.get_bits(0, len).unwrap_or(0) == number
 }
 
 // Whether the halves of 11010 after three bits are right, and make it again.
-fn are_of_five<A: Allocator + Copy>(first: &mut BitVec<A>, second: &BitVec<A>) -> bool {
+fn are_of_five(first: &mut BitVec<Global>, second: &BitVec<Global>) -> bool {
     is_list(first, 3, 3)
         && is_list(second, 2, 1)
         && first.extend_bitvec(second).is_ok()
         && is_list(first, 5, 11)
 }
 
-fn is_split_in_two<A: Allocator + Copy>(list: BitVec<A>) -> bool {
+fn is_split_in_two(list: BitVec<Global>) -> bool {
     match list.split_at(3) {
         Ok((mut first, second)) => are_of_five(&mut first, &second),
         Err(_) => false,
@@ -183,14 +180,14 @@ fn is_split_in_two<A: Allocator + Copy>(list: BitVec<A>) -> bool {
 }
 
 // Whether the halves of 192 bits after 70 are right.
-fn are_of_limbs<A: Allocator + Copy>(first: &BitVec<A>, second: &BitVec<A>) -> bool {
+fn are_of_limbs(first: &BitVec<Global>, second: &BitVec<Global>) -> bool {
     first.len() == 70
         && first.get_bits(60, 10) == Some(32)
         && second.len() == 122
         && second.get_bits(58, 64) == Some(3)
 }
 
-fn is_split_inside_a_limb<A: Allocator + Copy>(list: BitVec<A>) -> bool {
+fn is_split_inside_a_limb(list: BitVec<Global>) -> bool {
     if list.len() != 192 {
         return false;
     }
@@ -201,19 +198,19 @@ fn is_split_inside_a_limb<A: Allocator + Copy>(list: BitVec<A>) -> bool {
 }
 
 // Whether 1001 comes back from a split past its end.
-fn is_kept_whole<A: Allocator + Copy>(refused: &SplitError<A>) -> bool {
+fn is_kept_whole(refused: &SplitError<Global>) -> bool {
     refused.cause == SplitCause::OutOfRange && is_list(&refused.vec, 4, 9)
 }
 
 // Whether it does, and is split at its end.
-fn is_split_at_the_end<A: Allocator + Copy>(list: BitVec<A>) -> bool {
+fn is_split_at_the_end(list: BitVec<Global>) -> bool {
     match list.split_at(5) {
         Ok(_) => false,
         Err(refused) => is_kept_whole(&refused) && has_all_first(refused.vec),
     }
 }
 
-fn has_all_first<A: Allocator + Copy>(list: BitVec<A>) -> bool {
+fn has_all_first(list: BitVec<Global>) -> bool {
     match list.split_at(4) {
         Ok((first, second)) => is_list(&first, 4, 9) && second.is_empty(),
         Err(_) => false,
@@ -221,7 +218,7 @@ fn has_all_first<A: Allocator + Copy>(list: BitVec<A>) -> bool {
 }
 
 // Which of three lists are split right.
-fn are_split<A: Allocator + Copy>(alloc: A) -> Result<[bool; 3], GrowError> {
+fn are_split(alloc: Global) -> Result<[bool; 3], GrowError> {
     Ok([
         is_split_in_two(BitVec::from_bits(alloc, &[1, 1, 0, 1, 0])?),
         is_split_inside_a_limb(BitVec::from_limbs(alloc, &[1, 2, 3])?),

@@ -2,11 +2,11 @@
 use crate::tests::makers::push;
 use crate::tests::memory::growth::{extend, extend_ref};
 use crate::tests::queries::{Query, first_wrong_answer};
-use std::alloc::Allocator;
+use std::alloc::Global;
 use vers_bits::bit_vec::{BitVec, GrowError};
 
 // Whether so many ones end in the limbs 1, all ones, 6 after those are appended.
-fn appends_limbs<A: Allocator + Copy>(list: &mut BitVec<A>, limbs: &BitVec<A>, len: usize) -> bool {
+fn appends_limbs(list: &mut BitVec<Global>, limbs: &BitVec<Global>, len: usize) -> bool {
     let rows = [
         (Query::Len, Some((len as u64).wrapping_add(192))),
         (Query::GetBits(len, 64), Some(1)),
@@ -17,7 +17,7 @@ fn appends_limbs<A: Allocator + Copy>(list: &mut BitVec<A>, limbs: &BitVec<A>, l
     list.extend_bitvec(limbs).is_ok() && first_wrong_answer(list, &rows).is_none()
 }
 
-fn ones_append_limbs<A: Allocator + Copy>(limbs: &BitVec<A>, len: usize) -> bool {
+fn ones_append_limbs(limbs: &BitVec<Global>, len: usize) -> bool {
     match BitVec::from_ones(limbs.allocator(), len) {
         Ok(mut list) => appends_limbs(&mut list, limbs, len),
         Err(_) => false,
@@ -25,7 +25,7 @@ fn ones_append_limbs<A: Allocator + Copy>(limbs: &BitVec<A>, len: usize) -> bool
 }
 
 // The first length, of some, at which limbs are not appended right.
-fn first_wrong_length<A: Allocator + Copy>(limbs: &BitVec<A>) -> Option<usize> {
+fn first_wrong_length(limbs: &BitVec<Global>) -> Option<usize> {
     for len in [0, 1, 63, 64, 65, 130].iter() {
         if !ones_append_limbs(limbs, *len) {
             return Some(*len);
@@ -35,13 +35,13 @@ fn first_wrong_length<A: Allocator + Copy>(limbs: &BitVec<A>) -> Option<usize> {
 }
 
 // Whether three ones stay as many when no bits are appended.
-fn append_nothing<A: Allocator + Copy>(ones: &mut BitVec<A>) -> bool {
+fn append_nothing(ones: &mut BitVec<Global>) -> bool {
     let none = BitVec::new(ones.allocator());
     ones.extend_bitvec(&none) == Ok(()) && ones.len() == 3
 }
 
 // The first length at which limbs are appended wrong, and whether no bits are appended right.
-fn appended<A: Allocator + Copy>(alloc: A) -> Result<(Option<usize>, bool), GrowError> {
+fn appended(alloc: Global) -> Result<(Option<usize>, bool), GrowError> {
     let wrong = first_wrong_length(&BitVec::from_limbs(alloc, &[1, u64::MAX, 6])?);
     Ok((wrong, append_nothing(&mut BitVec::from_ones(alloc, 3)?)))
 }
@@ -52,12 +52,12 @@ fn lists_are_appended_at_any_length(rt: HostRuntime) {
 }
 
 // Whether a one, extended by lists, is 1100.
-fn is_1100<A: Allocator + Copy>(list: &BitVec<A>) -> bool {
+fn is_1100(list: &BitVec<Global>) -> bool {
     list.len() == 4 && list.get_bits(0, 4) == Some(3)
 }
 
 // The bits 10 and 0 as lists.
-fn two_lists<A: Allocator + Copy>(alloc: A) -> Result<Vec<BitVec<A>, A>, GrowError> {
+fn two_lists(alloc: Global) -> Result<Vec<BitVec<Global>, Global>, GrowError> {
     let mut lists = Vec::new(alloc);
     for bits in [[1u8, 0].as_slice(), [0].as_slice()] {
         push(&mut lists, BitVec::from_bits(alloc, bits)?)?;
@@ -66,19 +66,16 @@ fn two_lists<A: Allocator + Copy>(alloc: A) -> Result<Vec<BitVec<A>, A>, GrowErr
 }
 
 // Whether a one is 1100 once lists are appended, taken by reference and by value.
-fn extends_by_reference<A: Allocator + Copy>(
-    made: Result<BitVec<A>, GrowError>,
-    lists: &[BitVec<A>],
-) -> bool {
+fn extends_by_reference(made: Result<BitVec<Global>, GrowError>, lists: &[BitVec<Global>]) -> bool {
     match made {
         Ok(mut one) => extend_ref(&mut one, lists).0.is_ok() && is_1100(&one),
         Err(_) => false,
     }
 }
 
-fn extends_by_value<A: Allocator + Copy>(
-    made: Result<BitVec<A>, GrowError>,
-    lists: Vec<BitVec<A>, A>,
+fn extends_by_value(
+    made: Result<BitVec<Global>, GrowError>,
+    lists: Vec<BitVec<Global>, Global>,
 ) -> bool {
     match made {
         Ok(mut one) => extend(&mut one, lists).0.is_ok() && is_1100(&one),
@@ -86,9 +83,9 @@ fn extends_by_value<A: Allocator + Copy>(
     }
 }
 
-fn is_extended<A: Allocator + Copy>(
-    alloc: A,
-    made: Result<Vec<BitVec<A>, A>, GrowError>,
+fn is_extended(
+    alloc: Global,
+    made: Result<Vec<BitVec<Global>, Global>, GrowError>,
 ) -> (bool, bool) {
     match made {
         Ok(lists) => {

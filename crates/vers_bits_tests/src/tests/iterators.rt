@@ -1,6 +1,6 @@
 //! Walks over the bits and the limbs of a list, from both ends.
 use crate::tests::assert_none_wrong;
-use std::alloc::{AllocError, Allocator};
+use std::alloc::{AllocError, Global};
 use test_alloc::Step;
 use vers_bits::bit_vec::{BitVec, GrowError};
 use vers_bits::list_ends::{BorrowedList, ListEnds, Listed, OwnedList};
@@ -65,7 +65,7 @@ const LIMBS: [&[(Step, Option<u64>)]; 3] = [
     &[(Step::Nth(4), None)],
 ];
 
-fn list_10110<A: Allocator + Copy>(alloc: A) -> Result<BitVec<A>, GrowError> {
+fn list_10110(alloc: Global) -> Result<BitVec<Global>, GrowError> {
     BitVec::from_bits(alloc, &[1, 0, 1, 1, 0])
 }
 
@@ -83,8 +83,8 @@ fn wrong_step<L: Listed<Item = u64>>(
 }
 
 // The same of walks over the bits of a list, by a reference and by the list.
-fn wrong_bit_step<A: Allocator + Copy>(
-    made: Result<BitVec<A>, GrowError>,
+fn wrong_bit_step(
+    made: Result<BitVec<Global>, GrowError>,
     rows: &[(Step, Option<u64>)],
 ) -> Option<usize> {
     match made {
@@ -96,7 +96,7 @@ fn wrong_bit_step<A: Allocator + Copy>(
 }
 
 // The first walk over the bits that goes wrong, and its step.
-fn first_wrong_bits<A: Allocator + Copy>(alloc: A) -> Option<(usize, usize)> {
+fn first_wrong_bits(alloc: Global) -> Option<(usize, usize)> {
     for (walk, rows) in BITS.iter().enumerate() {
         if let Some(step) = wrong_bit_step(list_10110(alloc), rows) {
             return Some((walk, step));
@@ -106,7 +106,7 @@ fn first_wrong_bits<A: Allocator + Copy>(alloc: A) -> Option<(usize, usize)> {
 }
 
 // The same of walks over the limbs.
-fn first_wrong_limbs<A: Allocator + Copy>(list: &BitVec<A>) -> Option<(usize, usize)> {
+fn first_wrong_limbs(list: &BitVec<Global>) -> Option<(usize, usize)> {
     for (walk, rows) in LIMBS.iter().enumerate() {
         if let Some(step) = wrong_step(&mut list.iter_limbs(), rows) {
             return Some((walk, step));
@@ -115,7 +115,7 @@ fn first_wrong_limbs<A: Allocator + Copy>(list: &BitVec<A>) -> Option<(usize, us
     None
 }
 
-fn four_limbs<A: Allocator + Copy>(alloc: A) -> Result<BitVec<A>, GrowError> {
+fn four_limbs(alloc: Global) -> Result<BitVec<Global>, GrowError> {
     BitVec::from_limbs(alloc, &[7, u64::MAX, 9, 1])
 }
 
@@ -125,9 +125,7 @@ fn bits_from_both_ends(rt: HostRuntime) {
 }
 
 // The same of limbs that were made.
-fn first_wrong_of_made<A: Allocator + Copy>(
-    made: Result<BitVec<A>, GrowError>,
-) -> Option<(usize, usize)> {
+fn first_wrong_of_made(made: Result<BitVec<Global>, GrowError>) -> Option<(usize, usize)> {
     match made {
         Ok(list) => first_wrong_limbs(&list),
         Err(_) => Some((LIMBS.len(), 0)),
@@ -226,10 +224,7 @@ fn is_owned_cloned<L: OwnedList<Item = u64>>(walk: &mut ListEnds<L>, cloned: &Cl
     }
 }
 
-fn are_bits_cloned<A: Allocator + Copy>(
-    made: Result<BitVec<A>, GrowError>,
-    cloned: &Cloned<'_>,
-) -> bool {
+fn are_bits_cloned(made: Result<BitVec<Global>, GrowError>, cloned: &Cloned<'_>) -> bool {
     match made {
         Ok(list) => {
             is_cloned(&mut list.iter(), cloned) && is_owned_cloned(&mut list.into_iter(), cloned)
@@ -239,7 +234,7 @@ fn are_bits_cloned<A: Allocator + Copy>(
 }
 
 // The first walk over the bits that is cloned otherwise than told.
-fn first_wrong_clone<A: Allocator + Copy>(alloc: A) -> Option<usize> {
+fn first_wrong_clone(alloc: Global) -> Option<usize> {
     for (row, cloned) in CLONED_BITS.iter().enumerate() {
         if !are_bits_cloned(list_10110(alloc), cloned) {
             return Some(row);
@@ -249,7 +244,7 @@ fn first_wrong_clone<A: Allocator + Copy>(alloc: A) -> Option<usize> {
 }
 
 // The same of walks over the limbs.
-fn first_wrong_limb_clone<A: Allocator + Copy>(list: &BitVec<A>) -> Option<usize> {
+fn first_wrong_limb_clone(list: &BitVec<Global>) -> Option<usize> {
     for (row, cloned) in CLONED_LIMBS.iter().enumerate() {
         if !is_cloned(&mut list.iter_limbs(), cloned) {
             return Some(row);
@@ -259,7 +254,7 @@ fn first_wrong_limb_clone<A: Allocator + Copy>(list: &BitVec<A>) -> Option<usize
 }
 
 // How many ones the limbs of a list have.
-fn ones_of<A: Allocator + Copy>(list: &BitVec<A>) -> u32 {
+fn ones_of(list: &BitVec<Global>) -> u32 {
     let mut ones: u32 = 0;
     for limb in list.iter_limbs() {
         ones = ones.wrapping_add(limb.count_ones());
@@ -268,18 +263,18 @@ fn ones_of<A: Allocator + Copy>(list: &BitVec<A>) -> u32 {
 }
 
 // The last item of 10110 by a walk that owns it, and how many items it has.
-fn end_of_owned<A: Allocator + Copy>(alloc: A) -> Result<(Option<u64>, usize), GrowError> {
+fn end_of_owned(alloc: Global) -> Result<(Option<u64>, usize), GrowError> {
     let last = list_10110(alloc)?.into_iter().last();
     Ok((last, list_10110(alloc)?.into_iter().count()))
 }
 
 // Whether walks over the limbs 7, all ones, 9, 1 end and are cloned, and a loop over them has all their ones.
-fn limbs_work<A: Allocator + Copy>(list: &BitVec<A>) -> bool {
+fn limbs_work(list: &BitVec<Global>) -> bool {
     first_wrong_limb_clone(list).is_none() && ones_of(list) == 70
 }
 
 // Which walks end and are cloned as they should.
-fn walks_work<A: Allocator + Copy>(alloc: A) -> Result<[bool; 3], GrowError> {
+fn walks_work(alloc: Global) -> Result<[bool; 3], GrowError> {
     let bits = first_wrong_clone(alloc).is_none();
     let limbs = limbs_work(&four_limbs(alloc)?);
     Ok([bits, limbs, end_of_owned(alloc) == Ok((Some(0), 5))])
@@ -291,7 +286,7 @@ fn walks_end_and_are_cloned(rt: HostRuntime) {
 }
 
 // The number of 10110 by loops over a reference, over a `&mut` and over the list.
-fn number_by_reference<A: Allocator + Copy>(list: &BitVec<A>) -> u64 {
+fn number_by_reference(list: &BitVec<Global>) -> u64 {
     let mut number: u64 = 0;
     for bit in list {
         number = number.wrapping_mul(2).wrapping_add(bit);
@@ -299,7 +294,7 @@ fn number_by_reference<A: Allocator + Copy>(list: &BitVec<A>) -> u64 {
     number
 }
 
-fn number_by_mut<A: Allocator + Copy>(list: &mut BitVec<A>) -> u64 {
+fn number_by_mut(list: &mut BitVec<Global>) -> u64 {
     let mut number: u64 = 0;
     for bit in list {
         number = number.wrapping_mul(2).wrapping_add(bit);
@@ -307,7 +302,7 @@ fn number_by_mut<A: Allocator + Copy>(list: &mut BitVec<A>) -> u64 {
     number
 }
 
-fn number_by_value<A: Allocator + Copy>(list: BitVec<A>) -> u64 {
+fn number_by_value(list: BitVec<Global>) -> u64 {
     let mut number: u64 = 0;
     for bit in list {
         number = number.wrapping_mul(2).wrapping_add(bit);
@@ -315,7 +310,7 @@ fn number_by_value<A: Allocator + Copy>(list: BitVec<A>) -> u64 {
     number
 }
 
-fn numbers<A: Allocator + Copy>(made: Result<BitVec<A>, GrowError>) -> Result<[u64; 3], GrowError> {
+fn numbers(made: Result<BitVec<Global>, GrowError>) -> Result<[u64; 3], GrowError> {
     match made {
         Ok(mut list) => {
             let by_reference = number_by_reference(&list);
@@ -339,13 +334,13 @@ const ENDED: [(Step, Option<u64>); 3] = [
 ];
 
 // Whether walks over no bits have ended.
-fn have_ended<A: Allocator + Copy>(list: &BitVec<A>) -> bool {
+fn have_ended(list: &BitVec<Global>) -> bool {
     wrong_step(&mut list.iter(), &ENDED).is_none()
         && wrong_step(&mut list.iter_limbs(), &ENDED).is_none()
         && list.iter().last().is_none()
 }
 
-fn no_bits_have_ended<A: Allocator + Copy>(alloc: A) -> bool {
+fn no_bits_have_ended(alloc: Global) -> bool {
     have_ended(&BitVec::new(alloc))
         && wrong_step(&mut BitVec::new(alloc).into_iter(), &ENDED).is_none()
 }

@@ -2,7 +2,7 @@
 use crate::tests::assert_none_wrong;
 use crate::tests::makers::{Items, Maker, make};
 use crate::tests::queries::{Query, first_wrong_answer};
-use std::alloc::{AllocError, Allocator};
+use std::alloc::{AllocError, Global};
 use vers_bits::bit_vec::{BitVec, GrowError};
 
 // Two items of ten bits each.
@@ -150,8 +150,8 @@ const OF_LENGTH: [(Maker, usize, &[(Query, Option<u64>)]); 4] = [
 ];
 
 // The row of the first wrong answer of a list; as many as there are rows where it was not made.
-fn wrong_answer<A: Allocator + Copy>(
-    made: Result<BitVec<A>, GrowError>,
+fn wrong_answer(
+    made: Result<BitVec<Global>, GrowError>,
     rows: &[(Query, Option<u64>)],
 ) -> Option<usize> {
     match made {
@@ -161,18 +161,18 @@ fn wrong_answer<A: Allocator + Copy>(
 }
 
 // The same of a list that a maker makes of items.
-fn wrong_answer_of_items<A: Allocator + Copy>(
+fn wrong_answer_of_items(
     maker: Maker,
-    items: &Items<A>,
+    items: &Items<Global>,
     rows: &[(Query, Option<u64>)],
 ) -> Option<usize> {
     wrong_answer(make(items.allocator(), maker, items), rows)
 }
 
 // The same of items that were made.
-fn wrong_answer_of<A: Allocator + Copy>(
+fn wrong_answer_of(
     maker: Maker,
-    made: Result<Items<A>, AllocError>,
+    made: Result<Items<Global>, AllocError>,
     rows: &[(Query, Option<u64>)],
 ) -> Option<usize> {
     match made {
@@ -182,8 +182,8 @@ fn wrong_answer_of<A: Allocator + Copy>(
 }
 
 // The same of the first of some makers that makes a wrong list.
-fn wrong_answer_of_any<A: Allocator + Copy>(
-    alloc: A,
+fn wrong_answer_of_any(
+    alloc: Global,
     makers: &[Maker],
     numbers: &[u64],
     rows: &[(Query, Option<u64>)],
@@ -198,7 +198,7 @@ fn wrong_answer_of_any<A: Allocator + Copy>(
 }
 
 // The first case that is answered wrong, and its row.
-fn first_wrong_case<A: Allocator + Copy>(alloc: A) -> Option<(usize, usize)> {
+fn first_wrong_case(alloc: Global) -> Option<(usize, usize)> {
     for (case, (makers, numbers, rows)) in CASES.iter().enumerate() {
         if let Some(row) = wrong_answer_of_any(alloc, makers, numbers, rows) {
             return Some((case, row));
@@ -208,7 +208,7 @@ fn first_wrong_case<A: Allocator + Copy>(alloc: A) -> Option<(usize, usize)> {
 }
 
 // The same of lists of a length.
-fn first_wrong_length<A: Allocator + Copy>(alloc: A) -> Option<(usize, usize)> {
+fn first_wrong_length(alloc: Global) -> Option<(usize, usize)> {
     for (case, (maker, len, rows)) in OF_LENGTH.iter().enumerate() {
         if let Some(row) = wrong_answer_of(*maker, Items::of_pattern(alloc, *len), rows) {
             return Some((case, row));
@@ -224,7 +224,7 @@ fn makers_make_the_bits_of_items(rt: HostRuntime) {
 }
 
 // The first wrong answer of a list made of a vector of limbs.
-fn wrong_of_vector<A: Allocator + Copy>(made: Result<Vec<u64, A>, AllocError>) -> Option<usize> {
+fn wrong_of_vector(made: Result<Vec<u64, Global>, AllocError>) -> Option<usize> {
     match made {
         Ok(limbs) => wrong_answer(BitVec::from_vec(limbs), LIMBS),
         Err(_) => Some(LIMBS.len()),
@@ -238,7 +238,7 @@ fn a_vector_of_limbs_makes_64_bits_each(rt: HostRuntime) {
 }
 
 // What each maker answers for too many bits.
-fn faults_of_too_long<A: Allocator + Copy>(alloc: A) -> [Option<GrowError>; 5] {
+fn faults_of_too_long(alloc: Global) -> [Option<GrowError>; 5] {
     [
         BitVec::from_zeros(alloc, usize::MAX).err(),
         BitVec::from_ones(alloc, usize::MAX).err(),

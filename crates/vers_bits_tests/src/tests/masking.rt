@@ -1,7 +1,7 @@
 //! What masks make, how they are read, and lists of different lengths.
 use crate::tests::masks::{Mask, answer_of_nor, answer_of_or, apply, is_cloned, masked};
 use crate::tests::queries::{Query, first_wrong_answer};
-use std::alloc::{AllocError, Allocator};
+use std::alloc::{AllocError, Global};
 use test_alloc::asked_both;
 use vers_bits::bit_vec::{BitVec, LengthMismatch};
 
@@ -14,7 +14,7 @@ const NUMBERS: [(Mask, u64); 4] = [
 ];
 
 // The number of a list of four bits. None where it has not four.
-fn number_of_four<A: Allocator + Copy>(list: &BitVec<A>) -> Option<u64> {
+fn number_of_four(list: &BitVec<Global>) -> Option<u64> {
     if list.len() != 4 {
         return None;
     }
@@ -22,9 +22,7 @@ fn number_of_four<A: Allocator + Copy>(list: &BitVec<A>) -> Option<u64> {
 }
 
 // The number of the list that a mask makes. None where it was not made.
-fn number_of_masked<A: Allocator + Copy>(
-    made: Result<BitVec<A>, Option<AllocError>>,
-) -> Option<u64> {
+fn number_of_masked(made: Result<BitVec<Global>, Option<AllocError>>) -> Option<u64> {
     match made {
         Ok(list) => number_of_four(&list),
         Err(_) => None,
@@ -32,10 +30,10 @@ fn number_of_masked<A: Allocator + Copy>(
 }
 
 // The number of a copy of a list that was changed by a mask.
-fn changed_number<A: Allocator + Copy>(
-    copy: Result<BitVec<A>, AllocError>,
+fn changed_number(
+    copy: Result<BitVec<Global>, AllocError>,
     mask: Mask,
-    right: &BitVec<A>,
+    right: &BitVec<Global>,
 ) -> Option<u64> {
     match copy {
         Ok(mut list) => {
@@ -47,7 +45,7 @@ fn changed_number<A: Allocator + Copy>(
 }
 
 // The first mask that makes another number, or changes a list to another.
-fn first_wrong_mask<A: Allocator + Copy>(left: &BitVec<A>, right: &BitVec<A>) -> Option<usize> {
+fn first_wrong_mask(left: &BitVec<Global>, right: &BitVec<Global>) -> Option<usize> {
     for (row, (mask, number)) in NUMBERS.iter().enumerate() {
         if number_of_masked(masked(*mask, left, right)) != Some(*number)
             || changed_number(left.clone(), *mask, right) != Some(*number)
@@ -88,9 +86,9 @@ const OF_ONES: [(Query, Option<u64>); 14] = [
 
 // The row of the first question of the or of zeros and ones that has another answer, and the same of a closure that
 // makes ones of zeros.
-fn first_wrong_reads<A: Allocator + Copy>(
-    zeros: &BitVec<A>,
-    ones: &BitVec<A>,
+fn first_wrong_reads(
+    zeros: &BitVec<Global>,
+    ones: &BitVec<Global>,
 ) -> (Option<usize>, Option<usize>) {
     let mut wrong = (None, None);
     for (row, (query, wanted)) in OF_ONES.iter().enumerate() {
@@ -105,7 +103,7 @@ fn first_wrong_reads<A: Allocator + Copy>(
 }
 
 // Whether a list was made, and is equal to another one.
-fn is_equal<A: Allocator + Copy>(made: Result<BitVec<A>, AllocError>, other: &BitVec<A>) -> bool {
+fn is_equal(made: Result<BitVec<Global>, AllocError>, other: &BitVec<Global>) -> bool {
     match made {
         Ok(list) => list == *other,
         Err(_) => false,
@@ -113,7 +111,7 @@ fn is_equal<A: Allocator + Copy>(made: Result<BitVec<A>, AllocError>, other: &Bi
 }
 
 // Whether a closure that answers ones where both bits are equal makes zeros of zeros and ones.
-fn makes_zeros<A: Allocator + Copy>(zeros: &BitVec<A>, ones: &BitVec<A>) -> bool {
+fn makes_zeros(zeros: &BitVec<Global>, ones: &BitVec<Global>) -> bool {
     let Ok(mask) = zeros.mask_custom(ones, |a: u64, b: u64| !(a ^ b)) else {
         return false;
     };
@@ -121,7 +119,7 @@ fn makes_zeros<A: Allocator + Copy>(zeros: &BitVec<A>, ones: &BitVec<A>) -> bool
 }
 
 // Whether a closure that answers ones where both bits are zeros makes ones of zeros.
-fn makes_ones<A: Allocator + Copy>(zeros: &BitVec<A>, ones: &BitVec<A>) -> bool {
+fn makes_ones(zeros: &BitVec<Global>, ones: &BitVec<Global>) -> bool {
     match zeros.mask_custom(zeros, |a: u64, b: u64| !(a | b)) {
         Ok(mask) => is_equal(mask.to_bit_vec(), ones),
         Err(_) => false,
@@ -133,10 +131,7 @@ fn nor(a: u64, b: u64) -> u64 {
 }
 
 // Whether a function makes ones of a copy of zeros, with no bit past the length.
-fn is_changed_to_ones<A: Allocator + Copy>(
-    copy: Result<BitVec<A>, AllocError>,
-    zeros: &BitVec<A>,
-) -> bool {
+fn is_changed_to_ones(copy: Result<BitVec<Global>, AllocError>, zeros: &BitVec<Global>) -> bool {
     let rows = [
         (Query::Len, Some(70)),
         (Query::CountOnes, Some(70)),
@@ -151,7 +146,7 @@ fn is_changed_to_ones<A: Allocator + Copy>(
 }
 
 // What goes right with 70 zeros and as many ones.
-fn masks_work<A: Allocator + Copy>(zeros: &BitVec<A>, ones: &BitVec<A>) -> [bool; 5] {
+fn masks_work(zeros: &BitVec<Global>, ones: &BitVec<Global>) -> [bool; 5] {
     [
         first_wrong_reads(zeros, ones) == (None, None),
         is_cloned(zeros.mask_or(ones)),
@@ -172,7 +167,7 @@ fn a_mask_is_read_like_a_list(rt: HostRuntime) {
 }
 
 // Whether no mask of two lists is made.
-fn makes_no_mask<A: Allocator + Copy>(one: &BitVec<A>, other: &BitVec<A>) -> bool {
+fn makes_no_mask(one: &BitVec<Global>, other: &BitVec<Global>) -> bool {
     for (mask, _) in &NUMBERS {
         if !matches!(masked(*mask, one, other), Err(None)) {
             return false;
@@ -182,7 +177,7 @@ fn makes_no_mask<A: Allocator + Copy>(one: &BitVec<A>, other: &BitVec<A>) -> boo
 }
 
 // Whether a list of 70 zeros is changed by no mask.
-fn stays<A: Allocator + Copy>(list: &mut BitVec<A>, other: &BitVec<A>) -> bool {
+fn stays(list: &mut BitVec<Global>, other: &BitVec<Global>) -> bool {
     for (mask, _) in &NUMBERS {
         if apply(*mask, list, other) != Err(LengthMismatch) {
             return false;
@@ -192,17 +187,14 @@ fn stays<A: Allocator + Copy>(list: &mut BitVec<A>, other: &BitVec<A>) -> bool {
 }
 
 // The same of a copy of zeros.
-fn is_not_changed<A: Allocator + Copy>(
-    copy: Result<BitVec<A>, AllocError>,
-    other: &BitVec<A>,
-) -> bool {
+fn is_not_changed(copy: Result<BitVec<Global>, AllocError>, other: &BitVec<Global>) -> bool {
     match copy {
         Ok(mut list) => stays(&mut list, other),
         Err(_) => false,
     }
 }
 
-fn are_not_combined<A: Allocator + Copy>(zeros: &BitVec<A>, ones: &BitVec<A>) -> (bool, bool) {
+fn are_not_combined(zeros: &BitVec<Global>, ones: &BitVec<Global>) -> (bool, bool) {
     (
         makes_no_mask(zeros, ones),
         is_not_changed(zeros.clone(), ones),
