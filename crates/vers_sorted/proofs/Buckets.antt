@@ -83,7 +83,7 @@ high_below {s} v packed some from to = rw (high_same packed) (omega (arith, zero
 pub in_bucket : {s : List ℕ} {v : ℕ} {bucket : Bucket} (i : ℕ) → IsBucket s v bucket → bucket.start ≤ i → i < bucket.end → i < length s → bucket.high ≡ high_of s (slice_index s i)
 in_bucket i at low high h = omega (arith, at.high, at.start.after i low h, at.end.before i high)
 
-pub ruleset bucket = (high_same, high_below, zeros_from, bucket_is)
+pub ruleset bucket = (high_below, zeros_from, bucket_is)
 
 pub ruleset search_steps = (start_below, below_end, step_up, step_down, digits_halved, digits_up)
 

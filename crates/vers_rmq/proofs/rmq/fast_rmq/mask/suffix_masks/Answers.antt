@@ -24,3 +24,12 @@ pub returns-clause-whole : goal.returns-clause-whole
 returns-clause-whole c =
     let e : c.parts.at ≡ c.args.start = omega arith in
     rw e at (suffix_alone _ 128 _ _ _ _ _ (λ i h f. omega arith) c.parts.invariant.whole)
+
+pub suffixes_past-whole-requires-clause-done : goal.suffixes_past-whole-requires-clause-done
+suffixes_past-whole-requires-clause-done c = omega (arith, c.parts.invariant.whole.best.to)
+
+pub suffixes_past-whole-requires-clause-least : goal.suffixes_past-whole-requires-clause-least
+suffixes_past-whole-requires-clause-least c = c.part_suffixes-part.ensures.best
+
+pub returns-clause-parts : goal.returns-clause-parts
+returns-clause-parts c = let e : c.parts.at ≡ c.args.start = omega arith in rw e at c.parts.invariant.parts
