@@ -56,11 +56,6 @@ def figures(top):
     return list(found.values())
 
 
-def times_of_calls(top):
-    """Returns the time of each call that has one, by (type, call): its first figure."""
-    return {(it.holder, it.call): f"{it.time}, {it.data}" for it in reversed(figures(top))}
-
-
 def with_figures(text, found):
     """Returns the text of README with these figures in the rows of its table, each of which has one."""
     rows = {f"| `{it.holder}`, `{it.call}` | {it.data} |": f" {it.time} | {it.ratio} |" for it in found}
@@ -107,7 +102,9 @@ def section(title, functions, times):
 
 def page(top):
     """Returns the text of the page."""
-    parts, times = [read(f"{top}/{PAGE}").split("\n\n## ")[0]], times_of_calls(top)
+    # of a call with several times the first
+    times = {(it.holder, it.call): f"{it.time}, {it.data}" for it in reversed(figures(top))}
+    parts = [read(f"{top}/{PAGE}").split("\n\n## ")[0]]
     for crate in CRATES.split():
         groups = defaultdict(list)
         for it in sorted(public_functions(read_crate(top, crate)), key=lambda it: (it.source.path, it.first)):

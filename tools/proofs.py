@@ -133,8 +133,8 @@ def prove_all(crates, names, commands, most_jobs, tell):
             ready = order.get_ready()
             *others, longest = sorted([*running.values(), *ready], key=ways.get)
             for name in sorted(ready, key=ways.get, reverse=True):
-                shared = min(most_jobs, max(2, commands.count - len(others)))
-                jobs = shared if name == longest and not crates.is_program(name) else 1
+                is_shared = name == longest and not crates.is_program(name)
+                jobs = min(most_jobs, max(2, commands.count - len(others))) if is_shared else 1
                 running[pool.submit(prove, crates, name, jobs, 10 - 10 * ways[name] // ways[longest], commands)] = name
             for done in wait(running, return_when=FIRST_COMPLETED).done:
                 done.result()
@@ -167,13 +167,11 @@ def main():
     def tell(text):
         print(f"{names[0]}: {text}", file=sys.stderr, flush=True)
 
-    def tell_proved(name):
-        tell(f"{name} is proved by {commands.seconds[name, 'proof']:.0f} processor seconds, after {(time.time() - began) / 60:.1f} minutes")
-
     commands.end_on_interrupt()
     tell("proving the crates, those below first; this takes some minutes the first time")
     try:
-        prove_all(crates, names, commands, commands.count, tell_proved)
+        prove_all(crates, names, commands, commands.count, lambda name: tell(
+            f"{name} is proved by {commands.seconds[name, 'proof']:.0f} processor seconds, after {(time.time() - began) / 60:.1f} minutes"))
     except Failure as failure:
         tell(failure)
         return 1

@@ -48,11 +48,6 @@ def split_owner(owner):
     return kind, trait if is_for else ""
 
 
-def last_word(text):
-    """Returns the name of a type or a trait, past its path and before its bounds."""
-    return (re.findall(r"\w+", text if "::" in text else text.split(":")[0]) or [""])[-1]
-
-
 class Function:
     """A function: the head of its impl or trait, its first line, the first of its body and its last, and parts of its text."""
 
@@ -69,8 +64,9 @@ class Function:
         self.declared, self.code = declared.rstrip("{; \n"), bare(inside)
         self.head = " ".join(re.split(r"\n\s*(?:requires|ensures|where|ghost)\b", self.declared)[0].split())
         self.name = HEAD.match(self.text)[1]
-        # the type that it belongs to, or the trait that declares it; and the trait that its impl is of
-        self.holder, self.trait = map(last_word, split_owner(owner))
+        # the type that it belongs to, or the trait that declares it; and the trait that its impl is of: past a path, and before bounds
+        named = (re.findall(r"\w+", it if "::" in it else it.split(":")[0]) for it in split_owner(owner))
+        self.holder, self.trait = ((it or [""])[-1] for it in named)
         self.full_name = f"{self.holder}::{self.name}" if owner else self.name
         self.is_public = bool(re.match(r"pub (?:const |unsafe )?fn\b", self.head))
         self.is_declared_by_trait = bool(re.match(rf"{PUB}trait\b", owner))

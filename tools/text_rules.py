@@ -52,6 +52,7 @@ PATTERNS = (
 PASSES_ON = re.compile(r"(?:[\w.:&*]+(?:::<\w+>)?(?:\([\w\s,&.*]*\)|\{\w+\})?)?")
 SPECS = re.compile(r"\bghost use Rattle\.(?!std\b)\w+\.specs\.(?!declared\b)([\w.]+)\.\{([^}]*)\}")
 LINK = re.compile(r"\]\(([^)#:\s]+)(?:#[^)]*)?\)")
+READ_ONCE = lru_cache(maxsize=None)(Source)
 PASSED_ON = re.compile(r"(?m)^pub use Rattle\.\w+\.proofs\.PublicLaws as (\w+)$")
 FOREIGN = re.compile(r"\b(\w+)(?:\.|::)(proofs|specs)(?:\.|::)(\w+)(?:(?:\.|::)(\w+))?")
 # proofs that stand on the contracts of a part of their own crate, and the files of that part's inside
@@ -118,14 +119,8 @@ def crates_of(texts):
     found = defaultdict(list)
     for path, text in texts.items():
         if re.fullmatch(r"crates/\w+/src/.*\.rt", path):
-            found[path.split("/")[1]].append(source_of(path, text))
+            found[path.split("/")[1]].append(READ_ONCE(path.split("/")[1], path, text))
     return found
-
-
-@lru_cache(maxsize=None)
-def source_of(path, text):
-    """Returns a source, of which one text is read once."""
-    return Source(path.split("/")[1], path, text)
 
 
 @lru_cache(maxsize=None)

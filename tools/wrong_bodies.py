@@ -196,29 +196,23 @@ def try_crates(crates, flags, commands):
     names = [it for it in flags.crates or crates.lines if os.path.isdir(f"{crates.folder(it)}/wrong")]
     tried = [Tried(crates, it, commands, flags.anew) for it in names]
     waiting = {name: threading.Event() for it in tried if len(it.told) < len(it.files) for name in it.below}
-
-    def try_once_proved(crate):
-        for name in {*crate.below, crate.name} & {*waiting}:
-            waiting[name].wait()
-        try_crate(crate, flags, waves)
-
     with ThreadPoolExecutor(commands.count) as waves, ThreadPoolExecutor(len(tried) or 1) as pool:
-        began = [pool.submit(try_once_proved, it) for it in tried]
-        try:
-            # (a crate that is shared by more takes more processor time in all, which the waves beside it can use)
-            prove_all(crates, waiting, commands, 2, lambda name: waiting[name].set())
-        finally:
-            # (where a proof failed, no command begins any more)
+        ended = pool.map(lambda crate: try_crate(crate, flags, waves, waiting), tried)
+        with contextlib.ExitStack() as after:
             for it in waiting.values():
-                it.set()
-        for it in began:
-            it.result()
+                after.callback(it.set)
+            # (by more than two, a crate takes more processor time in all, which the waves beside it can use)
+            prove_all(crates, waiting, commands, 2, lambda name: waiting[name].set())
+        list(ended)
     return {it.name: it.told for it in tried}
 
 
-def try_crate(crate, flags, pool):
-    """Tries those wrong bodies of a crate that were not refused earlier. Until something of it is proved, waves come singly."""
+def try_crate(crate, flags, pool, waiting):
+    """Tries those wrong bodies of a crate that were not refused earlier, once what it waits for is proved. Until something of it is proved, waves
+    come singly."""
     left, most = [], flags.most
+    for name in {*crate.below, crate.name} & {*waiting}:
+        waiting[name].wait()
     for edit in [it for it in crate.keys if it not in crate.told]:
         try:
             left.append(load_edit(edit, read(crate.files[edit]), crate.sources))
