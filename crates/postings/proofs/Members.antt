@@ -75,7 +75,7 @@ shared_equal x xs ys first rest second =
 
 below_head : (x y : ℕ) (ys : List ℕ) → x < y → IsBelowAll y ys → IsBelowAll x (y ∷ ys)
 below_head x y ys less above zero inside = less
-below_head x y ys less above (suc j) inside = omega (arith, less, above j (omega arith))
+below_head x y ys less above (suc j) inside = omega (arith, above j (omega arith))
 
 shared : (n : ℕ) (xs ys : List ℕ) → length xs + length ys ≤ n → Rising xs → Rising ys → filter (is_among ys) xs ≡ filter (is_among xs) ys
 shared n [] ys few up upper = sym (filter_none (is_among []) ys none_among)
@@ -97,4 +97,4 @@ shared (suc n) (x ∷ xs) (y ∷ ys) few up upper =
 -- either of two lists may be looked through
 pub common_either : (documents others : List ℕ) → IsStrictlyIncreasing documents → IsStrictlyIncreasing others → common documents others ≡ common others documents
 unfolding common
-common_either documents others up upper = grind (arith, others, upper, shared, AllPairs-from_increasing)
+common_either documents others up upper = grind (arith, shared, AllPairs-from_increasing)

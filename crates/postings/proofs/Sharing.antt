@@ -31,11 +31,11 @@ more_room k x y = omega arith
 -- one more look-up
 lookups_more : (k : ℕ) (p q old between next new : Reads) → AddsAtMost old between (times k (plus p q)) → AddsAtMost between next p → AddsAtMost next new q
     → AddsAtMost old new (times (k + 1) (plus p q))
-lookups_more k p q a b c d before step look = grind (arith, before, step, adds_then, within_itself, more_room)
+lookups_more k p q a b c d before step look = grind (arith, adds_then, within_itself, more_room)
 
 -- fewer look-ups stay within more
 pub lookups_up : (k n : ℕ) (p : Reads) → k ≤ n → IsWithin (times k p) (times n p)
-lookups_up k n p few = grind (arith, few, mul-le-mul_right)
+lookups_up k n p few = grind (arith, mul-le-mul_right)
 
 -- what is left of a list after k of its members and one more
 drop_next : (k : ℕ) (xs : List ℕ) → drop 1 (drop k xs) ≡ drop (suc k) xs

@@ -7,7 +7,7 @@ use Rattle.vers_bits.proofs.Counting.{part_number_some}
 -- the bits of element e
 pub element : (items : List ℕ) (k e : ℕ) → e < length items → take k (drop (e * k) (pack items k)) ≡ low_bits (get_or items e 0) k
 element [] k e h = absurd (omega arith)
-element (v ∷ items) k zero h = grind (arith, zero, take_at, length-low_bits)
+element (v ∷ items) k zero h = grind (arith, take_at, length-low_bits)
 element (v ∷ items) k (suc e) h =
     let place : suc e * k ≡ k + e * k = omega arith in
     rw (place, ← drop-drop (e * k) k, drop_at (low_bits v k) (pack items k) k (length-low_bits v k)) (element items k e (omega arith))

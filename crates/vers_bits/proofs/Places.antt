@@ -87,7 +87,7 @@ select_is_place b l r some = let found = passes b l r (length l) (omega arith) s
 -- the count up to the place of number r, and past it
 pub count_at_select : (b : Bool) (l : List Bool) (r : ℕ) → r < count b l (length l)
     → (select b l r < length l) × (count b l (select b l r) ≡ r) × (count b l (select b l r + 1) ≡ r + 1)
-count_at_select b l r some = grind (arith, some, select_is_place, count_more_yes)
+count_at_select b l r some = grind (arith, select_is_place, count_more_yes)
 
 -- number r stands below p where more than r places below p hold the bit
 pub select_below : (b : Bool) (l : List Bool) (r p : ℕ) → r < count b l p → select b l r < p

@@ -96,7 +96,7 @@ select_up bit bits r q h some = grind (arith, select_below, count_at_select)
 -- number r of the first n places stands there, holds the bit, and r stand before it
 pub select_holds : (bit : Bool) (bits : List Bool) (r n : ℕ) → n ≤ length bits → r < count bit bits n
     → (select bit bits r < n) × (is_bit bit (get_or bits (select bit bits r) false) ≡ true) × (count bit bits (select bit bits r) ≡ r)
-select_holds bit bits r n h few = grind (arith, few, select_is_place, count_le_all, select_below)
+select_holds bit bits r n h few = grind (arith, select_is_place, count_le_all, select_below)
 
 -- ---- neighbours
 

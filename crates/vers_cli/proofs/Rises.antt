@@ -25,7 +25,7 @@ if_some false x v h = cc
 -- after a first number
 more_rise : (order : ℕ → ℕ → Bool) (len last : ℕ) (numbers : List ℕ) (end : ℕ × ℕ) → 0 < len → rise_from order len last numbers ≡ Some end
     → (each_next order (last ∷ numbers) ≡ true) × (end.0 ≡ len + length numbers) × (end.1 ≡ get_or (last ∷ numbers) (length numbers) 0)
-more_rise order len last [] end some h = grind (arith, order, last, end, some)
+more_rise order len last [] end some h = grind arith
 more_rise order len last (n ∷ more) end some h =
     let counted : (len == 0) ≡ false = ne_eqb len 0 (λ e. omega arith) in
     let p = if_some (order last n) (rise_from order (len + 1) n more) end (rw counted at h) in
@@ -34,8 +34,8 @@ more_rise order len last (n ∷ more) end some h =
 
 pub rise : (order : ℕ → ℕ → Bool) (numbers : List ℕ) (end : ℕ × ℕ) → rise_from order 0 0 numbers ≡ Some end
     → (each_next order numbers ≡ true) × (end.0 ≡ length numbers) × (end.1 ≡ last_of numbers)
-rise order [] end h = grind (arith, order, end)
-rise order (n ∷ more) end h = grind (arith, order, more, end, more_rise)
+rise order [] end h = grind arith
+rise order (n ∷ more) end h = grind (arith, more_rise)
 
 more_fall : (order : ℕ → ℕ → Bool) (len last : ℕ) (numbers : List ℕ) → 0 < len → rise_from order len last numbers ≡ None → each_next order (last ∷ numbers) ≡ false
 more_fall order len last [] some h = cc

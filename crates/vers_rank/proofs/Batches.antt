@@ -18,15 +18,15 @@ stands size b l r k rest q at stretch within number near = record {
 -- the same for a number that a place in a wider stretch stands for
 pub narrows : (wide size : ℕ) (b : Bool) (l : List Bool) (p k rest q : ℕ) → p < length l → q ≡ size * k + rest → q / size ≡ k → q % size ≡ rest
     → count b l (size * k) + rest ≡ number_of wide b l p → number_of wide b l p < count b l (size * (k + 1)) → (r : ℕ) → StandsFor wide b l r p → StandsFor size b l r q
-narrows wide size b l p k rest q inside at stretch within number near r is = grind (arith, wide, size, rest, inside, within, near, cases_lt, count, stands)
+narrows wide size b l p k rest q inside at stretch within number near r is = grind (arith, cases_lt, count, stands)
 
 -- and is the answer where no place has the number
 pub ends : (wide : ℕ) (b : Bool) (l : List Bool) (p : ℕ) → length l ≤ p → (r : ℕ) → StandsFor wide b l r p → p ≡ select b l r
-ends wide b l p past r is = grind (arith, is, cases_lt r (count b l (length l)), select_past b l r)
+ends wide b l p past r is = grind (arith, cases_lt r (count b l (length l)), select_past b l r)
 
 -- a place that stands for a number is one that the next level takes
 pub takes : (size : ℕ) (b : Bool) (l : List Bool) (r p : ℕ) → StandsFor size b l r p → IsIn size b l p
-takes size b l r p is inside = grind (arith, is, cases_lt r (count b l (length l)))
+takes size b l r p is inside = grind (arith, cases_lt r (count b l (length l)))
 
 -- a number of a limb, among those of the whole list
 pub near_limb : (b : Bool) (l : List Bool) (k rest n j : ℕ) → 64 * k < length l → held b l (64 * k) + rest ≡ n → rest < held_in b (limb l k) 64 → n < count b l j

@@ -70,4 +70,4 @@ module _ {l : List Bool} {blocks superblocks zero_samples one_samples : List ℕ
   held_counts b j h = grind (arith, cases_Bool b, entry_at j h, block_entry (16 * s + j) s index (omega (arith, whole)) (omega arith))
 
   pub held_rising : (b : Bool) (i j : ℕ) → i ≤ j → j < 16 → held_before b i (get_or zeros i 0) ≤ held_before b j (get_or zeros j 0)
-  held_rising b i j order h = grind (arith, order, held_counts, count_up)
+  held_rising b i j order h = grind (arith, held_counts, count_up)

@@ -69,7 +69,7 @@ module _ (bits : List Bool) (walk : ChunkWalk) (is : IsChunkWalkOf bits walk) wh
 -- ---- a chunk anew
 -- a digit of the limb of place p, without the digits before that place
 pub word_bit : (b : Bool) (bits : List Bool) (p i w : ℕ) → w ≡ marked b (limb bits (p / 64)) → p % 64 + i < 64 → bit_at (w / 2 ^ (p % 64)) i ≡ bit_value (is_bit b (get_or bits (p + i) false))
-word_bit b bits p i w word small = grind (arith, word, small, digit_after, marked_bit)
+word_bit b bits p i w word small = grind (arith, digit_after, marked_bit)
 
 module _ (bits : List Bool) (walk : ChunkWalk) (n count : ℕ) (buffer : List ℕ) (w : ℕ) (is : IsChunkWalkOf bits walk) (done : walk.left ≡ 0) (within : walk.end + n ≤ length bits) (room : length buffer ≡ 16) (few : count ≤ 16) (listed : last_first 0 buffer count ≡ ones_below n w) (holds : (i : ℕ) → i < n → bit_at w i ≡ bit_value (is_bit walk.bit (get_or bits (walk.end + i) false))) (whole : walk.end + n < length bits → (walk.end + n) % 16 ≡ 0) where
   abbrev loaded : ChunkWalk

@@ -37,7 +37,7 @@ place_found b l r k p seen some counted before small from to =
 
 -- after the last limb of a block nothing of the block is left
 pub block_end : (b : Bool) (l : List Bool) (block end : ℕ) → end ≡ min (8 * block + 8) (limb_count (length l)) → count b l (512 * (block + 1)) ≤ held b l (64 * end)
-block_end b l block end e = grind (arith, end, cases_lt, count_le_held, count_le_all, held_is, held_up)
+block_end b l block end e = grind (arith, cases_lt, count_le_held, count_le_all, held_is, held_up)
 
 -- number r of a block stands in the limb that the scan has found
 pub rest_in_limb : (b : Bool) (l : List Bool) (block r k before : ℕ) → 512 * block < length l → count b l (512 * block) + r < count b l (512 * (block + 1))
@@ -57,7 +57,7 @@ pub record IsBetween (b : Bool) (l : List Bool) (r first last : ℕ) : Type 0 wh
 
 pub samples_bound : (b : Bool) (l : List Bool) (r first last : ℕ) → r < count b l (length l)
     → IsSample b l (r / 8192) first → IsSample b l (r / 8192 + 1) last → IsBetween b l r first last
-samples_bound b l r first last some before after = grind (arith, first, last, some, before, after, count_le, count_up)
+samples_bound b l r first last some before after = grind (arith, count_le, count_up)
 
 pub ruleset totals = (count_both, count_le, select_past, select_le)
 
@@ -85,7 +85,7 @@ half_of b l block r n limb before ones is counts few =
 
 -- the limb that is left
 pub one_limb : (b : Bool) (l : List Bool) (block r limb before : ℕ) → IsAmongLimbs b l block r 1 limb before → IsLimbWith b l block r (8 * block + 7) limb before
-one_limb b l block r limb before is = grind (arith, is)
+one_limb b l block r limb before is = grind arith
 
 -- half of a block: the second where the places of the first don't pass number r, and else the first
 pub block_half : (b : Bool) (l : List Bool) (block r ones : ℕ) → count true l (64 * (8 * block)) + ones ≡ count true l (64 * (8 * block + 4)) → ones ≤ 256

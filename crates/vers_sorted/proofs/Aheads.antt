@@ -64,7 +64,7 @@ module _ (s : List ℕ) (i : ℕ) (a : Ahead) (up : IsNonDecreasing s) (read : H
 
 pub read_after : {s : List ℕ} {high low : List Bool} {first last width : ℕ} (i p n w : ℕ) → IsPacked s high low first last width → i < length s → p ≡ select true high i
     → part_number_or_zero high (p + 1) n ≡ Some w → HasRead s (i + 1) (record { place = p + 1; len = n; word = w })
-read_after {s} {high} i p n w packed h e read = grind (arith, high, packed, read, high_same, hold_high, part_of, counted_past)
+read_after {s} {high} i p n w packed h e read = grind (arith, high_same, hold_high, part_of, counted_past)
 
 pub read_maybe : {s : List ℕ} {high low : List Bool} {first last width : ℕ} (i p n w : ℕ) (o : Option ℕ) → IsPacked s high low first last width → i < length s → p ≡ select true high i
     → o ≡ part_number_or_zero high (p + 1) n → w ≡ unwrap_or o 0 → IsAhead s (i + 1) (record { place = p + 1; len = n; word = w })

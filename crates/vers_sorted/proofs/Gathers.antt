@@ -20,7 +20,7 @@ shifted part n few =
 -- its digits are those of both, as many as fit
 digits_of_both : (word part n m : ℕ) → n ≤ 64 → word < 2 ^ n → m ≤ 64 - n
     → low_bits (bit_or word (part * 2 ^ n % 18446744073709551616)) (n + m) ≡ low_bits word n ++ low_bits part m
-digits_of_both word part n m few small fits = grind (arith, word, part, few, small, fits, low_bits_of_rest, mod-mul-add, div-mul-add, first_digits, shifted, or_shifted_r, low_bits-add)
+digits_of_both word part n m few small fits = grind (arith, low_bits_of_rest, mod-mul-add, div-mul-add, first_digits, shifted, or_shifted_r, low_bits-add)
 
 -- a part that fits stays in the word
 pub stays_small : (word part n w : ℕ) → word < 2 ^ n → part < 2 ^ w → n + w ≤ 64 → bit_or word (part * 2 ^ n % 18446744073709551616) < 2 ^ (n + w)

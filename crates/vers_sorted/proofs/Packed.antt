@@ -45,7 +45,7 @@ in_order {s} i packed h = grind (arith)
 
 pub joined : {s : List ℕ} {high low : List Bool} {first last width : ℕ} (i : ℕ) → IsPacked s high low first last width → i < length s
     → (first + bit_or (high_of s (slice_index s i) * 2 ^ width % 18446744073709551616) (low_of s (slice_index s i)) ≡ slice_index s i)
-joined {s} {first} {last} {width} i packed h = grind (arith, first, last, width, packed, in_order, parts_sum, mod-eq_of_lt, or_shifted, low_below)
+joined {s} {first} {last} {width} i packed h = grind (arith, in_order, parts_sum, mod-eq_of_lt, or_shifted, low_below)
 
 -- ---- sizes
 

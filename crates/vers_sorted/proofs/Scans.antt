@@ -32,7 +32,7 @@ pub part_read : (l : List Bool) (p w : ℕ) → part_number_or_zero l p 64 ≡ S
 part_read l p w e = let read = part_of l p 64 w e in (read.1, read.2)
 
 pub select_within : (b : Bool) (l : List Bool) (h p : ℕ) → h < count b l (length l) → p ≡ select b l h → p < length l
-select_within b l h p some e = omega (arith, e, (count_at_select b l h some).0)
+select_within b l h p some e = omega (arith, (count_at_select b l h some).0)
 
 pub zero_read : (l : List Bool) (h at w : ℕ) → h < count false l (length l) → at ≡ select false l h → part_number_or_zero l (at + 1) 64 ≡ Some w → w + 1 < 18446744073709551616
     → at + 1 + trailing_ones w64 w ≡ select false l (h + 1)

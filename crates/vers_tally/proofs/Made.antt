@@ -55,10 +55,10 @@ module _ {X E : Type 0} where
       record { on = λ _. (may, tt, omega arith); keeps = may; rests = λ _. tt }
 
   pub goes_made : (can : List X → Type 0) (old : List X) (r : Option (Result X E)) (new : List X) → can new → MakesNth 0 old r new → MakesProgress can (item_count (λ s. s)) old r new
-  goes_made can old r new may h = grind (arith, may, goes_on, none_made, slice_get_past, length-drop)
+  goes_made can old r new may h = grind (arith, goes_on, none_made, slice_get_past, length-drop)
 
   pub goes_made_back : (can : List X → Type 0) (old : List X) (r : Option (Result X E)) (new : List X) → can new → MakesNthBack 0 old r new → MakesProgress can (item_count (λ s. s)) old r new
-  goes_made_back can old r new may h = grind (arith, may, goes_on, none_made, slice_get_past, length-reverse, length-take)
+  goes_made_back can old r new may h = grind (arith, goes_on, none_made, slice_get_past, length-reverse, length-take)
 
   -- the last item
   pub last_made : (old : List X) (r : Option (Result X E)) (new : List X) → MakesNthBack 0 old r new → MayRefuse r (last_or None old)

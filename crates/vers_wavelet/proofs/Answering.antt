@@ -51,7 +51,7 @@ rank_goes v ls s end c i start to b o is long bit from last =
 
 pub rank_ends : (o : Option ℕ) (n s end : ℕ) → IfSome o (λ c. (c ≤ end) × (end ≤ n) × (0 ≤ 64)) → o ≡ option_map (λ c. way [] s end - way [] s (end - c)) o
 rank_ends None n s end kept = refl
-rank_ends (Some c) n s end kept = grind (arith, end, kept, way_none)
+rank_ends (Some c) n s end kept = grind (arith, way_none)
 
 -- ---- occurrences found
 
@@ -83,4 +83,4 @@ select_found {ls} levels s rank (Some p) seeks =
 
 pub select_answers : {ls : List (List Bool)} {n : ℕ} → AreLevels ls n → length ls ≤ 64 → (rank s r t : ℕ) (o : Option ℕ) → Seeks ls n t (way ls t 0 + r) 0 o → r ≡ rank → t ≡ s
     → o ≡ (if leb (length ls) 64 then slice_get (occurrences (values ls n) 0 n (s % 2 ^ length ls)) rank else None)
-select_answers {ls} {n} levels few rank s r t o seeks same_rank same_symbol = grind (arith, few, of_words, select_found)
+select_answers {ls} {n} levels few rank s r t o seeks same_rank same_symbol = grind (arith, of_words, select_found)

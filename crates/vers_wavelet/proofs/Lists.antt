@@ -64,7 +64,7 @@ no_places items a b s past = let none : b - a ≡ 0 = omega arith in rw none
 
 occurrences_are : (ls : List (List Bool)) (n a b s : ℕ) → a ≤ b → b ≤ n → length (occurrences (values ls n) a b s) + equal ls s a ≡ equal ls s b
 unfolding equal
-occurrences_are ls n a b s order within = grind (arith, order, within, occurrences_are_counted, length-values, over_members)
+occurrences_are ls n a b s order within = grind (arith, occurrences_are_counted, length-values, over_members)
 
 pub count_is : {ls : List (List Bool)} {n : ℕ} → AreLevels ls n → (s a b from to : ℕ) → a ≤ b → b ≤ n → from + way ls s b ≡ to + way ls s a
     → to - from ≡ length (occurrences (values ls n) a b (s % 2 ^ length ls))
@@ -111,7 +111,7 @@ found_is {ls} {n} levels s a r from to p start e f few within holds leads =
 
 pub found_none : {ls : List (List Bool)} {n : ℕ} → AreLevels ls n → (s a r from to : ℕ) → a ≤ n → from ≡ way ls s a → to ≡ way ls s n → to - from ≤ r
     → None ≡ slice_get (occurrences (values ls n) a n (s % 2 ^ length ls)) r
-found_none {ls} {n} levels s a r from to start e f past = grind (arith, from, start, past, slice_get_past, count_is)
+found_none {ls} {n} levels s a r from to start e f past = grind (arith, slice_get_past, count_is)
 
 -- what the way back up gives of a place that may be one of another symbol
 pub found_or_none : {ls : List (List Bool)} {n : ℕ} → AreLevels ls n → (s a r from : ℕ) (o : Option ℕ) → a ≤ n → from ≡ way ls s a → IfSome o (λ p. p < n)
@@ -119,7 +119,7 @@ pub found_or_none : {ls : List (List Bool)} {n : ℕ} → AreLevels ls n → (s 
     → o ≡ slice_get (occurrences (values ls n) a n (s % 2 ^ length ls)) r
 found_or_none {ls} {n} levels s a r from None start e within holds leads some =
     found_none levels s a r from (way ls s n) start e refl (omega (arith, not_lt {a = from + r} {b = way ls s n} (λ inside. never (some.1 inside))))
-found_or_none {ls} {n} levels s a r from (Some p) start e within holds leads some = grind (arith, from, start, within, holds, leads, some, found_is)
+found_or_none {ls} {n} levels s a r from (Some p) start e within holds leads some = grind (arith, found_is)
 
 -- ---- members by size
 

@@ -50,8 +50,8 @@ nearest_same false xs below equal s x low high some is =
 
 pub nearest_is : (up : Bool) (xs : List ℕ) (below s x i : ℕ) → below ≡ count_by (λ y. ltb y s) xs → below ≡ count_by (λ y. leb y s) xs → (up ≡ true → below < length xs) → (up ≡ false → 0 < below)
     → i ≡ below - bool_byte (not up) → x ≡ get_or (by_size xs) i 0 → nearest up xs s ≡ Some x
-nearest_is true xs below s x i low high more some at is = grind (arith, below, low, high, more, some, least_from_is, kth_some)
-nearest_is false xs below s x i low high more some at is = grind (arith, below, low, high, more, some, greatest_up_to_is, kth_some, count_by-le-length)
+nearest_is true xs below s x i low high more some at is = grind (arith, least_from_is, kth_some)
+nearest_is false xs below s x i low high more some at is = grind (arith, greatest_up_to_is, kth_some, count_by-le-length)
 
 pub nearest_none : (up : Bool) (xs : List ℕ) (below s : ℕ) → below ≡ count_by (λ y. ltb y s) xs → below ≡ count_by (λ y. leb y s) xs → (up ≡ true → below ≡ length xs) → (up ≡ false → below ≡ 0) → nearest up xs s ≡ None
 nearest_none true xs below s low high all none = least_from_is xs s below low ∙ kth_none xs below (omega (arith, all refl))

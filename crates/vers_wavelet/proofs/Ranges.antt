@@ -27,7 +27,7 @@ members_of_all items n e = ap (range_members items 0) e ∙ members_inside items
 -- ---- the member of a number
 
 pub kth_inside : (items : List ℕ) (a b i x : ℕ) → b ≤ length items → a + i < b → x ≡ get_or (by_size (slice_range items a b)) i 0 → kth_by_size (range_members items a b) i ≡ Some x
-kth_inside items a b i x within some is = grind (arith, within, some, members_inside, kth_some, part_length)
+kth_inside items a b i x within some is = grind (arith, members_inside, kth_some, part_length)
 
 pub kth_past : (items : List ℕ) (a b i : ℕ) → length items < b → kth_by_size (range_members items a b) i ≡ None
 kth_past items a b i past = kth_none (range_members items a b) i (omega (arith, ap length (members_past items a b past)))

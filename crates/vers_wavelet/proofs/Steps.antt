@@ -21,7 +21,7 @@ kth_step bit l ls a b i j x order within small e k =
     }
 
 pub kth-lt : (ls : List (List Bool)) (a b i x : ℕ) → KthOf ls a b i x → a + i < b → x < 2 ^ length ls
-kth-lt ls a b i x kth h = grind (arith, h, kth.less, under_all ls x a, under_all ls x b)
+kth-lt ls a b i x kth h = grind (arith, kth.less, under_all ls x a, under_all ls x b)
 
 module _ (ls : List (List Bool)) (k : ℕ) (h : k < length ls) where
   pub level_at : (v : List Bool) → v ≡ get_or ls k v → drop k ls ≡ v ∷ drop (k + 1) ls

@@ -101,7 +101,7 @@ pub ruleset parts = (next_both, next-le, next-up)
 
 -- the zeros of a range of one place
 pub next_single : (l : List Bool) (i j : ℕ) (b : Bool) → j ≡ i + 1 → i < length l → b ≡ get_or l i false → next false l j ≡ cond b (next false l i) (next false l i + 1)
-next_single l i j b e h is = grind (arith, e, is, cases_Bool b, next_more false l i h)
+next_single l i j b e h is = grind (arith, cases_Bool b, next_more false l i h)
 
 pub next_up_to_place : (l : List Bool) (i : ℕ) → next false l i ≤ i
 unfolding next
@@ -149,7 +149,7 @@ of_kind false l z p zeros h = (λ t. (omega arith, omega (arith, zeros, next_fal
 
 -- a place that holds the bit has its own place in the next level
 pub next-lt : (b : Bool) (l : List Bool) (i : ℕ) → i < length l → get_or l i false ≡ b → next b l i < length l
-next-lt b l i h e = grind (arith, e, cases_Bool b, next-le b l (i + 1), next_more b l i h)
+next-lt b l i h e = grind (arith, cases_Bool b, next-le b l (i + 1), next_more b l i h)
 
 -- each place of a level is where a place of the level above goes on
 of_bit : (b : Bool) (l : List Bool) (r : ℕ) → r < count b l (length l) → (i : ℕ) × (i < length l) × (next (get_or l i false) l i ≡ start b l + r)

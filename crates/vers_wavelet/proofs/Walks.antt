@@ -18,4 +18,4 @@ adds_level k before more = adds_fewer (2 * k + 2) (2 * (k + 1)) (omega arith) (a
 -- where no place is left, the ends are as far apart as those of the way down
 pub narrowed_ended : {ls : List (List Bool)} {s from to k a b less : ℕ} → a ≡ b → Narrowed ls s from to k a b less
     → (less + under ls (s % 2 ^ length ls) from ≡ under ls (s % 2 ^ length ls) to) × (a + way ls s to ≡ b + way ls s from)
-narrowed_ended {ls} {s} {from} {to} {k} {a} {b} {less} e n = grind (arith, from, less, under)
+narrowed_ended {ls} {s} {from} {to} {k} {a} {b} {less} e n = grind (arith, under)

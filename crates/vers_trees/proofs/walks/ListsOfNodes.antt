@@ -18,7 +18,7 @@ between_decides : (v c w : ℕ) → Decides (between v c w) ((v ≤ w) × (w ≤
 between_decides v c w = Decides-and (leb v w) (leb w c) (Decides-leb v w) (Decides-leb w c)
 
 outside : (v c w : ℕ) → (w < v) ⊎ (c < w) → between v c w ≡ false
-outside v c w o = grind (arith, nat_tests, o)
+outside v c w o = grind (arith, nat_tests)
 
 -- with those before v they are those before c + 1
 count_between : (v c : ℕ) (xs : List ℕ) → v ≤ c + 1 → count_by (between v c) xs + count_by (λ w. ltb w v) xs ≡ count_by (λ w. ltb w (c + 1)) xs

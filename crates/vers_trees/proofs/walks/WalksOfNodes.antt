@@ -131,7 +131,7 @@ length-closed_by l k n h = omega (arith, length-map (take n (drop k (places fals
 
 -- a zero of number k + i is there, below the most bits that a list has
 pub zero_inside : (l : List Bool) (k n i : ℕ) → k + n ≤ length (places false l) → i < length (closed_by l k n) → k + i < length (places false l)
-zero_inside l k n i h low = omega (arith, h, low, length-closed_by l k n h)
+zero_inside l k n i h low = omega (arith, length-closed_by l k n h)
 
 pub zeros_fit : (l : List Bool) → length (places false l) ≤ length l
 zeros_fit l = omega (arith, length-places false l, (count_le false l (length l)).1)
