@@ -12,8 +12,7 @@ pub ruleset cuts = (kept, length-pack, length-first)
 -- the limbs of the bits that whole words hold are the words
 pub limbs_of_whole : (kind : Kind) (count width len : ℕ) (words : List ℕ) (v : List Bool) → IsWhole kind count width words → len ≡ count * item_bits kind width → v ≡ take len (pack words 64)
     → limbs v ≡ words
-limbs_of_whole kind count width len words v whole all is =
-    ap limbs (is ∙ ap (λ m. take m (pack words 64)) all) ∙ limbs-first words (count * item_bits kind width) whole.counted whole.fit whole.padded
+limbs_of_whole kind count width len words v whole all is = grind (arith, pack, limbs-first)
 
 -- the limbs of bits are whole as those of a kind with no order
 pub whole_bits : (kind : Kind) (count width : ℕ) (bits : List Bool) → may_be_saved kind count width ≡ true → length bits ≡ count * item_bits kind width

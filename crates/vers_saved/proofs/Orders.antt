@@ -28,9 +28,7 @@ get_or-words_among n words k h =
 -- one word more
 pub copied_more : (n : ℕ) (words : List ℕ) (k : ℕ) (kept : List ℕ) (word : ℕ) → length words ≡ limb_count n + 6 → k < limb_count n → kept ≡ take k (words_among n words)
     → word ≡ get_or words (k + 5) 0 → kept ++ word ∷ [] ≡ take (k + 1) (words_among n words)
-copied_more n words k kept word long h is is_word =
-    ap (λ l. l ++ word ∷ []) is ∙ ap (λ w. take k (words_among n words) ++ w ∷ []) (is_word ∙ sym (get_or-words_among n words k h))
-    ∙ sym (take_more (words_among n words) k 0 (omega (arith, length-words_among n words long)))
+copied_more n words k kept word long h is is_word = grind (arith, get_or-words_among, take_more, length-words_among)
 
 -- the next word of a form
 pub ordered_more : (o : ℕ → ℕ → Bool) (n : ℕ) (words : List ℕ) (k : ℕ) (holds : Bool) (before next : ℕ) → length words ≡ limb_count n + 6 → suc k < limb_count n

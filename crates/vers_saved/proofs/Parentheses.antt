@@ -17,8 +17,6 @@ whole_tree size bits some few small =
     whole_bits (tree_kind size) (length bits) size bits (within_bounds (tree_kind size) (length bits) size (omega (arith, some, few, small))) (omega arith) refl
 
 pub tree_size : (size count width : ℕ) (words : List ℕ) → IsWhole (tree_kind size) count width words → (1 ≤ size) × (size ≤ 4294967296) × (size ≡ width)
-tree_size size count width words whole =
-    let b = bounds_are (tree_kind size) count width words whole in
-    (omega (arith, b.0, b.1), omega (arith, b.0, b.1), omega (arith, b.0, b.1))
+tree_size size count width words whole = grind (arith, bounds_are)
 
 pub ruleset trees = (whole_tree, tree_size)

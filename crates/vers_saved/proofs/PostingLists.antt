@@ -1,5 +1,5 @@
 -- Saved forms of documents with costs.
-use Rattle.vers_saved.proofs.Names.{◌≡◌, ℕ, ◌-◌, ◌*◌, ◌/◌, ◌<◌, ◌≤◌, List, ◌++◌, length, get_or, take, drop, sym, ap, ◌∙◌, inl, inr, arith, All, cases_lt, get_or_append_left, get_or-append_right, get_or_past, take_at, take-append-drop, length-append, length-take, each_next-rising, POSTING_LISTS, posting_words, IsWhole, All-get_or}
+use Rattle.vers_saved.proofs.Names.{◌≡◌, ℕ, ◌-◌, ◌*◌, ◌/◌, ◌<◌, ◌≤◌, List, ◌++◌, length, get_or, take, drop, sym, ◌∙◌, inl, inr, arith, All, cases_lt, get_or_append_left, get_or-append_right, get_or_past, take_at, take-append-drop, length-append, length-take, each_next-rising, POSTING_LISTS, posting_words, IsWhole, All-get_or}
 use Rattle.postings.specs.Posted.{Posted, ArePaired}
 use Rattle.vers_saved.proofs.WordBytes.{AreWords, fit_append}
 use Rattle.vers_saved.proofs.Shapes.{bounds_are, within_bounds}
@@ -36,15 +36,11 @@ whole_postings posted few paired fit =
     }
 
 pub postings_shape : (c w : ℕ) (words : List ℕ) → IsWhole POSTING_LISTS c w words → (length words ≡ 2 * c) × (c ≤ 549755813760) × (128 ≡ w)
-postings_shape c w words whole =
-    let b = bounds_are POSTING_LISTS c w words whole in (omega (arith, whole.counted), b.3, omega (arith, b.0, b.1))
+postings_shape c w words whole = grind (arith, bounds_are)
 
 -- what was saved of documents is loaded as their two lists
 pub postings_again : (c w : ℕ) (words documents costs : List ℕ) → IsWhole POSTING_LISTS c w words → documents ≡ take c words → costs ≡ drop c words
     → (length documents ≡ c) × (documents ++ costs ≡ words)
-postings_again c w words documents costs whole are_documents are_costs = (
-  ap length are_documents ∙ length-take c words ∙ omega (arith, (postings_shape c w words whole).0),
-  ap (λ l. l ++ costs) are_documents ∙ ap (λ l. take c words ++ l) are_costs ∙ take-append-drop c words,
-)
+postings_again c w words documents costs whole are_documents are_costs = grind (arith, length-take, postings_shape, take-append-drop)
 
 pub ruleset postings = (document_word, cost_word, whole_postings, postings_shape, postings_again)

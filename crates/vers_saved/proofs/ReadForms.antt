@@ -50,8 +50,7 @@ head_holds kind ws rest fit long = let same = same_head kind ws (words_of rest) 
 -- a reader that had fewer bytes than a head and a sum
 pub ended_early : (kind : Kind) (old new : Option (List ℕ)) (text : List ℕ) → Consumes old new text → IsAtEnd new → length text < 48
     → IfSome old (λ bytes. fault_of kind bytes ≡ Some TooShort)
-ended_early kind old new text c e few =
-    known_end old new text (λ bytes. fault_of kind bytes ≡ Some TooShort) c e (fault_is kind text ∙ few_bytes kind (length text) (words_of text) few)
+ended_early kind old new text c e few = grind (arith, known_end, fault_is, few_bytes)
 
 -- one whose head has a fault
 pub head_fault : (kind : Kind) (old new : Option (List ℕ)) (ws : List ℕ) (e : LoadError) → AreWords ws → length ws ≡ 6 → Consumes old new (bytes_of ws)
@@ -91,13 +90,7 @@ goes_on kind n old mid new ws more text fit long none said c exact d some =
 -- bytes that are as many as the head says have the fault of what comes after it
 rest_tells : (kind : Kind) (n : ℕ) (ws more : List ℕ) → AreWords (ws ++ more) → 5 ≤ length ws → first_failing (head_tests kind ws) ≡ None
     → n ≡ bits_said kind ws → length (ws ++ more) ≡ limb_count n + 6 → fault_of kind (bytes_of (ws ++ more)) ≡ first_failing (body_tests kind.order n (ws ++ more))
-rest_tells kind n ws more fit long none said exact =
-    let words : words_of (bytes_of (ws ++ more)) ≡ ws ++ more = words_of-bytes_of (ws ++ more) fit in
-    let is : bits_said kind (ws ++ more) ≡ n = (same_head kind ws more long).1 ∙ sym said in
-    fault_is kind (bytes_of (ws ++ more)) ∙ ap (λ l. first_failing (tests_of kind (length (bytes_of (ws ++ more))) l)) words
-    ∙ by_body kind (length (bytes_of (ws ++ more))) (ws ++ more) (ap first_failing (same_head kind ws more long).0 ∙ none)
-    (omega (arith, length-bytes_of (ws ++ more), ap saved_size is))
-    ∙ ap (λ m. first_failing (body_tests kind.order m (ws ++ more))) is
+rest_tells kind n ws more fit long none said exact = grind (arith, bytes_of, words_of-bytes_of, same_head, fault_is, by_body, length-bytes_of)
 
 -- of bytes with no fault, a reader alone, or memory, is what a load can lack
 pub at_some : (left : Option (List ℕ)) (bytes : List ℕ) (P : List ℕ → Type 0) → left ≡ Some bytes → IfSome left P → P bytes
@@ -133,9 +126,7 @@ parts_tell kind n head first more after rest same fit_head fit_rest five one is 
 -- a reader whose words have a fault after the head
 pub rest_fault : (kind : Kind) (old new : Option (List ℕ)) (ws more : List ℕ) (e : LoadError) → Consumes old new (bytes_of more) → IsAtEnd new
     → fault_of kind (bytes_of (ws ++ more)) ≡ Some e → IsRefused kind (prepend_known (bytes_of ws) old) e
-rest_fault kind old new ws more e c end bad =
-    inr (inr (behind old (bytes_of ws) (λ bytes. fault_of kind bytes ≡ Some e) (known_end old new (bytes_of more) (λ l. fault_of kind (bytes_of ws ++ l) ≡ Some e) c end
-    (ap (fault_of kind) (sym (bytes_of-append ws more)) ∙ bad))))
+rest_fault kind old new ws more e c end bad = grind (arith, behind, bytes_of, known_end, bytes_of-append)
 
 -- a fault of what comes after a part that was read is one of all that there was
 pub refused_before : (kind : Kind) (old new : Option (List ℕ)) (text : List ℕ) (e : LoadError) → Consumes old new text → IsRefused kind (prepend_known text new) e → IsRefused kind old e

@@ -9,7 +9,7 @@ abbrev pub AreBounds : Kind → Type 0
 AreBounds kind = (kind.number < 2 ^ 64) × (kind.greatest_width < 2 ^ 64) × (kind.greatest_count < 2 ^ 64)
 
 shape_fits : (kind : Kind) (count width : ℕ) (words : List ℕ) → AreBounds kind → IsWhole kind count width words → (count < 2 ^ 64) × (width < 2 ^ 64)
-shape_fits kind count width words bounds whole = omega (arith, bounds, bounds_are kind count width words whole)
+shape_fits kind count width words bounds whole = omega (arith, bounds_are kind count width words whole)
 
 -- a form has no fault
 pub no_fault_back : (kind : Kind) (bytes : List ℕ) (count width : ℕ) (words : List ℕ) → AreBounds kind → IsWhole kind count width words

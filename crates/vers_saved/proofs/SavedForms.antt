@@ -1,5 +1,5 @@
 -- Saved forms have no fault, and tell what they are of.
-use Rattle.vers_saved.proofs.Names.{◌≡◌, ℕ, ◌+◌, ◌-◌, ◌*◌, ◌%◌, ◌^◌, ◌<◌, Bool, true, List, [], ◌∷◌, ◌++◌, length, get_or, refl, sym, ap, ◌∙◌, inl, inr, arith, None, cases_eq, le-leb, nat_tests, take_at, get_or_push, get_or-append_right, get_or_append_left, length-append, limb_count, MAGIC, VERSION, LoadError, bytes_of, words_of, check_sum, head, with_sum, saved, saved_size, Kind, first_failing, item_bits, is_padded, is_summed, in_order, words_among, tests_of, fault_of, EndsPadded, IsWhole, eq-eqb, same_from_push}
+use Rattle.vers_saved.proofs.Names.{◌≡◌, ℕ, ◌+◌, ◌-◌, ◌*◌, ◌%◌, ◌^◌, ◌<◌, Bool, true, List, [], ◌∷◌, ◌++◌, length, get_or, refl, sym, ap, ◌∙◌, inl, inr, arith, None, cases_eq, le-leb, nat_tests, take_at, get_or_push, get_or-append_right, get_or_append_left, length-append, limb_count, LoadError, bytes_of, words_of, check_sum, head, with_sum, saved, saved_size, Kind, first_failing, item_bits, is_padded, is_summed, in_order, words_among, tests_of, fault_of, EndsPadded, IsWhole, eq-eqb, same_from_push}
 use Rattle.vers_saved.proofs.WordBytes.{AreWords, length-bytes_of, words_of-bytes_of, fit_cons, fit_append}
 use Rattle.vers_saved.proofs.Sums.{check_sum-lt}
 use Rattle.vers_saved.proofs.Forms.{AllPassed}
@@ -17,16 +17,11 @@ all_words kind count width words = with_sum (head kind count width ++ words)
 
 pub all_fit : (kind count width : ℕ) (words : List ℕ) → kind < 2 ^ 64 → count < 2 ^ 64 → width < 2 ^ 64 → AreWords words → AreWords (all_words kind count width words)
 unfolding with_sum
-all_fit kind count width words k c w fit =
-    fit_append (head kind count width ++ words) (check_sum (head kind count width ++ words) ∷ [])
-    (fit_cons MAGIC (VERSION ∷ kind ∷ width ∷ count ∷ words) (omega arith) (fit_cons VERSION (kind ∷ width ∷ count ∷ words) (omega arith)
-    (fit_cons kind (width ∷ count ∷ words) k (fit_cons width (count ∷ words) w (fit_cons count words c fit)))))
-    (fit_cons (check_sum (head kind count width ++ words)) [] (check_sum-lt (head kind count width ++ words)) (λ k. omega arith))
+all_fit kind count width words k c w fit = grind (arith, fit_append, head, fit_cons, check_sum-lt)
 
 pub length-all_words : (kind count width : ℕ) (words : List ℕ) → length (all_words kind count width words) ≡ length words + 6
 unfolding with_sum
-length-all_words kind count width words =
-    length-append (head kind count width ++ words) (check_sum (head kind count width ++ words) ∷ []) ∙ omega arith
+length-all_words kind count width words = grind (arith, length-append, head)
 
 -- they pass the tests
 all_summed : (kind count width n : ℕ) (words : List ℕ) → length words ≡ limb_count n → is_summed n (all_words kind count width words) ≡ true

@@ -4,10 +4,7 @@ use Rattle.vers_saved.proofs.Names.{◌≡◌, ℕ, ◌*◌, ◌≤◌, true, Li
 -- what a shape has to meet, test by test
 pub parts_of : (kind : Kind) (count width : ℕ) → may_be_saved kind count width ≡ true
     → (takes_width kind width ≡ true) × (takes_count kind count ≡ true) × (count * item_bits kind width ≤ 18446744073709551552)
-parts_of kind count width may =
-    let p = and_parts _ _ may in
-    let q = and_parts _ _ p.1 in
-    (p.0, q.0, leb-true _ _ q.1)
+parts_of kind count width may = grind (arith, and_parts, leb-true)
 
 -- and bound by bound
 abbrev pub InBounds : Kind → (count width : ℕ) → Type 0
@@ -15,13 +12,10 @@ InBounds kind count width =
     (kind.least_width ≤ width) × (width ≤ kind.greatest_width) × (kind.least_count ≤ count) × (count ≤ kind.greatest_count) × (count * item_bits kind width ≤ 18446744073709551552)
 
 pub bounds_are : (kind : Kind) (count width : ℕ) (words : List ℕ) → IsWhole kind count width words → InBounds kind count width
-bounds_are kind count width words whole =
-    let p = parts_of kind count width whole.may in
-    (grind (arith, nat_tests, p.0), grind (arith, nat_tests, p.0), grind (arith, nat_tests, p.1), grind (arith, nat_tests, p.1), p.2)
+bounds_are kind count width words whole = grind (arith, parts_of, nat_tests)
 
 pub within_bounds : (kind : Kind) (count width : ℕ) → InBounds kind count width → may_be_saved kind count width ≡ true
-within_bounds kind count width b =
-    and_from _ _ (and_from _ _ (le-leb _ _ b.0) (le-leb _ _ b.1)) (and_from _ _ (and_from _ _ (le-leb _ _ b.2) (le-leb _ _ b.3)) (le-leb _ _ b.4))
+within_bounds kind count width b = grind (arith, and_from, le-leb)
 
 -- of items of 64 bits there are as many as words
 pub as_many : (kind : Kind) (count width : ℕ) (words : List ℕ) → item_bits kind width ≡ 64 → IsWhole kind count width words → count ≡ length words

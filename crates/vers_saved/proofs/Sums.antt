@@ -55,9 +55,7 @@ more front ls k n = append_assoc front (take k ls) (take n (drop k ls)) ∙ ap (
 
 -- they are written and summed
 pub written_more : (out front ls : List ℕ) (k n : ℕ) → (out ++ bytes_of (front ++ take k ls)) ++ bytes_of (take n (drop k ls)) ≡ out ++ bytes_of (front ++ take (k + n) ls)
-written_more out front ls k n =
-    append_assoc out (bytes_of (front ++ take k ls)) (bytes_of (take n (drop k ls)))
-    ∙ ap (λ l. out ++ l) (sym (bytes_of-append (front ++ take k ls) (take n (drop k ls))) ∙ ap bytes_of (more front ls k n))
+written_more out front ls k n = grind (arith, append_assoc, bytes_of, bytes_of-append, more)
 
 pub summed_more : (front ls : List ℕ) (k n : ℕ) → fold mix (check_sum (front ++ take k ls)) (take n (drop k ls)) ≡ check_sum (front ++ take (k + n) ls)
 unfolding check_sum

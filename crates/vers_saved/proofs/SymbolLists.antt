@@ -116,8 +116,7 @@ whole_symbols k items some few small =
 
 pub symbols_shape : (count k : ℕ) (words : List ℕ) → IsWhole SYMBOL_LISTS count k words
     → (1 ≤ k) × (k ≤ 64) × (count * k ≤ 18446744073709551552) × (length words ≡ limb_count (count * k))
-symbols_shape count k words whole =
-    let b = bounds_are SYMBOL_LISTS count k words whole in (b.0, b.1, b.4, whole.counted)
+symbols_shape count k words whole = grind (arith, bounds_are)
 
 pub whole_number : (count k : ℕ) (bits : List Bool) → 1 ≤ k → length bits ≡ count * k → length bits % k ≡ 0
 whole_number count k bits some e = ap (λ m. m % k) e ∙ mul-mod_left count k
@@ -134,8 +133,7 @@ unfolding packed_symbols
 all_numbers bits k n is = ap (first_numbers bits k) is
 
 pub number_inside : (bits : List Bool) (k e : ℕ) → e < length bits / k → e * k + k ≤ length bits
-number_inside bits k e h =
-    omega (arith, mul-le-mul_right {m = e + 1} {n = length bits / k} k (omega arith), div-mul-le_self (length bits) k)
+number_inside bits k e h = grind (arith, mul-le-mul_right, div-mul-le_self)
 
 pub ruleset unpacking = (more_numbers, all_numbers, number_inside)
 
@@ -147,10 +145,7 @@ loaded_symbols count k bits items some long is = rw is (length-packed_symbols bi
 -- and a matrix of them
 pub loaded_matrix : (count k w : ℕ) (symbols words : List ℕ) (v : Symbols) → 1 ≤ k → w ≡ k → length symbols ≡ count → limbs (pack symbols k) ≡ words → All (λ y. y < 2 ^ k) symbols
     → v.width ≡ w → v.items ≡ low_symbols symbols w → (length v.items ≡ count) × (v.width ≡ k) × (limbs (pack v.items v.width) ≡ words) × All (λ y. y < 2 ^ v.width) v.items
-loaded_matrix count k w symbols words v some is_width long same fit wide low =
-    let is : v.items ≡ symbols = low ∙ ap (low_symbols symbols) is_width ∙ small_numbers_stay symbols k some fit in
-    let are : v.width ≡ k = wide ∙ is_width in
-    rw (is, are) (long, refl, same, fit)
+loaded_matrix count k w symbols words v some is_width long same fit wide low = grind (arith, small_numbers_stay)
 
 pub count_small : (count k a b : ℕ) (words : List ℕ) → IsWhole SYMBOL_LISTS count k words → a ≡ count → b ≡ k → a * b ≤ 18446744073709551552
 count_small count k a b words whole is_count is_width = rw (is_count, is_width) (bounds_are SYMBOL_LISTS count k words whole).4
@@ -159,8 +154,7 @@ pub all_bits : (items : List ℕ) (k a b : ℕ) → a ≡ length items → b ≡
 all_bits items k a b is_count is_width = rw (is_count, is_width) (sym (length-packed_items items k))
 
 pub few_symbols : (n a b w : ℕ) → a ≡ n → b ≡ w → a ≤ 18446744073709551552 / b → n * w ≤ 18446744073709551552
-few_symbols n a b w is_count is_width h =
-    rw (← is_count, ← is_width) (omega (arith, mul-le-mul_right {m = a} {n = 18446744073709551552 / b} b h, div-mul-le_self 18446744073709551552 b))
+few_symbols n a b w is_count is_width h = grind (arith, mul-le-mul_right, div-mul-le_self)
 
 pub if_ok : {E : Type 0} (r : Result Symbols E) (P Q R : Symbols → Type 0) → ((v : Symbols) → P v → Q v → R v) → IfOk r P → IfOk r Q → IfOk r R
 if_ok (Ok v) P Q R f p q = f v p q

@@ -45,8 +45,7 @@ too_long kind size words h none long = long_enough kind size words h none (omega
 
 pub by_body : (kind : Kind) (size : ℕ) (words : List ℕ) → first_failing (head_tests kind words) ≡ None → size ≡ saved_size (bits_said kind words)
     → first_failing (tests_of kind size words) ≡ first_failing (body_tests kind.order (bits_said kind words) words)
-by_body kind size words none exact =
-    long_enough kind size words (omega arith) none (omega arith) ∙ rw (le-leb size (saved_size (bits_said kind words)) (omega arith)) refl
+by_body kind size words none exact = grind (arith, long_enough, le-leb)
 
 pub fault_is : (kind : Kind) (bytes : List ℕ) → fault_of kind bytes ≡ first_failing (tests_of kind (length bytes) (words_of bytes))
 unfolding fault_of

@@ -11,8 +11,7 @@ whole_numbers kind numbers each may fit ordered =
     record { may = may; counted = omega (arith, all); fit = fit; padded = inl (omega (arith, all)); ordered = ordered }
 
 pub whole_sorted : (members : List ℕ) → length members ≤ 288230376151711743 → AreWords members → IsNonDecreasing members → IsWhole SORTED_LISTS (length members) 64 members
-whole_sorted members few fit up =
-    whole_numbers SORTED_LISTS members refl (within_bounds SORTED_LISTS (length members) 64 (omega (arith, few))) fit ((each_next-ascending members).1 up)
+whole_sorted members few fit up = grind (arith, whole_numbers, within_bounds, each_next-ascending)
 
 pub whole_table : (items : List ℕ) → length items ≤ 4294967295 → AreWords items → IsWhole TABLE_VALUES (length items) 64 items
 whole_table items few fit = whole_numbers TABLE_VALUES items refl (within_bounds TABLE_VALUES (length items) 64 (omega (arith, few))) fit refl
@@ -32,16 +31,13 @@ no_words members none k = rw (get_or_past members k 0 (omega arith)) (omega arit
 
 -- how many words there may be, and how wide they are
 pub sorted_few : (members : List ℕ) (count width : ℕ) → IsWhole SORTED_LISTS count width members → (count ≡ length members) × (count ≤ 288230376151711743) × (64 ≡ width)
-sorted_few members count width whole =
-    let b = bounds_are SORTED_LISTS count width members whole in (as_many SORTED_LISTS count width members refl whole, b.3, omega (arith, b))
+sorted_few members count width whole = grind (arith, bounds_are, as_many)
 
 pub table_few : (items : List ℕ) (count width : ℕ) → IsWhole TABLE_VALUES count width items → (count ≡ length items) × (count ≤ 4294967295) × (64 ≡ width)
-table_few items count width whole =
-    let b = bounds_are TABLE_VALUES count width items whole in (as_many TABLE_VALUES count width items refl whole, b.3, omega (arith, b.0, b.1))
+table_few items count width whole = grind (arith, bounds_are, as_many)
 
 pub blocks_few : (items : List ℕ) (count width : ℕ) → IsWhole BLOCK_VALUES count width items → (count ≡ length items) × (count ≤ 549755813760) × (64 ≡ width)
-blocks_few items count width whole =
-    let b = bounds_are BLOCK_VALUES count width items whole in (as_many BLOCK_VALUES count width items refl whole, b.3, omega (arith, b.0, b.1))
+blocks_few items count width whole = grind (arith, bounds_are, as_many)
 
 -- words that are loaded ascend
 pub sorted_up : (members : List ℕ) (count width : ℕ) → IsWhole SORTED_LISTS count width members → IsNonDecreasing members

@@ -10,8 +10,7 @@ returns-in_err-head-clause-back g c = λ count width words whole e.
     cc (c.in_err-head.ensures.fault)
 
 pub tested_words-requires : goal.tested_words-requires
-tested_words-requires g c =
-    length-map c.as_chunks.result.0.now bytes_word ∙ omega (arith, c.as_chunks.ensures.front_len, c.in_ok-head.ensures.said.5)
+tested_words-requires g c = grind (arith, length-map)
 
 pub returns-in_err-words-clause-err : goal.returns-in_err-words-clause-err
 returns-in_err-words-clause-err g c =

@@ -7,8 +7,7 @@ given_or-requires-clause-some g c = λ none.
     omega (arith, c.len-count.ensures.value, both_past c.args.members.left (c.args.from + c.loop-k.k) c.loop-k.invariant.left c.next.ensures.steps.given none)
 
 pub given_or-requires-clause-within : goal.given_or-requires-clause-within
-given_or-requires-clause-within g c = λ none.
-    omega (arith, c.len-count.ensures.value, c.requires.within, c.loop-k.invariant.len, length-append c.args.members.left c.args.others.now)
+given_or-requires-clause-within g c = grind (arith, length-append)
 
 pub loop-k-preserved : goal.loop-k-preserved
 loop-k-preserved g c =

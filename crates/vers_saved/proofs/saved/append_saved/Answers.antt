@@ -13,7 +13,4 @@ loop-done-preserved g c = record {
 }
 
 pub returns-clause-saved : goal.returns-clause-saved
-returns-clause-saved g c =
-    rw (c.put_word.ensures.items, c.loop-done.invariant.written)
-    (written_all c.args.out.now.items c.args.shape.kind c.args.shape.count c.args.shape.width c.loop-done.done c.loop-done.sum (g.S.Saved.words c.args.list.now)
-    (omega arith) c.loop-done.invariant.summed)
+returns-clause-saved g c = grind (arith, written_all)

@@ -4,8 +4,7 @@ use Rattle.vers_saved.proofs.SymbolLists.{symbols_shape, item_of, in_group, bits
 use Rattle.vers_saved.proofs.symbols.limb_of.Goals as goal
 
 pub overflow_sub-item : goal.overflow_sub-item
-overflow_sub-item g c =
-    omega (arith, c.min-place.ensures, c.count_bits.ensures.value, length-limbs (pack c.args.list.now.items c.args.list.now.width), c.requires.within)
+overflow_sub-item g c = grind (arith, length-limbs, pack)
 
 pub loop-place-init : goal.loop-place-init
 loop-place-init g c =
@@ -20,11 +19,7 @@ loop-place-init g c =
     }
 
 pub joined-word-requires-clause-room : goal.joined-word-requires-clause-room
-joined-word-requires-clause-room g c =
-    let bits = pack c.args.list.now.items c.args.list.now.width in
-    rw c.loop-place.invariant.word
-    (number_below (take (min (length bits) (64 * c.args.k + 64) - c.loop-place.place) (drop c.loop-place.place bits)) (64 - (c.loop-place.place - c.max-start.result))
-    (omega (arith, length-take (min (length bits) (64 * c.args.k + 64) - c.loop-place.place) (drop c.loop-place.place bits), c.max-start.ensures, c.loop-place.invariant.below)))
+joined-word-requires-clause-room g c = grind (arith, pack, number_below, length-take)
 
 pub loop-place-preserved : goal.loop-place-preserved
 loop-place-preserved g c =
