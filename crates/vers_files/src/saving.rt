@@ -97,7 +97,12 @@ pub fn save_line<A: Allocator + Copy, W: Write>(
     match load_line(&alloc, line) {
         Ok(Loading::Malformed) => Err(SaveFault::BadLine),
         Ok(Loading::Inadmissible) => Err(SaveFault::Refused),
-        Ok(Loading::Accepted(store)) => line_saved(save(alloc, store.held(), writer)),
+        Ok(Loading::Accepted(store)) => {
+            let saved = save(alloc, store.held(), writer);
+            // (by a call, so that the proof of this function doesn't go through the fields)
+            drop(store);
+            line_saved(saved)
+        }
         Err(_) => Err(SaveFault::OutOfMemory),
     }
 }

@@ -61,7 +61,12 @@ pub fn show<A: Allocator + Copy>(alloc: A, bytes: &[u8]) -> Result<Shown, LoadEr
         ⊎ ((e ≡ LoadError.Memory) × (form_fault bytes.now ≡ None))) }
 {
     match load(&alloc, bytes) {
-        Ok(store) => Ok(told_of(store.held(), bytes.len() as u64)),
+        Ok(store) => {
+            let shown = told_of(store.held(), bytes.len() as u64);
+            // (by a call, so that the proof of this function doesn't go through the fields)
+            drop(store);
+            Ok(shown)
+        }
         Err(fault) => Err(fault),
     }
 }

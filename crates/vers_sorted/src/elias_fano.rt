@@ -57,8 +57,8 @@ impl<A: Allocator + Copy> Clone for EliasFanoVec<A> {
 
     /// A second list of the same members.
     fn clone(&self) -> Result<Self, AllocError> {
-        let high = self.high.clone()?;
         let low = self.low.as_bit_vec(Uncounted).clone()?;
+        let high = self.high.clone()?;
         Ok(EliasFanoVec {
             high,
             low: CountedBits::new(low),

@@ -1,5 +1,5 @@
 //! How a line is replied to, and what is held after it.
-ghost use Rattle.std.specs.Prelude.{◌≡◌, Some, None, IfOk, OnOk};
+ghost use Rattle.std.specs.Prelude.{◌≡◌, Some, None, IfOk, OnOk, IsOk, IsErr, MatchResult};
 ghost use Rattle.text_index.specs.Makers.{is_text as are_text};
 ghost use Rattle.vers_words.specs.Text.{words_in};
 ghost use Rattle.vers_words.specs.Arguments.{all_numbers as numbers_all};
@@ -74,14 +74,25 @@ impl<A: Allocator + Copy> Store<A> {
     fn hold(&mut self, width: u16, symbols: &[u64]) -> Result<(), AllocError>
         ensures { OnOk result (self.new ≡ Some symbols.now) }
     {
-        self.held = None;
-        match TextIndex::from_slice(self.alloc, symbols, width) {
-            Ok(text) => {
-                self.held = Some(text);
-                Ok(())
-            }
-            Err(_) => Err(AllocError),
+        drop(self.held.take());
+        accept(
+            &mut self.held,
+            TextIndex::from_slice(self.alloc, symbols, width),
+        )
+    }
+}
+
+// Puts what was made in the place of what was held, where it was made. It may be of any type, so that the proof
+// doesn't go through its fields.
+fn accept<H: Drop, E: Drop>(held: &mut Option<H>, made: Result<H, E>) -> Result<(), AllocError>
+    ensures { MatchResult made (λ new. IsOk result × (held.new ≡ Some new)) (λ _. IsErr result) }
+{
+    match made {
+        Ok(new) => {
+            drop(held.replace(new));
+            Ok(())
         }
+        Err(_) => Err(AllocError),
     }
 }
 

@@ -70,9 +70,9 @@ impl<A: Allocator + Copy> Clone for FastRmq<A> {
     fn clone(&self) -> Result<Self, AllocError> {
         let alloc = *self.places.allocator();
         let items = Vec::from_slice(alloc, self.items.as_slice(Uncounted))?;
-        let minima = self.minima.clone()?;
         let places = Vec::from_slice(alloc, self.places.as_slice())?;
         let masks = Vec::from_slice(alloc, self.masks.as_slice())?;
+        let minima = self.minima.clone()?;
         Ok(FastRmq {
             items: CountedItems::new(items),
             minima,

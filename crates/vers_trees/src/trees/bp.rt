@@ -79,8 +79,8 @@ impl<const BLOCK_SIZE: usize, A: Allocator + Copy> Clone for BpTree<BLOCK_SIZE, 
 
     /// A second tree of the same bits, with a copy of the index.
     fn clone(&self) -> Result<Self, AllocError> {
-        let bits = self.bits.clone()?;
         let tree = self.tree.copied()?;
+        let bits = self.bits.clone()?;
         Ok(BpTree { bits, tree })
     }
 }

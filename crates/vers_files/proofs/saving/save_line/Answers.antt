@@ -10,10 +10,10 @@ pub returns-in-Ok-Accepted-clause-written : goal.returns-in-Ok-Accepted-clause-w
 returns-in-Ok-Accepted-clause-written g c =
     let is : line_loaded (words_of c.args.line.now) ≡ Accepted (holding_of c.held.result.now) =
     sym c.in-Ok-Accepted.ensures ∙ c.in-Ok-Accepted.field-0-is ∙ ap Accepted (sym c.held.ensures) in
-    rw c.line_saved.ensures (line_written _ _ _ _ _ is c.save.ensures.written)
+    rw c.line_saved.ensures (line_written _ _ _ _ _ is c.save-saved.ensures.written)
 
 pub returns-in-Ok-Accepted-clause-refused : goal.returns-in-Ok-Accepted-clause-refused
 returns-in-Ok-Accepted-clause-refused g c =
     let is : line_loaded (words_of c.args.line.now) ≡ Accepted (holding_of c.held.result.now) =
     sym c.in-Ok-Accepted.ensures ∙ c.in-Ok-Accepted.field-0-is ∙ ap Accepted (sym c.held.ensures) in
-    rw c.line_saved.ensures (line_refused _ _ _ is c.save.ensures.none)
+    rw c.line_saved.ensures (line_refused _ _ _ is c.save-saved.ensures.none)
