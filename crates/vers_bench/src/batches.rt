@@ -18,80 +18,66 @@ use vers_wavelet::wavelet::{GetQuery, QuantileQuery, RankQuery, SelectQuery, Wav
 /// The most queries that a batch has.
 const SIZES: [usize; 2] = [64, 65_536];
 
-/// How queries of a kind are asked.
-#[derive(Clone, Copy)]
-struct Calls<F, G, H> {
+/// A kind of queries, which are asked one by one, or many at once.
+trait Batched: Draw {
+    /// What they are asked of.
+    type Structure;
+
     /// Answers one query.
-    one: F,
+    fn one(structure: &Self::Structure, query: &Self::Item) -> u64;
+
     /// Answers many queries, each in its place.
-    each: G,
-    /// Tells what such a query was answered.
-    answer: H,
+    fn each(structure: &Self::Structure, queries: &mut [Self::Item]);
+
+    /// Tells what a query was answered.
+    fn answer(query: &Self::Item) -> u64;
 }
 
 #[inline(never)]
-fn batches_pass<T, Q, G: FnOnce(&T, &mut [Q]) + Copy, H: FnOnce(&Q) -> u64 + Copy>(
-    structure: &T,
-    queries: &mut [Q],
-    size: usize,
-    each: G,
-    answer: H,
-) -> u64
-    requires each { G.IsAlwaysCallable each }
-    requires answer { H.IsAlwaysCallable answer }
-{
+fn batches_pass<K: Batched>(structure: &K::Structure, queries: &mut [K::Item], size: usize) -> u64 {
     let mut sum = 0;
     for batch in queries.chunks_mut(size.max(1)) {
-        each(structure, batch);
+        K::each(structure, batch);
         for query in batch {
-            sum = fold(sum, answer(query));
+            sum = fold(sum, K::answer(query));
         }
     }
     sum
 }
 
 // How long a pass over batches of a size took, and its checksum.
-fn measured<T, Q: Copy + Drop, G: FnOnce(&T, &mut [Q]) + Copy, H: FnOnce(&Q) -> u64 + Copy>(
+fn measured<K: Batched>(
     report: &Report,
-    structure: &T,
-    queries: &[Q],
+    structure: &K::Structure,
+    queries: &[K::Item],
     size: usize,
-    each: G,
-    answer: H,
 ) -> io::Result<Timed>
-    requires each { G.IsAlwaysCallable each }
-    requires answer { H.IsAlwaysCallable answer }
+where
+    K::Item: Copy,
 {
     let mut copy = Vec::from_slice(report.alloc(), queries)?;
     let start = report.rt.thread_cpu_time()?;
-    let checksum = batches_pass(structure, copy.as_mut_slice(), size, each, answer);
+    let checksum = batches_pass::<K>(structure, copy.as_mut_slice(), size);
     timed_since(report.rt, start, checksum)
 }
 
 // Runs a series of queries one by one, and in batches of each size, and prints a line for each.
-fn run_calls<
-    T,
-    Q: Copy + Drop,
-    F: FnOnce(&T, &Q) -> u64 + Copy,
-    G: FnOnce(&T, &mut [Q]) + Copy,
-    H: FnOnce(&Q) -> u64 + Copy,
->(
+fn run_kind<K: Batched>(
     report: &Report,
     operation: &str,
-    structure: &T,
-    queries: Vec<Q>,
-    calls: Calls<F, G, H>,
+    structure: &K::Structure,
+    questions: &Questions<K>,
 ) -> io::Result<()>
-    requires one { F.IsAlwaysCallable calls.one }
-    requires each { G.IsAlwaysCallable calls.each }
-    requires answer { H.IsAlwaysCallable calls.answer }
+where
+    K::Item: Copy,
 {
-    let Calls { one, each, answer } = calls;
+    let queries = questions.made(report.alloc())?;
     let queries = queries.as_slice();
+    let one = |it: &K::Structure, query: &K::Item| K::one(it, query);
     report.listed_queries(operation, structure, queries, one)?;
-    for size in SIZES {
+    for size in &SIZES {
         let name = format!(in report.alloc(); "{operation}_each_{size}")?;
-        let run = || measured(report, structure, queries, size, each, answer);
+        let run = || measured::<K>(report, structure, queries, *size);
         report.repeated(name.as_str(), queries.len() as u64, run)?;
     }
     Ok(())
@@ -111,6 +97,22 @@ impl Draw for Gets {
     }
 }
 
+impl Batched for Gets {
+    type Structure = Matrix;
+
+    fn one(matrix: &Matrix, query: &GetQuery) -> u64 {
+        matrix.get_u64(query.place).unwrap_or(NONE)
+    }
+
+    fn each(matrix: &Matrix, queries: &mut [GetQuery]) {
+        matrix.get_u64_each(queries);
+    }
+
+    fn answer(query: &GetQuery) -> u64 {
+        query.answer.unwrap_or(NONE)
+    }
+}
+
 /// Queries for how many of the first symbols are one of them.
 #[derive(Clone, Copy)]
 struct Ranks<'a>(Symbols<'a>);
@@ -124,6 +126,22 @@ impl Draw for Ranks<'_> {
     }
 }
 
+impl Batched for Ranks<'_> {
+    type Structure = Matrix;
+
+    fn one(matrix: &Matrix, query: &RankQuery) -> u64 {
+        place_or_none(matrix.rank_u64(query.end, query.symbol))
+    }
+
+    fn each(matrix: &Matrix, queries: &mut [RankQuery]) {
+        matrix.rank_u64_each(queries);
+    }
+
+    fn answer(query: &RankQuery) -> u64 {
+        place_or_none(query.answer)
+    }
+}
+
 /// Queries for the first places of symbols.
 #[derive(Clone, Copy)]
 struct Selects<'a>(Symbols<'a>);
@@ -133,6 +151,22 @@ impl Draw for Selects<'_> {
 
     fn draw(&self, random: &mut Random) -> SelectQuery {
         SelectQuery::new(0, self.0.draw(random))
+    }
+}
+
+impl Batched for Selects<'_> {
+    type Structure = Matrix;
+
+    fn one(matrix: &Matrix, query: &SelectQuery) -> u64 {
+        place_or_none(matrix.select_u64(query.rank, query.symbol))
+    }
+
+    fn each(matrix: &Matrix, queries: &mut [SelectQuery]) {
+        matrix.select_u64_each(queries);
+    }
+
+    fn answer(query: &SelectQuery) -> u64 {
+        place_or_none(query.answer)
     }
 }
 
@@ -149,59 +183,34 @@ impl Draw for Members {
     }
 }
 
-fn run_gets(report: &Report, matrix: &Matrix, queries: Vec<GetQuery>) -> io::Result<()> {
-    let calls = Calls {
-        one: |it: &Matrix, query: &GetQuery| it.get_u64(query.place).unwrap_or(NONE),
-        each: Matrix::get_u64_each,
-        answer: |query: &GetQuery| query.answer.unwrap_or(NONE),
-    };
-    run_calls(report, "get_u64", matrix, queries, calls)
-}
+impl Batched for Members {
+    type Structure = Matrix;
 
-fn run_ranks(report: &Report, matrix: &Matrix, queries: Vec<RankQuery>) -> io::Result<()> {
-    let calls = Calls {
-        one: |it: &Matrix, query: &RankQuery| place_or_none(it.rank_u64(query.end, query.symbol)),
-        each: Matrix::rank_u64_each,
-        answer: |query: &RankQuery| place_or_none(query.answer),
-    };
-    run_calls(report, "rank_u64", matrix, queries, calls)
-}
+    fn one(matrix: &Matrix, query: &QuantileQuery) -> u64 {
+        let range = query.start..query.end;
+        matrix.quantile_u64(range, query.i).unwrap_or(NONE)
+    }
 
-fn run_selects(report: &Report, matrix: &Matrix, queries: Vec<SelectQuery>) -> io::Result<()> {
-    let calls = Calls {
-        one: |it: &Matrix, query: &SelectQuery| {
-            place_or_none(it.select_u64(query.rank, query.symbol))
-        },
-        each: Matrix::select_u64_each,
-        answer: |query: &SelectQuery| place_or_none(query.answer),
-    };
-    run_calls(report, "select_u64", matrix, queries, calls)
-}
+    fn each(matrix: &Matrix, queries: &mut [QuantileQuery]) {
+        matrix.quantile_u64_each(queries);
+    }
 
-fn run_quantiles(report: &Report, matrix: &Matrix, queries: Vec<QuantileQuery>) -> io::Result<()> {
-    let calls = Calls {
-        one: |it: &Matrix, query: &QuantileQuery| {
-            it.quantile_u64(query.start..query.end, query.i)
-                .unwrap_or(NONE)
-        },
-        each: Matrix::quantile_u64_each,
-        answer: |query: &QuantileQuery| query.answer.unwrap_or(NONE),
-    };
-    run_calls(report, "quantile_u64", matrix, queries, calls)
+    fn answer(query: &QuantileQuery) -> u64 {
+        query.answer.unwrap_or(NONE)
+    }
 }
 
 fn run_matrix(report: &Report, source: Symbols, matrix: &Matrix) -> io::Result<()> {
-    let alloc = report.alloc();
     let n = matrix.len() as u64;
     let count = report.settings.scaled(131_072);
     let gets = Questions::new(count, 9, 0, Gets(n));
-    run_gets(report, matrix, gets.made(alloc)?)?;
+    run_kind(report, "get_u64", matrix, &gets)?;
     let ranks = Questions::new(count, 9, 1, Ranks(source));
-    run_ranks(report, matrix, ranks.made(alloc)?)?;
+    run_kind(report, "rank_u64", matrix, &ranks)?;
     let selects = Questions::new(count, 9, 3, Selects(source));
-    run_selects(report, matrix, selects.made(alloc)?)?;
+    run_kind(report, "select_u64", matrix, &selects)?;
     let quantiles = Questions::new(count, 9, 4, Members(Quantiles(n)));
-    run_quantiles(report, matrix, quantiles.made(alloc)?)
+    run_kind(report, "quantile_u64", matrix, &quantiles)
 }
 
 // The series over symbols of 32 bits.
@@ -219,11 +228,11 @@ fn run_symbols(report: &Report, n: usize) -> io::Result<()> {
 
 type Bits = RsVec<Global>;
 
-/// The numbers of zeros or ones.
+/// The numbers of so many ones.
 #[derive(Clone, Copy)]
-struct Numbers(u64);
+struct Ones(u64);
 
-impl Draw for Numbers {
+impl Draw for Ones {
     type Item = usize;
 
     fn draw(&self, random: &mut Random) -> usize {
@@ -231,29 +240,55 @@ impl Draw for Numbers {
     }
 }
 
+impl Batched for Ones {
+    type Structure = Bits;
+
+    fn one(bits: &Bits, number: &usize) -> u64 {
+        bits.select1(*number) as u64
+    }
+
+    fn each(bits: &Bits, numbers: &mut [usize]) {
+        bits.select1_each(numbers);
+    }
+
+    fn answer(place: &usize) -> u64 {
+        *place as u64
+    }
+}
+
+/// The numbers of so many zeros.
+#[derive(Clone, Copy)]
+struct Zeros(u64);
+
+impl Draw for Zeros {
+    type Item = usize;
+
+    fn draw(&self, random: &mut Random) -> usize {
+        random.below(self.0) as usize
+    }
+}
+
+impl Batched for Zeros {
+    type Structure = Bits;
+
+    fn one(bits: &Bits, number: &usize) -> u64 {
+        bits.select0(*number) as u64
+    }
+
+    fn each(bits: &Bits, numbers: &mut [usize]) {
+        bits.select0_each(numbers);
+    }
+
+    fn answer(place: &usize) -> u64 {
+        *place as u64
+    }
+}
+
 fn run_bits(report: &Report, _source: (), bits: &Bits) -> io::Result<()> {
-    let ones = report.questions(7, 0, Numbers(bits.ones() as u64));
-    run_ones(report, bits, ones.made(report.alloc())?)?;
-    let zeros = report.questions(7, 1, Numbers(bits.zeros() as u64));
-    run_zeros(report, bits, zeros.made(report.alloc())?)
-}
-
-fn run_ones(report: &Report, bits: &Bits, numbers: Vec<usize>) -> io::Result<()> {
-    let calls = Calls {
-        one: |it: &Bits, number: &usize| it.select1(*number) as u64,
-        each: Bits::select1_each,
-        answer: |place: &usize| *place as u64,
-    };
-    run_calls(report, "select1", bits, numbers, calls)
-}
-
-fn run_zeros(report: &Report, bits: &Bits, numbers: Vec<usize>) -> io::Result<()> {
-    let calls = Calls {
-        one: |it: &Bits, number: &usize| it.select0(*number) as u64,
-        each: Bits::select0_each,
-        answer: |place: &usize| *place as u64,
-    };
-    run_calls(report, "select0", bits, numbers, calls)
+    let ones = report.questions(7, 0, Ones(bits.ones() as u64));
+    run_kind(report, "select1", bits, &ones)?;
+    let zeros = report.questions(7, 1, Zeros(bits.zeros() as u64));
+    run_kind(report, "select0", bits, &zeros)
 }
 
 // The series over bits of which half are ones.
@@ -270,11 +305,11 @@ fn run_limbs(report: &Report, limb_count: usize) -> io::Result<()> {
 
 type List = EliasFanoVec<Global>;
 
-/// Numbers below one: places of members, or what members are beside.
+/// Places of so many members.
 #[derive(Clone, Copy)]
-struct Asked(u64);
+struct Places(u64);
 
-impl Draw for Asked {
+impl Draw for Places {
     type Item = Option<u64>;
 
     fn draw(&self, random: &mut Random) -> Option<u64> {
@@ -282,61 +317,113 @@ impl Draw for Asked {
     }
 }
 
+impl Batched for Places {
+    type Structure = List;
+
+    fn one(list: &List, place: &Option<u64>) -> u64 {
+        match *place {
+            Some(place) => list.get(place as usize).unwrap_or(NONE),
+            None => NONE,
+        }
+    }
+
+    fn each(list: &List, places: &mut [Option<u64>]) {
+        list.get_each(places);
+    }
+
+    fn answer(member: &Option<u64>) -> u64 {
+        member.unwrap_or(NONE)
+    }
+}
+
+// How many members are below a number.
+impl Batched for Below {
+    type Structure = List;
+
+    fn one(list: &List, number: &u64) -> u64 {
+        list.rank(*number)
+    }
+
+    fn each(list: &List, numbers: &mut [u64]) {
+        list.rank_each(numbers);
+    }
+
+    fn answer(below: &u64) -> u64 {
+        *below
+    }
+}
+
+/// Numbers below one, for the greatest member not above each.
+#[derive(Clone, Copy)]
+struct Predecessors(u64);
+
+impl Draw for Predecessors {
+    type Item = Option<u64>;
+
+    fn draw(&self, random: &mut Random) -> Option<u64> {
+        Some(random.below(self.0))
+    }
+}
+
+impl Batched for Predecessors {
+    type Structure = List;
+
+    fn one(list: &List, number: &Option<u64>) -> u64 {
+        match *number {
+            Some(number) => list.predecessor(number).unwrap_or(NONE),
+            None => NONE,
+        }
+    }
+
+    fn each(list: &List, numbers: &mut [Option<u64>]) {
+        list.predecessor_each(numbers);
+    }
+
+    fn answer(member: &Option<u64>) -> u64 {
+        member.unwrap_or(NONE)
+    }
+}
+
+/// Numbers below one, for the least member not below each.
+#[derive(Clone, Copy)]
+struct Successors(u64);
+
+impl Draw for Successors {
+    type Item = Option<u64>;
+
+    fn draw(&self, random: &mut Random) -> Option<u64> {
+        Some(random.below(self.0))
+    }
+}
+
+impl Batched for Successors {
+    type Structure = List;
+
+    fn one(list: &List, number: &Option<u64>) -> u64 {
+        match *number {
+            Some(number) => list.successor(number).unwrap_or(NONE),
+            None => NONE,
+        }
+    }
+
+    fn each(list: &List, numbers: &mut [Option<u64>]) {
+        list.successor_each(numbers);
+    }
+
+    fn answer(member: &Option<u64>) -> u64 {
+        member.unwrap_or(NONE)
+    }
+}
+
 // The series over a list whose members are below a number.
 fn run_list(report: &Report, end: u64, list: &List) -> io::Result<()> {
-    let alloc = report.alloc();
-    let places = report.questions(8, 0, Asked(list.len() as u64));
-    run_places(report, list, places.made(alloc)?)?;
-    let numbers = report.questions(8, 1, Below(end));
-    run_numbers(report, list, numbers.made(alloc)?)?;
-    let asked = report.questions(8, 1, Asked(end));
-    run_predecessors(report, list, asked.made(alloc)?)?;
-    run_successors(report, list, asked.made(alloc)?)
-}
-
-fn run_places(report: &Report, list: &List, places: Vec<Option<u64>>) -> io::Result<()> {
-    let calls = Calls {
-        one: |it: &List, place: &Option<u64>| match *place {
-            Some(place) => it.get(place as usize).unwrap_or(NONE),
-            None => NONE,
-        },
-        each: List::get_each,
-        answer: |member: &Option<u64>| member.unwrap_or(NONE),
-    };
-    run_calls(report, "get", list, places, calls)
-}
-
-fn run_numbers(report: &Report, list: &List, numbers: Vec<u64>) -> io::Result<()> {
-    let calls = Calls {
-        one: |it: &List, number: &u64| it.rank(*number),
-        each: List::rank_each,
-        answer: |below: &u64| *below,
-    };
-    run_calls(report, "rank", list, numbers, calls)
-}
-
-fn run_predecessors(report: &Report, list: &List, numbers: Vec<Option<u64>>) -> io::Result<()> {
-    let calls = Calls {
-        one: |it: &List, number: &Option<u64>| match *number {
-            Some(number) => it.predecessor(number).unwrap_or(NONE),
-            None => NONE,
-        },
-        each: List::predecessor_each,
-        answer: |member: &Option<u64>| member.unwrap_or(NONE),
-    };
-    run_calls(report, "predecessor", list, numbers, calls)
-}
-
-fn run_successors(report: &Report, list: &List, numbers: Vec<Option<u64>>) -> io::Result<()> {
-    let calls = Calls {
-        one: |it: &List, number: &Option<u64>| match *number {
-            Some(number) => it.successor(number).unwrap_or(NONE),
-            None => NONE,
-        },
-        each: List::successor_each,
-        answer: |member: &Option<u64>| member.unwrap_or(NONE),
-    };
-    run_calls(report, "successor", list, numbers, calls)
+    let places = report.questions(8, 0, Places(list.len() as u64));
+    run_kind(report, "get", list, &places)?;
+    run_kind(report, "rank", list, &report.questions(8, 1, Below(end)))?;
+    let numbers = report.questions(8, 1, Predecessors(end));
+    run_kind(report, "predecessor", list, &numbers)?;
+    let numbers = report.questions(8, 1, Successors(end));
+    run_kind(report, "successor", list, &numbers)
 }
 
 // The series over members far apart.
