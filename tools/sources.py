@@ -18,8 +18,8 @@ OWNER = re.compile(rf"{PUB}(?:unsafe )?(?:impl|trait)\b")
 CLAUSE = re.compile(r"(?ms)^\s*(requires|ensures) (?:[a-z_]\w* )?\{ (.*?)\s\}\s*(?=^\s*(?:requires|ensures)\b|\Z)")
 STRUCT = re.compile(rf"(?ms)^{PUB}(struct|enum) (\w+)([^;{{(]*)(\{{.*?^\}}|\{{[^\n]*\}}|\([^;]*\);|;)")
 PARAMETER = re.compile(r"(?:mut )?(\w+): ((?:[^,<()\[]|<[^<>]*(?:<[^<>]*>[^<>]*)*>|\([^()]*\)|\[[^\[\]]*\])+)")
-# A wrong body: the function that it changes, and what the lines of that become.
-Edit = namedtuple("Edit", "name file function lines")
+# A wrong body: the function that it changes, what the lines of that become, and under which name it is tried.
+Edit = namedtuple("Edit", "name file function lines called")
 
 
 def read(path):
@@ -75,6 +75,13 @@ class Function:
     def clauses(self):
         """Its clauses, as (kind, fact)."""
         return [(kind, " ".join(fact.split())) for kind, fact in CLAUSE.findall(self.declared)]
+
+    @cached_property
+    def attributes(self):
+        """The lines of its attributes."""
+        above = self.source.lines[: self.first]
+        begin = next((at for at in range(len(above), 0, -1) if not above[at - 1] or above[at - 1].endswith(("{", "}"))), 0)
+        return [line for line in above[begin:] if not line.lstrip().startswith("//")]
 
     @cached_property
     def parameters(self):
@@ -170,7 +177,7 @@ def load_edit(name, text, sources):
         raise ValueError(f"it lies in no body of one function of {file}")
     if not name.startswith(f"{within[0].name}--"):
         raise ValueError(f"its name doesn't begin with `{within[0].name}--`, for the function that it changes")
-    return Edit(name, file, within[0], lines[within[0].first : within[0].last + 1])
+    return Edit(name, file, within[0], lines[within[0].first : within[0].last + 1], within[0].name)
 
 
 def public_files(sources):
