@@ -13,7 +13,6 @@ our own names and of those of the crate vers-vecs; and which of the first aren't
 import re
 import sys
 from collections import defaultdict, namedtuple
-from itertools import takewhile
 
 from sources import TOP, public_functions, read, read_crate, write_or_check
 
@@ -79,10 +78,9 @@ def declaration(function):
 
 
 def first_paragraph(function):
-    """Returns the first paragraph of a call's doc comment, past attributes."""
-    above = takewhile(re.compile(r"\s*(?:#\[|///)").match, reversed(function.source.lines[: function.first]))
-    doc = [it.strip().removeprefix("///").strip() for it in above if it.strip().startswith("///")]
-    return " ".join("\n".join(reversed(doc)).split("\n\n")[0].split())
+    """Returns the first paragraph of a call's doc comment."""
+    doc = [it.strip().removeprefix("///").strip() for it in function.above[0]]
+    return " ".join("\n".join(doc).split("\n\n")[0].split())
 
 
 def section(title, functions, times):

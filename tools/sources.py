@@ -9,6 +9,7 @@ import re
 import sys
 from collections import namedtuple
 from functools import cached_property
+from itertools import takewhile
 from pathlib import Path
 
 TOP = os.path.dirname(os.path.dirname(os.path.abspath(__file__)))
@@ -77,11 +78,11 @@ class Function:
         return [(kind, " ".join(fact.split())) for kind, fact in CLAUSE.findall(self.declared)]
 
     @cached_property
-    def attributes(self):
-        """The lines of its attributes."""
-        above = self.source.lines[: self.first]
-        begin = next((at for at in range(len(above), 0, -1) if not above[at - 1] or above[at - 1].endswith(("{", "}"))), 0)
-        return [line for line in above[begin:] if not line.lstrip().startswith("//")]
+    def above(self):
+        """The lines of its comments, and those of its attributes."""
+        lines = [*takewhile(lambda it: it and not it.endswith(("{", "}")), reversed(self.source.lines[: self.first]))][::-1]
+        comments = [it for it in lines if it.lstrip().startswith("//")]
+        return comments, [it for it in lines if it not in comments]
 
     @cached_property
     def parameters(self):

@@ -150,7 +150,7 @@ class Tried:
                 files[it.file][first:end] = it.lines
                 continue
             named = it.lines[0].replace(f"fn {it.function.name}", f"fn {it.called}", 1)
-            files[it.file][end:end] = ["", *it.function.attributes, named, *it.lines[1:]]
+            files[it.file][end:end] = ["", *it.function.above[1], named, *it.lines[1:]]
             to = f"{os.path.dirname(at)}/{it.called}"
             for path in [path for path in self.proofs if os.path.dirname(path) == at]:
                 proofs[f"{to}/{os.path.basename(path)}"] = self.proofs[path].replace(f".{at.replace('/', '.')}.", f".{to.replace('/', '.')}.")
