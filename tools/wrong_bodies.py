@@ -280,7 +280,7 @@ def main():
     parser = argparse.ArgumentParser(description=__doc__.split("\n", maxsplit=1)[0])
     parser.add_argument("crates", nargs="*", metavar="CRATE")
     parser.add_argument("--jobs", type=int, default=processor_count())
-    parser.add_argument("--most", type=int, default=60)
+    parser.add_argument("--most", type=int, default=50)
     parser.add_argument("--anew", action="store_true")
     parser.add_argument("--self-test", action="store_true")
     flags = parser.parse_args()
