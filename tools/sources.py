@@ -1,8 +1,10 @@
 """Reads the sources of a crate, in the layout of `rt fmt`: its functions with their heads, clauses and bodies, and its structs.
 
 In that layout the body of a function is opened by a line as far in as the function's first line, and closed by the next brace
-that stands alone as far in. A wrong body is a file FUNCTION--WHAT-IS-WRONG.edit: a line 'file: src/..', and pairs of lines
-'old: TEXT' and 'new: TEXT'. Each TEXT is one line, and the old one stands once in the file.
+that stands alone as far in. A wrong body is a file FUNCTION--WHAT-IS-WRONG.edit: a line 'file: src/..', pairs of lines
+'old: TEXT' and 'new: TEXT', and a line 'goal: FUNCTION GOAL'. Each TEXT is one line, and the old one stands once in the file. FUNCTION
+is the one that is changed, or a closure in it, as a check names it below the crate, and GOAL is what the body breaks. That line is
+behind '# ' in the wrong bodies that `rt` reads as well.
 """
 import os
 import re
@@ -19,8 +21,9 @@ OWNER = re.compile(rf"{PUB}(?:unsafe )?(?:impl|trait)\b")
 CLAUSE = re.compile(r"(?ms)^\s*(requires|ensures) (?:[a-z_]\w* )?\{ (.*?)\s\}\s*(?=^\s*(?:requires|ensures)\b|\Z)")
 STRUCT = re.compile(rf"(?ms)^{PUB}(struct|enum) (\w+)([^;{{(]*)(\{{.*?^\}}|\{{[^\n]*\}}|\([^;]*\);|;)")
 PARAMETER = re.compile(r"(?:mut )?(\w+): ((?:[^,<()\[]|<[^<>]*(?:<[^<>]*>[^<>]*)*>|\([^()]*\)|\[[^\[\]]*\])+)")
-# A wrong body: the function that it changes, what the lines of that become, and under which name it is tried.
-Edit = namedtuple("Edit", "name file function lines called")
+# A wrong body: the function that it changes, what the lines of that become, the name under which it is tried, and the goal that it breaks,
+# with the names that a check has for the function of that goal, below the crate, and whether all goals are tried as for the right body.
+Edit = namedtuple("Edit", "name file function lines called path goal is_auto")
 
 
 def read(path):
@@ -49,11 +52,18 @@ def split_owner(owner):
     return kind, trait if is_for else ""
 
 
-class Function:
-    """A function: the head of its impl or trait, its first line, the first of its body and its last, and parts of its text."""
+def above(lines, at):
+    """Returns the lines of comments right above a line, and those of attributes."""
+    found = [*takewhile(lambda it: it and not it.endswith(("{", "}")), reversed(lines[:at]))][::-1]
+    comments = [it for it in found if it.lstrip().startswith("//")]
+    return comments, [it for it in found if it not in comments]
 
-    def __init__(self, source, owner, first, body, last):
-        self.source, self.owner, self.first, self.body, self.last = source, owner, first, body, last
+
+class Function:
+    """A function: the head of its impl or trait and the line of that, its first line, the first of its body and its last, and parts of its text."""
+
+    def __init__(self, source, owner, owned_at, first, body, last):
+        self.source, self.owner, self.owned_at, self.first, self.body, self.last = source, owner, owned_at, first, body, last
         lines = source.lines[first : last + 1]
         self.has_body, self.text, self.where = body is not None, "\n".join(lines), f"{source.path}:{first + 1}"
         declared, inside = self.text, ""
@@ -80,9 +90,16 @@ class Function:
     @cached_property
     def above(self):
         """The lines of its comments, and those of its attributes."""
-        lines = [*takewhile(lambda it: it and not it.endswith(("{", "}")), reversed(self.source.lines[: self.first]))][::-1]
-        comments = [it for it in lines if it.lstrip().startswith("//")]
-        return comments, [it for it in lines if it not in comments]
+        return above(self.source.lines, self.first)
+
+    @cached_property
+    def tactics(self):
+        """The paths of the lemmas that tactics use in it, and of the definitions that they open: those that the nearest attribute names."""
+        places = [self.first, self.owned_at] if self.owner else [self.first]
+        said = [" ".join(above(self.source.lines, at)[1]) for at in places]
+        nearest = next((it for it in said if "#[tactic(" in it), "")
+        found = (re.search(rf"\b{word}\(([^()]*)\)", nearest) for word in ("using", "unfolding"))
+        return [re.findall(r"[\w:]+", it[1]) if it else [] for it in found]
 
     @cached_property
     def parameters(self):
@@ -100,15 +117,15 @@ class Source:
     @cached_property
     def functions(self):
         """Its functions, but for those inside another."""
-        found, owner = [], ""
+        found, owner, owned_at = [], "", 0
         for at, line in enumerate(self.lines):
             if OWNER.match(line):
                 rest = self.lines[at:]
-                owner = " ".join(rest[: next(i for i, it in enumerate(rest, 1) if it.endswith(("{", "}")))])
+                owner, owned_at = " ".join(rest[: next(i for i, it in enumerate(rest, 1) if it.endswith(("{", "}")))]), at
             elif line == "}":
                 owner = ""
             if HEAD.match(line):
-                found.append(Function(self, owner, at, *self.span(at)))
+                found.append(Function(self, owner, owned_at, at, *self.span(at)))
         return found
 
     def span(self, at):
@@ -159,7 +176,7 @@ def by_path(sources):
 
 def load_edit(name, text, sources):
     """Returns a wrong body with the function that it changes, or raises a `ValueError` that says why it can't be tried."""
-    said = re.findall(r"(?m)^(file|old|new): ?(.*)$", text)
+    whole, said = text, re.findall(r"(?m)^(file|old|new): ?(.*)$", text)
     file = next((text.strip() for word, text in said if word == "file"), "")
     pairs = [(old, new) for (one, old), (other, new) in zip(said, said[1:]) if (one, other) == ("old", "new")]
     if file not in sources or not pairs:
@@ -178,7 +195,11 @@ def load_edit(name, text, sources):
         raise ValueError(f"it lies in no body of one function of {file}")
     if not name.startswith(f"{within[0].name}--"):
         raise ValueError(f"its name doesn't begin with `{within[0].name}--`, for the function that it changes")
-    return Edit(name, file, within[0], lines[within[0].first : within[0].last + 1], within[0].name)
+    goal = re.search(r"(?m)^(?:# )?goal: (\S+) (\S+)( by auto)?$", whole)
+    if not goal or within[0].name not in goal[1].split("::"):
+        raise ValueError(f"it has no line `goal: FUNCTION GOAL` for a goal of `{within[0].name}`")
+    lines = lines[within[0].first : within[0].last + 1]
+    return Edit(name, file, within[0], lines, within[0].name, goal[1].split("::"), goal[2], bool(goal[3]))
 
 
 def public_files(sources):

@@ -1,11 +1,14 @@
 #!/usr/bin/env python3
-"""Tries the wrong bodies of the crates, many at a time: wrong_bodies.py [--jobs N] [--most N] [--anew] [--self-test] [CRATE..]
+"""Tries the wrong bodies of the crates, many at a time: wrong_bodies.py [--jobs N] [--most N] [--anew] [--right] [--self-test] [CRATE..]
 
 Functions are proved against the contracts of those that they call, so a wave puts many wrong bodies into one copy of a crate, and
 checks once. Each stands behind the right one in a function with a name of its own, but for methods of traits: these are changed, at most
-one body each. docs/GATE.md has what a line tells of each, as `refused NAME in FUNCTION: GOAL`, and which of these fail the run. The last
-line is 'N passed, M failed'. What was refused is kept in the user's folder for such files, by the sums of all that a try reads, and not
-tried again while these are the same; --anew tries all.
+one body each. Of each function only the goal is tried that its wrong body breaks. docs/GATE.md has what a line tells of each, as
+`refused NAME in FUNCTION: GOAL`, and which of these fail the run. The last line is 'N passed, M failed'. What was refused is kept in the
+user's folder for such files, by the sums of all that a try reads, and not tried again while these are the same; --anew tries all.
+
+--right tries the right bodies in place of the wrong ones, at the same goals and by the same tactics, and keeps nothing: each has to be
+proved there. So what refuses a wrong body accepts the right one. A goal that the right body doesn't have is told `gone`, and passes.
 """
 import argparse
 import contextlib
@@ -24,13 +27,19 @@ from pathlib import Path
 import sources
 import wrong_plants
 from proofs import PARTS, Commands, Crates, Failure, processor_count, prove_all
-from sources import TOP, Source, by_path, load_edit, read, read_crate, split_owner, write_files
+from sources import TOP, Source, by_path, load_edit, read, read_crate, write_files
 
 KEPT = os.path.join(os.environ.get("XDG_CACHE_HOME") or os.path.expanduser("~/.cache"), "woltsjem", "wrong_bodies")
 MOST_KEPT = 1000
 # A written answer that cites a name which isn't there, and one that was not looked at.
 GONE = re.compile(r"has no field|is not in scope|has no `|is no name")
 PASSED_OVER = re.compile(r"was not admitted|were not admitted|not checked")
+# An answer to a goal, which is public, or a lemma of written answers, by its name.
+ANSWER = re.compile(r"(?:--.*\n)*(pub )?(\S+)\s*:\s")
+# What a written answer by tactics names.
+NAMED = """use Rattle.std.proofs.Common.{arith as tried-arith}
+use Rattle.std.proofs.lemmas.Grind.{common_steps as tried-steps}
+"""
 # What came of a wrong body: the word for it, the function, and what the check said.
 Told = namedtuple("Told", "kind name text")
 # What a check said of each function, the errors in each one's written answers, those of the compiler, and how it ended.
@@ -41,7 +50,7 @@ def report_of(said):
     """Reads what a check printed."""
     functions, answers, errors = {}, defaultdict(list), []
     # (a name that isn't there stands in a line of its own)
-    for line in re.sub(r"(: record `\S+`)\n\s+", r"\1 ", said).split("\n"):
+    for line in re.sub(r"(: (?:record|module) `\S+`)\n\s+", r"\1 ", said).split("\n"):
         told = re.match(r"fn (\S+): (.*)", line)
         answer = re.match(r"(?:note: )?(?:\./)?proofs/(\S+)/(?:Answers|Invariants|Proof)\.antt:\d+:\d+: error: (.*)", line)
         error = re.match(r"(?:\./)?(src/\S+?\.rt):(\d+):\d+: error.*", line)
@@ -54,56 +63,40 @@ def report_of(said):
     return Report(functions, answers, errors, said[-2000:])
 
 
-def told_of(name, report):
-    """Returns what a check told of one function, or None where it told nothing."""
-    said = report.functions.get(name, "")
-    goals = re.search(r"`search` did not prove ((?:`[^`]+`(?:, | and )?)+)", said)
-    answers = [it for it in report.answers.get(name.partition("::")[2], []) if not PASSED_OVER.search(it)]
-    wrong = [it for it in answers if re.match(r"`[^`]+`: ", it) and not GONE.search(it)]
-    if said == "proved":
-        return Told("proved", name, "it is proved with this body")
-    if goals:
-        return Told("refused", name, goals[1].rstrip(", "))
-    if said.startswith("not proved") and answers:
-        return Told("refused" if wrong else "gone", name, f"written answer of {(wrong or answers)[0][:120]}")
+def told_of(edit, report):
+    """Returns what a check told of a wrong body, or None where it told nothing."""
+    place, goal = "::".join(edit.path), f"`{edit.goal}`"
+    name, said = next((it for it in report.functions.items() if it[0].partition("::")[2] == place), (edit.called, ""))
+    about = [it for it in report.answers.get(place, []) if it.startswith(f"{goal}: ")]
+    answer = next((it for it in about if not PASSED_OVER.search(it)), None)
+    searched = re.search(r"`search` did not prove (.*)", said)
+    if answer:
+        is_gone = GONE.search(answer)
+        return Told("gone" if is_gone else "refused", name, answer if is_gone else answer[:160])
+    if searched and goal in searched[1]:
+        return Told("refused", name, searched[1])
+    if not about and (said in ("proved", "not proved") or searched or "`#[tactic(none)]` leaves" in said):
+        return Told("proved", name, f"{goal}: it holds with this body")
     return Told("untold", name, said) if said.startswith("could not tell") else None
 
 
-def type_name(text):
-    """Returns the word by which the check names a type in the name of an impl: &mut BitVec<A> is RefMutBitVec, and u64 is U64."""
-    head = re.match(r"(&?)(?:'\w+ )?(mut )?(.*)", text.strip())
-    word = re.match(r"\w*", head[3].split("<")[0].split("::")[-1])[0]
-    return ("Ref" if head[1] else "") + ("Mut" if head[2] else "") + word[:1].upper() + word[1:]
+def is_refused(name, report):
+    """Returns whether a check refuses a function."""
+    answers = report.answers.get(name.partition("::")[2], [])
+    return "`search` did not prove" in report.functions[name] or not all(PASSED_OVER.search(it) for it in answers)
 
 
-def names_of(edit, known):
-    """Returns those of the names that a check has for the function of a wrong body, whose own comes first, and for the closures in it."""
-    split, module = {name: name.split("::")[1:] for name in known}, module_of(edit.file)
-    kind, trait = split_owner(edit.function.owner)
-    kind, trait = type_name(kind.split(":")[0]), type_name(trait)
-    kind = "Any" if len(kind) == 1 else kind
-    fits = [it for it in split.values() if it[-1] == edit.called and "fn" not in it]
-    # (the arguments of a type and of a trait come after their names)
-    for like in (rf".*\b{kind}{trait}", rf".*\b{kind}\w*{trait}\w*", rf"{'::'.join(module)}\b.*"):
-        fits = [it for it in fits if len(fits) == 1 or re.fullmatch(like, "::".join(it[:-1]))] or fits
-    if len(fits) != 1:
-        return []
-    own = fits[0][-2 if edit.function.owner else -1 :]
-    inside = [name for name, it in split.items() if "fn" in it and it[it.index("fn") + 1 :][: len(own)] == own]
-    return [*(name for name, it in split.items() if it == fits[0]), *inside]
-
-
-def module_of(file):
-    """Returns the names of the module that a file is."""
-    path = re.sub(r"^src/|\.rt$", "", file)
-    return [] if path in ("lib", "main") else path.split("/")
+def renamed(path, old, new):
+    """Returns the names of a function with another one for that which is changed: the last, or for a closure the one that it is in."""
+    at = path.index(old, path.index("fn")) if "fn" in path else len(path) - 1
+    return [*path[:at], new, *path[at + 1 :]]
 
 
 class Tried:
     """A crate whose wrong bodies are tried, its sources, and what came of those that were refused earlier."""
 
-    def __init__(self, crates, name, commands, is_anew):
-        self.crates, self.name, self.commands = crates, name, commands
+    def __init__(self, crates, name, commands, flags):
+        self.crates, self.name, self.commands, self.is_right = crates, name, commands, flags.right
         self.folder, self.below = crates.folder(name), crates.below(name)
         self.sources = by_path(read_crate(crates.top, name))
         self.proofs = {os.path.relpath(it, self.folder): read(it) for it in sorted(Path(self.folder, "proofs").rglob("*.antt"))}
@@ -111,7 +104,7 @@ class Tried:
         self.files = {Path(path).stem: path for path in paths}
         if len(self.files) < len(paths):
             raise Failure(f"two wrong bodies of {name} have one name")
-        self.keys, known = self.sums(), {} if is_anew else kept(name)
+        self.keys, known = self.sums(), {} if flags.anew or flags.right else kept(name)
         self.told = {edit: Told("refused", "", known[key]) for edit, key in self.keys.items() if key in known}
 
     def sums(self):
@@ -127,34 +120,53 @@ class Tried:
     def load(self, name):
         """Returns a wrong body by its name, under the name that its function has in a wave: its own in a trait's methods, and where lemmas name it."""
         edit = load_edit(name, read(self.files[name]), self.sources)
-        at, function = self.proofs_of(edit), edit.function
-        is_named = at and any(f".{at.replace('/', '.')}." in text for path, text in self.proofs.items() if not path.startswith(f"{at}/"))
+        function, at = edit.function, ".".join(["", "proofs", *edit.path, ""])
+        is_named = any(at in text for path, text in self.proofs.items() if not path.startswith(f"{'/'.join(['proofs', *edit.path])}/"))
+        if self.is_right:
+            edit = edit._replace(lines=function.source.lines[function.first : function.last + 1])
         if function.trait or function.is_declared_by_trait or is_named:
             return edit
-        return edit._replace(called=f"{function.name}_{[*self.files].index(name)}")
-
-    def proofs_of(self, edit):
-        """Returns the folder of the written proof of a wrong body's function, or none where it has none."""
-        end = "/".join([*([edit.function.holder] if edit.function.owner else ["proofs", *module_of(edit.file)]), edit.function.name])
-        found = sorted({it for it in map(os.path.dirname, self.proofs) if f"/{it}".endswith(f"/{end}")})
-        if len(found) > 1:
-            raise ValueError(f"it is in a function of which there are several written proofs: {', '.join(found)}")
-        return "".join(found)
+        called = f"{function.name}_{[*self.files].index(name)}"
+        return edit._replace(called=called, path=renamed(edit.path, function.name, called))
 
     def written(self, wave):
         """Returns the files that a wave changes or adds, by their paths."""
         files, proofs = {it.file: list(self.sources[it.file].lines) for it in wave}, {}
         for it in sorted(wave, key=lambda it: -it.function.first):
-            first, end, at = it.function.first, it.function.last + 1, self.proofs_of(it)
+            first, end, text = it.function.first, it.function.last + 1, files[it.file]
+            attributes = it.function.above[1]
+            if not it.is_auto:
+                attributes = [*(line for line in attributes if "#[tactic(" not in line), "#[tactic(none)]"]
+            body = [*attributes, it.lines[0].replace(f"fn {it.function.name}", f"fn {it.called}", 1), *it.lines[1:]]
             if it.called == it.function.name:
-                files[it.file][first:end] = it.lines
-                continue
-            named = it.lines[0].replace(f"fn {it.function.name}", f"fn {it.called}", 1)
-            files[it.file][end:end] = ["", *it.function.above[1], named, *it.lines[1:]]
-            to = f"{os.path.dirname(at)}/{it.called}"
-            for path in [path for path in self.proofs if os.path.dirname(path) == at]:
-                proofs[f"{to}/{os.path.basename(path)}"] = self.proofs[path].replace(f".{at.replace('/', '.')}.", f".{to.replace('/', '.')}.")
+                text[first - len(it.function.above[1]) : end] = body
+            else:
+                text[end:end] = ["", *body]
+            was, now = ("/".join(["proofs", *path]) for path in (renamed(it.path, it.called, it.function.name), it.path))
+            for path in [path for path in self.proofs if os.path.dirname(path) == was]:
+                proofs[f"{now}{path.removeprefix(was)}"] = self.proofs[path].replace(f"{was}/".replace("/", "."), f"{now}/".replace("/", "."))
+            if not it.is_auto:
+                proofs[f"{now}/Answers.antt"] = self.answered(it, proofs.get(f"{now}/Answers.antt", ""))
         return {**proofs, **{path: "\n".join(lines) for path, lines in files.items()}}
+
+    def answered(self, edit, text):
+        """Returns the written answer of the goal that a wrong body breaks, with what it cites, or one by tactics where there is none."""
+        blocks = [(ANSWER.match(it), it) for it in re.split(r"\n\n+", text)]
+        own = next((it for found, it in blocks if found and found[2] == edit.goal), "")
+        text = "\n\n".join(it for found, it in blocks if not found or not found[1] or found[2] in re.findall(r"[^\s(){},;.]+", own))
+        if own:
+            return text
+        goals = f"Rattle.{self.name}.proofs.{'.'.join(edit.path)}.Goals"
+        known = re.search(rf"(?m)^use {re.escape(goals)} as (\S+)$", text)
+        lemmas, opened = edit.function.tactics
+        named = {path: f"tried-{at}" for at, path in enumerate([*lemmas, *opened])}
+        uses = [NAMED, *([] if known else [f"use {goals} as goal\n"])]
+        for path, name in named.items():
+            first, *between, last = path.split("::")
+            uses.append(f"use {'.'.join(['Rattle', self.name if first == 'crate' else first, *between])}.{{{last} as {name}}}\n")
+        tactic = f"grind ({', '.join(['tried-arith', 'tried-steps', *(named[it] for it in lemmas)])})"
+        unfolding = f"unfolding {' '.join(named[it] for it in opened)}\n" if opened else ""
+        return f"{''.join(uses)}{text}\npub {edit.goal} : {known[1] if known else 'goal'}.{edit.goal}\n{unfolding}{edit.goal} = {tactic}\n"
 
     def try_wave(self, wave):
         """Checks a copy of the crate that has each of these wrong bodies, and returns what the check said and the files of the wave."""
@@ -183,25 +195,20 @@ def dealt(left, most):
 
 def settled(wave, report, files, commands):
     """Returns what a wave told of its wrong bodies, by their names; nothing of those that wait for a later wave."""
-    told, changed = {}, set()
+    told = {}
     written = {path: Source("", path, text).functions for path, text in files.items() if report.errors and path.endswith(".rt")}
     for edit in wave:
-        names, lines = names_of(edit, report.functions), set()
+        lines = set()
         for it in written.get(edit.file, []):
             if (it.name, it.owner) == (edit.called, edit.function.owner):
                 lines = range(it.first, it.last + 1)
         error = next((it[2] for it in report.errors if it[0] == edit.file and it[1] in lines), None)
-        about = [told_of(name, report) for name in names]
-        wrong = [it for it in about if it and it.kind != "proved"]
-        it = min(wrong, key=lambda it: it.kind != "refused", default=about[0] if about else None)
-        it = Told("bad", edit.function.name, error) if error else it
+        it = Told("bad", edit.called, error) if error else told_of(edit, report)
         if it or len(wave) == 1:
-            name = names[0] if names else edit.function.name
-            told[edit.name] = it or Told("untold", name, report.functions.get(name) or report.end)
-        changed.update(names)
-    for it in filter(None, (told_of(name, report) for name in report.functions if name not in changed)):
-        if it.kind == "refused":
-            commands.fail(f"{it.name} is refused and no body of the wave is in it, so the wave shows nothing: {it.text}")
+            told[edit.name] = it or Told("untold", edit.called, report.functions.get("::".join(edit.path)) or report.end)
+    changed = {it.called for it in wave}
+    for name in [it for it in report.functions if not changed & set(it.split("::")) and is_refused(it, report)]:
+        commands.fail(f"{name} is refused and no body of the wave is in it, so the wave shows nothing: {report.functions[name]}")
     return told
 
 
@@ -225,7 +232,7 @@ def try_crates(crates, flags, commands):
     The waves of a crate begin once it is proved, and yield to the proofs.
     """
     names = [it for it in flags.crates or crates.lines if os.path.isdir(f"{crates.folder(it)}/wrong")]
-    tried = [Tried(crates, it, commands, flags.anew) for it in names]
+    tried = [Tried(crates, it, commands, flags) for it in names]
     waiting = {name: threading.Event() for it in tried if len(it.told) < len(it.files) for name in [*it.below, it.name]}
     with ThreadPoolExecutor(commands.count) as waves, ThreadPoolExecutor(len(tried) or 1) as pool:
         ended = pool.map(lambda crate: try_crate(crate, flags, waves, waiting), tried)
@@ -255,7 +262,7 @@ def try_crate(crate, flags, pool, waiting):
                 tell(crate, edit, told)
             left = [it for it in left if it.name not in crate.told]
         most = most if len(left) < before else max(1, max(map(len, waves)) // 2)
-    if not flags.self_test:
+    if not flags.self_test and not flags.right:
         keep(crate.name, {crate.keys[edit]: it.text for edit, it in crate.told.items() if it.kind == "refused"})
 
 
@@ -270,7 +277,7 @@ def self_test(flags):
     with tempfile.TemporaryDirectory(prefix="wrong-bodies-") as top:
         write_files(top, wrong_plants.FILES)
         told = try_crates(Crates(top), flags, Commands(flags.jobs))["small"]
-    missed = [name for name, (kind, _, _) in wrong_plants.PLANTS.items() if name not in told or told[name].kind != kind]
+    missed = [name for name, (kind, *_) in wrong_plants.PLANTS.items() if name not in told or told[name].kind != kind]
     print("self-test: " + (f"not told as what they are: {', '.join(missed)}" if missed else "ok"))
     return not missed
 
@@ -282,6 +289,7 @@ def main():
     parser.add_argument("--jobs", type=int, default=processor_count())
     parser.add_argument("--most", type=int, default=50)
     parser.add_argument("--anew", action="store_true")
+    parser.add_argument("--right", action="store_true")
     parser.add_argument("--self-test", action="store_true")
     flags = parser.parse_args()
     if flags.self_test:
@@ -295,7 +303,8 @@ def main():
         return 1
     for name, of in told.items():
         print(f"{name}: {len(of)} wrong bodies, {commands.seconds[name, 'waves'] / 60:.1f} processor minutes")
-    kinds = Counter(it.kind == "refused" for of in told.values() for it in of.values())
+    passing = ("proved", "gone") if flags.right else ("refused",)
+    kinds = Counter(it.kind in passing for of in told.values() for it in of.values())
     print(f"{kinds[True]} passed, {kinds[False]} failed")
     return 1 if kinds[False] or not kinds[True] else 0
 
