@@ -1,4 +1,4 @@
-//! Tests of saved forms.
+//! Tests over all structures: of saved forms, and of the sizes that structures tell.
 #![tactic(auto)]
 
 #[cfg(test)]
@@ -7,6 +7,8 @@ mod devices;
 mod memory;
 #[cfg(test)]
 mod rows;
+#[cfg(test)]
+mod sizes;
 #[cfg(test)]
 mod stored;
 #[cfg(test)]

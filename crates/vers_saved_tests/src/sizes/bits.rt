@@ -1,5 +1,5 @@
 //! Lists of bits by themselves, made by makers, by growth and out of another list.
-use crate::tests::{Heap, HeapSize, numbers_of};
+use crate::sizes::{Heap, HeapSize, numbers_of};
 use std::alloc::{Allocator, Global};
 use test_alloc::{SIZES, Sizing, Spare, first_wrong_size, spare_of};
 use vers_bits::bit_vec::{BitVec, GrowError};

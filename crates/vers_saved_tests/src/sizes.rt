@@ -1,4 +1,5 @@
-//! Each structure and its clone at lengths around the ends of limbs, blocks and superblocks.
+//! The sizes that structures tell, against the memory that they hold: each structure and its clone at lengths
+//! around the ends of limbs, blocks and superblocks.
 //!
 //! What is made of a given block size names its allocator: its size over any allocator is not known.
 ghost use Rattle.std.specs.Prelude.{◌<◌, ◌≤◌};
