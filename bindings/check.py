@@ -1,5 +1,5 @@
 #!/usr/bin/env python3
-"""Checks the bindings: python3 bindings/check.py [ARCHIVE], by default with that of crates/vers_c, which `rt lib` builds
+"""Checks the bindings: python3 bindings/check.py [ARCHIVE], by default with that of crates/vers_c, which is proved and built
 there first if it is missing.
 
 - The codes of statuses, queries and changes in vers.h and in the Python package are those of crates/vers_c, one after another.
@@ -259,7 +259,8 @@ def has_archive(checks):
     if not os.path.exists(crate):
         checks.left_out.append("all else (no archive, and no crates/vers_c)")
         return False
-    return checks.has("rt", "all else, without an archive") and checks.run("the archive", ["rt", "lib"], cwd=crate)
+    build = [sys.executable, os.path.join(TOP, "tools", "proofs.py"), "--alone", "vers_c"]
+    return checks.has("rt", "all else, without an archive") and checks.run("the archive", build)
 
 
 def check_all(checks):

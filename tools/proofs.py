@@ -3,6 +3,9 @@
 
 Each crate begins once those below it are proved. It is proved in a repository of its own, since a check locks the folders of all crates below.
 Standard error tells of each. A program is built besides, and its file `out/NAME.built` is then as old as the beginning of the run.
+
+proofs.py --alone CRATE proves and builds a static library over the libraries below it as they are built, by this script or by `rt ci`; where
+they are not, they are proved first.
 """
 import contextlib
 import os
@@ -16,6 +19,7 @@ import time
 from collections import Counter
 from concurrent.futures import FIRST_COMPLETED, ThreadPoolExecutor, wait
 from graphlib import TopologicalSorter
+from pathlib import Path
 
 from sources import TOP, read, write_files
 
@@ -24,6 +28,11 @@ PARTS = ("src", "specs", "proofs")
 
 class Failure(Exception):
     """Says why something could not be proved or tried."""
+
+
+def toolchain():
+    """Returns the folder of the toolchain."""
+    return Path(shutil.which("rt")).resolve().parents[1]
 
 
 class Crates:
@@ -49,13 +58,32 @@ class Crates:
         """Returns the libraries below a crate, each after those that it stands on."""
         return list(dict.fromkeys(it for use in self.uses(name) for it in [*self.below(use), use]))
 
-    def copy_to(self, room, name, made):
-        """Makes a repository of a crate with some of what was made of it, over the libraries below it as they were built."""
+    def is_built(self, name):
+        """Returns whether a library is built as it stands, after those that it uses."""
+        built, *below = (Path(self.folder(it), "out", "rlib", f"{it}.rlib") for it in [name, *self.uses(name)])
+        texts = (file for part in PARTS for file in Path(self.folder(name), part).rglob("*"))
+        return all(map(Path.is_dir, [built, *below])) and all(it.stat().st_mtime <= built.stat().st_mtime for it in [*below, *texts])
+
+    def command(self, verb, name):
+        """Returns the command that checks or builds a library in its folder, over those below it as they were built."""
+        kit, (words, _, uses) = toolchain(), self.lines[name].partition(":")
+        built = {it: f"{self.folder(it)}/out/rlib" for it in self.below(name)}
+        libraries = {it: f"{built.get(it, f'{kit}/rlibs')}/{it}.rlib" for it in ["std", *uses.split()]}
+        return [
+            *(f"{kit}/bin/rattle", verb, "--crate-name", name, "src/lib.rt"),
+            *(it for library in libraries.items() for it in ("--extern", "=".join(library))),
+            *(it for folder in [f"{kit}/rlibs", *built.values()] for it in ("-L", f"dependency={folder}")),
+            *("--antt-project", f"{kit}/rattle/logic/antt-project.json", "--logic-built", f"{kit}/logic_built"),
+            *(("--crate-type", "staticlib") if "staticlib" in words.split() else ()),
+        ]
+
+    def copy_to(self, room, name):
+        """Makes a repository of a crate with what was made of it, over the libraries below it as they were built."""
         crates = [*self.below(name), name]
         lines = "".join(f"{self.lines[crate]}\n" for crate in crates)
         write_files(room, {"HANDLES": read(f"{self.top}/HANDLES"), "crates.txt": lines})
         for crate in crates:
-            for part in [*PARTS, made if crate == name else "out/rlib"]:
+            for part in [*PARTS, "out" if crate == name else "out/rlib"]:
                 if os.path.isdir(f"{self.folder(crate)}/{part}"):
                     shutil.copytree(f"{self.folder(crate)}/{part}", f"{room}/crates/{crate}/{part}", copy_function=linked)
 
@@ -122,9 +150,9 @@ def longest_ways(crates, asked):
     return ways
 
 
-def prove_all(crates, names, commands, most_jobs, tell):
+def prove_all(crates, names, commands, tell):
     """Proves crates with those below them, and tells the name of each: that with the longest way up by two jobs and as many more as the others leave
-    processors and are allowed, each of the others, and a program, by one, which yields the more the shorter its way is."""
+    processors, each of the others, and a program, by one, which yields the more the shorter its way is."""
     asked = {it for name in names for it in [*crates.below(name), name]}
     ways, order, running = longest_ways(crates, asked), TopologicalSorter({it: crates.uses(it) for it in asked}), {}
     order.prepare()
@@ -134,7 +162,7 @@ def prove_all(crates, names, commands, most_jobs, tell):
             *others, longest = sorted([*running.values(), *ready], key=ways.get)
             for name in sorted(ready, key=ways.get, reverse=True):
                 is_shared = name == longest and not crates.is_program(name)
-                jobs = min(most_jobs, max(2, commands.count - len(others))) if is_shared else 1
+                jobs = max(2, commands.count - len(others)) if is_shared else 1
                 running[pool.submit(prove, crates, name, jobs, 10 - 10 * ways[name] // ways[longest], commands)] = name
             for done in wait(running, return_when=FIRST_COMPLETED).done:
                 done.result()
@@ -146,13 +174,30 @@ def prove_all(crates, names, commands, most_jobs, tell):
 def prove(crates, name, jobs, niceness, commands):
     """Proves a crate in a repository of its own: a library is built for those above it, a program is built and asked its version."""
     with tempfile.TemporaryDirectory(prefix="proof-") as room:
-        crates.copy_to(room, name, "out")
+        crates.copy_to(room, name)
         what = ["run", "--jobs", str(jobs), "--", "--version"] if crates.is_program(name) else ["lib", "--jobs", str(jobs)]
         said, status = commands.run((name, "proof"), ["nice", "-n", str(niceness), "rt", *what], f"{room}/crates/{name}")
         if status:
             commands.fail(f"{name} is not proved:\n{said[-4000:]}")
         shutil.rmtree(f"{crates.folder(name)}/out", ignore_errors=True)
         shutil.move(f"{room}/crates/{name}/out", f"{crates.folder(name)}/out")
+
+
+def prove_below(crates, name, commands):
+    """Proves the libraries below a crate, unless they are built as they stand."""
+    if not all(map(crates.is_built, crates.below(name))):
+        prove_all(crates, crates.uses(name), commands, lambda name: None)
+
+
+def build_alone(crates, name, commands):
+    """Proves a static library over those below it as they are built, and builds it."""
+    prove_below(crates, name, commands)
+    archive = f"{crates.folder(name)}/out/lib{name}.a"
+    os.makedirs(os.path.dirname(archive), exist_ok=True)
+    command = [*crates.command("build", name), "--toolchain", f"{toolchain()}/toolchain", "--backend", "llvm", "-o", archive]
+    said, status = commands.run((name, "proof"), command, crates.folder(name))
+    if status:
+        commands.fail(f"{name} is not built:\n{said[-4000:]}")
 
 
 def processor_count():
@@ -162,15 +207,18 @@ def processor_count():
 
 def main():
     """Proves the crates that are named."""
-    began, names, crates, commands = time.time(), sys.argv[1:], Crates(TOP), Commands(processor_count())
+    began, names, crates, commands = time.time(), [it for it in sys.argv[1:] if it != "--alone"], Crates(TOP), Commands(processor_count())
 
     def tell(text):
         print(f"{names[0]}: {text}", file=sys.stderr, flush=True)
 
     commands.end_on_interrupt()
-    tell("proving the crates, those below first; this takes some minutes the first time")
     try:
-        prove_all(crates, names, commands, commands.count, lambda name: tell(
+        if "--alone" in sys.argv:
+            build_alone(crates, names[0], commands)
+            return 0
+        tell("proving the crates, those below first; this takes some minutes the first time")
+        prove_all(crates, names, commands, lambda name: tell(
             f"{name} is proved by {commands.seconds[name, 'proof']:.0f} processor seconds, after {(time.time() - began) / 60:.1f} minutes"))
     except Failure as failure:
         tell(failure)

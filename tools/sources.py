@@ -113,6 +113,8 @@ class Source:
     def __init__(self, crate, path, text):
         self.crate, self.path, self.text, self.lines = crate, path, text, text.split("\n")
         self.module = os.path.basename(path)[: -len(".rt")]
+        # the names of the modules that lead to it
+        self.place = [it for it in re.sub(r".*?\bsrc/|\.rt$", "", path).split("/") if it not in ("lib", "main")]
 
     @cached_property
     def functions(self):
@@ -172,6 +174,17 @@ def read_crate(top, crate):
 def by_path(sources):
     """Returns the sources of a crate, by their paths in the crate."""
     return {it.path.split("/", 2)[2]: it for it in sources}
+
+
+def full_names(sources):
+    """Returns the names that a check has, below the crate, for its functions that have a body, but for the methods of traits."""
+    homes, names = [(name, source) for source in sources for name, *_ in source.structs], set()
+    for function in [it for source in sources for it in source.functions if it.has_body and not it.trait and not it.is_declared_by_trait]:
+        # a method goes by the module of its type
+        found = [home for name, home in homes if name == function.holder] if function.owner else [function.source]
+        home = function.source if function.source in found else next(iter(found), None)
+        names |= {"::".join([*home.place, function.full_name])} if home else set()
+    return names
 
 
 def load_edit(name, text, sources):

@@ -3,9 +3,11 @@
 
 Functions are proved against the contracts of those that they call, so a wave puts many wrong bodies into one copy of a crate, and
 checks once. Each stands behind the right one in a function with a name of its own, but for methods of traits: these are changed, at most
-one body each. Of each function only the goal is tried that its wrong body breaks. docs/GATE.md has what a line tells of each, as
+one body each. Of each function only the goal is tried that its wrong body breaks, and the proofs of the right ones are left out, for a check
+takes what they say by their contracts. docs/GATE.md has what a line tells of each, as
 `refused NAME in FUNCTION: GOAL`, and which of these fail the run. The last line is 'N passed, M failed'. What was refused is kept in the
 user's folder for such files, by the sums of all that a try reads, and not tried again while these are the same; --anew tries all.
+The libraries below a crate are taken as `rt ci` has built them; those that aren't built as they stand are proved first.
 
 --right tries the right bodies in place of the wrong ones, at the same goals and by the same tactics, and keeps nothing: each has to be
 proved there. So what refuses a wrong body accepts the right one. A goal that the right body doesn't have is told `gone`, and passes.
@@ -16,18 +18,18 @@ import hashlib
 import json
 import os
 import re
+import shutil
 import subprocess
 import sys
 import tempfile
-import threading
 from collections import Counter, defaultdict, namedtuple
 from concurrent.futures import ThreadPoolExecutor
 from pathlib import Path
 
 import sources
 import wrong_plants
-from proofs import PARTS, Commands, Crates, Failure, processor_count, prove_all
-from sources import TOP, Source, by_path, load_edit, read, read_crate, write_files
+from proofs import PARTS, Commands, Crates, Failure, processor_count, prove_below
+from sources import TOP, Source, by_path, full_names, load_edit, read, read_crate, write_files
 
 KEPT = os.path.join(os.environ.get("XDG_CACHE_HOME") or os.path.expanduser("~/.cache"), "woltsjem", "wrong_bodies")
 MOST_KEPT = 1000
@@ -39,6 +41,12 @@ ANSWER = re.compile(r"(?:--.*\n)*(pub )?(\S+)\s*:\s")
 # What a written answer by tactics names.
 NAMED = """use Rattle.std.proofs.Common.{arith as tried-arith}
 use Rattle.std.proofs.lemmas.Grind.{common_steps as tried-steps}
+"""
+# The proof of a function that isn't tried: what its contract says is taken as it stands.
+HOLE = """use Rattle.{crate}.proofs.{place}.Statement.{{statement}}
+
+pub {name}_spec : {{M : Type 1}} → statement M
+{name}_spec = ?
 """
 # What came of a wrong body: the word for it, the function, and what the check said.
 Told = namedtuple("Told", "kind name text")
@@ -54,7 +62,7 @@ def report_of(said):
         told = re.match(r"fn (\S+): (.*)", line)
         answer = re.match(r"(?:note: )?(?:\./)?proofs/(\S+)/(?:Answers|Invariants|Proof)\.antt:\d+:\d+: error: (.*)", line)
         error = re.match(r"(?:\./)?(src/\S+?\.rt):(\d+):\d+: error.*", line)
-        if told and functions.get(told[1], "proved") == "proved":
+        if told and functions.get(told[1], "no holes") == "no holes":
             functions[told[1]] = told[2]
         elif answer:
             answers[answer[1].replace("/", "::")].append(answer[2])
@@ -75,7 +83,7 @@ def told_of(edit, report):
         return Told("gone" if is_gone else "refused", name, answer if is_gone else answer[:160])
     if searched and goal in searched[1]:
         return Told("refused", name, searched[1])
-    if not about and (said in ("proved", "not proved") or searched or "`#[tactic(none)]` leaves" in said):
+    if not about and (searched or re.search(r"^(no holes|depends on a hole|not proved)|`#\[tactic\(none\)\]` leaves", said)):
         return Told("proved", name, f"{goal}: it holds with this body")
     return Told("untold", name, said) if said.startswith("could not tell") else None
 
@@ -92,6 +100,12 @@ def renamed(path, old, new):
     return [*path[:at], new, *path[at + 1 :]]
 
 
+def name_of(edit):
+    """Returns the name that a check has for the function that is tried, below the crate."""
+    path = [it for it in edit.path if it != "fn"]
+    return "::".join(path[: path.index(edit.called) + 1])
+
+
 class Tried:
     """A crate whose wrong bodies are tried, its sources, and what came of those that were refused earlier."""
 
@@ -99,6 +113,7 @@ class Tried:
         self.crates, self.name, self.commands, self.is_right = crates, name, commands, flags.right
         self.folder, self.below = crates.folder(name), crates.below(name)
         self.sources = by_path(read_crate(crates.top, name))
+        self.names = full_names(self.sources.values())
         self.proofs = {os.path.relpath(it, self.folder): read(it) for it in sorted(Path(self.folder, "proofs").rglob("*.antt"))}
         paths = [str(it) for part in ("must-fail", "wrong") for it in sorted(Path(self.folder, part).glob("*.edit"))]
         self.files = {Path(path).stem: path for path in paths}
@@ -169,12 +184,19 @@ class Tried:
         return f"{''.join(uses)}{text}\npub {edit.goal} : {known[1] if known else 'goal'}.{edit.goal}\n{unfolding}{edit.goal} = {tactic}\n"
 
     def try_wave(self, wave):
-        """Checks a copy of the crate that has each of these wrong bodies, and returns what the check said and the files of the wave."""
-        files = self.written(wave)
+        """Checks each of these wrong bodies in a copy of the crate in which all else is taken to be proved, and returns what the check said and the
+        files of the wave."""
+        files, tried = self.written(wave), {name_of(it) for it in wave}
+        holes = {f"proofs/{name.replace('::', '/')}": name.split("::") for name in self.names - tried}
+        proofs = {path: text for path, text in self.proofs.items() if os.path.dirname(path) not in holes}
+        for folder, names in holes.items():
+            proofs[f"{folder}/Proof.antt"] = HOLE.format(crate=self.name, place=".".join(names), name=names[-1])
         with tempfile.TemporaryDirectory(prefix="wrong-bodies-") as room:
-            self.crates.copy_to(room, self.name, "out/incremental")
-            write_files(f"{room}/crates/{self.name}", files)
-            said, _ = self.commands.run((self.name, "waves"), ["nice", "rt", "check", "--jobs", "1"], f"{room}/crates/{self.name}")
+            for part in filter(lambda it: os.path.isdir(f"{self.folder}/{it}"), ("src", "specs")):
+                shutil.copytree(f"{self.folder}/{part}", f"{room}/{part}")
+            write_files(room, {**proofs, **files})
+            only = [it for name in sorted(tried) for it in ("--only", name)]
+            said, _ = self.commands.run((self.name, "waves"), [*self.crates.command("check", self.name), "--allow-holes", *only], room)
             return report_of(said), files
 
 
@@ -227,29 +249,21 @@ def keep(crate, refused):
 
 
 def try_crates(crates, flags, commands):
-    """Tries the wrong bodies of crates, of all where none is named, and returns what came of each, by crate.
-
-    The waves of a crate begin once it is proved, and yield to the proofs.
-    """
+    """Tries the wrong bodies of crates, of all where none is named, and returns what came of each, by crate."""
     names = [it for it in flags.crates or crates.lines if os.path.isdir(f"{crates.folder(it)}/wrong")]
-    tried = [Tried(crates, it, commands, flags) for it in names]
-    waiting = {name: threading.Event() for it in tried if len(it.told) < len(it.files) for name in [*it.below, it.name]}
+    # (the longest begin first)
+    tried = sorted((Tried(crates, it, commands, flags) for it in names), key=lambda it: -len(it.files))
+    for it in tried:
+        if len(it.told) < len(it.files):
+            prove_below(crates, it.name, commands)
     with ThreadPoolExecutor(commands.count) as waves, ThreadPoolExecutor(len(tried) or 1) as pool:
-        ended = pool.map(lambda crate: try_crate(crate, flags, waves, waiting), tried)
-        with contextlib.ExitStack() as after:
-            for it in waiting.values():
-                after.callback(it.set)
-            # (by more than two, a crate takes more processor time in all, which the waves beside it can use)
-            prove_all(crates, waiting, commands, 2, lambda name: waiting[name].set())
-        list(ended)
+        list(pool.map(lambda crate: try_crate(crate, flags, waves), tried))
     return {it.name: it.told for it in tried}
 
 
-def try_crate(crate, flags, pool, waiting):
-    """Tries those wrong bodies of a crate that were not refused earlier, once it is proved."""
+def try_crate(crate, flags, pool):
+    """Tries those wrong bodies of a crate that were not refused earlier."""
     left, most = [], flags.most
-    if crate.name in waiting:
-        waiting[crate.name].wait()
     for edit in [it for it in crate.keys if it not in crate.told]:
         try:
             left.append(crate.load(edit))
@@ -287,7 +301,7 @@ def main():
     parser = argparse.ArgumentParser(description=__doc__.split("\n", maxsplit=1)[0])
     parser.add_argument("crates", nargs="*", metavar="CRATE")
     parser.add_argument("--jobs", type=int, default=processor_count())
-    parser.add_argument("--most", type=int, default=50)
+    parser.add_argument("--most", type=int, default=120)
     parser.add_argument("--anew", action="store_true")
     parser.add_argument("--right", action="store_true")
     parser.add_argument("--self-test", action="store_true")
