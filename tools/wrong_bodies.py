@@ -256,19 +256,26 @@ def try_crates(crates, flags, commands):
     for it in tried:
         if len(it.told) < len(it.files):
             prove_below(crates, it.name, commands)
+    loaded = [load_all(it) for it in tried]
     with ThreadPoolExecutor(commands.count) as waves, ThreadPoolExecutor(len(tried) or 1) as pool:
-        list(pool.map(lambda crate: try_crate(crate, flags, waves), tried))
+        list(pool.map(lambda crate, left: try_crate(crate, left, flags, waves), tried, loaded))
     return {it.name: it.told for it in tried}
 
 
-def try_crate(crate, flags, pool):
-    """Tries those wrong bodies of a crate that were not refused earlier."""
-    left, most = [], flags.most
+def load_all(crate):
+    """Returns those wrong bodies of a crate that were not refused earlier, and tells of those that can't be tried."""
+    left = []
     for edit in [it for it in crate.keys if it not in crate.told]:
         try:
             left.append(crate.load(edit))
         except ValueError as error:
             tell(crate, edit, Told("bad", "no function", str(error)))
+    return left
+
+
+def try_crate(crate, left, flags, pool):
+    """Tries wrong bodies of a crate, in waves of as many as are allowed at most."""
+    most = flags.most
     while left:
         waves, before = dealt(left, most), len(left)
         for wave, (report, files) in zip(waves, pool.map(crate.try_wave, waves)):
