@@ -3,8 +3,8 @@
 
 Functions are proved against the contracts of those that they call, so a wave puts many wrong bodies into one copy of a crate, and
 checks once. Each stands behind the right one in a function with a name of its own, but for methods of traits: these are changed, at most
-one body each. Of each function only the goal is tried that its wrong body breaks, and the proofs of the right ones are left out, for a check
-takes what they say by their contracts. docs/GATE.md has what a line tells of each, as
+one body each. Of each function only the goal is tried that its wrong body breaks. A function that isn't tried has a hole for its proof: what
+its contract says is taken as proved. docs/GATE.md has what a line tells of each, as
 `refused NAME in FUNCTION: GOAL`, and which of these fail the run. The last line is 'N passed, M failed'. What was refused is kept in the
 user's folder for such files, by the sums of all that a try reads, and not tried again while these are the same; --anew tries all.
 The libraries below a crate are taken as `rt ci` has built them; those that aren't built as they stand are proved first.
