@@ -1,8 +1,9 @@
 #!/usr/bin/env python3
-"""Proves crates with those below them, as many side by side as there are processors: proofs.py CRATE..
+"""Proves crates with those below them, two side by side on four processors: proofs.py CRATE..
 
-Each crate begins once those below it are proved. It is proved in a repository of its own, since a check locks the folders of all crates below.
-Standard error tells of each. A program is built besides, and its file `out/NAME.built` is then as old as the beginning of the run.
+Each crate begins once those below it are proved, and one that is built as it stands is passed over. Standard error tells of each. A library is
+built as `rt ci` builds it: the crates above read what it says, and not its proofs. A program is built and linked, and its file `out/NAME.built` is
+then as old as the beginning of the run.
 
 proofs.py --alone CRATE proves and builds a static library over the libraries below it as they are built, by this script or by `rt ci`; where
 they are not, they are proved first.
@@ -24,6 +25,7 @@ from pathlib import Path
 from sources import TOP, read, write_files
 
 PARTS = ("src", "specs", "proofs")
+TARGET = "x86_64-unknown-linux-gnu"
 
 
 class Failure(Exception):
@@ -50,6 +52,14 @@ class Crates:
         """Returns whether a crate is a program."""
         return os.path.isfile(f"{self.folder(name)}/src/main.rt")
 
+    def is_static(self, name):
+        """Returns whether a crate is a static library."""
+        return "staticlib" in self.lines[name].partition(":")[0].split()
+
+    def built(self, name):
+        """Returns the folder that a library is built into."""
+        return f"{self.folder(name)}/out/rlib/{name}.rlib"
+
     def uses(self, name):
         """Returns the repository's libraries that a crate names."""
         return [it for it in self.lines[name].partition(":")[2].split() if it in self.lines]
@@ -60,57 +70,51 @@ class Crates:
 
     def is_built(self, name):
         """Returns whether a library is built as it stands, after those that it uses."""
-        built, *below = (Path(self.folder(it), "out", "rlib", f"{it}.rlib") for it in [name, *self.uses(name)])
+        built, *below = (Path(self.built(it)) for it in [name, *self.uses(name)])
         texts = (file for part in PARTS for file in Path(self.folder(name), part).rglob("*"))
-        return all(map(Path.is_dir, [built, *below])) and all(it.stat().st_mtime <= built.stat().st_mtime for it in [*below, *texts])
+        parts = [Path(self.top, "crates.txt"), *below, *texts]
+        return all(map(Path.is_dir, [built, *below])) and all(it.stat().st_mtime <= built.stat().st_mtime for it in parts)
 
     def command(self, verb, name):
-        """Returns the command that checks or builds a library in its folder, over those below it as they were built."""
-        kit, (words, _, uses) = toolchain(), self.lines[name].partition(":")
-        built = {it: f"{self.folder(it)}/out/rlib" for it in self.below(name)}
-        libraries = {it: f"{built.get(it, f'{kit}/rlibs')}/{it}.rlib" for it in ["std", *uses.split()]}
+        """Returns the command that checks or builds a crate in its folder, over the libraries below it as they were built."""
+        kit, uses, below = toolchain(), self.lines[name].partition(":")[2], self.below(name)
+        libraries = {it: self.built(it) if it in below else f"{kit}/rlibs/{it}.rlib" for it in ["std", *uses.split()]}
         return [
-            *(f"{kit}/bin/rattle", verb, "--crate-name", name, "src/lib.rt"),
+            *(f"{kit}/bin/rattle", verb, "--crate-name", name, "src/main.rt" if self.is_program(name) else "src/lib.rt"),
             *(it for library in libraries.items() for it in ("--extern", "=".join(library))),
-            *(it for folder in [f"{kit}/rlibs", *built.values()] for it in ("-L", f"dependency={folder}")),
+            *(it for folder in [f"{kit}/rlibs", *(os.path.dirname(self.built(it)) for it in below)] for it in ("-L", f"dependency={folder}")),
             *("--antt-project", f"{kit}/rattle/logic/antt-project.json", "--logic-built", f"{kit}/logic_built"),
-            *(("--crate-type", "staticlib") if "staticlib" in words.split() else ()),
+            *(("--crate-type", "staticlib") if self.is_static(name) else ()),
         ]
 
-    def copy_to(self, room, name):
-        """Makes a repository of a crate with what was made of it, over the libraries below it as they were built."""
-        crates = [*self.below(name), name]
-        lines = "".join(f"{self.lines[crate]}\n" for crate in crates)
-        write_files(room, {"HANDLES": read(f"{self.top}/HANDLES"), "crates.txt": lines})
-        for crate in crates:
-            for part in [*PARTS, "out" if crate == name else "out/rlib"]:
-                if os.path.isdir(f"{self.folder(crate)}/{part}"):
-                    shutil.copytree(f"{self.folder(crate)}/{part}", f"{room}/crates/{crate}/{part}", copy_function=linked)
-
-
-def linked(one, other):
-    """Gives a file that a check replaces, and never writes into, a second name; copies any other, or to another disk."""
-    is_replaced = "/out/rlib/" in one or one.endswith(".oantt")
-    try:
-        (os.link if is_replaced else shutil.copy2)(one, other)
-    except OSError:
-        shutil.copy2(one, other)
+    def building(self, name, jobs):
+        """Returns the commands that prove a crate and build it: a library for those above it, a static library, or a program, which is linked."""
+        kit, out = toolchain(), f"{self.folder(name)}/out"
+        build, compiler = [*self.command("build", name), "--jobs", str(jobs)], ["--toolchain", f"{kit}/toolchain"]
+        if self.is_program(name):
+            code = [f"{out}/{name}.o", f"{kit}/c/libos_c.a", f"{kit}/c/liblibc_c.a"]
+            link = [f"{kit}/bin/rattle-link", "--target", TARGET, *compiler, "-o", f"{out}/{name}", *code]
+            return [[*build, *compiler, "-o", code[0]], link]
+        if self.is_static(name):
+            return [[*build, *compiler, "-o", f"{out}/lib{name}.a"]]
+        return [[*build, "--statements", "-o", self.built(name)]]
 
 
 class Commands:
-    """Runs commands of rt, adds up what they took, and ends them all where one fails and on an interrupt."""
+    """Runs commands, adds up what they took, and ends them all where one fails and on an interrupt."""
 
     def __init__(self, count):
         self.count, self.running, self.seconds, self.ended, self.lock = count, set(), Counter(), "", threading.RLock()
 
     def run(self, part, command, folder):
         """Runs a command in a folder, adds what it took to a part, and returns what it printed and its status."""
-        with tempfile.TemporaryFile("w+", encoding="utf-8", errors="replace") as out:
-            streams = {"stdin": subprocess.DEVNULL, "stdout": out, "stderr": out}
+        with tempfile.TemporaryDirectory(prefix="proof-") as room, open(f"{room}/said", "w+", encoding="utf-8", errors="replace") as out:
+            # (a command that is ended leaves its own folder)
+            how = {"stdin": subprocess.DEVNULL, "stdout": out, "stderr": out, "env": {**os.environ, "TMPDIR": room}}
             with self.lock:
                 if self.ended:
                     raise Failure(self.ended)
-                child = subprocess.Popen(command, cwd=folder, process_group=0, **streams)
+                child = subprocess.Popen(command, cwd=folder, process_group=0, **how)
                 self.running.add(child.pid)
             _, status, used = os.wait4(child.pid, 0)
             child.returncode = os.waitstatus_to_exitcode(status)
@@ -151,19 +155,16 @@ def longest_ways(crates, asked):
 
 
 def prove_all(crates, names, commands, tell):
-    """Proves crates with those below them, and tells the name of each: that with the longest way up by two jobs and as many more as the others leave
-    processors, each of the others, and a program, by one, which yields the more the shorter its way is."""
+    """Proves crates with those below them, half as many at a time as there are processors, and tells the name of each. Of two, that with the shorter
+    way up yields."""
     asked = {it for name in names for it in [*crates.below(name), name]}
     ways, order, running = longest_ways(crates, asked), TopologicalSorter({it: crates.uses(it) for it in asked}), {}
     order.prepare()
-    with ThreadPoolExecutor(commands.count) as pool:
+    with ThreadPoolExecutor((commands.count + 1) // 2) as pool:
         while order.is_active():
-            ready = order.get_ready()
-            *others, longest = sorted([*running.values(), *ready], key=ways.get)
-            for name in sorted(ready, key=ways.get, reverse=True):
-                is_shared = name == longest and not crates.is_program(name)
-                jobs = max(2, commands.count - len(others)) if is_shared else 1
-                running[pool.submit(prove, crates, name, jobs, 10 - 10 * ways[name] // ways[longest], commands)] = name
+            ready = sorted(order.get_ready(), key=ways.get, reverse=True)
+            longest = max(map(ways.get, [*running.values(), *ready]))
+            running |= {pool.submit(prove, crates, it, 10 - 10 * ways[it] // longest, commands): it for it in ready}
             for done in wait(running, return_when=FIRST_COMPLETED).done:
                 done.result()
                 name = running.pop(done)
@@ -171,33 +172,25 @@ def prove_all(crates, names, commands, tell):
                 tell(name)
 
 
-def prove(crates, name, jobs, niceness, commands):
-    """Proves a crate in a repository of its own: a library is built for those above it, a program is built and asked its version."""
-    with tempfile.TemporaryDirectory(prefix="proof-") as room:
-        crates.copy_to(room, name)
-        what = ["run", "--jobs", str(jobs), "--", "--version"] if crates.is_program(name) else ["lib", "--jobs", str(jobs)]
-        said, status = commands.run((name, "proof"), ["nice", "-n", str(niceness), "rt", *what], f"{room}/crates/{name}")
+def prove(crates, name, niceness, commands):
+    """Proves a crate and builds it, unless it is a library that is built as it stands."""
+    if crates.is_built(name):
+        return
+    began, built = time.time(), Path(crates.built(name))
+    os.makedirs(built.parent, exist_ok=True)
+    for command in crates.building(name, commands.count // 2 + 1):
+        said, status = commands.run((name, "proof"), ["nice", "-n", str(niceness), *command], crates.folder(name))
         if status:
             commands.fail(f"{name} is not proved:\n{said[-4000:]}")
-        shutil.rmtree(f"{crates.folder(name)}/out", ignore_errors=True)
-        shutil.move(f"{room}/crates/{name}/out", f"{crates.folder(name)}/out")
+    if built.is_dir():
+        # (a source that changed meanwhile is newer)
+        os.utime(built, (began, began))
 
 
 def prove_below(crates, name, commands):
     """Proves the libraries below a crate, unless they are built as they stand."""
     if not all(map(crates.is_built, crates.below(name))):
         prove_all(crates, crates.uses(name), commands, lambda name: None)
-
-
-def build_alone(crates, name, commands):
-    """Proves a static library over those below it as they are built, and builds it."""
-    prove_below(crates, name, commands)
-    archive = f"{crates.folder(name)}/out/lib{name}.a"
-    os.makedirs(os.path.dirname(archive), exist_ok=True)
-    command = [*crates.command("build", name), "--toolchain", f"{toolchain()}/toolchain", "--backend", "llvm", "-o", archive]
-    said, status = commands.run((name, "proof"), command, crates.folder(name))
-    if status:
-        commands.fail(f"{name} is not built:\n{said[-4000:]}")
 
 
 def processor_count():
@@ -215,11 +208,13 @@ def main():
     commands.end_on_interrupt()
     try:
         if "--alone" in sys.argv:
-            build_alone(crates, names[0], commands)
+            prove_below(crates, names[0], commands)
+            prove(crates, names[0], 0, commands)
             return 0
         tell("proving the crates, those below first; this takes some minutes the first time")
         prove_all(crates, names, commands, lambda name: tell(
-            f"{name} is proved by {commands.seconds[name, 'proof']:.0f} processor seconds, after {(time.time() - began) / 60:.1f} minutes"))
+            f"{name} is proved by {commands.seconds[name, 'proof']:.0f} processor seconds, after {(time.time() - began) / 60:.1f} minutes"
+            if (name, "proof") in commands.seconds else f"{name} is built as it stands"))
     except Failure as failure:
         tell(failure)
         return 1
