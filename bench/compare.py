@@ -1,8 +1,8 @@
 #!/usr/bin/env python3
 """Runs the benchmark of this library and that of the crate vers-vecs, and prints their times and ratios as a table.
 
-The original's driver is built by cargo. This library's is `crates/vers_bench`, which `rt run` in its folder proves and
-builds. The runs are interleaved: in each pass each structure is run by the one and by the other, and the least
+The original's driver is built by cargo. This library's is `crates/vers_bench`, which `tools/proofs.py vers_bench` proves
+and builds. The runs are interleaved: in each pass each structure is run by the one and by the other, and the least
 time of each series counts. Exit status 1 where a checksum differs: the answers differ then.
 
 `--checksums` builds the original's driver alone, runs its small workload, and compares its checksums with the stored run
@@ -172,7 +172,7 @@ def main():
     if unknown:
         parser.error(f"no structure {', '.join(sorted(unknown))}")
     if not asked.checksums and not os.path.exists(OWN):
-        sys.exit(f"{os.path.relpath(OWN)} is missing: run `rt run` in crates/vers_bench first")
+        sys.exit(f"{os.path.relpath(OWN)} is missing: run `python3 tools/proofs.py vers_bench` first")
     original = built_original(asked.original, asked.level)
     if asked.checksums:
         sys.exit(compare_checksums(original))
