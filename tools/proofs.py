@@ -10,6 +10,7 @@ they are not, they are proved first.
 """
 import contextlib
 import os
+import re
 import shutil
 import signal
 import subprocess
@@ -26,6 +27,8 @@ from sources import TOP, read, write_files
 
 PARTS = ("src", "specs", "proofs")
 TARGET = "x86_64-unknown-linux-gnu"
+# What a check says of a fault or of a goal that isn't proved: where it stands, in which function, and what is to be shown there.
+REASON = re.compile(r"^((note: )?(\./)?(src|specs|proofs)/\S+:\d+:\d+: .*|fn (?!.*: (proved|no proof: it calls)).*|note: `.* must prove: .*)", re.M)
 
 
 class Failure(Exception):
@@ -181,7 +184,8 @@ def prove(crates, name, niceness, commands):
     for command in crates.building(name, commands.count // 2 + 1):
         said, status = commands.run((name, "proof"), ["nice", "-n", str(niceness), *command], crates.folder(name))
         if status:
-            commands.fail(f"{name} is not proved:\n{said[-4000:]}")
+            reasons = "\n".join(it[0] for it in REASON.finditer(said))
+            commands.fail(f"{name} is not proved:\n{reasons or said[-4000:]}")
     if built.is_dir():
         # (a source that changed meanwhile is newer)
         os.utime(built, (began, began))
