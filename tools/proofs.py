@@ -111,7 +111,10 @@ class Commands:
 
     def run(self, part, command, folder):
         """Runs a command in a folder, adds what it took to a part, and returns what it printed and its status."""
-        with tempfile.TemporaryDirectory(prefix="proof-") as room, open(f"{room}/said", "w+", encoding="utf-8", errors="replace") as out:
+        with (
+            tempfile.TemporaryDirectory(prefix="proof-", ignore_cleanup_errors=True) as room,
+            open(f"{room}/said", "w+", encoding="utf-8", errors="replace") as out,
+        ):
             # (a command that is ended leaves its own folder)
             how = {"stdin": subprocess.DEVNULL, "stdout": out, "stderr": out, "env": {**os.environ, "TMPDIR": room}}
             with self.lock:
