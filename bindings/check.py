@@ -259,7 +259,7 @@ def has_archive(checks):
     if not os.path.exists(crate):
         checks.left_out.append("all else (no archive, and no crates/vers_c)")
         return False
-    build = [sys.executable, os.path.join(TOP, "tools", "proofs.py"), "--alone", "vers_c"]
+    build = [sys.executable, os.path.join(TOP, "tools", "proofs.py"), "vers_c"]
     return checks.has("rt", "all else, without an archive") and checks.run("the archive", build)
 
 

@@ -1,12 +1,9 @@
 #!/usr/bin/env python3
 """Proves crates with those below them, two side by side on four processors: proofs.py CRATE..
 
-Each crate begins once those below it are proved, and one that is built as it stands is passed over. Standard error tells of each. A library is
-built as `rt ci` builds it: the crates above read what it says, and not its proofs. A program is built and linked, and its file `out/NAME.built` is
-then as old as the beginning of the run.
-
-proofs.py --alone CRATE proves and builds a static library over the libraries below it as they are built, by this script or by `rt ci`; where
-they are not, they are proved first.
+Each crate begins once those below it are proved, and a library that is built as it stands, by this script or by `rt ci`, is passed over. Standard
+error tells of each. A library is built as `rt ci` builds it: the crates above read what it says, and not its proofs. A static library is built into
+`out`. A program is built and linked, and its file `out/NAME.built` is then as old as the beginning of the run.
 """
 import contextlib
 import os
@@ -115,7 +112,7 @@ class Commands:
             tempfile.TemporaryDirectory(prefix="proof-", ignore_cleanup_errors=True) as room,
             open(f"{room}/said", "w+", encoding="utf-8", errors="replace") as out,
         ):
-            # (a command that is ended leaves its own folder)
+            # (what an ended command leaves goes with this folder)
             how = {"stdin": subprocess.DEVNULL, "stdout": out, "stderr": out, "env": {**os.environ, "TMPDIR": room}}
             with self.lock:
                 if self.ended:
@@ -207,17 +204,13 @@ def processor_count():
 
 def main():
     """Proves the crates that are named."""
-    began, names, crates, commands = time.time(), [it for it in sys.argv[1:] if it != "--alone"], Crates(TOP), Commands(processor_count())
+    began, names, crates, commands = time.time(), sys.argv[1:], Crates(TOP), Commands(processor_count())
 
     def tell(text):
         print(f"{names[0]}: {text}", file=sys.stderr, flush=True)
 
     commands.end_on_interrupt()
     try:
-        if "--alone" in sys.argv:
-            prove_below(crates, names[0], commands)
-            prove(crates, names[0], 0, commands)
-            return 0
         tell("proving the crates, those below first; this takes some minutes the first time")
         prove_all(crates, names, commands, lambda name: tell(
             f"{name} is proved by {commands.seconds[name, 'proof']:.0f} processor seconds, after {(time.time() - began) / 60:.1f} minutes"
