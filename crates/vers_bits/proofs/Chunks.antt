@@ -1,8 +1,8 @@
 -- Sums over the chunks of a list, and lists whose chunks are the same.
-use Rattle.vers_bits.proofs.Names.{◌≡◌, ℕ, zero, suc, map, ◌+◌, ◌*◌, ◌≤◌, Bool, true, false, List, [], take, drop, length, get_or, eqb, refl, sym, ap, ◌∙◌, arith, Fits, w64, sum_by, count_ones, range_with_len, first_chunks, drop-drop, take-append-drop, sum_by-map-range_with_len_more, sum_by-cons, sum_by-take-drop, sum_by-le, ones-le, count, limb, limb_count, pointwise, bytes_eq-Decides, limbs}
+use Rattle.vers_bits.proofs.Names.{◌≡◌, ℕ, zero, suc, map, ◌+◌, ◌*◌, ◌<◌, ◌≤◌, Bool, true, false, List, [], take, drop, length, get_or, eqb, refl, sym, ap, ◌∙◌, arith, Fits, w64, sum_by, count_ones, range_with_len, first_chunks, drop-drop, take-append-drop, sum_by-map-range_with_len_more, sum_by-cons, sum_by-take-drop, sum_by-le, ones-le, get_or-take, get_or-drop, count, limb, limb_count, pointwise, bytes_eq-Decides, limbs}
 use Rattle.std.proofs.lemmas.List.Elements.{All-from_get_or}
 use Rattle.vers_bits.proofs.Count.{count_limb_whole, count_none, count_past}
-use Rattle.vers_bits.proofs.Equal.{length-limbs}
+use Rattle.vers_bits.proofs.Equal.{get_or-limbs, length-limbs}
 
 -- what the chunks hold, and what stands behind them, is the whole
 pub chunks-sum : (f : ℕ → ℕ) (n k : ℕ) (xs : List ℕ) → sum_by (sum_by f) (first_chunks n k xs) + sum_by f (drop (k * n) xs) ≡ sum_by f xs
@@ -45,7 +45,28 @@ tests_same xs ys e = sym ((bytes_eq-Decides xs ys).1 e)
 pub tests_other : (xs ys : List ℕ) → (xs ≡ ys → ⊥) → false ≡ pointwise eqb xs ys
 tests_other xs ys h = grind (arith, bytes_eq-Decides xs ys)
 
+-- one of the chunks
+pub chunk_at : (n k : ℕ) (xs : List ℕ) (i : ℕ) → i < k → get_or (first_chunks n k xs) i [] ≡ take n (drop (i * n) xs)
+chunk_at n zero xs i h = absurd (omega arith)
+chunk_at n (suc k) xs zero h = let none : 0 * n ≡ 0 = omega arith in rw none refl
+chunk_at n (suc k) xs (suc i) h =
+    let more : n + i * n ≡ suc i * n = omega arith in
+    rw (← more, ← drop-drop (i * n) n xs) (chunk_at n k (drop n xs) i (omega arith))
+
+-- an item of one of the chunks
+pub chunk_item : (n k : ℕ) (xs : List ℕ) (i j : ℕ) → i < k → j < n → get_or (get_or (first_chunks n k xs) i []) j 0 ≡ get_or xs (n * i + j) 0
+chunk_item n k xs i j h small =
+    let place : i * n + j ≡ n * i + j = omega arith in
+    rw (chunk_at n k xs i h, get_or-take n (drop (i * n) xs) j 0 small, get_or-drop (i * n) xs j 0, place) refl
+
 pub ruleset sums = (ones-bound)
+
+-- a limb of one of the blocks of 8
+pub limb_of_block : (l : List Bool) (ws : List ℕ) (n k j : ℕ) → ws ≡ limbs l → 8 * n ≤ length ws → k < n → j < 8 → get_or (get_or (first_chunks 8 n ws) k []) j 0 ≡ limb l (8 * k + j)
+limb_of_block l ws n k j same short within small =
+    chunk_item 8 n ws k j within small ∙ ap (λ xs. get_or xs (8 * k + j) 0) same ∙ get_or-limbs l (8 * k + j) (omega (arith, ap length same, length-limbs l))
+
+pub ruleset blocks = (limb_of_block, length-limbs)
 
 pub ruleset all_limbs = (ones_of_limbs, length-limbs)
 

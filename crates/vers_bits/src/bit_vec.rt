@@ -1,5 +1,5 @@
 //! The list of bits.
-ghost use Rattle.std.specs.Prelude.{◌≡◌, ℕ, ◌+◌, ◌-◌, ◌*◌, ◌/◌, ◌%◌, ◌^◌, ◌<◌, ◌≤◌, ◌↔◌, [], ◌∷◌, ◌++◌, length, take, drop, IsTrue, IsOk, OnOk, OnErr, IfOk, Some, None, slice_get, slice_index, slice_index_or, true, false, ◌==◌, Bool, List, option_map, flat_map};
+ghost use Rattle.std.specs.Prelude.{◌≡◌, ℕ, ◌+◌, ◌-◌, ◌*◌, ◌/◌, ◌%◌, ◌^◌, ◌<◌, ◌≤◌, ◌↔◌, [], ◌∷◌, ◌++◌, length, take, drop, IsTrue, IsSome, IfSome, IsOk, OnOk, OnErr, IfOk, Some, None, slice_get, slice_index, slice_index_or, true, false, ◌==◌, Bool, List, option_map, flat_map};
 ghost use Rattle.vers_bits.specs.Bits.{bit_value, number, count, limb, limbs, limb_count, part, part_number};
 ghost use Rattle.vers_bits.specs.inside.Words.{HoldsBits, AddsBit};
 ghost use Rattle.vers_bits.specs.Equality.{same_bits, hash_input, same_bits_per, same_bits_equiv, hash_input-Alike};
@@ -160,6 +160,22 @@ impl<A: Allocator + Copy> BitVec<A> {
         ensures { result ≡ limb self.now k }
     {
         self.data[k]
+    }
+
+    /// Returns block number `k` of 8 limbs each, from limb `8 * k` on, with zeros past the length. None if
+    /// the list has fewer limbs.
+    #[inline(always)]
+    #[tactic(auto, using(crate::proofs::Chunks::blocks))]
+    pub fn limb_block(&self, k: usize) -> Option<&[u64; 8]>
+        ensures limbs { IfSome result (λ block. (j : ℕ) → j < 8
+            → slice_index block.now j ≡ limb self.now (8 * k + j)) }
+        ensures some { IsSome result ↔ (512 * k + 448 < length self.now) }
+    {
+        let (blocks, _) = self.limbs().as_chunks::<8>();
+        if k < blocks.len() {
+            return Some(&blocks[k]);
+        }
+        None
     }
 
     // All limbs.

@@ -14,7 +14,7 @@ unfoldable pub use Rattle.vers_bits.specs.Bits.{limb, part_number, select}
 pub use Rattle.vers_rank.specs.Queries.{index_size, select_reads, superblock_count}
 unfoldable pub use Rattle.vers_rank.specs.Queries.{part_number_or_zero}
 pub use Rattle.vers_rank.specs.inside.Batches.{IsIn, StandsFor, number_of, superblock_reads}
-pub use Rattle.vers_rank.specs.inside.Index.{AreEntries, AreFirstSamples, IsAmongLimbs, IsIndexed, IsLimbWith, IsSample, held_before, held_of}
+pub use Rattle.vers_rank.specs.inside.Index.{AreEntries, AreFirstSamples, IsAmongLimbs, AreLimbsOf, IsIndexed, IsLimbWith, IsSample, held_before, held_of}
 unfoldable pub use Rattle.vers_rank.specs.inside.Index.{held, held_in}
 pub use Rattle.vers_rank.specs.inside.Offsets.{last_first, ones_below}
 pub use Rattle.vers_rank.specs.inside.Walks.{IsChunkWalkOf, IsMarked, IsReading, IsReadingBack, chunk_places_left, chunks_unread, marked}

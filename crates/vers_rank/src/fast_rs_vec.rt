@@ -19,6 +19,7 @@ use crate::build::{add_entries, samples};
 pub use bit_set_iter::BitSetIter;
 pub use iter::{RsVecIter, RsVecRefIter};
 pub use pair::PlacePair;
+pub use rank::RankedBit;
 pub use select_iter::{Places, SelectIntoIter, SelectIter};
 use std::alloc::{AllocError, Allocator};
 use std::marker::Model;

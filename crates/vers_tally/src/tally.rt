@@ -1,5 +1,5 @@
 //! Counters of reads, and the vectors whose entries are read only with one.
-ghost use Rattle.std.specs.Prelude.{◌≡◌, ℕ, ◌+◌, ◌*◌, ◌<◌, ◌≤◌, ◌^◌, List, length, take, drop, min, slice_index, slice_index_or, slice_get, option_map, false, OnSome, IfNone};
+ghost use Rattle.std.specs.Prelude.{◌≡◌, ℕ, ◌+◌, ◌*◌, ◌<◌, ◌≤◌, ◌^◌, List, length, take, drop, min, slice_index, slice_index_or, slice_get, option_map, false, IsSome, IfSome, OnSome, IfNone, ◌↔◌};
 ghost use Rattle.vers_bits.specs.Bits.{bit_value, number, part, part_number, limb};
 ghost use Rattle.vers_tally.specs.Reads.{Reads, no_reads, one_more, only_data_words, only_block_entries, only_superblock_entries, only_low_parts, only_rank_calls, only_items, only_blocks, only_nodes, only_chunks, AddsAtMost};
 
@@ -229,6 +229,28 @@ impl<A: Allocator + Copy> CountedBits<A> {
         self.bits.limb(k)
     }
 
+    /// Returns block number `k` of 8 limbs each, from limb `8 * k` on, with zeros past the length: 8 data words,
+    /// even if the caller uses fewer. None, and nothing is read, if the list has fewer limbs.
+    #[inline(always)]
+    pub fn block(&self, k: usize, tally: &mut Tally) -> Option<&[u64; 8]>
+        ensures limbs { IfSome result (λ block. (j : ℕ) → j < 8
+            → slice_index block.now j ≡ limb self.now (8 * k + j)) }
+        ensures some { IsSome result ↔ (512 * k + 448 < length self.now) }
+        ensures all { OnSome result (
+            tally.new ≡ record tally.old {
+              data_words = min (tally.old.data_words + 8) 18446744073709551615;
+            }
+            ) }
+        ensures none { IfNone result (tally.new ≡ tally.old) }
+        ensures adds { AddsAtMost tally.old tally.new (only_data_words 8) }
+    {
+        let block = self.bits.limb_block(k);
+        // With no branch, as in `get_bits`.
+        let reads = 8 * u64::from(block.is_some());
+        tally.data_words = tally.data_words.saturating_add(reads);
+        block
+    }
+
     /// The bit at a place, 1 or 0. Reads one data word, and none for a place that the list
     /// doesn't have.
     #[inline]
@@ -448,6 +470,14 @@ impl<A: Allocator + Copy> CountedItems<A> {
         ensures bounded { length self.now < 2 ^ 64 }
     {
         self.numbers.len()
+    }
+
+    /// The list that holds all numbers, for callers that ask for a vector.
+    #[inline]
+    pub fn as_vec(&self, _whole: Uncounted) -> &Vec<u64, A>
+        ensures { result.now.items ≡ self.now }
+    {
+        &self.numbers
     }
 
     /// All numbers, for clones, conversions and equality.

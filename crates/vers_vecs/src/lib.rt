@@ -11,7 +11,8 @@ pub mod bit_vec {
     /// Lists of bits with ranks and selects.
     pub mod fast_rs_vec {
         pub use vers_rank::fast_rs_vec::{
-            BitSetIter, PlacePair, RsVec, RsVecIter, RsVecRefIter, SelectIntoIter, SelectIter,
+            BitSetIter, PlacePair, RankedBit, RsVec, RsVecIter, RsVecRefIter, SelectIntoIter,
+            SelectIter,
         };
     }
 

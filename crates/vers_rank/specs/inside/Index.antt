@@ -1,6 +1,6 @@
 -- What the entries of an index say of the list of bits.
 use Rattle.std.specs.Prelude.{◌≡◌, ℕ, ◌+◌, ◌-◌, ◌*◌, ◌/◌, ◌%◌, ◌^◌, ◌<◌, ◌≤◌, min, List, Bool, true, false, cond, length, slice_index, count_ones}
-use Rattle.vers_bits.specs.Bits.{count, block_count}
+use Rattle.vers_bits.specs.Bits.{count, limb, block_count}
 use Rattle.vers_rank.specs.declared.fast_rs_vec.TheConstants.{BLOCK, SUPERBLOCK, BLOCKS}
 use Rattle.vers_rank.specs.Queries.{superblock_count, sample_count}
 
@@ -25,6 +25,10 @@ pub record IsIndexed (l : List Bool) (blocks superblocks zero_samples one_sample
   pub zeros_counted : zeros ≡ count false l (length l)
   pub zeros_sampled : AreSamples false l zero_samples
   pub ones_sampled : AreSamples true l one_samples
+
+-- the words are the 8 limbs of a block
+abbrev pub AreLimbsOf : List Bool → ℕ → List ℕ → Type 0
+AreLimbsOf l block limbs = (j : ℕ) → j < 8 → slice_index limbs j ≡ limb l (8 * block + j)
 
 -- how many of n bits are b, where `ones` of them are ones
 abbrev pub held_of : Bool → ℕ → ℕ → ℕ

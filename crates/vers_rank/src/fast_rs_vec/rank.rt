@@ -1,12 +1,22 @@
 //! How many zeros or ones stand below a place.
-ghost use Rattle.std.specs.Prelude.{◌≡◌, ℕ, ◌+◌, ◌*◌, ◌/◌, ◌<◌, ◌≤◌, ◌↔◌, IsTrue, length, true, false};
+ghost use Rattle.std.specs.Prelude.{◌≡◌, ℕ, ◌+◌, ◌*◌, ◌/◌, ◌<◌, ◌≤◌, ◌%◌, ◌^◌, length, true, false, count_ones, slice_index_or};
 ghost use Rattle.vers_bits.specs.Bits.{count};
 ghost use Rattle.vers_tally.specs.Reads.{no_reads, one_more, only_data_words, AddsAtMost};
 ghost use Rattle.vers_rank.specs.Queries.{rank_reads};
+ghost use Rattle.vers_rank.specs.inside.Index.{AreLimbsOf};
 
 use super::{BLOCK, BLOCKS, LIMB, RsVec};
 use std::alloc::Allocator;
 use vers_tally::tally::Tally;
+
+/// The bit at a place, and how many zeros stand below it.
+#[derive(Clone, Copy, Drop)]
+pub struct RankedBit {
+    /// How many zeros stand below the place.
+    pub zeros: usize,
+    /// Whether the bit is a one.
+    pub is_one: bool,
+}
 
 impl<A: Allocator + Copy> RsVec<A> {
     /// How many zeros stand below a place. Past the end all zeros count.
@@ -39,13 +49,13 @@ impl<A: Allocator + Copy> RsVec<A> {
         ensures adds { AddsAtMost tally.old tally.new rank_reads }
     {
         tally.add_rank_call();
-        if self.is_in_whole_block(place) {
-            return place - self.ones_below(place, true, tally);
+        if let Some(limbs) = self.bits.block(place / BLOCK, tally) {
+            return place.min(self.len()) - self.ones_below(limbs, place, tally);
         }
         if place >= self.len() {
             return self.zeros();
         }
-        place - self.ones_below(place, false, tally)
+        place - self.ones_below_in_last(place, tally)
     }
 
     /// The same as `rank1`, by at most 8 data words, one block entry and one superblock entry.
@@ -58,37 +68,77 @@ impl<A: Allocator + Copy> RsVec<A> {
         ensures adds { AddsAtMost tally.old tally.new rank_reads }
     {
         tally.add_rank_call();
-        if self.is_in_whole_block(place) {
-            return self.ones_below(place, true, tally);
+        if let Some(limbs) = self.bits.block(place / BLOCK, tally) {
+            return self.ones_below(limbs, place, tally);
         }
         if place >= self.len() {
             return self.ones();
         }
-        self.ones_below(place, false, tally)
+        self.ones_below_in_last(place, tally)
     }
 
-    // Whether a place lies in a block that has all its bits: one test for most places of a list, which
-    // says that the place is within the list too.
-    #[inline(always)]
-    fn is_in_whole_block(&self, place: usize) -> bool
-        ensures { IsTrue result ↔ (BLOCK * (place / BLOCK) + BLOCK ≤ length self.now) }
+    /// How many zeros stand below a place of the list, and whether the bit there is a one.
+    #[inline]
+    pub fn rank0_with_bit(&self, place: usize) -> RankedBit
+        requires { place < length self.now }
+        ensures zeros { result.zeros ≡ count false self.now place }
+        ensures bit { result.is_one ≡ slice_index_or self.now place false }
     {
-        place < self.len() / BLOCK * BLOCK
+        let mut tally = Tally::new();
+        self.rank0_with_bit_counted(place, &mut tally)
     }
 
-    // The ones below a place of the list, where `is_whole` says that its block has all its bits.
+    /// The same as `rank0_with_bit`, by at most 9 data words, one block entry and one superblock entry.
     #[inline(always)]
     #[tactic(auto, using(crate::proofs::Ranks::sums))]
-    fn ones_below(&self, place: usize, is_whole: bool, tally: &mut Tally) -> usize
-        requires within { place < length self.now }
-        requires whole { IsTrue is_whole → BLOCK * (place / BLOCK) + BLOCK ≤ length self.now }
+    pub fn rank0_with_bit_counted(&self, place: usize, tally: &mut Tally) -> RankedBit
+        requires { place < length self.now }
+        ensures zeros { result.zeros ≡ count false self.now place }
+        ensures bit { result.is_one ≡ slice_index_or self.now place false }
+        ensures counted { tally.new.rank_calls ≡ one_more tally.old.rank_calls }
+        ensures adds { AddsAtMost tally.old tally.new (record rank_reads { data_words = 9 }) }
+    {
+        tally.add_rank_call();
+        if let Some(limbs) = self.bits.block(place / BLOCK, tally) {
+            return RankedBit {
+                zeros: place - self.ones_below(limbs, place, tally),
+                is_one: limbs[place / LIMB % 8] >> (place % LIMB) & 1 == 1,
+            };
+        }
+        RankedBit {
+            zeros: place - self.ones_below_in_last(place, tally),
+            is_one: self.bits.is_one(place, tally),
+        }
+    }
+
+    // The ones below a place, by the limbs of its block.
+    #[inline(always)]
+    #[tactic(auto, using(crate::proofs::Ranks::sums))]
+    fn ones_below(&self, limbs: &[u64; 8], place: usize, tally: &mut Tally) -> usize
+        requires limbs { AreLimbsOf self.now (place / BLOCK) limbs.now }
+        requires within { BLOCK * (place / BLOCK) < length self.now }
+        ensures value { result ≡ count true self.now place }
+        ensures few { result ≤ place }
+        ensures adds { AddsAtMost tally.old tally.new
+            (record no_reads { block_entries = 1; superblock_entries = 1 }) }
+    {
+        let block = place / BLOCK;
+        let ones = self.ones_in_block(limbs, place);
+        BLOCK * block - self.zeros_before(block, tally) + ones
+    }
+
+    // The ones below a place of the last block, which has not all its limbs.
+    #[inline(always)]
+    #[tactic(auto, using(crate::proofs::Ranks::sums))]
+    fn ones_below_in_last(&self, place: usize, tally: &mut Tally) -> usize
+        requires { place < length self.now }
         ensures value { result ≡ count true self.now place }
         ensures few { result ≤ place }
         ensures adds { AddsAtMost tally.old tally.new
             (record no_reads { data_words = 8; block_entries = 1; superblock_entries = 1 }) }
     {
         let block = place / BLOCK;
-        let ones = self.ones_in_block(block, place, is_whole, tally);
+        let ones = self.ones_up_to(block, place, tally);
         BLOCK * block - self.zeros_before(block, tally) + ones
     }
 
@@ -106,122 +156,87 @@ impl<A: Allocator + Copy> RsVec<A> {
     }
 
     // The ones from the start of a block up to a place in it: up to its half, its quarter there, its limb
-    // there, and in that limb. In a whole block 8 limbs are read, with no branch on the place, which would
-    // be guessed wrong: each is left out of the sum where the place does not lie past it. None lies in a
-    // half past the place's own, which may stand in another line of the cache. In the last block, which
-    // may have fewer limbs, those that are left out are not read.
+    // there, and in that limb. Limbs past the place, which the last block may not have, are not read.
     #[inline(always)]
-    fn ones_in_block(&self, block: usize, place: usize, is_whole: bool, tally: &mut Tally) -> usize
+    fn ones_up_to(&self, block: usize, place: usize, tally: &mut Tally) -> usize
         requires within { (BLOCK * block ≤ place) × (place < BLOCK * block + BLOCK)
             × (place < length self.now) }
-        requires whole { IsTrue is_whole → BLOCK * block + BLOCK ≤ length self.now }
         ensures value { count true self.now (BLOCK * block) + result ≡ count true self.now place }
+        ensures few { result ≤ BLOCK }
         ensures adds { AddsAtMost tally.old tally.new (only_data_words 8) }
     {
-        let half = self.ones_before_half(block, place, is_whole, tally);
-        let quarter = self.ones_before_quarter(place, is_whole, tally);
-        let limb = self.ones_before_limb(place, is_whole, tally);
-        half + quarter + limb + self.ones_of_part(place, tally)
+        let half = self.ones_up_to_half(block, place, tally);
+        let quarter = self.ones_up_to_quarter(place, tally);
+        let limb = self.ones_up_to_limb(place, tally);
+        half + quarter + limb + self.ones_of_rest(place, tally)
     }
 
     // The ones from the start of a block up to a place's half of it.
     #[inline(always)]
     #[tactic(auto, using(crate::proofs::Ranks::parts))]
-    fn ones_before_half(
-        &self,
-        block: usize,
-        place: usize,
-        is_whole: bool,
-        tally: &mut Tally,
-    ) -> usize
+    fn ones_up_to_half(&self, block: usize, place: usize, tally: &mut Tally) -> usize
         requires within { (BLOCK * block ≤ place) × (place < BLOCK * block + BLOCK)
             × (place < length self.now) }
-        requires whole { IsTrue is_whole → BLOCK * block + BLOCK ≤ length self.now }
         ensures value { count true self.now (BLOCK * block) + result
             ≡ count true self.now (256 * (place / 256)) }
         ensures few { result ≤ 256 }
         ensures adds { AddsAtMost tally.old tally.new (only_data_words 4) }
     {
-        let two = self.ones_of_pair_before(8 * block, place, is_whole, tally);
-        let four = two + self.ones_of_pair_before(8 * block + 2, place, is_whole, tally);
-        if place / 256 % 2 == 1 { four } else { 0 }
+        if place / 256 % 2 == 0 {
+            return 0;
+        }
+        self.ones_of_two(8 * block, tally) + self.ones_of_two(8 * block + 2, tally)
     }
 
     // The ones from the start of a place's half of a block up to its quarter.
     #[inline(always)]
     #[tactic(auto, using(crate::proofs::Ranks::parts))]
-    fn ones_before_quarter(&self, place: usize, is_whole: bool, tally: &mut Tally) -> usize
-        requires within { place < length self.now }
-        requires whole { IsTrue is_whole → BLOCK * (place / BLOCK) + BLOCK ≤ length self.now }
+    fn ones_up_to_quarter(&self, place: usize, tally: &mut Tally) -> usize
+        requires { place < length self.now }
         ensures value { count true self.now (256 * (place / 256)) + result
             ≡ count true self.now (128 * (place / 128)) }
         ensures few { result ≤ 128 }
         ensures adds { AddsAtMost tally.old tally.new (only_data_words 2) }
     {
-        let two = self.ones_of_pair_before(place / 256 * 4, place, is_whole, tally);
-        if place / 128 % 2 == 1 { two } else { 0 }
-    }
-
-    // The ones of two limbs, where a place lies past them. In a list that may end in them they are read
-    // only there.
-    #[inline(always)]
-    fn ones_of_pair_before(
-        &self,
-        k: usize,
-        place: usize,
-        is_whole: bool,
-        tally: &mut Tally,
-    ) -> usize
-        requires within { place < length self.now }
-        requires whole { IsTrue is_whole → 64 * k + 64 < length self.now }
-        requires is_place { 64 * k + 64 < 18446744073709551616 }
-        ensures value { 64 * (k + 2) ≤ place
-            → count true self.now (64 * k) + result ≡ count true self.now (64 * (k + 2)) }
-        ensures few { result ≤ 128 }
-        ensures adds { AddsAtMost tally.old tally.new (only_data_words 2) }
-    {
-        if !is_whole && place / LIMB < k + 2 {
+        if place / 128 % 2 == 0 {
             return 0;
         }
-        self.ones_of_pair(k, tally)
+        self.ones_of_two(place / 256 * 4, tally)
     }
 
     // The ones from the start of a place's quarter of a block up to its limb.
     #[inline(always)]
     #[tactic(auto, using(crate::proofs::Ranks::parts))]
-    fn ones_before_limb(&self, place: usize, is_whole: bool, tally: &mut Tally) -> usize
-        requires within { place < length self.now }
-        requires whole { IsTrue is_whole → BLOCK * (place / BLOCK) + BLOCK ≤ length self.now }
+    fn ones_up_to_limb(&self, place: usize, tally: &mut Tally) -> usize
+        requires { place < length self.now }
         ensures value { count true self.now (128 * (place / 128)) + result
             ≡ count true self.now (64 * (place / 64)) }
         ensures few { result ≤ 64 }
         ensures adds { AddsAtMost tally.old tally.new (only_data_words 1) }
     {
-        let is_second_limb = place / 64 % 2 == 1;
-        if !is_whole && !is_second_limb {
+        if place / LIMB % 2 == 0 {
             return 0;
         }
-        let first = self.ones_of_limb(place / 128 * 2, tally);
-        if is_second_limb { first } else { 0 }
+        self.ones_of_whole(place / 128 * 2, tally)
     }
 
-    // The ones of two limbs.
+    // The ones of two limbs, which are read.
     #[inline(always)]
     #[tactic(auto, using(crate::proofs::Ranks::parts))]
-    pub(super) fn ones_of_pair(&self, k: usize, tally: &mut Tally) -> usize
+    pub(super) fn ones_of_two(&self, k: usize, tally: &mut Tally) -> usize
         requires within { 64 * k + 64 < length self.now }
         requires is_place { 64 * k < 18446744073709551616 }
         ensures value { count true self.now (64 * k) + result ≡ count true self.now (64 * (k + 2)) }
         ensures few { result ≤ 128 }
         ensures adds { AddsAtMost tally.old tally.new (only_data_words 2) }
     {
-        self.ones_of_limb(k, tally) + self.ones_of_limb(k + 1, tally)
+        self.ones_of_whole(k, tally) + self.ones_of_whole(k + 1, tally)
     }
 
-    // The ones of a limb.
+    // The ones of a limb, which is read.
     #[inline(always)]
     #[tactic(auto, using(crate::proofs::Ranks::limbs))]
-    pub(super) fn ones_of_limb(&self, k: usize, tally: &mut Tally) -> usize
+    pub(super) fn ones_of_whole(&self, k: usize, tally: &mut Tally) -> usize
         requires { 64 * k < length self.now }
         ensures value { count true self.now (64 * k) + result ≡ count true self.now (64 * (k + 1)) }
         ensures few { result ≤ 64 }
@@ -230,16 +245,108 @@ impl<A: Allocator + Copy> RsVec<A> {
         self.bits.limb(k, tally).count_ones() as usize
     }
 
-    // The ones of a place's limb that stand below it.
+    // The ones of a place's limb that stand below it, where the limb is read.
     #[inline(always)]
     #[tactic(auto, using(crate::proofs::Ranks::limbs))]
-    fn ones_of_part(&self, place: usize, tally: &mut Tally) -> usize
+    fn ones_of_rest(&self, place: usize, tally: &mut Tally) -> usize
         requires { place < length self.now }
         ensures value { count true self.now (64 * (place / 64)) + result
             ≡ count true self.now place }
         ensures few { result ≤ 64 }
         ensures adds { AddsAtMost tally.old tally.new (only_data_words 1) }
     {
-        (self.bits.limb(place / 64, tally) & ((1 << (place % 64)) - 1)).count_ones() as usize
+        ones_of_part(self.bits.limb(place / LIMB, tally), place)
     }
+
+    // The ones from the start of a block up to a place in it: up to its half, its quarter there, its limb
+    // there, and in that limb. All limbs that are looked at are left out of the sum where the place does not
+    // lie past them, with no branch on the place, which would be guessed wrong. None lies in a half past the
+    // place's own, which may stand in another line of the cache.
+    #[inline(always)]
+    #[tactic(auto, using(crate::proofs::Ranks::limbs))]
+    fn ones_in_block(&self, limbs: &[u64; 8], place: usize) -> usize
+        requires { AreLimbsOf self.now (place / BLOCK) limbs.now }
+        ensures value { count true self.now (BLOCK * (place / BLOCK)) + result
+            ≡ count true self.now place }
+    {
+        let half = self.ones_before_half(limbs, place);
+        let quarter = self.ones_before_quarter(limbs, place);
+        let limb = self.ones_before_limb(limbs, place);
+        half + quarter + limb + ones_of_part(limbs[place / LIMB % 8], place)
+    }
+
+    // The ones from the start of a block up to a place's half of it.
+    #[inline(always)]
+    #[tactic(auto, using(crate::proofs::Ranks::parts))]
+    fn ones_before_half(&self, limbs: &[u64; 8], place: usize) -> usize
+        requires { AreLimbsOf self.now (place / BLOCK) limbs.now }
+        ensures value { count true self.now (BLOCK * (place / BLOCK)) + result
+            ≡ count true self.now (256 * (place / 256)) }
+        ensures few { result ≤ 256 }
+    {
+        let block = place / BLOCK;
+        let two = self.ones_of_pair(limbs, block, 8 * block);
+        let four = two + self.ones_of_pair(limbs, block, 8 * block + 2);
+        if place / 256 % 2 == 1 { four } else { 0 }
+    }
+
+    // The ones from the start of a place's half of a block up to its quarter.
+    #[inline(always)]
+    #[tactic(auto, using(crate::proofs::Ranks::parts))]
+    fn ones_before_quarter(&self, limbs: &[u64; 8], place: usize) -> usize
+        requires { AreLimbsOf self.now (place / BLOCK) limbs.now }
+        ensures value { count true self.now (256 * (place / 256)) + result
+            ≡ count true self.now (128 * (place / 128)) }
+        ensures few { result ≤ 128 }
+    {
+        let two = self.ones_of_pair(limbs, place / BLOCK, place / 256 * 4);
+        if place / 128 % 2 == 1 { two } else { 0 }
+    }
+
+    // The ones from the start of a place's quarter of a block up to its limb.
+    #[inline(always)]
+    #[tactic(auto, using(crate::proofs::Ranks::parts))]
+    fn ones_before_limb(&self, limbs: &[u64; 8], place: usize) -> usize
+        requires { AreLimbsOf self.now (place / BLOCK) limbs.now }
+        ensures value { count true self.now (128 * (place / 128)) + result
+            ≡ count true self.now (64 * (place / 64)) }
+        ensures few { result ≤ 64 }
+    {
+        let first = self.ones_of_limb(limbs, place / BLOCK, place / 128 * 2);
+        if place / 64 % 2 == 1 { first } else { 0 }
+    }
+
+    // The ones of two limbs of a block.
+    #[inline(always)]
+    #[tactic(auto, using(crate::proofs::Ranks::parts))]
+    fn ones_of_pair(&self, limbs: &[u64; 8], block: usize, k: usize) -> usize
+        requires limbs { AreLimbsOf self.now block limbs.now }
+        requires within { (8 * block ≤ k) × (k + 1 < 8 * block + 8) }
+        ensures value { count true self.now (64 * k) + result ≡ count true self.now (64 * (k + 2)) }
+        ensures few { result ≤ 128 }
+    {
+        self.ones_of_limb(limbs, block, k) + self.ones_of_limb(limbs, block, k + 1)
+    }
+
+    // The ones of a limb of a block.
+    #[inline(always)]
+    #[tactic(auto, using(crate::proofs::Ranks::limbs))]
+    fn ones_of_limb(&self, limbs: &[u64; 8], block: usize, k: usize) -> usize
+        requires limbs { AreLimbsOf self.now block limbs.now }
+        requires within { (8 * block ≤ k) × (k < 8 * block + 8) }
+        ensures value { count true self.now (64 * k) + result ≡ count true self.now (64 * (k + 1)) }
+        ensures few { result ≤ 64 }
+    {
+        limbs[k % 8].count_ones() as usize
+    }
+}
+
+// The ones of a limb that stand below a place in it.
+#[inline(always)]
+#[tactic(auto, using(crate::proofs::Ranks::limbs))]
+fn ones_of_part(limb: u64, place: usize) -> usize
+    ensures value { result ≡ count_ones (limb % 2 ^ (place % 64)) }
+    ensures few { result ≤ 64 }
+{
+    (limb & ((1 << (place % LIMB)) - 1)).count_ones() as usize
 }

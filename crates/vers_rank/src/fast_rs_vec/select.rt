@@ -287,8 +287,9 @@ impl<A: Allocator + Copy> RsVec<A> {
             (only_superblock_entries (digits (superblock_count (length self.now)) + 10)) }
     {
         let _ = self.len();
-        let first = self.sample(bit, r / SUPERBLOCK, tally);
+        // The last first, so that a test of its place serves both.
         let last = self.sample(bit, r / SUPERBLOCK + 1, tally);
+        let first = self.sample(bit, r / SUPERBLOCK, tally);
         let n = last + 1 - first;
         if n == 1 {
             return first;
@@ -619,12 +620,12 @@ impl<A: Allocator + Copy> RsVec<A> {
     {
         let _ = self.len();
         let limb = 8 * block;
-        let first = self.ones_of_pair(limb, tally);
-        let two = first + self.ones_of_pair(limb + 2, tally);
-        let third = self.ones_of_pair(limb + 4, tally);
+        let first = self.ones_of_two(limb, tally);
+        let two = first + self.ones_of_two(limb + 2, tally);
+        let third = self.ones_of_two(limb + 4, tally);
         let half = self.half_of_block(bit, r, block, first, two, third);
         let quarter = self.half_of(bit, r, block, half.found, 2, half.ones);
-        let ones = self.ones_of_limb(quarter.limb, tally);
+        let ones = self.ones_of_whole(quarter.limb, tally);
         self.half_of(bit, r, block, quarter, 1, ones)
     }
 
