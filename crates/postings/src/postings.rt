@@ -31,6 +31,17 @@ impl<A: Allocator + Copy> Model for Postings<A> {
     ghost invariant = { λ p. ArePaired (record { documents = p.documents; costs = p.costs }) };
 }
 
+impl<A: Allocator + Copy> Clone for Postings<A> {
+    ghost is_clone = { λ old new. new ≡ old };
+
+    /// A second value of the same documents and costs.
+    fn clone(&self) -> Result<Self, AllocError> {
+        let costs = self.costs.clone()?;
+        let (documents, costs) = second_beside(&self.documents, costs)?;
+        Ok(Postings { documents, costs })
+    }
+}
+
 impl<A: Allocator + Copy> Postings<A> {
     /// The documents with their costs. Faults are tested in the order of `PostingsError`, and before
     /// memory is asked for. The costs are dropped on a fault.
@@ -113,4 +124,14 @@ fn documents_beside<A: Allocator + Copy, C: Drop>(
     ensures { IfOk result (λ made. (made.0 ≡ documents.now) × (made.1 ≡ costs)) }
 {
     Ok((EliasFanoVec::from_slice(alloc, documents)?, costs))
+}
+
+// A second list of documents beside what else is made, which is dropped where memory is refused.
+fn second_beside<A: Allocator + Copy, C: Drop>(
+    documents: &EliasFanoVec<A>,
+    costs: C,
+) -> Result<(EliasFanoVec<A>, C), AllocError>
+    ensures { IfOk result (λ made. (made.0 ≡ documents.now) × (made.1 ≡ costs)) }
+{
+    Ok((documents.clone()?, costs))
 }

@@ -3,8 +3,8 @@ use crate::shared::{Question, answer, counted_answer, posted};
 use postings::{Postings, PostingsError};
 use std::alloc::{AllocError, Allocator, Global};
 use test_alloc::{
-    Check, Conversion, Ending, LENGTHS, Making, Refusing, Trial, first_wrong_trial, try_conversion,
-    try_making, try_use_checked,
+    Check, Conversion, Ending, LENGTHS, Making, Refusing, Trial, first_wrong_trial,
+    try_clone_checked, try_conversion, try_making, try_use_checked,
 };
 use vers_tally::tally::Tally;
 
@@ -188,6 +188,7 @@ fn tried_sharing<'a>(heap: &'a Heap, others: &'a Heap, sharing: Sharing) -> Endi
 #[derive(Clone, Copy, Drop)]
 enum Call {
     FromSorted,
+    Clone,
     Queries,
     IntersectLonger,
     IntersectShorter,
@@ -227,6 +228,7 @@ fn tried(heap: &Heap, it: CallIn, documents: &[u64]) -> Ending {
     let evens = EvenNumbers { numbers: documents };
     match it.call {
         Call::FromSorted => try_conversion(heap, Vec::from_slice(heap, documents), &evens),
+        Call::Clone => try_clone_checked(heap, posted(heap, documents, documents), &evens),
         Call::Queries => try_use_checked(heap, posted(heap, documents, documents), &evens),
         _ => tried_pair(heap, it, documents),
     }
@@ -242,15 +244,16 @@ impl Trial<Global> for CallIn {
 
     fn takes_memory(self, len: usize) -> bool {
         match self.call {
-            Call::FromSorted => true,
+            Call::FromSorted | Call::Clone => true,
             Call::Queries => false,
             _ => len > 0,
         }
     }
 }
 
-const CALLS: [Call; 5] = [
+const CALLS: [Call; 6] = [
     Call::FromSorted,
+    Call::Clone,
     Call::Queries,
     Call::IntersectLonger,
     Call::IntersectShorter,

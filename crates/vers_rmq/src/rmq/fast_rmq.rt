@@ -133,6 +133,14 @@ impl<A: Allocator + Copy> FastRmq<A> {
         self.len() == 0
     }
 
+    /// The list that holds all items, for callers that ask for a vector.
+    #[inline]
+    pub fn items(&self, whole: Uncounted) -> &Vec<u64, A>
+        ensures { result.now.items ≡ self.now }
+    {
+        self.items.as_vec(whole)
+    }
+
     /// All items.
     #[inline]
     pub fn as_slice(&self) -> &[u64]
