@@ -8,6 +8,8 @@ behind '# ' in the wrong bodies that `rt` reads as well.
 """
 import os
 import re
+import shutil
+import subprocess
 import sys
 from collections import namedtuple
 from functools import cached_property
@@ -20,6 +22,10 @@ HEAD = re.compile(rf"(?: {{4}})?{PUB}(?:const |unsafe |extern \"C\" )*fn (\w+)")
 OWNER = re.compile(rf"{PUB}(?:unsafe )?(?:impl|trait)\b")
 CLAUSE = re.compile(r"(?ms)^\s*(requires|ensures) (?:[a-z_]\w* )?\{ (.*?)\s\}\s*(?=^\s*(?:requires|ensures)\b|\Z)")
 STRUCT = re.compile(rf"(?ms)^{PUB}(struct|enum) (\w+)([^;{{(]*)(\{{.*?^\}}|\{{[^\n]*\}}|\([^;]*\);|;)")
+# The test that fails with a wrong body.
+ROW = re.compile(r"(?m)^row: (\S+)$")
+# The oldest cargo by which the tests of the Rust crate and the library in C are built. (The crate itself needs 1.63.)
+NEW_CARGO = (1, 88)
 PARAMETER = re.compile(r"(?:mut )?(\w+): ((?:[^,<()\[]|<[^<>]*(?:<[^<>]*>[^<>]*)*>|\([^()]*\)|\[[^\[\]]*\])+)")
 # A wrong body: the function that it changes, what the lines of that become, the name under which it is tried, and the goal that it breaks,
 # with the names that a check has for the function of that goal, below the crate, and whether all goals are tried as for the right body.
@@ -187,18 +193,25 @@ def full_names(sources):
     return names
 
 
-def load_edit(name, text, sources):
-    """Returns a wrong body with the function that it changes, or raises a `ValueError` that says why it can't be tried."""
-    whole, said = text, re.findall(r"(?m)^(file|old|new): ?(.*)$", text)
-    file = next((text.strip() for word, text in said if word == "file"), "")
+def edited(text, edit):
+    """Returns a file's text with the pairs of an edit, or raises a `ValueError` that says why they don't apply."""
+    said = re.findall(r"(?m)^(file|old|new): ?(.*)$", edit)
     pairs = [(old, new) for (one, old), (other, new) in zip(said, said[1:]) if (one, other) == ("old", "new")]
-    if file not in sources or not pairs:
-        raise ValueError(f"there is no file {file} in the crate, or no pair of texts")
-    text, were = sources[file].text, sources[file].lines
+    if not pairs:
+        raise ValueError("it has no pair of texts")
     for old, new in pairs:
         if text.count(old) != 1:
-            raise ValueError(f"its old text stands {text.count(old)} times in {file}, and not once")
+            raise ValueError(f"its old text is {text.count(old)} times in its file, and not once")
         text = text.replace(old, new)
+    return text
+
+
+def load_edit(name, text, sources):
+    """Returns a wrong body with the function that it changes, or raises a `ValueError` that says why it can't be tried."""
+    whole, file = text, next(iter(re.findall(r"(?m)^file: ?(.*?) *$", text)), "")
+    if file not in sources:
+        raise ValueError(f"there is no file {file} in the crate")
+    text, were = edited(sources[file].text, whole), sources[file].lines
     lines = text.split("\n")
     changed = [at for at, (was, now) in enumerate(zip(were, lines)) if was != now]
     if not changed or len(lines) != len(were):
@@ -209,10 +222,12 @@ def load_edit(name, text, sources):
     if not name.startswith(f"{within[0].name}--"):
         raise ValueError(f"its name doesn't begin with `{within[0].name}--`, for the function that it changes")
     goal = re.search(r"(?m)^(?:# )?goal: (\S+) (\S+)( by auto)?$", whole)
-    if not goal or within[0].name not in goal[1].split("::"):
-        raise ValueError(f"it has no line `goal: FUNCTION GOAL` for a goal of `{within[0].name}`")
-    lines = lines[within[0].first : within[0].last + 1]
-    return Edit(name, file, within[0], lines, within[0].name, goal[1].split("::"), goal[2], bool(goal[3]))
+    if bool(goal) == bool(ROW.search(whole)):
+        raise ValueError("it has to have a line `row: TEST`, or a line `goal: FUNCTION GOAL`")
+    if goal and within[0].name not in goal[1].split("::"):
+        raise ValueError(f"its goal is none of `{within[0].name}`")
+    path, broken, is_auto = (goal[1].split("::"), goal[2], bool(goal[3])) if goal else ([], "", False)
+    return Edit(name, file, within[0], lines[within[0].first : within[0].last + 1], within[0].name, path, broken, is_auto)
 
 
 def public_files(sources):
@@ -236,6 +251,14 @@ def public_functions(sources):
         is_free = not function.owner and (function.source in public or function.name in exported)
         if (function.is_public or function.is_declared_by_trait) and (is_free or function.holder in shown):
             yield function
+
+
+def has_cargo():
+    """Returns whether cargo is there, as new as the tests of the Rust crate need it."""
+    if not shutil.which("cargo"):
+        return False
+    found = re.search(r"cargo (\d+)\.(\d+)", subprocess.run(["cargo", "--version"], stdout=subprocess.PIPE, text=True, check=False).stdout)
+    return bool(found) and (int(found[1]), int(found[2])) >= NEW_CARGO
 
 
 def tell(name, faults):

@@ -1,5 +1,5 @@
 #!/usr/bin/env python3
-"""Tries the wrong bodies of the crates, many at a time: wrong_bodies.py [--jobs N] [--most N] [--anew] [--right] [--self-test] [CRATE..]
+"""Tries by the prover the wrong bodies that no test refuses (tools/mutants.py), many at a time: wrong_bodies.py [--jobs N] [--most N] [--anew] [--right] [--self-test] [CRATE..]
 
 Functions are proved against the contracts of those that they call, so a wave puts many wrong bodies into one copy of a crate, and
 checks once. Each stands behind the right one in a function with a name of its own, but for methods of traits: these are changed, at most
@@ -29,7 +29,8 @@ from pathlib import Path
 import sources
 import wrong_plants
 from proofs import PARTS, Commands, Crates, Failure, processor_count, prove_below
-from sources import TOP, Source, by_path, full_names, load_edit, read, read_crate, write_files
+from plain_rust import CRATES
+from sources import ROW, TOP, Source, by_path, full_names, load_edit, read, read_crate, write_files
 
 KEPT = os.path.join(os.environ.get("XDG_CACHE_HOME") or os.path.expanduser("~/.cache"), "woltsjem", "wrong_bodies")
 MOST_KEPT = 1000
@@ -116,6 +117,7 @@ class Tried:
         self.names = full_names(self.sources.values())
         self.proofs = {os.path.relpath(it, self.folder): read(it) for it in sorted(Path(self.folder, "proofs").rglob("*.antt"))}
         paths = [str(it) for part in ("must-fail", "wrong") for it in sorted(Path(self.folder, part).glob("*.edit"))]
+        paths = [it for it in paths if name not in CRATES or not ROW.search(read(it))]
         self.files = {Path(path).stem: path for path in paths}
         if len(self.files) < len(paths):
             raise Failure(f"two wrong bodies of {name} have one name")

@@ -1,0 +1,290 @@
+//! Tests that the proved crates lack: each finds wrong bodies that no test there finds.
+
+use crate::proved::text_index::{TextIndex, DEFAULT_STEP};
+use crate::proved::vers_bits::bit_vec::{BitVec, GrowError, MAX_LEN};
+use crate::proved::vers_rank::fast_rs_vec::RsVec;
+use crate::proved::vers_rmq::rmq::binary_rmq::BinaryRmq;
+use crate::proved::vers_rmq::rmq::fast_rmq::FastRmq;
+use crate::proved::vers_saved::saved::{load_from_slice, save_to_vec};
+use crate::proved::vers_saved::trees::{load_parentheses_from_slice, load_tree, load_tree_from_slice};
+use crate::proved::vers_saved::{FACTOR, START, TURN};
+use crate::proved::vers_sorted::elias_fano::EliasFanoVec;
+use crate::proved::vers_sorted::sparse::SparseRSVec;
+use crate::proved::vers_tally::tally::{CountedBits, Tally};
+use crate::proved::vers_trees::trees::bp::{BpBuilder, BpTree};
+use crate::proved::vers_trees::trees::Tree;
+use crate::proved::vers_wavelet::wavelet::{GetQuery, WaveletMatrix};
+use crate::rattle::{Clone as _, Global, Vec};
+use std::ops::Bound;
+
+type Plain<T> = std::vec::Vec<T>;
+
+fn scattered(n: usize, seed: u64) -> Plain<bool> {
+    let mut state = seed;
+    (0..n)
+        .map(|_| {
+            state ^= state << 13;
+            state ^= state >> 7;
+            state ^= state << 17;
+            state % 3 == 0
+        })
+        .collect()
+}
+
+fn list(bits: &[bool]) -> BitVec<Global> {
+    BitVec::from_bools(Global, bits).ok().unwrap()
+}
+
+#[test]
+fn masks_are_read_past_their_first_limb() {
+    let (one, other) = (scattered(200, 7), scattered(200, 77));
+    let (left, right) = (list(&one), list(&other));
+    let both = list(&one.iter().zip(&other).map(|(a, b)| a & b).collect::<Plain<_>>());
+    let Ok(kept) = left.mask_and(&right) else { panic!() };
+    let Ok(custom) = left.mask_custom(&right, |a: u64, b: u64| a & b) else { panic!() };
+    for place in 0..200 {
+        let wanted = both.get(place);
+        assert!(kept.get(place) == wanted && kept.get_unchecked(place) == wanted.unwrap());
+        assert!(
+            kept.is_bit_set(place) == both.is_bit_set(place) && kept.is_bit_set_unchecked(place) == (wanted == Some(1))
+        );
+        assert!(custom.get(place) == wanted && custom.is_bit_set(place) == both.is_bit_set(place));
+        if place <= 136 {
+            assert!(
+                kept.get_bits_unchecked(place, 64) == both.get_bits_unchecked(place, 64)
+                    && custom.get_bits(place, 64) == both.get_bits(place, 64)
+            );
+        }
+    }
+    assert!(custom.get_bits(usize::MAX - 3, 8).is_none() && custom.get_bits(usize::MAX, 1).is_none());
+}
+
+#[test]
+fn clones_of_walks_go_on_where_these_are() {
+    let bits = scattered(100, 5);
+    let mut walk = list(&bits).into_iter();
+    walk.next();
+    walk.next_back();
+    assert!(walk.clone().ok().unwrap().eq(bits[1..99].iter().map(|it| u64::from(*it))));
+    let indexed = RsVec::from_bit_vec(list(&bits)).ok().unwrap();
+    let mut ones = indexed.iter1();
+    ones.next();
+    assert!(BothEndsClone::second(&ones).eq((0..100).filter(|it| bits[*it]).skip(1)));
+    let symbols = WaveletMatrix::from_slice(Global, &[3, 1, 2, 0], 2).ok().unwrap();
+    let mut walk = symbols.iter();
+    walk.next();
+    assert!(walk.size_hint() == (3, Some(3)) && walk.clone().len() == 3);
+    let tree = BpTree::<8, Global>::from_bit_vector(list(&[true, true, false, true, false, false])).ok().unwrap();
+    let walk = tree.dfs_post_iter();
+    assert!(walk.clone().len() == 3 && walk.clone().eq(walk));
+}
+
+/// The inherent clone of walks that borrow.
+trait BothEndsClone {
+    fn second(&self) -> Self;
+}
+
+impl BothEndsClone for crate::proved::vers_rank::fast_rs_vec::SelectIter<'_, false, Global> {
+    fn second(&self) -> Self {
+        self.clone()
+    }
+}
+
+#[test]
+fn lengths_at_the_greatest_are_no_fault_of_length() {
+    assert!(BitVec::from_zeros(Global, MAX_LEN).err() == Some(GrowError::Memory));
+    let most = crate::proved::vers_trees::trees::bp::MAX_LEN as u64 / 2;
+    assert!(BpBuilder::<8, Global>::with_capacity(Global, most).err() == Some(GrowError::Memory));
+}
+
+#[test]
+fn equality_of_places_sees_the_length() {
+    let mut bits = scattered(100, 9);
+    bits[99] = true;
+    let short = RsVec::from_bit_vec(list(&bits)).ok().unwrap();
+    bits.push(false);
+    let long = RsVec::from_bit_vec(list(&bits)).ok().unwrap();
+    assert!(!short.sparse_equals::<false>(&long) && !long.sparse_equals::<false>(&short));
+}
+
+#[test]
+fn empty_is_only_what_has_nothing() {
+    assert!(!SparseRSVec::new(Global, &[], 1).ok().unwrap().is_empty());
+    assert!(!WaveletMatrix::from_slice(Global, &[1], 1).ok().unwrap().is_empty());
+    let tree = BpTree::<8, Global>::from_bit_vector(list(&[true, false])).ok().unwrap();
+    assert!(!Tree::is_empty(&tree) && Tree::node_handle(&tree, 0) == 0 && Tree::node_handle(&tree, 1) == 2);
+    assert!(tree.has_node(0) && !tree.has_node(1));
+    assert!(GetQuery::new(3).answer.is_none());
+}
+
+#[test]
+fn ascending_lists_in_clusters() {
+    let mut members: Plain<u64> = (0..300).map(|k| 1_000_000_000 + 2 * k + k % 5 * (k / 40)).collect();
+    members.extend((0..300).map(|k| 5_000_000_000 + 3 * k));
+    members.extend([7, 9, 1 << 40]);
+    members.sort();
+    let vec = EliasFanoVec::from_slice(Global, &members).ok().unwrap();
+    for at in members.iter().flat_map(|it| [it - 1, *it, it + 1]).filter(|it| *it > 6) {
+        assert!(vec.rank(at) as usize == members.partition_point(|it| *it < at), "{at}");
+        let (before, after) = (members.iter().rev().find(|it| **it <= at), members.iter().find(|it| **it >= at));
+        assert!(vec.predecessor(at) == before.copied() && vec.successor(at) == after.copied(), "{at}");
+        assert!(vec.has(at) == members.contains(&at));
+        if let Some(before) = before {
+            assert!(vec.predecessor_unchecked(at) == *before);
+        }
+        if let Some(after) = after {
+            assert!(vec.successor_unchecked(at) == *after);
+        }
+    }
+}
+
+#[test]
+fn sizes_of_ascending_lists() {
+    let clog = |it: u64| 64 - u64::from((it - 1).leading_zeros());
+    for n in 1u64..200 {
+        for (first, step) in [(0, 1), (1 << 50, 1), (1 << 50, 1000), (5, 3)] {
+            let members: Plain<u64> = (0..n).map(|k| first + k * step).collect();
+            let u = (n - 1) * step;
+            let width = clog(u.max(2)).max(clog(n + 2)) - clog(n.max(2));
+            let high = 2 + n + (u >> width);
+            let index = |n: u64, ones: u64| {
+                8 * n.div_ceil(64) + 2 * n.div_ceil(512) + 8 * n.div_ceil(8192) + 16 * (ones.max(n - ones) / 8192 + 2)
+            };
+            let vec = EliasFanoVec::from_slice(Global, &members).ok().unwrap();
+            assert_eq!(
+                vec.heap_size() as u64,
+                index(high, n) + 8 * (n * width).div_ceil(64),
+                "{n} from {first} by {step}"
+            );
+        }
+    }
+}
+
+#[test]
+fn ranges_to_the_length_are_cut() {
+    for n in [1, 4, 128] {
+        let items = || Vec::from_elem(Global, 7, n).ok().unwrap();
+        let minima = BinaryRmq::from_vec(items()).ok().unwrap();
+        assert!(minima.range_min_with_range(Bound::Unbounded, Bound::Included(n)) == 0);
+        let minima = FastRmq::from_vec(items()).ok().unwrap();
+        assert!(minima.range_min_with_range(Bound::Unbounded, Bound::Included(n)) == 0);
+    }
+}
+
+#[test]
+fn nothing_is_counted_where_nothing_is_read() {
+    let bits = CountedBits::new(list(&scattered(100, 3)));
+    let mut tally = Tally::new();
+    assert!(
+        bits.get(100, &mut tally).is_none() && bits.get_bits(5, 0, &mut tally).is_none() && tally.data_words() == 0
+    );
+}
+
+#[test]
+fn searches_over_whole_words_are_those_of_a_scan() {
+    for seed in 1..5 {
+        let mut bits = scattered(2100, seed);
+        for (k, bit) in bits.iter_mut().enumerate() {
+            *bit = [*bit, k / 64 % 2 == 0, !*bit, k % 64 < 30][seed as usize % 4];
+        }
+        let tree = BpTree::<512, Global>::from_bit_vector(list(&bits)).ok().unwrap();
+        let step = |k: usize| if bits[k] { 1 } else { -1 };
+        for i in (0..2100).step_by(53) {
+            for r in -140i64..140 {
+                let mut sum = 0;
+                let after = (i + 1..2100).find(|k| {
+                    sum += step(*k);
+                    sum == r
+                });
+                assert!(tree.fwd_search(i, r) == after, "{seed} {i} {r}");
+                sum = 0;
+                let before = (0..i).rev().find(|k| {
+                    sum -= step(*k);
+                    sum == r
+                });
+                assert!(tree.bwd_search(i, r) == before, "{seed} {i} {r}");
+            }
+        }
+    }
+}
+
+#[test]
+fn long_lists_go_round() {
+    let members: Plain<u64> = (0..1500).map(|k| k * k).collect();
+    let sorted = EliasFanoVec::from_slice(Global, &members).ok().unwrap();
+    let mut bytes = Vec::new(Global);
+    assert!(save_to_vec(&sorted, &mut bytes).is_ok());
+    let loaded: EliasFanoVec<Global> = load_from_slice(Global, bytes.as_slice()).ok().unwrap();
+    assert!(loaded.iter().eq(members.iter().copied()));
+    let words: Plain<u64> =
+        bytes.as_slice().chunks_exact(8).map(|it| u64::from_le_bytes(it.try_into().unwrap())).collect();
+    assert!(words.windows(1500).any(|it| it == members));
+}
+
+#[test]
+fn trees_of_other_blocks_are_refused() {
+    let bits = [true, true, false, false];
+    let tree = BpTree::<512, &Global>::from_bit_vector(BitVec::from_bools(&Global, &bits).ok().unwrap()).ok().unwrap();
+    let mut bytes = Vec::new(Global);
+    assert!(save_to_vec(&tree, &mut bytes).is_ok());
+    let bytes = bytes.as_slice();
+    assert!(
+        load_tree_from_slice::<512, Global>(&Global, bytes).is_ok()
+            && load_tree_from_slice::<8, Global>(&Global, bytes).is_err()
+    );
+    assert!(
+        load_tree::<512, Global, _>(&Global, &mut &bytes[..]).is_ok()
+            && load_tree::<8, Global, _>(&Global, &mut &bytes[..]).is_err()
+    );
+    assert!(
+        load_parentheses_from_slice(Global, 512, bytes).is_ok()
+            && load_parentheses_from_slice(Global, 8, bytes).is_err()
+    );
+}
+
+/// Saved words of which one is another, with their sum.
+fn resaved(bytes: &[u8], at: usize, word: u64) -> Plain<u8> {
+    let mut words: Plain<u64> = bytes.chunks_exact(8).map(|it| u64::from_le_bytes(it.try_into().unwrap())).collect();
+    let last = words.len() - 1;
+    words[at] = word;
+    words[last] = words[..last].iter().fold(START, |sum, it| (sum ^ it).wrapping_mul(FACTOR).rotate_left(TURN));
+    words.iter().flat_map(|it| it.to_le_bytes()).collect()
+}
+
+#[test]
+fn forms_that_no_list_has_are_refused() {
+    let mut bytes = Vec::new(Global);
+    assert!(save_to_vec(&list(&[false, false, false, true]), &mut bytes).is_ok());
+    let loads = |bytes: &[u8]| load_from_slice::<BitVec<Global>, Global>(Global, bytes).is_ok();
+    let bytes = bytes.as_slice();
+    assert!(loads(&resaved(bytes, 4, 4)) && loads(&resaved(bytes, 4, 5)) && !loads(&resaved(bytes, 4, 3)));
+    let tree =
+        BpTree::<8, &Global>::from_bit_vector(BitVec::from_bools(&Global, &[true, false]).ok().unwrap()).ok().unwrap();
+    let mut bytes = Vec::new(Global);
+    assert!(save_to_vec(&tree, &mut bytes).is_ok());
+    assert!(load_parentheses_from_slice(Global, 8, bytes.as_slice()).is_ok());
+    assert!(load_parentheses_from_slice(Global, 0, &resaved(bytes.as_slice(), 3, 0)).is_err());
+}
+
+#[test]
+fn a_text_keeps_a_place_of_each_32() {
+    assert!(TextIndex::from_slice(Global, &[1, 2, 3], 3).ok().unwrap().step() == DEFAULT_STEP);
+}
+
+#[test]
+fn ranks_and_bits_of_every_place() {
+    for n in [1, 63, 64, 449, 500, 511, 512, 513, 1000, 8192 + 500] {
+        let bits = scattered(n, n as u64);
+        let Ok(index) = RsVec::from_bit_vec(list(&bits)) else { panic!() };
+        let mut ones = 0;
+        for (place, bit) in bits.iter().enumerate() {
+            assert_eq!((index.rank1(place), index.rank0(place)), (ones, place - ones), "{place} of {n}");
+            let found = index.rank0_with_bit(place);
+            assert_eq!((found.zeros, found.is_one), (place - ones, *bit), "{place} of {n}");
+            ones += usize::from(*bit);
+        }
+        for place in [n, n + 1, n + 63, n + 511, usize::MAX] {
+            assert_eq!((index.rank1(place), index.rank0(place)), (ones, n - ones), "{place} of {n}");
+        }
+    }
+}

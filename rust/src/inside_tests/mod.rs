@@ -1,0 +1,5 @@
+//! Tests of the proved sources that need more than their crates of tests have: entries that are read, and other sizes.
+
+mod bodies;
+mod memory;
+mod reads;

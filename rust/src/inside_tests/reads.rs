@@ -1,0 +1,825 @@
+//! Compares what counted calls read with what their counter says, over lists whose lengths lie around limbs, blocks and superblocks.
+//!
+//! A read is sorted by the type of the entry and by the line that reads: the counted vectors read in a few lines of `vers_tally` and
+//! `vers_bits`, and all that is read elsewhere, or handed out as a whole slice, is wrong in a counted call. The counter leaves out range-minimum
+//! tables and masks, places in bytes, and the list of levels; a low part counts one and takes two words, or none where its width is 0.
+
+use crate::proved::postings::Postings;
+use crate::proved::vers_bits::bit_vec::BitVec;
+use crate::proved::vers_rank::fast_rs_vec::RsVec;
+use crate::proved::vers_rmq::rmq::binary_rmq::BinaryRmq;
+use crate::proved::vers_rmq::rmq::fast_rmq::FastRmq;
+use crate::proved::vers_sorted::elias_fano::EliasFanoVec;
+use crate::proved::vers_sorted::sparse::SparseRSVec;
+use crate::proved::vers_tally::tally::Tally;
+use crate::proved::vers_trees::trees::bp::BpTree;
+use crate::proved::vers_wavelet::wavelet::{
+    GatheredQuery, GetQuery, QuantileQuery, RankQuery, SelectQuery, WaveletMatrix,
+};
+use crate::rattle::reads::{during, Read, Way};
+use crate::rattle::{Global, Vec};
+use std::collections::{BTreeMap, BTreeSet};
+use std::ops::Bound;
+
+type Plain<T> = std::vec::Vec<T>;
+
+/// The two files of the proved sources in which entries of counted vectors are read.
+#[cfg(not(mutants))]
+const FILES: [&str; 2] =
+    [include_str!("../proved/vers_tally/tally.rs"), include_str!("../proved/vers_bits/bit_vec.rs")];
+#[cfg(mutants)]
+const FILES: [&str; 2] = [
+    include_str!("../../target/mutants/proved/vers_tally/tally.rs"),
+    include_str!("../../target/mutants/proved/vers_bits/bit_vec.rs"),
+];
+
+/// Whether a read stands in such a file, in a line with a text.
+fn stands(read: &Read, file: &str, of: &str, text: &str) -> bool {
+    let line = of.lines().nth(read.at.line() as usize - 1).unwrap_or_default();
+    read.at.file().ends_with(file) && line.contains(text)
+}
+
+#[derive(Clone, Copy, PartialEq, Eq, PartialOrd, Ord, Debug)]
+enum Kind {
+    Words,
+    Blocks,
+    Superblocks,
+    Items,
+    Nodes,
+    LeftOut,
+    Wrong,
+}
+
+/// What was read by one name of a call.
+#[derive(Default)]
+struct Row {
+    calls: u64,
+    read: u64,
+    more: u64,
+    less: u64,
+    least: i64,
+    most: i64,
+    first: String,
+    // Counters above what the specification allows.
+    beyond: String,
+    left_out: BTreeMap<&'static str, u64>,
+}
+
+/// The most that each counter may grow by, by the table of the specification, in lists of at most 16 superblocks.
+fn most_of(name: &str, digits: u64, chunks: u64) -> [u64; 9] {
+    let select = [8, 17, 5 + 12, 0, 1, 0, 0, 0, 0];
+    let times = |n: u64, low: u64| [8 * n, 17 * n, 17 * n, low, n, 0, 0, 0, 0];
+    let any = u64::MAX;
+    let (of, call) = name.split_once("::").unwrap_or(name.split_once(' ').unwrap_or((name, "")));
+    match (of, call.trim_end_matches("_counted")) {
+        ("RsVec", it) if it.contains("_each") => [any; 9],
+        ("RsVec", it) if it.starts_with("bit_set_iter") => [2 * chunks, 0, 0, 0, 2 * chunks, 0, 0, 0, any],
+        ("RsVec", "get" | "is_one") => [1, 0, 0, 0, 1, 0, 0, 0, 0],
+        ("RsVec", "get_bits") => [2, 0, 0, 0, 1, 0, 0, 0, 0],
+        ("RsVec", "rank0" | "rank1") => [8, 1, 1, 0, 1, 0, 0, 0, 0],
+        ("RsVec", "select0" | "select1") => select,
+        ("RsVec", "select0_pair" | "select1_pair") => times(2, 0),
+        ("RsVec", it) if it.starts_with("predecessor") || it.starts_with("successor") => [16, 18, 18, 0, 2, 0, 0, 0, 0],
+        ("RsVec", it) if it.starts_with("iter ") => [1, 0, 0, 0, 2, 0, 0, 0, 0],
+        ("RsVec", _) => [8, 17, 17, 0, 2, 0, 0, 0, 0],
+        ("EliasFanoVec", it) if it.contains("_each") => [any; 9],
+        ("EliasFanoVec", "predecessor" | "successor" | "rank" | "has") => times(digits + 8, digits + 8),
+        ("SparseRSVec", "rank0" | "rank1" | "is_set" | "get") => times(digits + 8, digits + 8),
+        ("EliasFanoVec" | "SparseRSVec", _) => times(2, 2),
+        ("BinaryRmq", _) => [0, 0, 0, 0, 0, 2, 0, 0, 0],
+        ("FastRmq", _) => [0, 0, 0, 0, 0, 18, 0, 0, 0],
+        ("BpTree", "is_balanced") => [0, 0, 0, 0, 0, 0, 0, 1, 0],
+        _ => [any; 9],
+    }
+}
+
+/// All calls by their names.
+#[derive(Default)]
+struct Book {
+    rows: BTreeMap<String, Row>,
+    lines: BTreeMap<(&'static str, u32), Kind>,
+    // How many words a low part takes, the digits of the number of members, and the lists that are arguments.
+    low: u64,
+    digits: u64,
+    arguments: Plain<usize>,
+}
+
+impl Book {
+    fn kind(&mut self, read: &Read) -> Kind {
+        if read.of == "u32" || read.of == "u8" || read.of.contains("::BlockMasks") || read.of.contains("::RsVec<") {
+            return Kind::LeftOut;
+        }
+        let at = (read.at.file(), read.at.line());
+        if let Some(kind) = self.lines.get(&at) {
+            return *kind;
+        }
+        let tally = |text| stands(read, "vers_tally/tally.rs", FILES[0], text);
+        let kind = match read.of {
+            "u16" if tally("self.entries") => Kind::Blocks,
+            "u64" if tally("self.numbers[k]") => Kind::Items,
+            "u64" if tally("self.entries[k]") => Kind::Superblocks,
+            "u64" if stands(read, "vers_bits/bit_vec.rs", FILES[1], "self.data") => Kind::Words,
+            "u64" if stands(read, "vers_bits/bit_vec.rs", FILES[1], "blocks.at(k)") => Kind::Words,
+            it if tally("self.entries[k]") && it.contains("::Node") => Kind::Nodes,
+            _ => Kind::Wrong,
+        };
+        self.lines.insert(at, kind);
+        kind
+    }
+
+    /// Makes a call and compares.
+    fn call<R>(&mut self, name: &str, about: impl Fn() -> String, call: impl FnOnce(&mut Tally) -> R) -> R {
+        let mut tally = Tally::new();
+        let (answer, reads) = during(|| call(&mut tally));
+        let (mut seen, mut wrong, mut left_out) = ([0u64; 7], String::new(), BTreeMap::new());
+        // Lists that the call makes itself are no part of what is asked.
+        let made: BTreeSet<usize> = reads.iter().filter(|it| it.way == Way::Made).map(|it| it.list).collect();
+        let handed: BTreeSet<_> = reads
+            .iter()
+            .filter(|it| it.way == Way::Handed && it.of == "u16")
+            .map(|it| (it.list, it.list + 2 * it.count))
+            .collect();
+        for read in &reads {
+            if read.way == Way::Made || made.contains(&read.list) || self.arguments.contains(&read.list) {
+                continue;
+            }
+            let kind = self.kind(read);
+            let size = if read.way == Way::Lanes { 0 } else { read.count as u64 };
+            match (read.way, kind) {
+                (_, Kind::LeftOut) => *left_out.entry(read.of.rsplit("::").next().unwrap()).or_insert(0) += 1,
+                // A load of lanes from a table of the program is no read of a list.
+                (Way::Lanes, _) => {
+                    if read.of == "u16" && handed.iter().any(|(from, to)| (*from..*to).contains(&read.first)) {
+                        seen[Kind::Blocks as usize] += read.count as u64;
+                    }
+                }
+                (Way::Split, _) => {}
+                (Way::Handed, Kind::Blocks | Kind::Words) => {}
+                (Way::Index | Way::Array, it) if it != Kind::Wrong => seen[it as usize] += size,
+                _ => {
+                    seen[Kind::Wrong as usize] += size;
+                    wrong = format!("{:?} of {} {} at {}", read.way, read.count, read.of, read.at);
+                }
+            }
+        }
+        // Each slice of all words was split into blocks of 8, of which one is read at most; one of all block entries was loaded by lanes once.
+        let count = |of, way, file: &str, size: Option<usize>| {
+            let is_one = |it: &&Read| it.way == way && it.of == of && it.at.file().ends_with(file);
+            reads.iter().filter(is_one).filter(|it| size.map_or(true, |size| it.count == size)).count()
+        };
+        let words = |way, size| count("u64", way, "vers_bits/bit_vec.rs", size);
+        let entries = |way| count("u16", way, "tally.rs", None);
+        if words(Way::Handed, None) != words(Way::Split, Some(8)) || entries(Way::Handed) != entries(Way::Lanes) {
+            seen[Kind::Wrong as usize] += 1;
+            wrong = "all entries handed out".to_string();
+        }
+        let told = [
+            tally.data_words() + self.low * tally.low_parts(),
+            tally.block_entries(),
+            tally.superblock_entries(),
+            tally.items(),
+            tally.nodes(),
+            0,
+            0,
+        ];
+        let counters = [
+            tally.data_words(),
+            tally.block_entries(),
+            tally.superblock_entries(),
+            tally.low_parts(),
+            tally.rank_calls(),
+            tally.items(),
+            tally.blocks(),
+            tally.nodes(),
+            tally.chunks(),
+        ];
+        let row = self.rows.entry(name.to_string()).or_default();
+        row.calls += 1;
+        let most = most_of(name, self.digits, tally.chunks());
+        if counters.iter().zip(most).any(|(it, most)| *it > most) && row.beyond.is_empty() {
+            row.beyond = format!("{}: counts {counters:?} where at most {most:?}", about());
+        }
+        row.read += seen.iter().sum::<u64>();
+        for (it, n) in left_out {
+            *row.left_out.entry(it).or_default() += n;
+        }
+        let differences = || seen.iter().zip(told).map(|(seen, told)| *seen as i64 - told as i64);
+        row.most = row.most.max(differences().max().unwrap());
+        row.least = row.least.min(differences().min().unwrap());
+        row.more += u64::from(differences().any(|it| it > 0));
+        row.less += u64::from(differences().any(|it| it < 0));
+        if seen != told && row.first.is_empty() {
+            row.first = format!("{}: read {seen:?}, told {told:?} {wrong}", about());
+        }
+        answer
+    }
+
+    /// Prints the rows, and returns the names of those that differ.
+    fn told(&self) -> Plain<String> {
+        for (name, it) in &self.rows {
+            let (more, less) = (format!("{} (+{})", it.more, it.most), format!("{} ({})", it.less, it.least));
+            println!(
+                "{name:44} calls {:7} read {:8} more {more:10} less {less:10} {:?} {} {}",
+                it.calls, it.read, it.left_out, it.first, it.beyond
+            );
+        }
+        self.rows
+            .iter()
+            .filter(|it| it.1.more + it.1.less > 0 || !it.1.beyond.is_empty())
+            .map(|it| it.0.clone())
+            .collect()
+    }
+}
+
+const LENGTHS: [usize; 17] = [0, 1, 63, 64, 65, 127, 511, 512, 513, 1025, 8191, 8192, 8193, 8705, 16384, 16449, 40_000];
+
+/// Bits of several kinds: sparse, dense, and in runs.
+fn bits_of(n: usize, kind: usize) -> BitVec<Global> {
+    let mut state = 0x9e37_79b9_7f4a_7c15u64;
+    let bits: Plain<bool> = (0..n)
+        .map(|k| {
+            state ^= state << 13;
+            state ^= state >> 7;
+            state ^= state << 17;
+            match kind {
+                0 => false,
+                1 => true,
+                2 => state % 2 == 0,
+                3 => state % 97 == 0,
+                _ => k / 3000 % 2 == 0,
+            }
+        })
+        .collect();
+    BitVec::from_bools(Global, &bits).ok().unwrap()
+}
+
+/// Places around the boundaries of a list of `n`, and past its end.
+fn places(n: usize) -> Plain<usize> {
+    let mut found: Plain<usize> =
+        [0, 1, 62, 63, 64, 65, 255, 256, 511, 512, 513, 700, 8191, 8192, 8193, 9000, 16383, 16384]
+            .into_iter()
+            .chain([n / 3, n / 2, n - n / 7])
+            .filter(|it| *it <= n)
+            .chain([n.saturating_sub(2), n.saturating_sub(1), n, n + 1, usize::MAX])
+            .collect();
+    found.sort();
+    found.dedup();
+    found
+}
+
+/// An argument, as it is told.
+trait Shown {
+    fn shown(&self) -> String;
+}
+
+macro_rules! shown {
+    ($($kind:ty),*) => {
+        $(impl Shown for $kind {
+            fn shown(&self) -> String {
+                format!("{self:?}")
+            }
+        })*
+    };
+}
+
+shown!(usize, u64, i64, std::ops::Range<usize>, Bound<usize>);
+
+impl Shown for &BitVec<Global> {
+    fn shown(&self) -> String {
+        "a symbol".to_string()
+    }
+}
+
+impl Shown for &Postings<Global> {
+    fn shown(&self) -> String {
+        "another".to_string()
+    }
+}
+
+macro_rules! asked {
+    ($book:ident, $of:literal, $it:expr, $about:expr, $($name:ident($($argument:expr),*)),* $(,)?) => {
+        $($book.call(concat!($of, "::", stringify!($name)), || format!("{}, {}", $about, [$(Shown::shown(&$argument),)* String::new()].join(" ")), |tally| {
+            let _ = $it.$name($($argument.clone(),)* tally);
+        });)*
+    };
+}
+
+#[allow(unused_must_use)]
+fn walk<I>(
+    book: &mut Book,
+    name: &str,
+    steps: usize,
+    about: String,
+    iter: &mut I,
+    mut take: impl FnMut(&mut I, usize, &mut Tally) -> bool,
+) {
+    for k in 0..steps {
+        if !book.call(name, || format!("{about}, step {k}"), |tally| take(iter, k, tally)) {
+            break;
+        }
+    }
+}
+
+/// Takes by all four calls of an iterator in turn, ten times near the ends and then along.
+macro_rules! walked {
+    ($book:ident, $name:expr, $about:expr, $make:expr) => {{
+        let about = $about;
+        let mut iter = $make;
+        walk(&mut $book, &format!("{} next", $name), 700, about.clone(), &mut iter, |it, _, tally| {
+            it.next_counted(tally).is_some()
+        });
+        walk(&mut $book, &format!("{} next_back", $name), 700, about.clone(), &mut iter, |it, _, tally| {
+            it.next_back_counted(tally).is_some()
+        });
+        walk(&mut $book, &format!("{} nth", $name), 40, about.clone(), &mut iter, |it, k, tally| {
+            it.nth_counted(k * k % 301, tally).is_some()
+        });
+        walk(&mut $book, &format!("{} nth_back", $name), 40, about.clone(), &mut iter, |it, k, tally| {
+            it.nth_back_counted(k * k % 301, tally).is_some()
+        });
+    }};
+}
+
+fn ask_bits(book: &mut Book, list: &RsVec<Global>, about: &str) {
+    let n = list.len();
+    for place in places(n) {
+        asked!(
+            book,
+            "RsVec",
+            list,
+            about,
+            get_counted(place),
+            rank0_counted(place),
+            rank1_counted(place),
+            select0_counted(place),
+            select1_counted(place),
+            select0_pair_counted(place),
+            select1_pair_counted(place),
+            successor0_counted(place),
+            successor1_counted(place),
+            predecessor0_counted(place),
+            predecessor1_counted(place),
+            get_bits_counted(place, 0usize),
+            get_bits_counted(place, 1usize),
+            get_bits_counted(place, 64usize),
+            get_bits_counted(place, 65usize)
+        );
+        if place < n {
+            asked!(book, "RsVec", list, about, is_one_counted(place));
+        }
+    }
+    for bit in [false, true] {
+        let mut numbers: Plain<usize> = places(n).into_iter().chain(places(n / 2)).collect();
+        book.call(
+            &format!("RsVec::select{}_each_counted", u8::from(bit)),
+            || about.to_string(),
+            |tally| {
+                if bit {
+                    list.select1_each_counted(&mut numbers, tally)
+                } else {
+                    list.select0_each_counted(&mut numbers, tally)
+                }
+            },
+        );
+    }
+    let mut chunks = list.bit_set_iter1();
+    walk(book, "RsVec bit_set_iter1 next", 900, about.to_string(), &mut chunks, |it, _, tally| {
+        it.next_counted(tally).is_some()
+    });
+    let mut chunks = list.bit_set_iter0();
+    walk(book, "RsVec bit_set_iter0 next", 900, about.to_string(), &mut chunks, |it, _, tally| {
+        it.next_counted(tally).is_some()
+    });
+}
+
+#[test]
+fn reads_of_bits_are_counted() {
+    let mut book = Book::default();
+    for n in LENGTHS {
+        for kind in 0..5 {
+            let list = RsVec::from_bit_vec(bits_of(n, kind)).ok().unwrap();
+            let about = format!("{n} bits of kind {kind}");
+            ask_bits(&mut book, &list, &about);
+            walked!(book, "RsVec iter", about.clone(), list.iter());
+            walked!(book, "RsVec iter0", about.clone(), list.iter0());
+            walked!(book, "RsVec iter1", about.clone(), list.iter1());
+            walked!(book, "RsVec into_iter1", about.clone(), list.into_iter1());
+        }
+    }
+    assert_eq!(book.told(), [""; 0]);
+}
+
+fn members(n: usize, step: u64, kind: usize) -> Plain<u64> {
+    (0..n as u64)
+        .map(|k| match kind {
+            0 => k * step + k % 3,
+            1 => k / 9 * step,
+            _ => k * k / 7 + 1000,
+        })
+        .collect()
+}
+
+/// How many words a low part takes: none where the width is 0.
+fn words_of_low_part(numbers: &[u64]) -> u64 {
+    let clog = |it: u64| 64 - u64::from((it - 1).leading_zeros());
+    let (Some(first), Some(last)) = (numbers.first(), numbers.last()) else { return 0 };
+    let (n, u) = (numbers.len() as u64, last - first);
+    2 * u64::from(clog(u.max(2)).max(clog(n + 2)) > clog(n.max(2)))
+}
+
+#[test]
+fn reads_of_sorted_lists_are_counted() {
+    let mut book = Book::default();
+    for n in LENGTHS {
+        for (step, kind) in [(1, 0), (5, 0), (1 << 40, 0), (3, 1), (1000, 1), (0, 2)] {
+            let numbers = members(n, step, kind);
+            let numbers: Plain<u64> = if numbers.is_sorted() {
+                numbers
+            } else {
+                let mut it = numbers;
+                it.sort();
+                it
+            };
+            book.low = words_of_low_part(&numbers);
+            book.digits = u64::from(64 - (n as u64).leading_zeros());
+            let list = EliasFanoVec::from_slice(Global, &numbers).ok().unwrap();
+            let about = format!("{n} members, step {step}, kind {kind}");
+            for place in places(n) {
+                asked!(
+                    book,
+                    "EliasFanoVec",
+                    list,
+                    about,
+                    get_counted(place),
+                    select_counted(place),
+                    delta_counted(place)
+                );
+                for v in [numbers.get(place).copied().unwrap_or(u64::MAX), place as u64]
+                    .into_iter()
+                    .flat_map(|it| [it.saturating_sub(1), it, it.saturating_add(1)])
+                {
+                    asked!(
+                        book,
+                        "EliasFanoVec",
+                        list,
+                        about,
+                        has_counted(v),
+                        rank_counted(v),
+                        predecessor_counted(v),
+                        successor_counted(v)
+                    );
+                }
+            }
+            let values: Plain<u64> = places(n)
+                .into_iter()
+                .map(|it| numbers.get(it).copied().unwrap_or(it as u64).saturating_add(1))
+                .collect();
+            let mut some: Plain<Option<u64>> = values.iter().copied().map(Some).collect();
+            book.call(
+                "EliasFanoVec::predecessor_each_counted",
+                || about.clone(),
+                |tally| list.predecessor_each_counted(&mut some.clone(), tally),
+            );
+            book.call(
+                "EliasFanoVec::successor_each_counted",
+                || about.clone(),
+                |tally| list.successor_each_counted(&mut some.clone(), tally),
+            );
+            book.call(
+                "EliasFanoVec::rank_each_counted",
+                || about.clone(),
+                |tally| list.rank_each_counted(&mut values.clone(), tally),
+            );
+            some = places(n).into_iter().map(|it| Some(it as u64)).collect();
+            book.call(
+                "EliasFanoVec::get_each_counted",
+                || about.clone(),
+                |tally| list.get_each_counted(&mut some, tally),
+            );
+            walked!(book, "EliasFanoVec iter", about.clone(), list.iter());
+            walked!(book, "EliasFanoVec into_iter", about.clone(), list.into_iter());
+            let mut ones = numbers.clone();
+            ones.dedup();
+            let len = ones.last().map_or(n as u64, |it| it + 70);
+            book.low = words_of_low_part(&ones);
+            let sparse = SparseRSVec::new(Global, &ones, len).ok().unwrap();
+            for place in places(ones.len()) {
+                asked!(book, "SparseRSVec", sparse, about, select1_counted(place));
+                for v in [ones.get(place).copied().unwrap_or(u64::MAX), place as u64]
+                    .into_iter()
+                    .flat_map(|it| [it.saturating_sub(1), it, it.saturating_add(1)])
+                {
+                    asked!(
+                        book,
+                        "SparseRSVec",
+                        sparse,
+                        about,
+                        rank0_counted(v),
+                        rank1_counted(v),
+                        is_set_counted(v),
+                        get_counted(v)
+                    );
+                }
+            }
+            walked!(book, "SparseRSVec iter1", about, sparse.iter1());
+        }
+    }
+    assert_eq!(book.told(), [""; 0]);
+}
+
+#[test]
+fn reads_of_symbols_are_counted() {
+    let mut book = Book::default();
+    for n in [0, 1, 63, 64, 65, 512, 513, 8192, 8193, 9000] {
+        for width in [0u16, 1, 3, 8, 64, 65] {
+            let about = format!("{n} symbols of {width} bits");
+            let word = |k: usize| (k as u64).wrapping_mul(0x9e37_79b9_7f4a_7c15) >> (k % 60);
+            let mut bits = BitVec::new(Global);
+            for k in 0..n {
+                for at in 0..width {
+                    bits.append(word(k) >> (at % 64) & 1 == 1).ok().unwrap();
+                }
+            }
+            let list = if width == 0 {
+                WaveletMatrix::from_slice(Global, &vec![0; n], 0)
+            } else {
+                WaveletMatrix::from_bit_vec(&bits, width)
+            };
+            let list = list.ok().unwrap();
+            for (k, place) in places(n).into_iter().enumerate() {
+                let s = word(k);
+                let mut symbol = BitVec::new(Global);
+                for at in 0..width {
+                    symbol.append(s >> (at % 64) & 1 == 1).ok().unwrap();
+                }
+                book.arguments = if width > 0 {
+                    during(|| symbol.get(0)).1.iter().map(|it| it.list).collect()
+                } else {
+                    Plain::new()
+                };
+                let range = (place / 3)..place;
+                let one = place..place.saturating_add(1);
+                asked!(
+                    book,
+                    "WaveletMatrix",
+                    list,
+                    about,
+                    get_u64_counted(place),
+                    get_value_counted(place),
+                    get_sorted_counted(place),
+                    get_sorted_u64_counted(place),
+                    rank_counted(place, &symbol),
+                    rank_u64_counted(place, s),
+                    rank_range_counted(range, &symbol),
+                    rank_range_u64_counted(range, s),
+                    rank_range_u64_counted(one, s),
+                    rank_offset_counted(place / 5, place, &symbol),
+                    rank_offset_u64_counted(place / 5, place, s),
+                    select_counted(k, &symbol),
+                    select_u64_counted(k, s),
+                    select_offset_counted(place / 4, k, &symbol),
+                    select_offset_u64_counted(place / 4, k, s),
+                    quantile_counted(range, k),
+                    quantile_u64_counted(range, k),
+                    range_min_counted(range),
+                    range_max_counted(range),
+                    range_median_counted(range),
+                    range_min_u64_counted(range),
+                    range_max_u64_counted(range),
+                    range_median_u64_counted(range),
+                    predecessor_counted(range, &symbol),
+                    successor_counted(range, &symbol),
+                    predecessor_u64_counted(range, s),
+                    successor_u64_counted(range, s),
+                    get_gathered_u64_counted(place),
+                    gathered_u64_counted(place, s),
+                    gathered_range_u64_counted(range, s)
+                );
+                book.arguments.clear();
+            }
+            let at = || places(n).into_iter().enumerate();
+            book.call(
+                "WaveletMatrix::get_u64_each_counted",
+                || about.clone(),
+                |tally| list.get_u64_each_counted(&mut at().map(|it| GetQuery::new(it.1)).collect::<Plain<_>>(), tally),
+            );
+            book.call(
+                "WaveletMatrix::rank_u64_each_counted",
+                || about.clone(),
+                |tally| {
+                    list.rank_u64_each_counted(
+                        &mut at().map(|it| RankQuery::new(it.1, word(it.0))).collect::<Plain<_>>(),
+                        tally,
+                    )
+                },
+            );
+            book.call(
+                "WaveletMatrix::select_u64_each_counted",
+                || about.clone(),
+                |tally| {
+                    list.select_u64_each_counted(
+                        &mut at().map(|it| SelectQuery::new(it.0, word(it.0))).collect::<Plain<_>>(),
+                        tally,
+                    )
+                },
+            );
+            book.call(
+                "WaveletMatrix::quantile_u64_each_counted",
+                || about.clone(),
+                |tally| {
+                    list.quantile_u64_each_counted(
+                        &mut at().map(|it| QuantileQuery::new(it.1 / 3, it.1, it.0)).collect::<Plain<_>>(),
+                        tally,
+                    )
+                },
+            );
+            book.call(
+                "WaveletMatrix::gathered_u64_each_counted",
+                || about.clone(),
+                |tally| {
+                    list.gathered_u64_each_counted(
+                        &mut at().map(|it| GatheredQuery::new(it.1, word(it.0))).collect::<Plain<_>>(),
+                        tally,
+                    )
+                },
+            );
+            if n > 600 && width > 8 {
+                continue;
+            }
+            walked!(book, "WaveletMatrix iter", about.clone(), list.iter());
+            walked!(book, "WaveletMatrix iter_sorted", about.clone(), list.iter_sorted());
+            if width <= 64 {
+                walked!(book, "WaveletMatrix iter_u64", about.clone(), list.iter_u64().unwrap());
+                walked!(book, "WaveletMatrix iter_sorted_u64", about.clone(), list.iter_sorted_u64().unwrap());
+            }
+        }
+    }
+    assert_eq!(book.told(), [""; 0]);
+}
+
+#[test]
+fn reads_of_range_minima_and_documents_are_counted() {
+    let mut book = Book::default();
+    for n in [1usize, 2, 15, 16, 17, 63, 64, 65, 127, 128, 129, 511, 512, 513, 8191, 8192, 8193] {
+        for kind in 0..3 {
+            let items: Plain<u64> =
+                (0..n as u64).map(|k| [k, n as u64 - k, k.wrapping_mul(0x9e37_79b9_7f4a_7c15) >> 50][kind]).collect();
+            let binary = BinaryRmq::from_vec(Vec::from_slice(Global, &items).ok().unwrap()).ok().unwrap();
+            let fast = FastRmq::from_vec(Vec::from_slice(Global, &items).ok().unwrap()).ok().unwrap();
+            let documents = members(n, 7, 0);
+            let low = words_of_low_part(&documents);
+            let lists = [documents, members(n / 2 + 1, 13, 0)].map(|it| {
+                let costs = Vec::from_slice(Global, &items[..it.len()]).ok().unwrap();
+                Postings::from_sorted(&it, costs).ok().unwrap()
+            });
+            let about = format!("{n} items of kind {kind}");
+            for i in places(n).into_iter().filter(|it| *it < n) {
+                for j in places(n).into_iter().filter(|it| i <= *it && *it < n) {
+                    asked!(
+                        book,
+                        "BinaryRmq",
+                        binary,
+                        about,
+                        range_min_counted(i, j),
+                        range_min_item_counted(i, j),
+                        range_min_with_range_counted(Bound::Included(i), Bound::Included(j))
+                    );
+                    asked!(
+                        book,
+                        "FastRmq",
+                        fast,
+                        about,
+                        range_min_counted(i, j),
+                        range_min_with_range_counted(Bound::Included(i), Bound::Included(j))
+                    );
+                    let (from, to) = (7 * i as u64, 7 * j as u64 + 1);
+                    book.low = low;
+                    asked!(
+                        book,
+                        "Postings",
+                        lists[0],
+                        about,
+                        cheapest_counted(from, to),
+                        contains_counted(from),
+                        rank_counted(from),
+                        next_at_least_counted(to)
+                    );
+                }
+                asked!(book, "BinaryRmq", binary, about, item_counted(i));
+            }
+            if low == words_of_low_part(&members(n / 2 + 1, 13, 0)) {
+                asked!(book, "Postings", lists[0], about, intersect_counted(&lists[1]));
+                asked!(book, "Postings", lists[1], about, intersect_counted(&lists[0]));
+            }
+        }
+    }
+    assert_eq!(book.told(), [""; 0]);
+}
+
+/// Balanced parentheses of some shapes, or any bits.
+fn shape(n: usize, kind: usize) -> BitVec<Global> {
+    let mut depth = 0;
+    let mut state = 7u64;
+    let bits: Plain<bool> = (0..n)
+        .map(|k| {
+            state = state.wrapping_mul(6364136223846793005).wrapping_add(1442695040888963407);
+            let left = n - k;
+            let opens = match kind {
+                0 => k < n / 2,
+                1 => k % 2 == 0,
+                2 => depth < left && (depth == 0 || state >> 33 & 1 == 1),
+                _ => state >> 33 & 1 == 1,
+            };
+            depth = if opens { depth + 1 } else { depth.saturating_sub(1) };
+            opens
+        })
+        .collect();
+    BitVec::from_bools(Global, &bits).ok().unwrap()
+}
+
+fn ask_tree<const SIZE: usize>(mut book: &mut Book, n: usize, kind: usize) {
+    let tree = BpTree::<SIZE, Global>::from_bit_vector(shape(n, kind)).ok().unwrap();
+    let about = format!("{n} bits of shape {kind}, blocks of {SIZE}");
+    asked!(book, "BpTree", tree, about, is_balanced_counted());
+    for i in places(n) {
+        for r in [-2i64, -1, 0, 1, 2, -100, 100] {
+            asked!(book, "BpTree", tree, about, fwd_search_counted(i, r), bwd_search_counted(i, r));
+        }
+        asked!(
+            book,
+            "BpTree",
+            tree,
+            about,
+            is_open_counted(i),
+            close_counted(i),
+            open_counted(i),
+            enclose_counted(i),
+            node_handle_counted(i)
+        );
+        if i < n {
+            asked!(book, "BpTree", tree, about, excess_counted(i));
+        }
+        if tree.is_balanced() {
+            asked!(
+                book,
+                "BpTree",
+                tree,
+                about,
+                has_node_counted(i),
+                level_leftmost_counted(i as u64),
+                level_rightmost_counted(i as u64)
+            );
+            if tree.has_node(i) {
+                asked!(
+                    book,
+                    "BpTree",
+                    tree,
+                    about,
+                    parent_counted(i),
+                    first_child_counted(i),
+                    last_child_counted(i),
+                    next_sibling_counted(i),
+                    previous_sibling_counted(i),
+                    is_leaf_counted(i),
+                    node_index_counted(i),
+                    depth_counted(i),
+                    subtree_size_counted(i),
+                    is_ancestor_counted(0usize, i),
+                    level_ancestor_counted(i, 1u64),
+                    level_next_counted(i),
+                    level_prev_counted(i)
+                );
+                walk(book, "BpTree children next", 100, about.clone(), &mut tree.children(i), |it, _, tally| {
+                    it.next_counted(tally).is_some()
+                });
+                walk(
+                    book,
+                    "BpTree rev_children next",
+                    100,
+                    about.clone(),
+                    &mut tree.rev_children(i),
+                    |it, _, tally| it.next_counted(tally).is_some(),
+                );
+                walked!(book, "BpTree subtree_iter", about.clone(), tree.subtree_iter(i));
+                walked!(book, "BpTree subtree_post_iter", about.clone(), tree.subtree_post_iter(i));
+            }
+        }
+    }
+    walked!(book, "BpTree dfs_iter", about.clone(), tree.dfs_iter());
+    if tree.is_balanced() {
+        walked!(book, "BpTree dfs_post_iter", about, tree.dfs_post_iter());
+    }
+}
+
+#[test]
+fn reads_of_trees_are_counted() {
+    let mut book = Book::default();
+    for n in [0, 2, 64, 126, 512, 514, 8192, 8194] {
+        for kind in 0..4 {
+            ask_tree::<8>(&mut book, n, kind);
+            ask_tree::<500>(&mut book, n, kind);
+            ask_tree::<512>(&mut book, n, kind);
+        }
+    }
+    assert_eq!(book.told(), [""; 0]);
+}

@@ -1,0 +1,315 @@
+#!/usr/bin/env python3
+"""Runs the wrong bodies of the crates that are written as plain Rust: all of them in one build, each by the test that its file names.
+
+    python3 tools/mutants.py [--jobs N] [CRATE..]    builds, and runs each wrong body; the last line is "N passed, M failed"
+    python3 tools/mutants.py --find [CRATE..]        names the quickest test that fails for each wrong body whose file names none
+    python3 tools/mutants.py --self-test             tries edits of bodies, signatures and constants
+
+A wrong body (a mutant) that breaks a clause which says what a call returns has a line `row: TEST`. The expected values of that test come from
+a plain model of the definition. The test has to pass with the right bodies and to fail with this one: the row at which it fails is a
+counterexample to the clause. Right bodies are run too (tools/mutant_plants.py), and have to pass. Wrong bodies without that line are tried by the
+prover (tools/wrong_bodies.py).
+
+Each edit is applied to the source in Rattle, and both texts are written as Rust by tools/plain_rust.py. A body that differs becomes
+
+    { match crate::rattle::mutants::active(FUNCTION) { 17 => { .. } 18 => { .. } _ => { the right body } } }
+
+under `cfg(mutants)`; the environment variable MUTANT says which is active. An edit that changes anything but bodies fails the run.
+"""
+import argparse
+import json
+import os
+import re
+import subprocess
+import sys
+import time
+from collections import Counter, defaultdict
+from concurrent.futures import ThreadPoolExecutor
+from pathlib import Path
+
+import plain_rust
+from mutant_plants import RIGHT
+from plain_rust import CLOSING, CRATES, Refused, Writer, real, sources
+from sources import ROW, TOP, edited, has_cargo, read
+
+RUST = f"{TOP}/rust"
+# A run may take so many times the time of the right bodies, and so many seconds more; and so much memory.
+TIMES, SECONDS, MEMORY = 8, 2, 2 << 30
+# What rustc refuses by itself in a wrong body that it could compile.
+NOTE = "#![allow(arithmetic_overflow, unconditional_panic, unconditional_recursion, unreachable_code, unused, unstable_name_collisions)]\n\n"
+
+
+class Body:
+    """The body of a function, with the head of what it belongs to, its name, and the wrong bodies by their numbers."""
+
+    def __init__(self, owner, name, text):
+        self.owner, self.name, self.text, self.mutants, self.number = owner, name, text, [], None
+
+
+class Mutant:
+    """A wrong body: its crate, its file, the text of that, and the test that has to fail; or a right body, which the test has to pass."""
+
+    def __init__(self, crate, path, right=None):
+        self.crate, self.path, self.is_right = crate, path, bool(right)
+        self.name, self.edit = f"right body for {path.stem}" if right else path.stem, read(path)
+        if right:
+            self.edit = re.sub(r"(?m)^(?:old|new): .*\n", "", self.edit) + "old: {}\nnew: {}\n".format(*right)
+        row, file = ROW.search(self.edit), re.search(r"(?m)^file: ?src/(\S+)\.rt", self.edit)[1]
+        self.row, self.file = row and row[1], f"{crate}/{'mod' if file == 'lib' else file}.rs"
+        self.number, self.functions = 0, set()
+
+    def said(self, what):
+        """Returns a line about it."""
+        return f"{self.crate}: {self.name}: {what}"
+
+
+def head_of(item):
+    """Returns the kind of an item, and the word after it."""
+    words = real(item)
+    while words and words[0].text == "#":
+        words = words[next(n for n, it in enumerate(words) if it.opens("[")) + 1:]
+    head = [it.text for it in words]
+    if head[:1] == ["pub"]:
+        head = head[2:] if words[1].opens("(") else head[1:]
+    return (head + ["", ""])[:2]
+
+
+def split(text):
+    """Returns the parts of a written file: texts, and the bodies of functions."""
+    parts = []
+
+    def walk(tokens, owner):
+        k = 0
+        while k < len(tokens):
+            end = k
+            while not tokens[k].is_blank() and end < len(tokens) and not Writer.ends(tokens, k, end, False):
+                end += 1
+            item = tokens[k:end + 1]
+            kind, name = head_of(item)
+            has_body = kind in ("fn", "impl", "trait", "mod") and item[-1].opens("{")
+            parts.append("".join(it.written() for it in (item[:-1] if has_body else item)))
+            if has_body and kind == "fn":
+                parts.append(Body(owner, name, item[-1].written()))
+            elif has_body:
+                parts.append("{")
+                walk(item[-1].inner, " ".join(parts[-2].split()))
+                parts.append(CLOSING["{"])
+            k = end + 1
+
+    walk(plain_rust.read(text), "")
+    return parts
+
+
+def changed(parts, others):
+    """Returns the numbers of the parts that are bodies and differ, or None if anything else differs."""
+    def outside(parts):
+        return [(it.owner, it.name) if isinstance(it, Body) else it for it in parts]
+
+    if outside(parts) != outside(others):
+        return None
+    return [k for k, (one, other) in enumerate(zip(parts, others)) if isinstance(one, Body) and one.text != other.text]
+
+
+class Build:
+    """The written files with all wrong bodies, and the faults that were met."""
+
+    def __init__(self, mutants):
+        self.files, self.arms, self.faults, self.bodies = {}, defaultdict(list), [], 0
+        for number, it in enumerate(mutants, 1):
+            it.number = number
+        for crate in CRATES:
+            for path, text in sources(crate):
+                parts = split(Writer(crate, path).file(text))
+                for it in [it for it in mutants if it.file == path]:
+                    self.add(it, crate, path, text, parts)
+                self.files[path] = self.joined(path, parts)
+        lines = "".join(f"pub mod {it};\n" for it in CRATES)
+        self.files["mod.rs"] = NOTE + lines
+
+    def add(self, mutant, crate, path, text, parts):
+        """Adds a wrong body to the body that it changes."""
+        try:
+            others = split(Writer(crate, path).file(edited(text, mutant.edit)))
+        except (Refused, ValueError) as why:
+            self.faults.append(mutant.said(f"it can't be written: {why}"))
+            return
+        found = changed(parts, others)
+        if not found:
+            self.faults.append(mutant.said("it changes no body, or something besides"))
+        for k in found or []:
+            if parts[k].number is None:
+                parts[k].number, self.bodies = self.bodies, self.bodies + 1
+            parts[k].mutants.append((mutant.number, others[k].text))
+            mutant.functions.add(str(parts[k].number))
+
+    def joined(self, path, parts):
+        """Returns the text of a file, and notes the lines of each wrong body."""
+        out, line = [], 1
+        for part in parts:
+            if isinstance(part, str):
+                # A body with many arms that is put into each of its callers would multiply.
+                pieces = [(part.replace("#[inline(always)]", "#[inline]"), None)]
+            elif not part.mutants:
+                pieces = [(part.text, None)]
+            else:
+                pieces = [(f"{{\n    match crate::rattle::mutants::active({part.number}) {{\n", None)]
+                for number, body in part.mutants:
+                    pieces += [(f"{number} => ", None), (body, number), ("\n", None)]
+                pieces.append((f"_ => {part.text}\n}}}}", None))
+            for text, number in pieces:
+                if number:
+                    self.arms[path].append((line, line + text.count("\n"), number))
+                out.append(text)
+                line += text.count("\n")
+        return "".join(out)
+
+    def write(self, folder):
+        """Writes the files that differ from those in a folder."""
+        for path, text in self.files.items():
+            to = Path(folder, path)
+            to.parent.mkdir(parents=True, exist_ok=True)
+            if not to.exists() or to.read_text(encoding="utf-8") != text:
+                to.write_text(text, encoding="utf-8")
+
+    def at_fault(self, errors):
+        """Returns the numbers of the wrong bodies in which errors of rustc are."""
+        spans = [(it["file_name"].partition("mutants/proved/")[2], it["line_start"]) for error in errors for it in error["spans"]]
+        return {number for path, line in spans for first, last, number in self.arms.get(path, []) if first <= line <= last}
+
+
+def cargo(*words):
+    """Runs cargo with the wrong bodies, and returns its messages."""
+    flags = {"RUSTFLAGS": "--cfg mutants --cap-lints allow", "CARGO_TARGET_DIR": f"{RUST}/target/mutants/built",
+             "CARGO_PROFILE_TEST_OPT_LEVEL": "1"}
+    done = subprocess.run(["cargo", *words, "--offline", "--message-format=json"], cwd=RUST, env={**os.environ, **flags},
+                          stdout=subprocess.PIPE, stderr=subprocess.DEVNULL, text=True, check=False)
+    return [json.loads(it) for it in done.stdout.splitlines()]
+
+
+def compiled(mutants):
+    """Compiles the tests with all wrong bodies, and returns the program and the faults."""
+    build = Build(mutants)
+    build.write(f"{RUST}/target/mutants/proved")
+    told = cargo("test", "--lib", "--no-run")
+    errors = [it["message"] for it in told if it["reason"] == "compiler-message" and it["message"]["level"] == "error"]
+    wrong = build.at_fault(errors)
+    faults = build.faults + [it.said("rustc refuses it") for it in mutants if it.number in wrong]
+    if errors and not wrong:
+        faults += [it["rendered"] for it in errors[:3]]
+    return next((it["executable"] for it in told if it["reason"] == "compiler-artifact" and it.get("executable")), None), faults
+
+
+def module_of(row):
+    """Returns the path of a test in the crate."""
+    return row if row.startswith("inside_tests::") else f"proved_tests::{row}"
+
+
+def run(program, test, mutant, seconds):
+    """Runs one test with a wrong body, and returns how it failed, or None if it passed, and what it printed."""
+    command = ["prlimit", f"--as={MEMORY}", program, test, "--exact", "--include-ignored", "--test-threads=1", "--nocapture"]
+    try:
+        done = subprocess.run(command, env={**os.environ, "MUTANT": str(mutant), "RUST_BACKTRACE": "0"}, timeout=seconds, check=False,
+                              stdin=subprocess.DEVNULL, stdout=subprocess.PIPE, stderr=subprocess.PIPE, text=True, errors="replace")
+    except subprocess.TimeoutExpired:
+        return "it doesn't end", ""
+    if done.returncode == 0 and "1 passed" in done.stdout:
+        return None, done.stderr
+    if done.returncode == 0:
+        return "there is no such test", done.stderr
+    at = re.search(r"panicked at (?:.*/)?(src/\S+:\d+)", done.stderr)
+    return f"fails at {at[1]}" if at else "it ends the process", done.stderr
+
+
+def timed(program, test):
+    """Returns how many seconds a test takes with the right bodies, what it says of them, and how it failed."""
+    start = time.monotonic()
+    end, said = run(program, test, "reach", 300)
+    return time.monotonic() - start, said, end
+
+
+def judged(program, mutants, jobs):
+    """Yields for each wrong body with a row whether its test fails with it and passes without it, and a line about it."""
+    with ThreadPoolExecutor(jobs) as pool:
+        rows = sorted({it.row for it in mutants})
+        right = dict(zip(rows, pool.map(lambda row: timed(program, module_of(row)), rows)))
+        ends = pool.map(lambda it: run(program, module_of(it.row), it.number, SECONDS + TIMES * right[it.row][0])[0], mutants)
+        for it, end in zip(mutants, ends):
+            if right[it.row][2]:
+                yield False, it.said(f"{it.row} fails with the right bodies too: {right[it.row][2]}")
+            else:
+                yield bool(end) != it.is_right, it.said(f"{it.row} {end or 'passes'}")
+
+
+def found_rows(program, mutants):
+    """Writes the quickest test that fails into the file of each wrong body, and yields the wrong bodies that none finds."""
+    listed = subprocess.run([program, "--list"], stdout=subprocess.PIPE, text=True, check=True).stdout
+    names = [it.split(": ")[0] for it in listed.splitlines() if it.endswith(": test") and re.match("(proved|inside)_tests::", it)]
+    tests = {name: timed(program, name) for name in names}
+    reached = {name: set(re.findall(r"(?m)^reached (\d+)$", it[1])) for name, it in tests.items()}
+    for mutant in mutants:
+        # the tests of its own crate first
+        near = sorted(names, key=lambda it: (f"::{mutant.crate}_tests::" not in it, tests[it][0]))
+        for name in [it for it in near if reached[it] & mutant.functions]:
+            if run(program, name, mutant.number, SECONDS + TIMES * tests[name][0])[0]:
+                text = re.sub(r"(?m)^goal: .*\n?", "", mutant.edit).rstrip("\n")
+                mutant.path.write_text(f"{text}\nrow: {name.removeprefix('proved_tests::')}\n", encoding="utf-8")
+                break
+        else:
+            yield mutant
+
+
+PLAIN = "const A: u64 = 1;\n\npub struct S {\n    a: u64,\n}\n\nimpl S {\n    #[inline]\n    pub fn f(&self) -> u64 {\n        self.a\n    }\n\n    fn g() {}\n}\n\nfn f(x: u64) -> u64 {\n    x\n}\n"
+TRIED = [("self.a", "self.a + 1", ["f"]), ("    x\n", "    x + A\n", ["f"]), ("A: u64 = 1", "A: u64 = 2", None), ("a: u64", "a: u32", None),
+         ("fn f(x", "fn h(x", None), ("fn g() {}\n", "fn g() {}\n\n    fn h() {}\n", None), ("#[inline]", "#[cold]", None),
+         ("self.a\n    }\n\n    fn g() {}", "self.a * 2\n    }\n\n    fn g() { let _ = A; }", ["f", "g"]), ("self.a", "self.a", [])]
+
+
+def self_test():
+    """Compares texts, and returns whether anything but the changed bodies is named."""
+    wrong = 0
+    for old, new, wanted in TRIED:
+        parts = split(PLAIN)
+        found = changed(parts, split(PLAIN.replace(old, new, 1)))
+        got = found if found is None else [parts[k].name for k in found]
+        if got != wanted or "".join(it if isinstance(it, str) else it.text for it in parts) != PLAIN:
+            print(f"of {old!r} to {new!r} came {got}, and not {wanted}")
+            wrong += 1
+    print(f"{len(TRIED) - wrong} passed, {wrong} failed")
+    return wrong > 0
+
+
+def main():
+    """Builds and runs the wrong bodies, or finds the tests that fail with them."""
+    flags = argparse.ArgumentParser(description=__doc__, formatter_class=argparse.RawDescriptionHelpFormatter)
+    flags.add_argument("--find", action="store_true")
+    flags.add_argument("--self-test", action="store_true")
+    flags.add_argument("--jobs", type=int, default=len(os.sched_getaffinity(0)))
+    flags.add_argument("crates", nargs="*", metavar="CRATE")
+    flags = flags.parse_args()
+    if flags.self_test:
+        return self_test()
+    if not has_cargo():
+        print("left out: the wrong bodies that a test refuses (no cargo 1.88 or newer)")
+        return 0
+    mutants = [Mutant(crate, path) for crate in flags.crates or CRATES for path in sorted(Path(TOP, "crates", crate, "wrong").glob("*.edit"))]
+    mutants = [it for it in mutants if bool(it.row) != flags.find]
+    if not flags.find:
+        mutants += [Mutant(crate, Path(TOP, "crates", crate, "wrong", f"{name}.edit"), texts) for crate, name, *texts in RIGHT]
+    program, faults = compiled(mutants)
+    passed = 0
+    if program and flags.find:
+        faults += [it.said("no test finds it") for it in found_rows(program, mutants)]
+    elif program:
+        for is_refused, line in judged(program, mutants, flags.jobs):
+            passed += is_refused
+            if not is_refused:
+                faults.append(line)
+    counts = Counter(it.crate for it in mutants if not it.is_right)
+    print("".join(f"{crate}: {count} wrong bodies\n" for crate, count in counts.items()), end="")
+    print("".join(f"{it}\n" for it in faults), end="")
+    print(f"{passed} passed, {len(faults) + (program is None)} failed")
+    return bool(faults) or program is None
+
+
+if __name__ == "__main__":
+    sys.exit(main())
