@@ -59,6 +59,18 @@ IN_BODIES = (
     ("reads without the counter", "BlockEntries::len", "let _first = self.entries[0];"),
     ("Postings::rank is not its counted form", "Postings::rank_counted", "let _first = self.documents.get_counted(0, tally);"),
 )
+# names of one's own in place of known ones, errors that are turned, and ranges and numbers that are none
+IN_BODIES += (
+    ("gives the counter's name to another variable", RANK0, "let tally = &self.bits;"),
+    ("gives the counter's name to another variable", RANK0, "let (place, tally) = (0, &self.bits);"),
+    ("gives the counter's name to another variable", RANK0, "self.each(|tally| tally.limb(0));"),
+    ("is no range", RANK0, "for _bit in self.part(0..place) {}"),
+    ("is no range", RANK0, "for _bit in self.bits[..place] {}"),
+    ("neither side is seen to be a number", RANK0, "let _same = self.part(place + 1) == self.part(place - 1);"),
+    ("neither side is seen to be a number", RANK0, "let _same = self.part(self.len()) == self.part(place * 2);"),
+    ("far_below has a loop", "far_below", "for _lane in 0..16 {}"),
+    ("last_up_to has a loop", "last_up_to", "while false {}"),
+)
 # what stands beside, in the file of a body that may use it: functions, those of traits and types, second names
 BESIDE = (
     ("may be word_of,", RANK0, "peeks::word_of(&self.bits);", f"mod peeks {{\n{WORD_OF}\n}}"),
@@ -75,6 +87,11 @@ BESIDE = (
     ("a type that is not of these crates", RANK0, "", method("peek(&self) -> u64", "self[0]", "impl Peek for Vec<u64>")),
     ("a type that is not of these crates", RANK0, "", method("list(&self) -> u64", "0", "impl<T: Send> Indexed for T")),
     ("`macro_rules!` stands where it may not", RANK0, "", f"macro_rules! word_of {{\n    () => {{ {WHOLE} }};\n}}"),
+    ("may be RsVec::max,", RANK0, "self.max(place);", method("max(&self, n: usize) -> u64", WHOLE)),
+    ("mentions `?`, which may be AllocError::from,", SHARED, "Err(self)?;",
+     method("from(list: &RsVec<A>) -> AllocError", WHOLE, "impl<A> From<&RsVec<A>> for AllocError")),
+    ("`const TOKEN: Uncounted` stands where it may not", RANK0, "", "const TOKEN: Uncounted = Uncounted;"),
+    ("Cache.words keeps `W`", "RsVec", "cache: Cache,", "type W = Vec<u64>;\n\nstruct Cache {\n    words: W,\n}"),
     ("gives `Tally` the name `Counter`", RANK1, "", "use vers_tally::tally::Tally as Counter;"),
     ("`Tally` stands where it may not", RANK1, "", "type Counter = Tally;"),
     ("`Tally` stands where it may not", RANK1, "", function("spare() -> Option<Tally>", "None")),
@@ -87,6 +104,11 @@ BESIDE = (
 )
 # what stands in a body or a struct, and what is written for it
 INSTEAD = (
+    ("throws away what `differences` returns", "last_up_to", "let below = differences(zeros, bit, r);",
+     "let _below = differences(zeros, bit, r); let below = zeros;"),
+    ("throws away what `far_below` returns", "last_up_to", "let block = 15 - far_below(below);", "far_below(below); let block = 0;"),
+    ("doesn't return the place that `place_met` gives", "bytes_forward", "return Ok(start + within + place);", "return Ok(start + within);"),
+    ("doesn't return the place that `place_met` gives", "bytes_backward", "return Ok(start + within + place);", "return Ok(start + within);"),
     ("BinaryRmq.table keeps `Vec<u64, A>`", "BinaryRmq", "table: Vec<u32, A>", "table: Vec<u64, A>"),
     ("raises the counter 0 times for 1 reads", READ, RAISE, ""),
     ("or reads several", READ, "self.entries[k]", "self.as_slice(Uncounted)[k]"),

@@ -67,12 +67,16 @@ BARRED = {
     "WaveletMatrix::counted counted_levels levels_by_counting placed_digits start_next":
         "sort sort_by sort_by_digit sort_by_key sort_unstable sort_unstable_by_key sorted sorted_levels levels_by_sorting split",
 }
+# Kernels of lanes, in which nothing goes on in turns; and searches of whole bytes, which return the place that a byte's table gives.
+WITHOUT_LOOPS = {"agree", "RsVec::block_among", "last_up_to", "differences", "far_below", "offsets_in_byte", "lanes_from", "put_lanes"}
+BYTES = {"bytes_forward", "bytes_backward"}
+RETURNED = re.compile(r"\bif let Some\((\w+)\) = place_met\([^;{]*\{\s*return Ok\([^;]*\b\1\b[^;]*\);")
 NUMBER = r"(?:[ui](?:8|16|32|64|128|size)|bool)"
 NUMBERS = re.compile(rf"{NUMBER}|(?:Option|Result)<{NUMBER}.*>|\({NUMBER}(?:, {NUMBER})*\)")
 # What shows that an expression is a number: how it begins or ends, a constant, or an operator between two.
 SHOWN = re.compile(
     rf"(?s)-?\d|(?:true|false)\b|(?:u64|usize|i64)::|[A-Z][A-Z_0-9]*$"
-    rf"|.*(?:\blen\(\)?$|[\w)\]] (?:[-+*/%|^]|>>|<<|&) [\w(]|\bas {NUMBER})"
+    rf"|.*(?:\blen$|[\w)\]] (?:[-+*/%|^]|>>|<<|&) [\w(]|\bas {NUMBER})"
 )
 SIDES = re.compile(r"(?:^|[({;,&|!]|= )([^={};,]*?)(?<![=!<>])(?:==|!=)(?!=)([^={};,]*?)(?=[){;,]|&&|\|\||$)", re.M)
 # Calls of the standard library that counted bodies make: on numbers, options, lanes and lists made there. Others may walk a list.
@@ -90,7 +94,14 @@ MENTION = re.compile(
 # Where the counter's type may stand, and in the file of counters besides; and what else may not stand where that doesn't.
 COUNTER = r"^\s*(?:pub )?use [^;]*;|\b\w+: &mut Tally(?=[,)])|let mut tally = Tally::new\(\);"
 OF_VECTORS = r"|struct Tally|impl (?:Model for )?Tally \{|-> Tally|^\s*Tally \{|struct Uncounted"
-MISPLACED = re.compile(r"\bTally\b|\b(?!unreachable!)[a-z]\w*!(?!=)|\bunsafe\b|\b(?:struct|type) Uncounted")
+MISPLACED = re.compile(
+    r"\bTally\b|\b(?!unreachable!)[a-z]\w*!(?!=)|\bunsafe\b|\b(?:struct|type) Uncounted|\b(?:const|static) \w+: [^=;]*Uncounted"
+)
+# A variable with the name of the counter that is none.
+BINDS = re.compile(
+    r"\blet (?:mut )?tally\b(?! = Tally::new\(\);)|\blet \([^=;]*\btally\b|\bfor (?:\([^)]*)?tally\b"
+    r"|\|[^|;]*\btally\b[^|;]*\|(?!\|)|\b(?:Some|Ok|Err)\((?:mut |ref )?tally\) (?:=>|=)"
+)
 RENAMED = re.compile(r"(?m)^\s*(?:pub )?use [^;]*?\b([a-z]\w*|Tally|Uncounted) as (\w+)")
 
 
@@ -108,6 +119,7 @@ class Library:
                 self.types_of_field[name].add(type_)
         self.holders = STANDARD | {it for function in self.functions for it in (function.holder, function.trait) if it}
         self.structs = {name for source in sources for name, _, _ in source.structs}
+        self.aliases = {word for source in sources for word in re.findall(r"(?m)^(?:pub(?:\([a-z]+\))? )?type (\w+)", source.text)}
         self.traits = {word for source in sources for word in re.findall(r"\btrait (\w+)", source.text)}
         # the functions that lead to a token or to a fresh counter, other than counted bodies, which may not
         plain = [it for it in self.functions if is_looked_at(it) and not takes_counter(it)]
@@ -131,7 +143,7 @@ class Library:
             is_bound = name in dict(function.parameters) or re.search(rf"\b(?:let|mut|for|Some\(|Ok\() ?{name}\b", function.code)
             return free if found["call"] or not is_bound else []
         if name in ("min", "max") and not re.match(r"\s*\(\s*\)", function.code[found.end("name") :]):
-            return []
+            return [it for it in self.by_name[name] if it.owner and it.parameters]
         field = re.fullmatch(r"self\.(\w+)", of or "")
         type_ = self.fields.get((function.holder, field[1]), "") if field else {"tally": "Tally", "self": function.holder}.get(of)
         own = self.of_type(type_, name) if type_ else []
@@ -142,9 +154,15 @@ class Library:
         for found in MENTION.finditer(function.code):
             if found["call"] or found["path"] or not found["of"] and not found["dot"]:
                 yield from ((it, found[0].strip(" (")) for it in self.meant(function, found) if it is not function)
+        # `?` turns an error into that of the function's own result
+        error = re.search(r"-> Result<.*\b(\w+)(?:<[^<>]*>)?>$", function.head)
+        if error and "?" in function.code:
+            yield from ((it, "?") for it in self.by_name["from"] if it.holder == error[1])
 
     def made(self, function):
         """Yields what a body does that reads without its counter, and what Rust calls without a name."""
+        if BINDS.search(function.code) or any(name == "tally" and type_ != "&mut Tally" for name, type_ in function.parameters):
+            yield "gives the counter's name to another variable"
         for word in ("Uncounted", "Tally::new", "Tally {"):
             if word in function.code:
                 yield f"makes `{word}`"
@@ -152,7 +170,7 @@ class Library:
             if found["call"] and not self.by_name.get(found["name"]) and not KNOWN.fullmatch(found["name"]):
                 yield f"calls `{found['name']}`, of which nothing is known"
         for loop in re.finditer(r"\bfor\b[^;{]*?\bin\b([^{]*)\{", function.code):
-            if ".." not in loop[1]:
+            if not is_range(loop[1]):
                 yield f"loops over `{loop[1].strip()}`, which is no range"
         for sides in SIDES.finditer(function.code):
             if not any(self.is_number(function, it) for it in sides.groups()):
@@ -164,7 +182,20 @@ class Library:
         types = [type_ for name, type_ in function.parameters if name == text]
         if field := re.fullmatch(r"[\w.]+\.(\w+)", text):
             types += self.types_of_field[field[1]]
-        return bool(types) and all(NUMBERS.fullmatch(it.strip()) for it in types) or bool(SHOWN.match(text))
+        return bool(types) and all(NUMBERS.fullmatch(it.strip()) for it in types) or bool(SHOWN.match(without_brackets(text).split("(")[0]))
+
+
+def without_brackets(text):
+    """Returns a text without what stands in brackets."""
+    while (shorter := re.sub(r"\([^()]*\)|\[[^\[\]]*\]", "", text)) != text:
+        text = shorter
+    return text
+
+
+def is_range(text):
+    """Whether the head of a loop is a range, maybe in brackets and backward."""
+    within = re.fullmatch(r"(?s)\s*\((.*)\)\.rev\(\)\s*", text)
+    return ".." in without_brackets(within[1] if within else text)
 
 
 def is_looked_at(function):
@@ -251,12 +282,12 @@ def file_faults(source):
 
 def kept_faults(library, source):
     """Yields a line for each field of a type that keeps a list other than in a counted vector."""
-    known = library.structs - {"Tally", "BitVec"} | library.traits
+    known = library.structs - {"Tally", "BitVec", "Uncounted"} | library.traits
     known |= set("A Span PhantomData Option Alloc Self AllocError a mut const dyn".split())
     for struct, fields, line in [] if is_vectors(source) else source.structs:
         for name, type_ in fields:
             words = set(re.findall(r"[A-Za-z_]\w*", type_)) - known
-            is_list = "[" in type_ or any(not re.fullmatch(rf"{NUMBER}|[A-Z]|[A-Z][A-Z_]+", it) for it in words)
+            is_list = "[" in type_ or any(not re.fullmatch(rf"{NUMBER}|[A-Z]|[A-Z][A-Z_]+", it) or it in library.aliases for it in words)
             if is_list and TABLES.get(f"{struct}.{name}") != type_:
                 yield line, f"{struct}.{name} keeps `{' '.join(type_.split())}`"
 
@@ -267,12 +298,35 @@ def named_faults(library):
     yield from (f"{name} reads a whole list without a counter" for name in sorted(made - WHOLE))
     yield from (f"{name} is said to read a whole list, and doesn't" for name in sorted(WHOLE - made))
     for function in [it for it in library.functions if it.has_body]:
-        bodies[function.full_name].append(set(re.findall(r"\b([a-z_]\w*)(?:::<[^<>]*>)?\(", function.code)))
+        bodies[function.full_name].append(function.code)
     for name, calls in CALLS.items():
         barred = " ".join(calls for names, calls in BARRED.items() if name in names.split())
-        for body in bodies[name] if len(bodies[name]) == 1 else [set()]:
-            yield from (f"{name} has no call of `{it}`" for it in calls.split() if it not in body)
-            yield from (f"{name} calls `{it}`" for it in barred.split() if it in body)
+        for body in bodies[name] if len(bodies[name]) == 1 else [""]:
+            made = set(re.findall(r"\b([a-z_]\w*)(?:::<[^<>]*>)?\(", body))
+            yield from (f"{name} has no call of `{it}`" for it in calls.split() if it not in made)
+            yield from (f"{name} calls `{it}`" for it in barred.split() if it in made)
+            yield from (f"{name} throws away what `{it}` returns" for it in calls.split() if is_thrown_away(library, it, body))
+            if name in WITHOUT_LOOPS and re.search(r"\b(?:for|while|loop)\b", body):
+                yield f"{name} has a loop"
+            if name in BYTES and not RETURNED.search(body):
+                yield f"{name} doesn't return the place that `place_met` gives"
+
+
+def is_thrown_away(library, name, body):
+    """Whether each call of a function that returns something is a statement of its own, or gives a variable that nobody reads."""
+    if not any(" -> " in it.head for it in library.by_name[name]):
+        return False
+    calls = []
+    for call in re.finditer(rf"\b{name}(?:::<[^<>]*>)?\(", body):
+        before = re.split(r"[;{}]", body[: call.start()])[-1].strip()
+        end, depth = call.end(), 1
+        while depth:
+            depth, end = depth + {"(": 1, ")": -1}.get(body[end], 0), end + 1
+        bound = re.match(r"let (?:mut )?(\w+)(?:: [^=]*)? =", before)
+        is_unread = bool(bound) and len(re.findall(rf"\b{bound[1]}\b", body)) < 2
+        is_statement = re.fullmatch(r"(?!return\b)[\w.:&* ]*", before) and body[end:].lstrip().startswith(";")
+        calls.append(is_unread or bool(is_statement))
+    return bool(calls) and all(calls)
 
 
 def faults(sources):
