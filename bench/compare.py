@@ -1,6 +1,9 @@
 #!/usr/bin/env python3
 """Runs the benchmark of this library and that of the crate vers-vecs, and prints their times and ratios as a table.
 
+`--plain` adds two columns, for the crate of plain Rust as it is and with the feature `unchecked`, under the driver of the original, and a table
+of the geometric means over the queries of each structure.
+
 The original's driver is built by cargo. This library's is `crates/vers_bench`, which `tools/proofs.py vers_bench` proves
 and builds. The runs are interleaved: in each pass each structure is run by the one and by the other, and the least
 time of each series counts. Exit status 1 where a checksum differs: the answers differ then.
@@ -17,6 +20,7 @@ each series, with its loop and its checksum. In both drivers such a pass is a fu
 """
 import argparse
 import itertools
+import math
 import os
 import re
 import subprocess
@@ -27,14 +31,16 @@ HERE = os.path.dirname(os.path.abspath(__file__))
 TOP = os.path.dirname(HERE)
 OWN = os.path.join(TOP, "crates/vers_bench/out/vers_bench")
 STORED = os.path.join(TOP, "crates/vers_bench/stdout")
-PROJECT = os.path.join(HERE, "original")
+PROJECT, PLAIN = os.path.join(HERE, "original"), os.path.join(TOP, "rust")
 STRUCTURES = ("bits", "walks", "list", "sorted", "sparse", "wavelet", "rmq", "tree", "postings", "batches", "saved")
+# Lines that are no queries: their operations begin so.
+NO_QUERIES = ("build", "copy", "heap_", "load", "save")
 LEVELS = ("x86-64-v2", "x86-64-v3", "x86-64-v4", "native")
 
 
-def built_original(folder, level):
+def built_original(folder, level, target="target", features=()):
     """Builds the original's driver for a level of processors, with the crate's sources in `folder` if one is given, and returns its path."""
-    command = ["cargo", "build", "--release", "--quiet"]
+    command = ["cargo", "build", "--release", "--quiet", "--target-dir", target, *(f"--features=vers-vecs/{it}" for it in features)]
     if folder:
         command += ["--offline", "--config", f'patch.crates-io.vers-vecs.path="{os.path.abspath(folder)}"']
     flags = {"RUSTFLAGS": f"-C target-cpu={level} --cap-lints allow"}
@@ -42,7 +48,7 @@ def built_original(folder, level):
     if built.returncode:
         hint = "" if folder else "; without a network, name a folder with the sources of vers-vecs 1.10.2 by --original FOLDER"
         sys.exit(f"cargo could not build the original's driver{hint}")
-    return os.path.join(PROJECT, "target/release/bench_original")
+    return os.path.join(PROJECT, target, "release/bench_original")
 
 
 def output_of(command):
@@ -54,11 +60,11 @@ def of_single(name):
     return re.sub(r"_each_\d+", "", name)
 
 
-def compare_checksums(original):
-    """Prints where the checksums of the original differ from the stored run, and returns whether any does."""
+def compare_checksums(command):
+    """Prints where the checksums that a driver prints differ from the stored run, and returns whether any does."""
     with open(STORED, encoding="utf-8") as file:
         stored = file.read()
-    lines = [dict(line.rsplit("\t", 1) for line in text.splitlines()) for text in (stored, output_of([original]))]
+    lines = [dict(line.rsplit("\t", 1) for line in text.splitlines()) for text in (stored, output_of(command))]
     here, there = lines
     there.update({it: there[of_single(it)] for it in here if of_single(it) in there})
     for series in [it for it in here if it not in there]:
@@ -86,11 +92,25 @@ class Series:
     def differs(self):
         return len(set(self.checksums.values())) > 1
 
-    def row(self, name):
-        here, there = self.values.get("here"), self.values.get("original")
-        ratio = f"{here / there:.2f}" if here is not None and there else ""
-        cells = ["" if it is None else f"{it:.3g}" if it < 100 else f"{it:.0f}" for it in (here, there)]
-        return "| " + " | ".join([*name, *cells, ratio + (" differs" if self.differs() else "")]) + " |"
+    def ratio(self, one, other):
+        """Returns the ratio of two drivers' values, or None if one of them is missing."""
+        return self.values[one] / self.values[other] if self.values.get(other) and one in self.values else None
+
+    def row(self, name, drivers, ratios):
+        cells = ["" if it is None else f"{it:.3g}" if it < 100 else f"{it:.0f}" for it in map(self.values.get, drivers)]
+        cells += ["" if it is None else f"{it:.2f}" for it in (self.ratio(*pair) for pair in ratios)]
+        return "| " + " | ".join([*name, *cells[:-1], cells[-1] + (" differs" if self.differs() else "")]) + " |"
+
+
+def means(found, ratios):
+    """Yields a row for each structure: the geometric mean of each ratio over its queries, and the greatest one."""
+    for structure in dict.fromkeys(name[0] for name in found):
+        cells = []
+        for pair in ratios:
+            known = [it.ratio(*pair) for name, it in found.items() if name[0] == structure and not name[1].startswith(NO_QUERIES)]
+            known = [it for it in known if it]
+            cells.append(f"{math.exp(sum(map(math.log, known)) / len(known)):.2f} ({max(known):.2f})" if known else "")
+        yield f"| {structure} | " + " | ".join(cells) + " |"
 
 
 def measured(drivers, structures, passes, options):
@@ -139,7 +159,7 @@ def instructions_of(program, driver, structure):
         ]
         lines = [line.split("\t")[1:] for line in output_of(command).splitlines()]
         counts = list(counts_of(path))
-    passes = [line for line in lines if not line[1].startswith(("build", "copy", "heap_", "load", "save"))]
+    passes = [line for line in lines if not line[1].startswith(NO_QUERIES)]
     if len(counts) != len(passes):
         sys.exit(f"{driver}, {structure}: {len(passes)} passes were printed, and {len(counts)} were counted")
     for (*name, _, checksum), count in zip(passes, counts):
@@ -162,6 +182,9 @@ def main():
     parser.add_argument("structures", nargs="*", metavar="STRUCTURE", help=f"of {', '.join(STRUCTURES)}; all where none is named")
     parser.add_argument("--checksums", action="store_true", help="compare checksums with the stored run, and no times")
     parser.add_argument("--instructions", action="store_true", help="count instructions under valgrind in place of times")
+    parser.add_argument("--program", help="a driver of the original that is built, as for another processor, instead of building one")
+    parser.add_argument("--under", default="", metavar="COMMAND", help="the command that runs it, as an emulator")
+    parser.add_argument("--plain", action="store_true", help="run the crate of plain Rust too, as it is and unchecked")
     parser.add_argument("--passes", type=int, default=3, help="how often each structure is run by each (3)")
     parser.add_argument("--reps", type=int, default=5, help="how often a run repeats a series, for the median (5)")
     parser.add_argument("--small", action="store_true", help="a sixteenth of the sizes")
@@ -171,19 +194,31 @@ def main():
     unknown = set(asked.structures) - set(STRUCTURES)
     if unknown:
         parser.error(f"no structure {', '.join(sorted(unknown))}")
-    if not asked.checksums and not os.path.exists(OWN):
+    if not asked.checksums and not asked.plain and not os.path.exists(OWN):
         sys.exit(f"{os.path.relpath(OWN)} is missing: run `python3 tools/proofs.py vers_bench` first")
-    original = built_original(asked.original, asked.level)
+    original = asked.program or built_original(asked.original, asked.level)
     if asked.checksums:
-        sys.exit(compare_checksums(original))
+        sys.exit(compare_checksums([*asked.under.split(), asked.program or original]))
     drivers, structures = {"here": OWN, "original": original}, asked.structures or STRUCTURES
+    if not os.path.exists(OWN):
+        print("without the program of this library, which is not built", file=sys.stderr)
+        del drivers["here"]
+    ratios = [("here", "original")]
+    if asked.plain:
+        for name, features in (("plain", ()), ("unchecked", ("unchecked",))):
+            drivers[name] = built_original(PLAIN, asked.level, f"target/{name}", features)
+        ratios += [("plain", "here"), ("unchecked", "here"), ("plain", "original"), ("unchecked", "original")]
+    ratios = [it for it in ratios if set(it) <= set(drivers)]
     options = ["--reps", str(asked.reps), *(["--small"] if asked.small else [])]
     found = counted(drivers, structures) if asked.instructions else measured(drivers, structures, max(asked.passes, 1), options)
-    print("| structure | operation | data | here | original | ratio |\n|---|---|---|---:|---:|---:|")
-    print("\n".join(series.row(name) for name, series in found.items()))
+    heads = [*drivers, *("/".join(it) for it in ratios)]
+    print(f"| structure | operation | data | {' | '.join(heads)} |\n|---|---|---|{'---:|' * len(heads)}")
+    print("\n".join(series.row(name, drivers, ratios) for name, series in found.items()))
+    print(f"\n| queries of | {' | '.join(heads[len(drivers):])} |\n|---|{'---:|' * len(ratios)}")
+    print("\n".join(means(found, ratios)))
     differing = sum(series.differs() for series in found.values())
     what = "Instructions of a pass" if asked.instructions else "Nanoseconds an operation, builds an item; rows `heap_` are sizes"
-    print(f"\n{what}. {differing} checksums differ.")
+    print(f"\n{what}. {differing} checksums differ. In parentheses: the greatest ratio of a series.")
     sys.exit(differing > 0)
 
 

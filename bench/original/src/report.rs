@@ -175,7 +175,7 @@ struct TimeOfClock {
     nanoseconds: i64,
 }
 
-unsafe extern "C" {
+extern "C" {
     fn clock_gettime(clock: i32, time: *mut TimeOfClock) -> i32;
 }
 

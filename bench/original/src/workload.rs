@@ -128,7 +128,7 @@ pub fn members_clustered(count: usize, are_equal: bool) -> Clustered {
 /// nodes are half as many as the bits.
 pub fn parentheses(bit_count: usize) -> Vec<u64> {
     let mut random = Random::new(6);
-    let mut limbs = vec![0; bit_count.div_ceil(64)];
+    let mut limbs = vec![0; (bit_count + 63) / 64];
     let mut height = 0;
     limbs[0] = 1;
     for i in 1..bit_count - 1 {

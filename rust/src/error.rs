@@ -1,0 +1,124 @@
+//! Errors of the calls that build and change structures.
+
+use crate::proved::vers_bits::bit_vec::GrowError;
+use crate::rattle::AllocError;
+use std::error::Error;
+use std::fmt;
+
+/// Why a structure can't be built.
+///
+/// ```
+/// use vers_vecs::error::BuildError;
+/// use vers_vecs::EliasFanoVec;
+///
+/// let error = EliasFanoVec::try_from_slice(&[3, 8, 5]).unwrap_err();
+/// assert_eq!(error, BuildError::NotAscending { position: 2 });
+/// assert_eq!(error.to_string(), "the numbers must ascend, and the one at position 2 does not");
+/// ```
+#[derive(Clone, Copy, PartialEq, Eq, Hash, Debug)]
+#[non_exhaustive]
+pub enum BuildError {
+    /// The item at `position` is less than the one before it, or equal if items must differ.
+    NotAscending {
+        /// The index of the first such item.
+        position: usize,
+    },
+    /// The item at `position` is not below the length.
+    OutOfRange {
+        /// The index of the first such item.
+        position: usize,
+    },
+    /// The item at `position` has more bits than a symbol.
+    SymbolTooWide {
+        /// The index of the first such item.
+        position: usize,
+    },
+    /// Symbols can't have this number of bits.
+    UnsupportedWidth {
+        /// The number of bits asked for.
+        bits: u16,
+    },
+    /// The number of bits is no multiple of the width of a symbol.
+    PartialSymbol,
+    /// Two lists have different lengths.
+    LengthMismatch,
+    /// The sampling step is 0.
+    ZeroStep,
+    /// The structure can't have so many items.
+    TooLong,
+    /// The allocator refused the memory.
+    OutOfMemory,
+}
+
+impl fmt::Display for BuildError {
+    fn fmt(&self, f: &mut fmt::Formatter<'_>) -> fmt::Result {
+        match self {
+            BuildError::NotAscending { position } => {
+                write!(f, "the numbers must ascend, and the one at position {} does not", position)
+            }
+            BuildError::OutOfRange { position } => {
+                write!(f, "the number at position {} is not below the length", position)
+            }
+            BuildError::SymbolTooWide { position } => {
+                write!(f, "the number at position {} has more bits than a symbol", position)
+            }
+            BuildError::UnsupportedWidth { bits } => write!(f, "a symbol can't have {} bits here", bits),
+            BuildError::PartialSymbol => f.write_str("the length is no multiple of the width of a symbol"),
+            BuildError::LengthMismatch => f.write_str("the lengths do not match"),
+            BuildError::ZeroStep => f.write_str("the sampling step is 0"),
+            BuildError::TooLong => f.write_str("too many items for this structure"),
+            BuildError::OutOfMemory => f.write_str("out of memory"),
+        }
+    }
+}
+
+impl Error for BuildError {}
+
+#[doc(hidden)]
+impl From<AllocError> for BuildError {
+    fn from(_: AllocError) -> BuildError {
+        BuildError::OutOfMemory
+    }
+}
+
+#[doc(hidden)]
+impl From<GrowError> for BuildError {
+    fn from(error: GrowError) -> BuildError {
+        match error {
+            GrowError::TooLong => BuildError::TooLong,
+            GrowError::Memory => BuildError::OutOfMemory,
+        }
+    }
+}
+
+/// Returns what was made.
+///
+/// # Panics
+/// If it can't be made. The message is that of the error.
+#[inline]
+pub(crate) fn granted<T, E: Into<BuildError>>(made: Result<T, E>) -> T {
+    match made {
+        Ok(made) => made,
+        Err(error) => refused(error.into()),
+    }
+}
+
+#[cold]
+#[inline(never)]
+fn refused(error: BuildError) -> ! {
+    panic!("{}", error)
+}
+
+/// Stops at bits that a list doesn't have, or that are too many.
+#[cold]
+#[inline(never)]
+pub(crate) fn no_bits(place: usize, n: usize) -> ! {
+    panic!("the list has no {} bits from {} on", n, place)
+}
+
+/// Stops at a place past the end of a list of bits.
+#[cold]
+#[inline(never)]
+pub(crate) fn no_bit(place: usize) -> ! {
+    panic!("the list has no bit at {}", place)
+}

@@ -1,0 +1,86 @@
+//! Laws over the definitions, which hold of every list of bits. Each function does nothing:
+//! its contract is the law, and its proof is checked with the crate.
+
+use crate::rattle::prelude::*;
+
+/// Equal lists are fed to a hasher alike, so that they hash equally.
+pub fn equal_lists_hash_equally() {}
+
+/// After a split, the first list with the second appended is the old one.
+pub fn split_lists_join() {}
+
+/// The low `k` bits of a number are `k` bits.
+pub fn low_bits_are_as_many() {}
+
+/// The low `k` bits of a number make the number modulo `2 ^ k`.
+pub fn low_bits_are_the_rest() {}
+
+/// What a number has above its low `k` bits leaves these as they are.
+pub fn low_bits_leave_out_the_others() {}
+
+/// The low `j + k` bits of a number are its low `j` bits, and then the low `k` bits of the number
+/// divided by `2 ^ j`.
+pub fn low_bits_go_on() {}
+
+/// A list of bits follows from its number and its length.
+pub fn bits_follow_from_number() {}
+
+/// Element `e` of a packed list of 1 to 64 bits an item is item `e` modulo `2 ^ k`.
+pub fn packed_elements_are_items() {}
+
+/// Bit `p` of two lists combined bit by bit is what both bits `p` make.
+pub fn zipped_bits_are_combined() {}
+
+/// The mask by the or of limbs is the or of the bits.
+pub fn mask_of_or_is_or() {}
+
+/// The mask by the and of limbs is the and of the bits.
+pub fn mask_of_and_is_and() {}
+
+/// The mask by the xor of limbs is the xor of the bits.
+pub fn mask_of_xor_is_xor() {}
+
+/// Each of the first places holds a zero or a one: the counts of both add up to the number of
+/// places, or to the length.
+pub fn zeros_and_ones_add_up() {}
+
+/// The place of one (or zero) number `r` holds it, and `r` of them stand before.
+pub fn select_finds_number() {}
+
+/// To select what the count up to a place gave is to go on to the first one (or zero) at or after
+/// the place, or to the length.
+pub fn select_of_count_is_next() {}
+
+/// More places hold no fewer ones (or zeros).
+pub fn counts_grow() {}
+
+/// The count up to a later place is the count up to an earlier one, and that of the places between
+/// them.
+pub fn counts_of_spans_add_up() {}
+
+/// A count is at most the number of places, and at most the length.
+pub fn counts_are_few() {}
+
+/// Past the last one (or zero), to select gives the length.
+pub fn select_past_last_is_length() {}
+
+/// The neighbour above a place holds a one (or zero), and no place between them does. Where there is
+/// no neighbour, no place above does.
+pub fn none_up_to_neighbour() {}
+
+/// The neighbour below a place holds a one (or zero), and no place between them does. Where there is
+/// no neighbour, no place below does.
+pub fn none_down_to_neighbour() {}
+
+/// Calls of `next`, `next_back`, `nth` and `nth_back` in any mixture pass each item of the list
+/// once: those passed from the front, those left, and those passed from the back make up the list.
+pub fn both_ends_pass_each_item_once<T>() {}
+
+/// An iterator that has ended stays ended, whatever is asked of it.
+pub fn ended_iterators_stay_ended<T>() {}
+
+/// What the trait says of `next` is what the iterators of this library say of `nth(0)`.
+pub fn next_is_nth_of_zero<T>() {}
+
+/// What the trait says of `next_back` is what the iterators of this library say of `nth_back(0)`.
+pub fn next_back_is_nth_back_of_zero<T>() {}

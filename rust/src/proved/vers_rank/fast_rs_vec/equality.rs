@@ -1,0 +1,52 @@
+//! Equality of indexed lists.
+
+use crate::rattle::prelude::*;
+
+use super::RsVec;
+use super::reader::Reader;
+use crate::rattle::Allocator;
+use crate::proved::vers_tally::tally::{Tally, Uncounted};
+
+impl<A: Allocator + Copy> RsVec<A> {
+    /// Whether both lists have the same bits, by comparing the places of their zeros where `ZERO`
+    /// is true, and else of their ones. Fast where there are few of them.
+    #[inline]
+    pub fn sparse_equals<const ZERO: bool>(&self, other: &Self) -> bool {
+        self.has_places_of(!ZERO, other)
+    }
+
+    /// Whether both lists have the same bits, by comparing all limbs.
+    #[inline]
+    pub fn full_equals(&self, other: &Self) -> bool {
+        self == other
+    }
+
+    // Whether both lists have one length and the same places of a bit, by a walk over each.
+    fn has_places_of(&self, bit: bool, other: &Self) -> bool {
+        if self.len() != other.len() {
+            return false;
+        }
+        if self.total(bit) != other.total(bit) {
+            return false;
+        }
+        let mut tally = Tally::new();
+        let mut here = Reader::new();
+        let mut there = Reader::new();
+        for r in 0..self.total(bit) {
+            let place = here.place(bit, r, self, &mut tally);
+            if place != there.place(bit, r, other, &mut tally) {
+                return false;
+            }
+        }
+        true
+    }
+}
+
+impl<A: Allocator + Copy> PartialEq for RsVec<A> {
+    /// Whether both lists have the same bits.
+    fn eq(&self, other: &RsVec<A>) -> bool {
+        self.bits.as_bit_vec(Uncounted) == other.bits.as_bit_vec(Uncounted)
+    }
+}
+
+impl<A: Allocator + Copy> Eq for RsVec<A> {}

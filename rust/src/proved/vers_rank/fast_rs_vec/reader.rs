@@ -1,0 +1,186 @@
+//! The limb that a walk over places is reading.
+
+use crate::rattle::prelude::*;
+
+use super::{LIMB, RsVec};
+use crate::proved::vers_rank::word::{marks, place_in_word};
+use crate::rattle::Allocator;
+use crate::proved::vers_tally::tally::Tally;
+
+// The word of a limb in which the places from number `next` on are ones, where the walk goes from
+// the front, and those below number `next`, where it goes from the back. The places from `next` up to
+// number `edge` stand in the limb's block, and from the back those from `edge` on. A reader that has
+// read nothing has no such numbers.
+#[derive(Clone, Copy)]
+pub(super) struct Reader {
+    pub(super) word: u64,
+    pub(super) limb: usize,
+    pub(super) next: usize,
+    pub(super) edge: usize,
+}
+
+impl Reader {
+    // A reader that has read nothing.
+    #[inline(always)]
+    pub(super) fn new() -> Self {
+        Reader {
+            word: 0,
+            limb: 0,
+            next: 0,
+            edge: 0,
+        }
+    }
+
+    // The place of number `r`: mostly from the word at hand, else from a word of the same block, and
+    // else by a select.
+    #[inline(always)]
+    pub(super) fn place<A: Allocator + Copy>(
+        &mut self,
+        bit: bool,
+        r: usize,
+        bits: &RsVec<A>,
+        tally: &mut Tally,
+    ) -> usize {
+        let _ = &bits.bits;
+        self.seek(bit, r, bits, tally);
+        let lowest = self.word.trailing_zeros() as usize;
+        self.word &= !(1 << lowest);
+        self.next += 1;
+        LIMB * self.limb + lowest
+    }
+
+    // Reads on at number `r`.
+    #[inline(always)]
+    fn seek<A: Allocator + Copy>(&mut self, bit: bool, r: usize, bits: &RsVec<A>, tally: &mut Tally) {
+        if self.word != 0 && self.next == r {
+            return;
+        }
+        if self.next <= r && r < self.edge {
+            self.seek_in_block(bit, r, bits, tally);
+        } else {
+            self.seek_anew(bit, r, bits, tally);
+        }
+    }
+
+    // Reads on at number `r` of the block at hand: limb by limb, by their ones, and then in a word.
+    #[inline(always)]
+    fn seek_in_block<A: Allocator + Copy>(
+        &mut self,
+        bit: bool,
+        r: usize,
+        bits: &RsVec<A>,
+        tally: &mut Tally,
+    ) {
+        let _ = &bits.bits;
+        let mut ones = self.word.count_ones() as usize;
+        while ones <= r - self.next {
+            self.next += ones;
+            self.limb += 1;
+            let word = bits.bits.limb(self.limb, tally);
+            self.word = marks(bit, word);
+            ones = self.word.count_ones() as usize;
+        }
+        if self.next < r {
+            let place = place_in_word(self.word, true, r - self.next);
+            self.word &= u64::MAX << place;
+            self.next = r;
+        }
+    }
+
+    // Reads on at number `r` by a select, and by the entry of the block that comes next.
+    #[inline(always)]
+    fn seek_anew<A: Allocator + Copy>(
+        &mut self,
+        bit: bool,
+        r: usize,
+        bits: &RsVec<A>,
+        tally: &mut Tally,
+    ) {
+        tally.add_rank_call();
+        let at = bits.locate(bit, r, tally);
+        self.word = marks(bit, at.word) & (u64::MAX << at.place);
+        self.limb = at.limb;
+        self.next = r;
+        let edge = bits.count_at_block(bit, at.limb / 8 + 1, tally);
+        self.edge = edge;
+    }
+
+    // The place of number `r`, in a walk from the back.
+    #[inline(always)]
+    pub(super) fn place_back<A: Allocator + Copy>(
+        &mut self,
+        bit: bool,
+        r: usize,
+        bits: &RsVec<A>,
+        tally: &mut Tally,
+    ) -> usize {
+        let _ = &bits.bits;
+        self.seek_back(bit, r + 1, bits, tally);
+        let highest = 63 - self.word.leading_zeros() as usize;
+        self.word &= !(1 << highest);
+        self.next = r;
+        LIMB * self.limb + highest
+    }
+
+    // Reads on at the last number below `end`.
+    #[inline(always)]
+    fn seek_back<A: Allocator + Copy>(
+        &mut self,
+        bit: bool,
+        end: usize,
+        bits: &RsVec<A>,
+        tally: &mut Tally,
+    ) {
+        if self.word != 0 && self.next == end {
+            return;
+        }
+        if self.edge < end && end <= self.next {
+            self.seek_back_in_block(bit, end, bits, tally);
+        } else {
+            self.seek_back_anew(bit, end, bits, tally);
+        }
+    }
+
+    // Reads on at the last number below `end`, in the block at hand: limb by limb, by their ones, and
+    // then in a word.
+    #[inline(always)]
+    fn seek_back_in_block<A: Allocator + Copy>(
+        &mut self,
+        bit: bool,
+        end: usize,
+        bits: &RsVec<A>,
+        tally: &mut Tally,
+    ) {
+        let mut ones = self.word.count_ones() as usize;
+        while ones <= self.next - end {
+            self.next -= ones;
+            self.limb -= 1;
+            let word = bits.bits.limb(self.limb, tally);
+            self.word = marks(bit, word);
+            ones = self.word.count_ones() as usize;
+        }
+        if end < self.next {
+            let place = place_in_word(self.word, true, ones - 1 - (self.next - end));
+            self.word &= u64::MAX >> (63 - place);
+            self.next = end;
+        }
+    }
+
+    // Reads on at the last number below `end` by a select, and by the entry of its block.
+    #[inline(always)]
+    fn seek_back_anew<A: Allocator + Copy>(
+        &mut self,
+        bit: bool,
+        end: usize,
+        bits: &RsVec<A>,
+        tally: &mut Tally,
+    ) {
+        tally.add_rank_call();
+        let at = bits.locate(bit, end - 1, tally);
+        self.word = marks(bit, at.word) & (u64::MAX >> (63 - at.place));
+        self.limb = at.limb;
+        self.next = end;
+        let edge = bits.count_at_block(bit, at.limb / 8, tally);
+        self.edge = edge;
+    }
+}

@@ -1,0 +1,11 @@
+//! Laws of range minima. Each function does nothing: its contract is the law, and its proof is
+//! checked with the crate.
+
+use crate::rattle::prelude::*;
+
+/// A range has one first least place: what both types answer is the same place.
+pub fn one_first_least() {}
+
+/// The least place of a range is its first place of a least item: no item of the range is below the
+/// one there, and those before it are above.
+pub fn least_place_is_first() {}

@@ -1,0 +1,27 @@
+//! The ends of a range as places of a list.
+
+use crate::rattle::prelude::*;
+
+use std::ops::Bound;
+
+// The first place of a range that starts at the bound, among `n` places.
+#[inline(always)]
+pub(super) fn start_place(start: Bound<usize>, n: usize) -> usize {
+    let first = match start {
+        Bound::Included(place) => place,
+        Bound::Excluded(place) => place + 1,
+        Bound::Unbounded => 0,
+    };
+    first.min(n - 1)
+}
+
+// The last place of a range that ends at the bound, among `n` places.
+#[inline(always)]
+pub(super) fn end_place(end: Bound<usize>, n: usize) -> usize {
+    let last = match end {
+        Bound::Included(place) => place,
+        Bound::Excluded(place) => place - 1,
+        Bound::Unbounded => n - 1,
+    };
+    last.min(n - 1)
+}

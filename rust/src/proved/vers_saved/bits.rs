@@ -1,0 +1,76 @@
+//! Lists of bits, saved by their limbs.
+
+use crate::rattle::prelude::*;
+
+use crate::proved::vers_saved::form::{Shape, bits_of, taken};
+use crate::proved::vers_saved::kind::{BIT_LISTS, BITS, Kind};
+use crate::proved::vers_saved::saved::{Loaded, Saved};
+use crate::rattle::AllocError;
+use crate::rattle::Allocator;
+use crate::proved::vers_bits::bit_vec::BitVec;
+use crate::proved::vers_rank::fast_rs_vec::RsVec;
+
+// The shape of a list of so many bits.
+fn shape_of(count: usize) -> Shape {
+    Shape {
+        kind: BITS,
+        count,
+        width: 1,
+    }
+}
+
+// The limb at a place.
+#[inline]
+pub(crate) fn limb_of<A: Allocator + Copy>(bits: &RsVec<A>, k: usize) -> u64 {
+    let len = bits.len();
+    let place = 64 * k;
+    let left = len - place;
+    // Of a whole limb the compiler leaves no shift and no mask.
+    if left < 64 {
+        bits.get_bits_unchecked(place, left)
+    } else {
+        bits.get_bits_unchecked(place, 64)
+    }
+}
+
+impl<A: Allocator + Copy> Saved for BitVec<A> {
+    fn kind() -> Kind {
+        BIT_LISTS
+    }
+
+    fn shape(&self) -> Option<Shape> {
+        Some(shape_of(self.len()))
+    }
+
+    #[inline]
+    fn word(&self, k: usize) -> u64 {
+        self.limb(k)
+    }
+}
+
+impl<A: Allocator + Copy> Loaded<A> for BitVec<A> {
+    fn make(of: Shape, held: &mut Vec<u64, A>) -> Result<Self, AllocError> {
+        Ok(bits_of(&BIT_LISTS, of, taken(held)))
+    }
+}
+
+impl<A: Allocator + Copy> Saved for RsVec<A> {
+    fn kind() -> Kind {
+        BIT_LISTS
+    }
+
+    fn shape(&self) -> Option<Shape> {
+        Some(shape_of(self.len()))
+    }
+
+    #[inline]
+    fn word(&self, k: usize) -> u64 {
+        limb_of(self, k)
+    }
+}
+
+impl<A: Allocator + Copy> Loaded<A> for RsVec<A> {
+    fn make(of: Shape, held: &mut Vec<u64, A>) -> Result<Self, AllocError> {
+        RsVec::from_bit_vec(bits_of(&BIT_LISTS, of, taken(held)))
+    }
+}

@@ -1,0 +1,176 @@
+//! Words of a saved form, gathered from any reader a block at a time.
+
+use crate::rattle::prelude::*;
+
+use crate::proved::vers_saved::fault::LoadError;
+use crate::proved::vers_saved::form::{Form, HEAD, Head, Shape, head_of, test_body};
+use crate::proved::vers_saved::kind::Kind;
+use crate::proved::vers_saved::numbers::are_words;
+use crate::proved::vers_saved::words::{FRAME, TwoParts, word_of};
+use crate::rattle::AllocError;
+use crate::rattle::Allocator;
+use std::io;
+use crate::proved::vers_bits::bit_vec::MAX_LEN;
+use crate::rattle::io::Source;
+
+/// How many bytes are read or written at once at most.
+pub(crate) const BLOCK: usize = 65536;
+
+// One read into a block, behind the bytes that were read before.
+fn read_behind<R: Source>(reader: &mut R, block: &mut [u8], filled: usize) -> io::Result<usize> {
+    reader.read_once(&mut block[filled..])
+}
+
+/// Reads until a block is full, or the reader ends. Answers how many bytes were read.
+pub fn fill<R: Source>(reader: &mut R, block: &mut [u8]) -> Result<usize, LoadError> {
+    let mut filled = 0;
+    while filled < block.len() {
+        match read_behind(reader, block, filled) {
+            Ok(0) => return Ok(filled),
+            Ok(given) => filled += given,
+            Err(_) => return Err(LoadError::Read),
+        }
+    }
+    Ok(filled)
+}
+
+// Makes room for so many words more, and for as many as there are, but for no more than are missing. So
+// words are moved few times, and all of them take no more memory than they need.
+fn make_room<A: Allocator>(
+    words: &mut Vec<u64, A>,
+    more: usize,
+    missing: usize,
+) -> Result<(), AllocError> {
+    if words.capacity() - words.len() >= more {
+        return Ok(());
+    }
+    words.reserve_exact(words.len().max(more).min(missing))
+}
+
+// Appends the words of chunks of eight bytes.
+fn append_words<A: Allocator>(words: &mut Vec<u64, A>, chunks: Arrays<'_, u8, 8>) -> Result<(), AllocError> {
+    words.extend(chunks.iter().map(|chunk| word_of(*chunk)))
+}
+
+// All items of a slice are bytes.
+fn are_bytes(items: &[u8]) {}
+
+// Appends the words of a piece of so many bytes, which a reader fills. TooShort where it ends before.
+fn gather_piece<R: Source, A: Allocator>(
+    reader: &mut R,
+    piece: &mut [u8],
+    size: usize,
+    words: &mut Vec<u64, A>,
+    missing: usize,
+) -> Result<(), LoadError> {
+    let filled = fill(reader, piece)?;
+    if filled < size {
+        return Err(LoadError::TooShort);
+    }
+    are_bytes(piece);
+    make_room(words, size / 8, missing)?;
+    let (chunks, _) = piece.as_arrays::<8>();
+    append_words(words, chunks)?;
+    Ok(())
+}
+
+// Appends words until there are so many. TooShort where the reader ends before.
+fn gather<R: Source, A: Allocator>(
+    reader: &mut R,
+    block: &mut [u8],
+    words: &mut Vec<u64, A>,
+    count: usize,
+) -> Result<(), LoadError> {
+    while words.len() < count {
+        let missing = count - words.len();
+        let most = (8 * missing).min(BLOCK);
+        if let Err(fault) = gather_piece(reader, &mut block[..most], most, words, missing) {
+            return Err(fault);
+        }
+    }
+    Ok(())
+}
+
+// BadLength where a reader has more bytes.
+fn test_end<R: Source>(reader: &mut R, block: &mut [u8]) -> Result<(), LoadError> {
+    match reader.read_once(block) {
+        Ok(0) => Ok(()),
+        Ok(_) => Err(LoadError::BadLength),
+        Err(_) => Err(LoadError::Read),
+    }
+}
+
+// The head of the form that a reader has. No word was gathered before.
+fn gather_head<R: Source, A: Allocator>(
+    kind: &Kind,
+    reader: &mut R,
+    block: &mut [u8],
+    words: &mut Vec<u64, A>,
+) -> Result<Head, LoadError> {
+    if let Err(fault) = gather(reader, block, words, FRAME) {
+        return Err(fault);
+    }
+    are_words(words.as_slice());
+    head_of(kind, words)
+}
+
+// The words of a head, taken off the words of which they are the first. One more word is left.
+fn cut_head<A: Allocator>(words: &mut Vec<u64, A>) -> [u64; HEAD] {
+    let head = [words[0], words[1], words[2], words[3], words[4]];
+    words[0] = words[5];
+    words.truncate(1);
+    head
+}
+
+// The words after those of a head, up to the sum, of the form that a reader has. The head stands apart, and one
+// word after it was gathered.
+fn gather_body<R: Source, A: Allocator>(
+    kind: &Kind,
+    n: usize,
+    head: &[u64],
+    reader: &mut R,
+    block: &mut [u8],
+    words: &mut Vec<u64, A>,
+) -> Result<(), LoadError> {
+    if let Err(fault) = gather(reader, block, words, n.div_ceil(64) + 1) {
+        return Err(fault);
+    }
+    if let Err(fault) = test_end(reader, block) {
+        return Err(fault);
+    }
+    let rest = words.as_slice();
+    are_words(rest);
+    test_body(kind.order, n, &TwoParts { front: head, rest })
+}
+
+// The shape of the list that the bytes up to the end of a reader are the saved form of, of a list of that
+// kind. Its words are gathered, and none was before.
+fn gather_form<R: Source, A: Allocator>(
+    kind: &Kind,
+    reader: &mut R,
+    block: &mut [u8],
+    words: &mut Vec<u64, A>,
+) -> Result<Shape, LoadError> {
+    let said = gather_head(kind, reader, block, words)?;
+    let head = cut_head(words);
+    if let Err(fault) = gather_body(kind, said.bits, &head, reader, block, words) {
+        return Err(fault);
+    }
+    words.truncate(said.bits.div_ceil(64));
+    Ok(said.shape)
+}
+
+// The shape and the words that the bytes up to the end of a reader are the saved form of, of a list
+// of that kind.
+pub(crate) fn form_from<R: Source, A: Allocator + Copy>(
+    alloc: A,
+    kind: Kind,
+    reader: &mut R,
+) -> Result<Form<A>, LoadError> {
+    let mut block = Vec::from_elem(alloc, 0u8, BLOCK)?;
+    let mut words = Vec::new(alloc);
+    match gather_form(&kind, reader, block.as_mut_slice(), &mut words) {
+        Ok(shape) => Ok(Form { shape, words }),
+        Err(fault) => Err(fault),
+    }
+}

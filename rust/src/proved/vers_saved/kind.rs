@@ -1,0 +1,160 @@
+//! Kinds of lists that are saved.
+
+use crate::rattle::prelude::*;
+
+use crate::proved::vers_bits::bit_vec::MAX_LEN;
+use crate::proved::vers_rmq::rmq::{binary_rmq, fast_rmq};
+
+/// The order that the words of a list stand in.
+#[derive(Clone, Copy, PartialEq, Eq, Debug)]
+pub enum Order {
+    /// Any order.
+    Any,
+    /// No word is below the one before it.
+    Ascending,
+    /// Each word is above the one before it.
+    Rising,
+    /// Each word of the first half is above the one before it.
+    HalfRising,
+}
+
+/// A kind of lists: what its saved forms have to meet.
+#[derive(Clone, Copy)]
+pub struct Kind {
+    /// The number that says the kind.
+    pub number: u64,
+    /// The least width of its items.
+    pub least_width: u64,
+    /// The greatest width of its items.
+    pub greatest_width: u64,
+    /// How many bits an item has, or 0 where it has as many as its width says.
+    pub item_bits: u64,
+    /// How many items a list has at least.
+    pub least_count: u64,
+    /// How many items a list has at most.
+    pub greatest_count: u64,
+    /// The order of its words.
+    pub order: Order,
+}
+
+/// The number of lists of bits.
+pub const BITS: u64 = 1;
+
+/// The number of ascending lists of numbers.
+pub const SORTED: u64 = 2;
+
+/// The number of lists of symbols.
+pub const SYMBOLS: u64 = 3;
+
+/// The number of lists of bits with few ones.
+pub const SPARSE: u64 = 4;
+
+/// The number of lists of numbers in any order.
+pub const VALUES: u64 = 5;
+
+/// The number of lists of parentheses.
+pub const PARENTHESES: u64 = 6;
+
+/// The number of lists of documents with costs.
+pub const POSTINGS: u64 = 7;
+
+impl Kind {
+    // Whether a list of this kind may have that width.
+    pub(crate) fn takes_width(&self, width: u64) -> bool {
+        self.least_width <= width && width <= self.greatest_width
+    }
+
+    // Whether a list of this kind may have so many items.
+    pub(crate) fn takes_count(&self, count: u64) -> bool {
+        self.least_count <= count && count <= self.greatest_count
+    }
+
+    // How many bits an item has.
+    pub(crate) fn bits_of_item(&self, width: usize) -> usize {
+        if self.item_bits == 0 {
+            width
+        } else {
+            self.item_bits as usize
+        }
+    }
+}
+
+/// How many words a list has at most, where each item is one.
+pub const GREATEST_WORDS: u64 = 288230376151711743;
+
+/// Lists of bits, which have one bit an item.
+pub const BIT_LISTS: Kind = Kind {
+    number: BITS,
+    least_width: 1,
+    greatest_width: 1,
+    item_bits: 1,
+    least_count: 0,
+    greatest_count: MAX_LEN as u64,
+    order: Order::Any,
+};
+
+/// Ascending lists of numbers.
+pub const SORTED_LISTS: Kind = Kind {
+    number: SORTED,
+    least_width: 64,
+    greatest_width: 64,
+    item_bits: 64,
+    least_count: 0,
+    greatest_count: GREATEST_WORDS,
+    order: Order::Ascending,
+};
+
+/// Lists of bits with few ones: the places of the ones, and the length.
+pub const SPARSE_LISTS: Kind = Kind {
+    number: SPARSE,
+    least_width: 64,
+    greatest_width: 64,
+    item_bits: 64,
+    least_count: 1,
+    greatest_count: GREATEST_WORDS,
+    order: Order::Rising,
+};
+
+/// Lists of numbers in any order, of which a sparse table finds least ones.
+pub const TABLE_VALUES: Kind = Kind {
+    number: VALUES,
+    least_width: 64,
+    greatest_width: 64,
+    item_bits: 64,
+    least_count: 0,
+    greatest_count: binary_rmq::MAX_LEN as u64,
+    order: Order::Any,
+};
+
+/// Lists of numbers in any order, of which blocks find least ones.
+pub const BLOCK_VALUES: Kind = Kind {
+    number: VALUES,
+    least_width: 64,
+    greatest_width: 64,
+    item_bits: 64,
+    least_count: 0,
+    greatest_count: fast_rmq::MAX_LEN as u64,
+    order: Order::Any,
+};
+
+/// Documents with costs: the documents, and then the cost of each.
+pub const POSTING_LISTS: Kind = Kind {
+    number: POSTINGS,
+    least_width: 128,
+    greatest_width: 128,
+    item_bits: 128,
+    least_count: 0,
+    greatest_count: fast_rmq::MAX_LEN as u64,
+    order: Order::HalfRising,
+};
+
+/// Lists of symbols of 1 to 64 bits.
+pub const SYMBOL_LISTS: Kind = Kind {
+    number: SYMBOLS,
+    least_width: 1,
+    greatest_width: 64,
+    item_bits: 0,
+    least_count: 0,
+    greatest_count: MAX_LEN as u64,
+    order: Order::Any,
+};

@@ -1,0 +1,34 @@
+//! Saved forms of the library's lists: bytes that say which list they are of, and that are refused
+//! where they are of none.
+
+use crate::rattle::prelude::*;
+
+pub mod bits;
+pub mod documents;
+pub mod fault;
+pub mod form;
+mod gather;
+pub mod kind;
+pub mod laws;
+pub mod numbers;
+pub mod saved;
+pub mod sparse;
+pub mod stream;
+pub mod symbols;
+pub mod trees;
+pub mod words;
+
+/// The first word of each saved form: the bytes `woltsjem`.
+pub const MAGIC: u64 = 7882823766888968055;
+
+/// The version of the form.
+pub const VERSION: u64 = 1;
+
+/// The sum of no words.
+pub const START: u64 = 0xcbf2_9ce4_8422_2325;
+
+/// What a sum is multiplied by.
+pub const FACTOR: u64 = 0x9e37_79b9_7f4a_7c15;
+
+/// By how many places a sum is turned.
+pub const TURN: u32 = 29;

@@ -1,0 +1,139 @@
+//! Lists of numbers, saved as they are, each as a word.
+
+use crate::rattle::prelude::*;
+
+use crate::proved::vers_saved::form::{Shape, taken};
+use crate::proved::vers_saved::kind::{BLOCK_VALUES, GREATEST_WORDS, Kind, SORTED, SORTED_LISTS, TABLE_VALUES, VALUES};
+use crate::proved::vers_saved::saved::{Loaded, Saved};
+use crate::rattle::AllocError;
+use crate::rattle::Allocator;
+use crate::proved::vers_rmq::rmq::binary_rmq::BinaryRmq;
+use crate::proved::vers_rmq::rmq::fast_rmq::FastRmq;
+use crate::proved::vers_sorted::elias_fano::{EliasFanoRefIter, EliasFanoVec};
+
+// The shape of so many words of a kind, one for each item.
+pub(crate) fn words_shape(kind: u64, count: usize) -> Shape {
+    Shape {
+        kind,
+        count,
+        width: 64,
+    }
+}
+
+// All items of a slice are words.
+pub(crate) fn are_words(items: &[u64]) {}
+
+// All members of a list are words, since the last one is.
+fn read_last<A: Allocator + Copy>(list: &EliasFanoVec<A>) {
+    let count = list.len();
+    if count == 0 {
+        return;
+    }
+    let _last = list.get_unchecked(count - 1);
+}
+
+// Drops the first members that a walk has left, so many of them.
+#[inline(always)]
+fn drop_first<A: Allocator + Copy>(members: &mut EliasFanoRefIter<'_, A>, n: usize) {
+    if n > 0 {
+        members.nth(n - 1);
+    }
+}
+
+// The number that a walk gave, or where it gave none, that at a place of the others, which come after `count`.
+#[inline(always)]
+fn given_or(given: Option<u64>, others: &[u64], place: usize, count: usize) -> u64 {
+    match given {
+        Some(number) => number,
+        None => others[place - count],
+    }
+}
+
+// Copies the members that a walk has left, and then other numbers, from a place on.
+pub(crate) fn copy_members<A: Allocator + Copy>(
+    mut members: EliasFanoRefIter<'_, A>,
+    others: &[u64],
+    from: usize,
+    out: &mut [u64],
+) {
+    let count = members.len();
+    drop_first(&mut members, from);
+    for k in 0..out.len() {
+        out[k] = given_or(members.next(), others, from + k, count);
+    }
+}
+
+impl<A: Allocator + Copy> Saved for EliasFanoVec<A> {
+    fn kind() -> Kind {
+        SORTED_LISTS
+    }
+
+    fn shape(&self) -> Option<Shape> {
+        let count = self.len();
+        if count as u64 > GREATEST_WORDS {
+            return None;
+        }
+        read_last(self);
+        Some(words_shape(SORTED, count))
+    }
+
+    #[inline]
+    fn word(&self, k: usize) -> u64 {
+        self.get_unchecked(k)
+    }
+
+    fn copy_words(&self, from: usize, out: &mut [u64]) {
+        copy_members(self.iter(), &[], from, out)
+    }
+}
+
+impl<A: Allocator + Copy> Loaded<A> for EliasFanoVec<A> {
+    fn make(of: Shape, held: &mut Vec<u64, A>) -> Result<Self, AllocError> {
+        let alloc = *held.allocator();
+        EliasFanoVec::from_slice(alloc, held.as_slice())
+    }
+}
+
+impl<A: Allocator + Copy> Saved for BinaryRmq<A> {
+    fn kind() -> Kind {
+        TABLE_VALUES
+    }
+
+    fn shape(&self) -> Option<Shape> {
+        are_words(self.as_slice());
+        Some(words_shape(VALUES, self.len()))
+    }
+
+    #[inline]
+    fn word(&self, k: usize) -> u64 {
+        self.item(k)
+    }
+}
+
+impl<A: Allocator + Copy> Loaded<A> for BinaryRmq<A> {
+    fn make(of: Shape, held: &mut Vec<u64, A>) -> Result<Self, AllocError> {
+        BinaryRmq::from_vec(taken(held))
+    }
+}
+
+impl<A: Allocator + Copy> Saved for FastRmq<A> {
+    fn kind() -> Kind {
+        BLOCK_VALUES
+    }
+
+    fn shape(&self) -> Option<Shape> {
+        are_words(self.as_slice());
+        Some(words_shape(VALUES, self.len()))
+    }
+
+    #[inline]
+    fn word(&self, k: usize) -> u64 {
+        self.as_slice()[k]
+    }
+}
+
+impl<A: Allocator + Copy> Loaded<A> for FastRmq<A> {
+    fn make(of: Shape, held: &mut Vec<u64, A>) -> Result<Self, AllocError> {
+        FastRmq::from_vec(taken(held))
+    }
+}

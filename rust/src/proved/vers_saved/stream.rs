@@ -1,0 +1,87 @@
+//! Saved forms, written to any writer and read from any reader.
+
+use crate::rattle::prelude::*;
+
+use crate::proved::vers_saved::fault::{LoadError, SaveError};
+use crate::proved::vers_saved::form::{Form, Shape, put_head};
+pub use crate::proved::vers_saved::gather::fill;
+use crate::proved::vers_saved::gather::{BLOCK, form_from};
+use crate::proved::vers_saved::saved::{GROUP, Loaded, Saved, count_words, put_group};
+use crate::proved::vers_saved::words::put_word;
+use crate::rattle::Allocator;
+use crate::rattle::io::Sink;
+use crate::rattle::io::Source;
+
+// Writes a whole piece, or as much of it as the writer takes before a fault.
+fn write_piece<W: Sink>(writer: &mut W, piece: &[u8]) -> Result<(), SaveError> {
+    let mut rest = piece;
+    while !rest.is_empty() {
+        match writer.write_once(rest) {
+            Ok(0) => return Err(SaveError::Write),
+            Ok(taken) => rest = &rest[taken..],
+            Err(_) => return Err(SaveError::Write),
+        }
+    }
+    Ok(())
+}
+
+// Writes what a buffer holds, where it has no room for a group of words and one more.
+fn make_room<W: Sink, A: Allocator>(
+    writer: &mut W,
+    buffer: &mut Vec<u8, A>,
+) -> Result<(), SaveError> {
+    if buffer.len() <= buffer.capacity() - 8 * (GROUP + 1) {
+        return Ok(());
+    }
+    write_piece(writer, buffer.as_slice())?;
+    buffer.clear();
+    Ok(())
+}
+
+// Writes the saved form of a list with that shape, by a buffer.
+fn write_words<S: Saved, W: Sink, A: Allocator>(
+    writer: &mut W,
+    mut buffer: Vec<u8, A>,
+    shape: Shape,
+    list: &S,
+) -> Result<(), SaveError> {
+    let count = count_words(list, shape);
+    let mut sum = put_head(&mut buffer, shape);
+    let mut done = 0;
+    while done < count {
+        if let Err(error) = make_room(writer, &mut buffer) {
+            return Err(error);
+        }
+        let n = GROUP.min(count - done);
+        sum = put_group(&mut buffer, sum, list, done, n);
+        done += n;
+    }
+    put_word(&mut buffer, sum);
+    write_piece(writer, buffer.as_slice())
+}
+
+/// Writes the saved form of a list, by blocks of 64 KiB. After a fault of the writer a beginning of
+/// it was written, and after another one nothing.
+pub fn save<S: Saved, A: Allocator, W: Sink>(
+    alloc: A,
+    list: &S,
+    writer: &mut W,
+) -> Result<(), SaveError> {
+    let shape = match list.shape() { Some(shape) => shape, _ => {
+        return Err(SaveError::NoForm);
+    } };
+    let buffer = match Vec::with_capacity(alloc, BLOCK) { Ok(buffer) => buffer, _ => {
+        return Err(SaveError::Memory);
+    } };
+    write_words(writer, buffer, shape, list)
+}
+
+/// The list that the bytes up to the end of a reader are the saved form of. They are read by blocks of
+/// 64 KiB, and kept as words. Memory is asked for as bytes come, and no length in a head asks for more.
+pub fn load<S: Loaded<A>, A: Allocator + Copy, R: Source>(
+    alloc: A,
+    reader: &mut R,
+) -> Result<S, LoadError> {
+    let Form { shape, mut words } = form_from(alloc, S::kind(), reader)?;
+    Ok(S::make(shape, &mut words)?)
+}

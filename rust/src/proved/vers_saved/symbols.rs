@@ -1,0 +1,167 @@
+//! Lists of symbols, saved by the limbs of their bits, one symbol after another.
+
+use crate::rattle::prelude::*;
+
+use crate::proved::vers_saved::form::{Shape, bits_of, taken};
+use crate::proved::vers_saved::kind::{Kind, SYMBOL_LISTS, SYMBOLS};
+use crate::proved::vers_saved::saved::{Loaded, Saved};
+use crate::rattle::AllocError;
+use crate::rattle::Allocator;
+use crate::proved::vers_bits::bit_vec::{BitVec, MAX_LEN};
+use crate::proved::vers_wavelet::wavelet::{GetQuery, WaveletMatrix};
+
+/// How many symbols are read at once. Their bits fill as many words as a symbol has bits.
+const GROUP: usize = 64;
+
+// Asks for the symbols of a group.
+fn ask_group<A: Allocator + Copy>(list: &WaveletMatrix<A>, group: usize, queries: &mut [GetQuery]) {
+    for j in 0..GROUP {
+        queries[j] = GetQuery::new(GROUP * group + j);
+    }
+    list.get_u64_each(queries);
+}
+
+// The symbol that a query was answered, or 0 where there is none.
+#[inline(always)]
+fn answer_of(queries: &[GetQuery], j: usize) -> u64 {
+    queries[j].answer.unwrap_or(0)
+}
+
+// Reads the symbols of a group, where they aren't those of one that was read.
+fn read_group<A: Allocator + Copy>(
+    list: &WaveletMatrix<A>,
+    known: usize,
+    group: usize,
+    symbols: &mut [u64],
+) {
+    if known == group {
+        return;
+    }
+    let mut queries = [GetQuery::new(0); GROUP];
+    ask_group(list, group, &mut queries);
+    for j in 0..GROUP {
+        symbols[j] = answer_of(&queries, j);
+    }
+}
+
+// How many bits all symbols have.
+fn count_bits<A: Allocator + Copy>(list: &WaveletMatrix<A>) -> usize {
+    let width = list.bits_per_element();
+    list.len() * width
+}
+
+// A number whose low digits are `n` of a symbol, and whose others are those of a word.
+#[inline(always)]
+fn joined(symbol: u64, n: usize, word: u64) -> u64 {
+    if n == 64 {
+        return symbol;
+    }
+    symbol % (1 << n) + (1 << n) * word
+}
+
+// The number of the bits of all symbols from place `64 * k` on, 64 of them or as many as there are. The symbols
+// of its group were read.
+fn limb_of<A: Allocator + Copy>(list: &WaveletMatrix<A>, symbols: &[u64], k: usize) -> u64 {
+    let width = list.bits_per_element();
+    let from = 64 * k;
+    let mut place = count_bits(list).min(from + 64);
+    let mut item = (place - 1) / width;
+    let mut word = 0;
+    while place > from {
+        let first = item * width;
+        let start = first.max(from);
+        word = joined(
+            symbols[item % GROUP] >> (start - first),
+            place - start,
+            word,
+        );
+        place = start;
+        item = item.saturating_sub(1);
+    }
+    word
+}
+
+// Copies the limbs of the bits of all symbols from a place on, as many as the slice has.
+fn copy_limbs<A: Allocator + Copy>(list: &WaveletMatrix<A>, from: usize, out: &mut [u64]) {
+    let width = list.bits_per_element();
+    let mut symbols = [0; GROUP];
+    let mut known = usize::MAX;
+    for k in 0..out.len() {
+        let group = (from + k) / width;
+        read_group(list, known, group, &mut symbols);
+        known = group;
+        out[k] = limb_of(list, &symbols, from + k);
+    }
+}
+
+// The numbers of so many bits each that a list of bits holds, one after another.
+fn unpacked<A: Allocator + Copy>(bits: &BitVec<A>, width: usize) -> Result<Vec<u64, A>, AllocError> {
+    let count = bits.len() / width;
+    let mut numbers = Vec::with_capacity(bits.allocator(), count)?;
+    for e in 0..count {
+        numbers.push(bits.unpack_element_unchecked(e, width))?;
+    }
+    Ok(numbers)
+}
+
+// The symbols that words hold.
+fn symbols_of<A: Allocator + Copy>(of: Shape, words: Vec<u64, A>) -> Result<Vec<u64, A>, AllocError> {
+    let bits = bits_of(&SYMBOL_LISTS, of, words);
+    unpacked(&bits, of.width)
+}
+
+/// Up to this width symbols are counted by their prefixes, and wider ones sorted.
+const COUNTED_WIDTH: u16 = 8;
+
+// The matrix of symbols of a width, by the maker that is faster there.
+fn matrix_of<A: Allocator + Copy>(
+    alloc: A,
+    symbols: &[u64],
+    width: u16,
+) -> Result<WaveletMatrix<A>, AllocError> {
+    if width <= COUNTED_WIDTH {
+        WaveletMatrix::from_slice_pc(alloc, symbols, width)
+    } else {
+        WaveletMatrix::from_slice(alloc, symbols, width)
+    }
+}
+
+impl<A: Allocator + Copy> Saved for WaveletMatrix<A> {
+    fn kind() -> Kind {
+        SYMBOL_LISTS
+    }
+
+    fn shape(&self) -> Option<Shape> {
+        let width = self.bits_per_element();
+        let count = self.len();
+        if width == 0 || width > 64 {
+            return None;
+        }
+        if count > MAX_LEN / width {
+            return None;
+        }
+        Some(Shape {
+            kind: SYMBOLS,
+            count,
+            width,
+        })
+    }
+
+    fn word(&self, k: usize) -> u64 {
+        let mut word = [0];
+        copy_limbs(self, k, &mut word);
+        word[0]
+    }
+
+    fn copy_words(&self, from: usize, out: &mut [u64]) {
+        copy_limbs(self, from, out)
+    }
+}
+
+impl<A: Allocator + Copy> Loaded<A> for WaveletMatrix<A> {
+    fn make(of: Shape, held: &mut Vec<u64, A>) -> Result<Self, AllocError> {
+        let alloc = *held.allocator();
+        let symbols = symbols_of(of, taken(held))?;
+        matrix_of(alloc, symbols.as_slice(), of.width as u16)
+    }
+}

@@ -1,0 +1,132 @@
+//! Words of 64 bits, as bytes, and their sum.
+
+use crate::rattle::prelude::*;
+
+use crate::proved::vers_saved::kind::Order;
+use crate::proved::vers_saved::{FACTOR, START, TURN};
+use crate::rattle::Allocator;
+
+/// How many words a head and a sum have.
+pub(crate) const FRAME: usize = 6;
+
+/// Words, one after another.
+pub(crate) trait Words {
+    // The word at a place.
+    fn word(&self, k: usize) -> u64;
+}
+
+/// Words that stand as bytes, eight for each.
+#[derive(Clone, Copy)]
+pub(crate) struct Chunks<'a> {
+    pub(crate) chunks: Arrays<'a, u8, 8>,
+}
+
+impl<'a> Words for Chunks<'a> {
+    #[inline]
+    fn word(&self, k: usize) -> u64 {
+        word_of(self.chunks[k])
+    }
+}
+
+impl<A: Allocator> Words for Vec<u64, A> {
+    #[inline]
+    fn word(&self, k: usize) -> u64 {
+        self[k]
+    }
+}
+
+/// Words in two parts, one after the other.
+#[derive(Clone, Copy)]
+pub(crate) struct TwoParts<'a> {
+    pub(crate) front: &'a [u64],
+    pub(crate) rest: &'a [u64],
+}
+
+impl<'a> Words for TwoParts<'a> {
+    #[inline]
+    fn word(&self, k: usize) -> u64 {
+        let count = self.front.len();
+        if k < count {
+            self.front[k]
+        } else {
+            self.rest[k - count]
+        }
+    }
+}
+
+// A sum with one more word mixed in.
+#[inline(always)]
+pub(crate) fn mixed(sum: u64, word: u64) -> u64 {
+    (sum ^ word).wrapping_mul(FACTOR).rotate_left(TURN)
+}
+
+// The word of eight bytes.
+#[inline(always)]
+pub(crate) fn word_of(bytes: [u8; 8]) -> u64 {
+    u64::from_le_bytes(bytes)
+}
+
+// Appends the bytes of a word, for which there is room.
+#[inline(always)]
+pub(crate) fn put_word<A: Allocator>(out: &mut Vec<u8, A>, word: u64) {
+    let bytes = word.to_le_bytes();
+    out.extend_from_slice(&bytes).unwrap()
+}
+
+// The sum of the words before a place.
+pub(crate) fn sum_before<W: Words>(end: usize, words: &W) -> u64 {
+    let mut sum = START;
+    for k in 0..end {
+        sum = mixed(sum, words.word(k));
+    }
+    sum
+}
+
+// Copies the words that hold `n` bits, for which there is room. Returns the sum of the words before that of the form.
+pub(crate) fn copy_summed<W: Words, A: Allocator>(
+    n: usize,
+    words: &W,
+    kept: &mut Vec<u64, A>,
+) -> u64 {
+    let mut sum = sum_before(5, words);
+    for k in 0..n.div_ceil(64) {
+        let word = words.word(k + 5);
+        kept.push_reserved(word);
+        sum = mixed(sum, word);
+    }
+    sum
+}
+
+// Whether the word that the last of `n` bits lies in holds no one past them.
+pub(crate) fn is_padded<W: Words>(n: usize, words: &W) -> bool {
+    n % 64 == 0 || words.word(n.div_ceil(64) + FRAME - 2) < 1 << (n % 64)
+}
+
+// Whether a word stands in an order to the next one.
+#[inline(always)]
+fn stands(order: Order, before: u64, next: u64) -> bool {
+    match order {
+        Order::Any => true,
+        Order::Ascending => before <= next,
+        Order::Rising | Order::HalfRising => before < next,
+    }
+}
+
+// How many of so many words have to stand in an order.
+fn count_ordered(order: Order, count: usize) -> usize {
+    match order {
+        Order::Any => 0,
+        Order::Ascending | Order::Rising => count,
+        Order::HalfRising => count / 2,
+    }
+}
+
+// Whether the words that hold `n` bits stand in an order.
+pub(crate) fn is_in_order<W: Words>(order: Order, n: usize, words: &W) -> bool {
+    let end = count_ordered(order, n.div_ceil(64));
+    let mut holds = true;
+    for k in 0..end.saturating_sub(1) {
+        holds = holds & stands(order, words.word(k + 5), words.word(k + 6));
+    }
+    holds
+}

@@ -1,0 +1,58 @@
+//! The bits of the high parts that a walk along the members has read before it is asked for them.
+
+use crate::rattle::prelude::*;
+
+use super::EliasFanoVec;
+use crate::rattle::Allocator;
+use crate::proved::vers_tally::tally::Tally;
+
+// Bits of the high parts: `len` of them from `place` on, as a number. No ones where nothing was read.
+#[derive(Clone, Copy)]
+pub(super) struct Ahead {
+    pub(super) place: usize,
+    pub(super) len: usize,
+    pub(super) word: u64,
+}
+
+impl Ahead {
+    // Nothing is read ahead.
+    #[inline]
+    pub(super) fn none() -> Ahead {
+        Ahead {
+            place: 0,
+            len: 0,
+            word: 0,
+        }
+    }
+}
+
+impl<A: Allocator + Copy> EliasFanoVec<A> {
+    // The place of the one of a member, which most often was read ahead with those before it.
+    #[inline(always)]
+    pub(super) fn place_ahead(&self, i: usize, ahead: &mut Ahead, tally: &mut Tally) -> usize {
+        let bits = self.high.len();
+        if ahead.word != 0 {
+            let skip = ahead.word.trailing_zeros() as usize;
+            ahead.word = (ahead.word >> skip) >> 1;
+            ahead.place += skip + 1;
+            ahead.len -= skip + 1;
+            return ahead.place - 1;
+        }
+        let place = self.high.select1_counted(i, tally);
+        let len = (bits - place - 1).min(64);
+        ahead.place = place + 1;
+        ahead.len = len;
+        ahead.word = self
+            .high
+            .get_bits_counted(place + 1, len, tally)
+            .unwrap_or(0);
+        place
+    }
+
+    // A member, by the place of its one.
+    #[inline(always)]
+    pub(super) fn member_ahead(&self, i: usize, ahead: &mut Ahead, tally: &mut Tally) -> u64 {
+        let high = (self.place_ahead(i, ahead, tally) - i - 1) as u64;
+        self.with_low_part(high, i, tally)
+    }
+}

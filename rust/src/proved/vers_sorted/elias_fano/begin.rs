@@ -1,0 +1,77 @@
+//! What searches for many numbers begin with, all of them step by step.
+
+use crate::rattle::prelude::*;
+
+use super::EliasFanoVec;
+use super::batch::GROUP;
+use super::scan::zero_after;
+use crate::rattle::Allocator;
+use crate::proved::vers_tally::tally::Tally;
+
+impl<A: Allocator + Copy> EliasFanoVec<A> {
+    // The high part of a number, 0 below the first member.
+    #[inline(always)]
+    fn high_or_zero(&self, v: u64) -> usize {
+        let _ = &self.len;
+        (v.saturating_sub(self.first) >> self.width) as usize
+    }
+
+    // The high parts of numbers.
+    #[inline(always)]
+    fn high_numbers(&self, asked: &[u64], highs: &mut [usize; GROUP]) {
+        for j in 0..asked.len() {
+            highs[j] = self.high_or_zero(asked[j]);
+        }
+    }
+
+    // For each number inside the list, the places of the zeros before and after the members with its
+    // high part, and the low part of the first of these. Each caller names a type of its own: so each has
+    // a copy that no one else calls, which is compiled into it and leaves nothing of the counter.
+    #[inline(always)]
+    pub(super) fn begin_each<Caller>(
+        &self,
+        asked: &[u64],
+        before: &mut [usize; GROUP],
+        after: &mut [usize; GROUP],
+        parts: &mut [u64; GROUP],
+        tally: &mut Tally,
+    ) {
+        let _ = &self.len;
+        self.high_numbers(asked, before);
+        self.high
+            .select0_each_counted(&mut before[..asked.len()], tally);
+        self.go_on_each(asked, before, after, parts, tally);
+    }
+
+    // The same by the places of the zeros before.
+    #[inline(always)]
+    fn go_on_each(
+        &self,
+        asked: &[u64],
+        before: &[usize; GROUP],
+        after: &mut [usize; GROUP],
+        parts: &mut [u64; GROUP],
+        tally: &mut Tally,
+    ) {
+        for j in 0..asked.len() {
+            if self.is_inside(asked[j]) {
+                after[j] = self.zero_past(asked[j], before[j], tally);
+                parts[j] = self.first_part(asked[j], before[j], tally);
+            }
+        }
+    }
+
+    // The place of the zero after the members with the high part of a number, by that of the zero before.
+    #[inline(always)]
+    fn zero_past(&self, v: u64, before: usize, tally: &mut Tally) -> usize {
+        let _ = &self.len;
+        zero_after(&self.high, self.high_number(v), before, tally)
+    }
+
+    // The low part of the first of these members, or of the one after where there are none.
+    #[inline(always)]
+    fn first_part(&self, v: u64, before: usize, tally: &mut Tally) -> u64 {
+        let _ = self.len();
+        self.low_part(before - self.high_number(v), tally)
+    }
+}

@@ -1,0 +1,139 @@
+//! The iterators over the members of an ascending list.
+
+use crate::rattle::prelude::*;
+
+use super::EliasFanoVec;
+use super::ahead::Ahead;
+use crate::rattle::AllocError;
+use crate::rattle::Allocator;
+use crate::proved::vers_tally::ends::{Ascending, Borrowing, BothEnds, Owning, Source};
+use crate::proved::vers_tally::tally::Tally;
+
+/// An ascending list, which is borrowed or owned.
+pub trait Sorted: Sized {
+    type Alloc: Allocator + Copy;
+
+    /// The list itself.
+    fn list(&self) -> &EliasFanoVec<Self::Alloc>;
+}
+
+impl<'a, A: Allocator + Copy> Sorted for &'a EliasFanoVec<A> {
+    type Alloc = A;
+
+    #[inline]
+    fn list(&self) -> &EliasFanoVec<A> {
+        *self
+    }
+}
+
+impl<A: Allocator + Copy> Sorted for EliasFanoVec<A> {
+    type Alloc = A;
+
+    #[inline]
+    fn list(&self) -> &EliasFanoVec<A> {
+        self
+    }
+}
+
+/// The members of an ascending list, which iterators read one by one. It keeps the bits that it
+/// has read ahead of member `next`.
+pub struct Members<L: Sorted> {
+    list: L,
+    next: usize,
+    ahead: Ahead,
+}
+
+impl<L: Sorted> Members<L> {
+    fn new(list: L) -> Self {
+        Members {
+            list,
+            next: 0,
+            ahead: Ahead::none(),
+        }
+    }
+}
+
+impl<L: Sorted> Source for Members<L> {
+    type Item = u64;
+
+    #[inline]
+    fn count_items(&self) -> usize {
+        self.list.list().len()
+    }
+
+    #[inline(always)]
+    fn item_at(&mut self, i: usize, tally: &mut Tally) -> u64 {
+        let list = self.list.list();
+        let _ = list.len();
+        if i != self.next {
+            self.ahead = Ahead::none();
+        }
+        self.next = i + 1;
+        list.member_ahead(i, &mut self.ahead, tally)
+    }
+
+    #[inline(always)]
+    fn item_at_back(&mut self, i: usize, tally: &mut Tally) -> u64 {
+        self.list.list().member(i, tally)
+    }
+}
+
+impl<L: Sorted> Ascending for Members<L> {}
+
+impl<'a, A: Allocator + Copy> Borrowing for Members<&'a EliasFanoVec<A>> {
+    fn second(&self) -> Self {
+        Members::new(self.list)
+    }
+}
+
+impl<A: Allocator + Copy> Owning for Members<EliasFanoVec<A>> {
+    fn second(&self) -> Result<Self, AllocError> {
+        let list = self.list.clone()?;
+        Ok(Members::new(list))
+    }
+}
+
+/// An iterator over the members of a list. Each step reads at most what one `get` does.
+pub type EliasFanoRefIter<'a, A> = BothEnds<Members<&'a EliasFanoVec<A>>>;
+
+/// An iterator over the members of a list that it owns. Each step reads at most what one `get`
+/// does.
+pub type EliasFanoIter<A> = BothEnds<Members<EliasFanoVec<A>>>;
+
+impl<A: Allocator + Copy> EliasFanoVec<A> {
+    /// An iterator over the members.
+    pub fn iter(&self) -> EliasFanoRefIter<'_, A> {
+        BothEnds::new(Members::new(self))
+    }
+}
+
+impl<'a, A: Allocator + Copy> IntoIterator for &'a EliasFanoVec<A> {
+    type Item = u64;
+
+    type IntoIter = EliasFanoRefIter<'a, A>;
+
+    fn into_iter(self) -> EliasFanoRefIter<'a, A> {
+        self.iter()
+    }
+}
+
+impl<'a, A: Allocator + Copy> IntoIterator for &'a mut EliasFanoVec<A> {
+    type Item = u64;
+
+    type IntoIter = EliasFanoRefIter<'a, A>;
+
+    fn into_iter(self) -> EliasFanoRefIter<'a, A> {
+        self.iter()
+    }
+}
+
+impl<A: Allocator + Copy> IntoIterator for EliasFanoVec<A> {
+    type Item = u64;
+
+    type IntoIter = EliasFanoIter<A>;
+
+    /// An iterator over the members, which owns the list.
+    fn into_iter(self) -> EliasFanoIter<A> {
+        BothEnds::new(Members::new(self))
+    }
+}

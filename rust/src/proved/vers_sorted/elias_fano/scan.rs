@@ -1,0 +1,60 @@
+//! Steps along the high parts that read the bits beside a place before they ask for a select.
+
+use crate::rattle::prelude::*;
+
+use crate::rattle::Allocator;
+use crate::proved::vers_rank::fast_rs_vec::RsVec;
+use crate::proved::vers_tally::tally::Tally;
+
+// The place of the zero after zero number `h`, which stands at a place.
+#[inline(always)]
+pub(super) fn zero_after<A: Allocator + Copy>(
+    high: &RsVec<A>,
+    h: usize,
+    place: usize,
+    tally: &mut Tally,
+) -> usize {
+    let _ = high.len();
+    if let Some(word) = high.get_bits_counted(place + 1, 64, tally) {
+        if word != u64::MAX {
+            return place + 1 + word.trailing_ones() as usize;
+        }
+    }
+    high.select0_counted(h + 1, tally)
+}
+
+// The place of one number `k`, the next one from place `from` on.
+#[inline(always)]
+pub(super) fn one_from<A: Allocator + Copy>(
+    high: &RsVec<A>,
+    k: usize,
+    from: usize,
+    tally: &mut Tally,
+) -> usize {
+    let _ = high.len();
+    if let Some(word) = high.get_bits_counted(from, 64, tally) {
+        if word != 0 {
+            return from + word.trailing_zeros() as usize;
+        }
+    }
+    high.select1_counted(k, tally)
+}
+
+// The place of one number `k`, the last one before place `to`.
+#[inline(always)]
+pub(super) fn one_before<A: Allocator + Copy>(
+    high: &RsVec<A>,
+    k: usize,
+    to: usize,
+    tally: &mut Tally,
+) -> usize {
+    let _ = high.len();
+    if to >= 64 {
+        if let Some(word) = high.get_bits_counted(to - 64, 64, tally) {
+            if word != 0 {
+                return to - 1 - word.leading_zeros() as usize;
+            }
+        }
+    }
+    high.select1_counted(k, tally)
+}

@@ -1,0 +1,306 @@
+//! What is asked of an ascending list.
+
+use crate::rattle::prelude::*;
+
+use crate::proved::vers_sorted::elias_fano::EliasFanoVec;
+use crate::proved::vers_sorted::elias_fano::narrow::MANY;
+use crate::proved::vers_sorted::elias_fano::scan::{one_before, one_from};
+use crate::rattle::Allocator;
+use crate::proved::vers_tally::tally::Tally;
+
+// The members with one high part: those from place `start` up to place `end`.
+#[derive(Clone, Copy)]
+pub(super) struct Bucket {
+    pub(super) high: u64,
+    pub(super) start: usize,
+    pub(super) end: usize,
+}
+
+impl<A: Allocator + Copy> EliasFanoVec<A> {
+    // The low part of a member.
+    #[inline(always)]
+    pub(super) fn low_part(&self, i: usize, tally: &mut Tally) -> u64 {
+        let _ = self.low.len();
+        self.low.low_part(i * self.width, self.width, tally)
+    }
+
+    // The high part of a member.
+    #[inline(always)]
+    fn high_part(&self, i: usize, tally: &mut Tally) -> u64 {
+        let _ = &self.len;
+        (self.high.select1_counted(i, tally) - i - 1) as u64
+    }
+
+    // The member whose high part is known, by its low part.
+    #[inline(always)]
+    pub(super) fn with_low_part(&self, high: u64, i: usize, tally: &mut Tally) -> u64 {
+        let _ = &self.len;
+        let low = self.low_part(i, tally);
+        self.first + ((high << self.width) | low)
+    }
+
+    // A member.
+    #[inline(always)]
+    pub(super) fn member(&self, i: usize, tally: &mut Tally) -> u64 {
+        let high = self.high_part(i, tally);
+        self.with_low_part(high, i, tally)
+    }
+
+    // The high part of a number that isn't below the first member.
+    #[inline(always)]
+    pub(super) fn high_number(&self, v: u64) -> usize {
+        let _ = &self.len;
+        ((v - self.first) >> self.width) as usize
+    }
+
+    // Its low part.
+    #[inline(always)]
+    pub(super) fn low_number(&self, v: u64) -> u64 {
+        let _ = &self.len;
+        (v - self.first) & ((1 << self.width) - 1)
+    }
+
+    // The members with the high part of `v`, by the places of two zeros, most often from one select.
+    #[inline(always)]
+    fn bucket_of(&self, v: u64, tally: &mut Tally) -> Bucket {
+        let _ = &self.len;
+        let zeros = self.high.select0_pair_counted(self.high_number(v), tally);
+        self.bucket_between(v, zeros.first, zeros.second)
+    }
+
+    // The members with the high part of `v`, by the places of the zeros before and after them.
+    #[inline(always)]
+    pub(super) fn bucket_between(&self, v: u64, before: usize, after: usize) -> Bucket {
+        let high = self.high_number(v);
+        Bucket {
+            high: high as u64,
+            start: before - high,
+            end: after - high - 1,
+        }
+    }
+
+    // How many members are below `v`, where those with its high part are known.
+    #[inline(always)]
+    pub(super) fn below_in(&self, bucket: Bucket, v: u64, tally: &mut Tally) -> usize {
+        let _ = self.len();
+        let low = self.low_number(v);
+        let between = self.narrowed(bucket, v, low, tally);
+        let mut from = between.from;
+        let mut to = between.to;
+        while from < to {
+            let mid = from + (to - from) / 2;
+            if self.low_part(mid, tally) < low {
+                from = mid + 1;
+            } else {
+                to = mid;
+            }
+        }
+        from
+    }
+
+    // The same where the low part of the first of those members is known too.
+    #[inline(always)]
+    pub(super) fn below_from(&self, bucket: Bucket, part: u64, v: u64, tally: &mut Tally) -> usize {
+        let low = self.low_number(v);
+        if bucket.start >= bucket.end {
+            return bucket.start;
+        }
+        if part >= low {
+            return bucket.start;
+        }
+        self.below_in(bucket, v, tally)
+    }
+
+    // Whether a bucket of many members has `v` in its middle, as most of those have in which many are
+    // equal to it. The bucket is that of another number.
+    #[inline(always)]
+    fn is_amid(&self, bucket: Bucket, other: u64, v: u64, tally: &mut Tally) -> bool {
+        let _ = self.len();
+        let count = bucket.end.saturating_sub(bucket.start);
+        if count < MANY {
+            return false;
+        }
+        self.with_low_part(bucket.high, bucket.start + count / 2, tally) == v
+    }
+
+    // The first member past a bucket. Most often its one is among the next 64 high parts.
+    #[inline(always)]
+    fn member_past(&self, bucket: Bucket, v: u64, tally: &mut Tally) -> u64 {
+        let _ = &self.len;
+        let _ = self.high.len();
+        let i = bucket.end;
+        let place = one_from(&self.high, i, bucket.high as usize + i + 2, tally);
+        self.with_low_part((place - i - 1) as u64, i, tally)
+    }
+
+    // The last member before a bucket. Most often its one is among the 64 high parts before.
+    #[inline(always)]
+    fn member_before(&self, bucket: Bucket, v: u64, tally: &mut Tally) -> u64 {
+        let _ = &self.len;
+        let _ = self.high.len();
+        let i = bucket.start - 1;
+        let place = one_before(&self.high, i, bucket.high as usize + i + 1, tally);
+        self.with_low_part((place - i - 1) as u64, i, tally)
+    }
+
+    /// The same as `has`, by at most as many low parts and queries of the high parts as the number
+    /// of members has binary digits, and 8 more.
+    #[inline(always)]
+    pub fn has_counted(&self, v: u64, tally: &mut Tally) -> bool {
+        if self.len() == 0 {
+            return false;
+        }
+        if v < self.first() {
+            return false;
+        }
+        if v > self.last() {
+            return false;
+        }
+        let bucket = self.bucket_of(v, tally);
+        let k = self.below_in(bucket, v, tally);
+        if k >= bucket.end {
+            return false;
+        }
+        self.with_low_part(bucket.high, k, tally) == v
+    }
+
+    /// The same as `get`, by at most 2 low parts and 2 queries of the high parts.
+    #[inline(always)]
+    pub fn get_counted(&self, i: usize, tally: &mut Tally) -> Option<u64> {
+        if i >= self.len() {
+            return None;
+        }
+        Some(self.member(i, tally))
+    }
+
+    /// The same as `get_counted`.
+    #[inline(always)]
+    pub fn select_counted(&self, i: usize, tally: &mut Tally) -> Option<u64> {
+        self.get_counted(i, tally)
+    }
+
+    /// The same as `delta`, by at most 2 low parts and 2 queries of the high parts.
+    #[inline(always)]
+    pub fn delta_counted(&self, i: usize, tally: &mut Tally) -> Option<u64> {
+        let _ = &self.first;
+        if i >= self.len() {
+            return None;
+        }
+        if i == 0 {
+            return Some(self.first);
+        }
+        let ones = self.high.select1_pair_counted(i - 1, tally);
+        let before = self.with_low_part((ones.first - i) as u64, i - 1, tally);
+        let member = self.with_low_part((ones.second - i - 1) as u64, i, tally);
+        Some(member - before)
+    }
+
+    /// The same as `rank`, by at most as many low parts and queries of the high parts as the number
+    /// of members has binary digits, and 8 more.
+    #[inline(always)]
+    pub fn rank_counted(&self, v: u64, tally: &mut Tally) -> u64 {
+        let _ = self.len();
+        if !self.is_inside(v) {
+            return self.rank_outside(v);
+        }
+        let bucket = self.bucket_of(v, tally);
+        self.below_in(bucket, v, tally) as u64
+    }
+
+    // Whether a number lies above the first member and not above the last.
+    #[inline(always)]
+    pub(super) fn is_inside(&self, v: u64) -> bool {
+        let _ = self.len();
+        self.first() < v && v <= self.last()
+    }
+
+    // How many members are below a number that doesn't lie so.
+    #[inline(always)]
+    pub(super) fn rank_outside(&self, v: u64) -> u64 {
+        let _ = self.len();
+        if v <= self.first() {
+            return 0;
+        }
+        self.len() as u64
+    }
+
+    /// The same as `predecessor`, by at most as many low parts and queries of the high parts as the
+    /// number of members has binary digits, and 8 more.
+    #[inline(always)]
+    pub fn predecessor_counted(&self, v: u64, tally: &mut Tally) -> Option<u64> {
+        let _ = self.len();
+        let _ = self.last();
+        if !self.is_inside_after(v) {
+            return self.predecessor_outside(v);
+        }
+        let bucket = self.bucket_of(v + 1, tally);
+        if self.is_amid(bucket, v + 1, v, tally) {
+            return Some(v);
+        }
+        let k = self.below_in(bucket, v + 1, tally);
+        Some(self.last_below(bucket, v + 1, k, tally))
+    }
+
+    // Whether the number after `v` lies above the first member and not above the last.
+    #[inline(always)]
+    pub(super) fn is_inside_after(&self, v: u64) -> bool {
+        let _ = self.len();
+        self.first() <= v && v < self.last()
+    }
+
+    // The predecessor of a number where the one after it doesn't lie so.
+    #[inline(always)]
+    pub(super) fn predecessor_outside(&self, v: u64) -> Option<u64> {
+        let _ = self.len();
+        if v < self.first() || self.len() == 0 {
+            return None;
+        }
+        Some(self.last())
+    }
+
+    // The last of the `k` members below `v`.
+    #[inline(always)]
+    pub(super) fn last_below(&self, bucket: Bucket, v: u64, k: usize, tally: &mut Tally) -> u64 {
+        let _ = self.len();
+        if k <= bucket.start {
+            return self.member_before(bucket, v, tally);
+        }
+        self.with_low_part(bucket.high, k - 1, tally)
+    }
+
+    /// The same as `successor`, by at most as many low parts and queries of the high parts as the
+    /// number of members has binary digits, and 8 more.
+    #[inline(always)]
+    pub fn successor_counted(&self, v: u64, tally: &mut Tally) -> Option<u64> {
+        let _ = self.len();
+        if !self.is_inside(v) {
+            return self.successor_outside(v);
+        }
+        let bucket = self.bucket_of(v, tally);
+        if self.is_amid(bucket, v, v, tally) {
+            return Some(v);
+        }
+        let k = self.below_in(bucket, v, tally);
+        Some(self.first_from(bucket, v, k, tally))
+    }
+
+    // The successor of a number that doesn't lie above the first member and not above the last.
+    #[inline(always)]
+    pub(super) fn successor_outside(&self, v: u64) -> Option<u64> {
+        let _ = self.len();
+        if v > self.first() || self.len() == 0 {
+            return None;
+        }
+        Some(self.first())
+    }
+
+    // The member after the `k` members below `v`.
+    #[inline(always)]
+    pub(super) fn first_from(&self, bucket: Bucket, v: u64, k: usize, tally: &mut Tally) -> u64 {
+        let _ = self.len();
+        if bucket.end <= k {
+            return self.member_past(bucket, v, tally);
+        }
+        self.with_low_part(bucket.high, k, tally)
+    }
+}

@@ -1,0 +1,8 @@
+//! Counters of what a query reads, and vectors whose entries are read only with such a counter.
+
+use crate::rattle::prelude::*;
+
+pub mod ends;
+pub mod laws;
+pub mod made_ends;
+pub mod tally;

@@ -1,0 +1,6 @@
+//! Ordered trees as lists of parentheses: excess, searches for a place where it rises, balance.
+
+use crate::rattle::prelude::*;
+
+pub mod laws;
+pub mod trees;

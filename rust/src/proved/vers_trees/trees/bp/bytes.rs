@@ -1,0 +1,159 @@
+//! Tables that answer a whole byte of parentheses at once.
+
+use crate::rattle::prelude::*;
+
+/// For each byte of parentheses what a search meets in it, from its start and from its end. An entry
+/// holds the greatest of the sums along the byte in bits 0 to 4 and the least in bits 5 to 9, each
+/// plus 8, and from bit 10 on three bits for each sum from -8 to 8: the first place met whose bit
+/// makes it, or 7 where there is none.
+pub struct ByteTables {
+    forward: [u64; 256],
+    backward: [u64; 256],
+}
+
+// What a table holds of a byte. It can't be made otherwise, so what takes one has looked the byte up.
+pub(super) struct Entry {
+    packed: u64,
+}
+
+impl ByteTables {
+    /// The tables of all bytes. Takes no memory.
+    pub fn new() -> ByteTables {
+        let mut forward = [0; 256];
+        let mut backward = [0; 256];
+        for byte in 0..256 {
+            let from_start = entry_of(byte, false);
+            let from_end = entry_of(byte, true);
+            forward[byte] = from_start;
+            backward[byte] = from_end;
+        }
+        ByteTables { forward, backward }
+    }
+
+    // The same tables once more.
+    pub(super) fn copied(&self) -> ByteTables {
+        ByteTables {
+            forward: self.forward,
+            backward: self.backward,
+        }
+    }
+
+    /// The entry of a byte from its start, where a one adds 1 and a zero takes 1.
+    #[inline(always)]
+    pub fn forward_entry(&self, byte: u8) -> u64 {
+        self.met_forward(byte).packed
+    }
+
+    /// The entry of a byte from its end, where a one takes 1 and a zero adds 1.
+    #[inline(always)]
+    pub fn backward_entry(&self, byte: u8) -> u64 {
+        self.met_backward(byte).packed
+    }
+
+    // What is met in a byte from its start.
+    #[inline(always)]
+    pub(super) fn met_forward(&self, byte: u8) -> Entry {
+        Entry {
+            packed: self.forward[byte as usize],
+        }
+    }
+
+    // What is met in a byte from its end.
+    #[inline(always)]
+    pub(super) fn met_backward(&self, byte: u8) -> Entry {
+        Entry {
+            packed: self.backward[byte as usize],
+        }
+    }
+}
+
+// What was met along a byte so far: the least and the greatest sum, each plus 8, and the first place
+// met for each sum, 7 where there is none.
+struct Met {
+    places: [u64; 17],
+    least: usize,
+    greatest: usize,
+}
+
+impl Met {
+    // Takes note of a sum, plus 8, at a place.
+    fn meet(&mut self, value: usize, place: u64) {
+        if value < self.least || value > self.greatest {
+            self.places[value] = place;
+        }
+        self.least = self.least.min(value);
+        self.greatest = self.greatest.max(value);
+    }
+
+    // The entry of what was met.
+    fn entry(&self) -> u64 {
+        1024 * number_of(&self.places) + 32 * self.least as u64 + self.greatest as u64
+    }
+}
+
+// The number with these octal digits, the lowest first.
+fn number_of(digits: &[u64; 17]) -> u64 {
+    let mut number = 0;
+    let mut x = 17;
+    while x > 0 {
+        x -= 1;
+        number = 8 * number + digits[x];
+    }
+    number
+}
+
+// The place of the bit at which a step along a byte is made.
+fn place_of(step: u64, from_end: bool) -> u64 {
+    if from_end { 7 - step } else { step }
+}
+
+// The sum, plus 8, after a step at a bit.
+fn stepped(value: usize, opens: bool, from_end: bool) -> usize {
+    if opens == from_end {
+        value - 1
+    } else {
+        value + 1
+    }
+}
+
+// The entry of a byte, from its end or from its start.
+fn entry_of(byte: usize, from_end: bool) -> u64 {
+    let mut met = Met {
+        places: [7; 17],
+        least: 9,
+        greatest: 7,
+    };
+    let mut value = 8;
+    for step in 0..8 {
+        let place = place_of(step, from_end);
+        value = stepped(value, (byte >> place) % 2 == 1, from_end);
+        met.meet(value, place);
+    }
+    met.entry()
+}
+
+// The sum that is `x`, less 8, above the one at which a byte begins.
+#[inline(always)]
+fn sum_at(rise: i64, x: u64) -> i64 {
+    rise - 8 + x as i64
+}
+
+// How far a sum is above the one at which a byte begins, plus 8.
+#[inline(always)]
+fn above(rise: i64, target: i64) -> u64 {
+    (target - (rise - 8)) as u64
+}
+
+// The place in a byte of the given entry at which a sum that begins at `rise` first is `target`.
+#[inline(always)]
+pub(super) fn place_met(entry: Entry, rise: i64, target: i64) -> Option<usize> {
+    let packed = entry.packed;
+    if target < sum_at(rise, packed / 32 % 32) {
+        return None;
+    }
+    if sum_at(rise, packed % 32) < target {
+        return None;
+    }
+    let x = above(rise, target);
+    Some((packed >> (10 + 3 * x)) as usize % 8)
+}

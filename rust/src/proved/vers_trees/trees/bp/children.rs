@@ -1,0 +1,118 @@
+//! The iterators over the children of a node.
+
+use crate::rattle::prelude::*;
+
+use super::BpTree;
+use super::search::Searched;
+use crate::rattle::Allocator;
+use std::marker::PhantomData;
+use crate::proved::vers_tally::tally::Tally;
+
+/// Marks an iterator that goes forwards where `FORWARD` is true, and else backwards.
+pub struct Direction<const FORWARD: bool>;
+
+/// A walk from tree to tree among siblings, forwards or backwards from a place between them, in the
+/// direction that `D` names. Contracts see it as the nodes `left`, which are still to come, and what
+/// a `step` reads at most. A walk that has ended stays ended.
+pub struct Siblings<'a, const BLOCK_SIZE: usize, D, A: Allocator + Copy> {
+    searched: Searched<'a, BLOCK_SIZE, A>,
+    forward: bool,
+    place: usize,
+    direction: PhantomData<D>,
+}
+
+/// An iterator over the children of a node: in order where `FORWARD` is true, and else the last one
+/// first.
+pub type ChildrenIter<'a, const BLOCK_SIZE: usize, const FORWARD: bool, A> = Siblings<
+    'a,
+    BLOCK_SIZE,
+    Direction<FORWARD>,
+    A,
+>;
+
+impl<'a, const BLOCK_SIZE: usize, D, A: Allocator + Copy> Siblings<'a, BLOCK_SIZE, D, A> {
+    fn new(searched: Searched<'a, BLOCK_SIZE, A>, forward: bool, place: usize) -> Self {
+        Siblings {
+            searched,
+            forward,
+            place,
+            direction: PhantomData,
+        }
+    }
+
+    /// The first of the nodes left, which is taken.
+    #[inline]
+    pub fn next(&mut self) -> Option<usize> {
+        let mut tally = Tally::new();
+        self.next_counted(&mut tally)
+    }
+
+    /// The same as `next`, by one bit read and the reads of one search.
+    #[inline(always)]
+    pub fn next_counted(&mut self, tally: &mut Tally) -> Option<usize> {
+        let (node, place) = self.searched.tree_beside(self.forward, self.place, tally)?;
+        self.place = place;
+        Some(node)
+    }
+}
+
+impl<'a, const BLOCK_SIZE: usize, D, A: Allocator + Copy> Iterator
+    for Siblings<'a, BLOCK_SIZE, D, A> {
+    type Item = usize;
+
+    #[inline]
+    fn next(&mut self) -> Option<usize> {
+        self.next()
+    }
+}
+
+impl<'a, const BLOCK_SIZE: usize, A: Allocator + Copy> Searched<'a, BLOCK_SIZE, A> {
+    // The next tree forwards or backwards from a place, and the place on its other side.
+    #[inline(always)]
+    fn tree_beside(self, forward: bool, place: usize, tally: &mut Tally) -> Option<(usize, usize)> {
+        if forward {
+            self.tree_from(place, tally)
+        } else {
+            self.tree_before(place, tally)
+        }
+    }
+
+    // The tree that opens at a place, and the place past it.
+    #[inline(always)]
+    fn tree_from(self, place: usize, tally: &mut Tally) -> Option<(usize, usize)> {
+        if place >= self.bits.len() {
+            return None;
+        }
+        if !self.bits.is_one_counted(place, tally) {
+            return None;
+        }
+        let close = self.forward(place, -1, tally)?;
+        Some((place, close + 1))
+    }
+
+    // The tree that closes right before a place, and the place where it opens.
+    #[inline(always)]
+    fn tree_before(self, place: usize, tally: &mut Tally) -> Option<(usize, usize)> {
+        if place == 0 || place > self.bits.len() {
+            return None;
+        }
+        if self.bits.is_one_counted(place - 1, tally) {
+            return None;
+        }
+        let open = self.backward(place - 1, -1, tally)?;
+        Some((open, open))
+    }
+}
+
+impl<const BLOCK_SIZE: usize, A: Allocator + Copy> BpTree<BLOCK_SIZE, A> {
+    /// An iterator over the children of a node, in order. The parentheses are balanced.
+    pub fn children(&self, node: usize) -> ChildrenIter<'_, BLOCK_SIZE, true, A> {
+        Siblings::new(self.searched(), true, node + 1)
+    }
+
+    /// An iterator over the children of a node, the last one first. The parentheses are balanced.
+    pub fn rev_children(&self, node: usize) -> ChildrenIter<'_, BLOCK_SIZE, false, A> {
+        let end = self.end(node);
+        Siblings::new(self.searched(), false, end)
+    }
+}

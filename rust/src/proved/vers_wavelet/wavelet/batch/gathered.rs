@@ -1,0 +1,74 @@
+//! Where symbols are gathered, asked many times.
+
+use crate::rattle::prelude::*;
+
+use crate::proved::vers_wavelet::wavelet::WaveletMatrix;
+use crate::proved::vers_wavelet::wavelet::batch::{Query, ask_each};
+use crate::proved::vers_wavelet::wavelet::digits::Digits;
+use crate::proved::vers_wavelet::wavelet::level::next_place;
+use crate::rattle::Allocator;
+use crate::proved::vers_rank::fast_rs_vec::RsVec;
+use crate::proved::vers_tally::tally::Tally;
+
+/// A place and a symbol that is to be gathered from there on, and the answer.
+#[derive(Clone, Copy)]
+pub struct GatheredQuery {
+    /// The place.
+    pub place: usize,
+    /// The symbol, of which the low digits count.
+    pub symbol: u64,
+    /// Where the first such symbol from the place on goes, once the query is answered.
+    pub answer: Option<usize>,
+}
+
+impl GatheredQuery {
+    /// A query for where the first of a symbol from a place on goes.
+    #[inline]
+    pub fn new(place: usize, symbol: u64) -> Self {
+        GatheredQuery {
+            place,
+            symbol,
+            answer: None,
+        }
+    }
+}
+
+impl Query for GatheredQuery {
+    #[inline(always)]
+    fn begin(self, levels: usize, len: usize) -> Self {
+        let is_known = levels <= 64 && self.place <= len;
+        GatheredQuery {
+            place: self.place,
+            symbol: self.symbol,
+            answer: if is_known { Some(self.place) } else { None },
+        }
+    }
+
+    #[inline(always)]
+    fn step<A: Allocator + Copy>(self, level: &RsVec<A>, i: usize, tally: &mut Tally) -> Self {
+        let place = match self.answer { Some(place) => place, _ => {
+            return self;
+        } };
+        let bit = self.symbol.digit(i);
+        GatheredQuery {
+            place: self.place,
+            symbol: self.symbol,
+            answer: Some(next_place(level, bit, place, tally)),
+        }
+    }
+}
+
+impl<A: Allocator + Copy> WaveletMatrix<A> {
+    /// Where the first of many symbols go, each from a place on, as `gathered_u64` answers: none takes memory, and all
+    /// are asked level by level, which is faster than one after the other where there are many.
+    pub fn gathered_u64_each(&self, queries: &mut [GatheredQuery]) {
+        let mut tally = Tally::new();
+        self.gathered_u64_each_counted(queries, &mut tally)
+    }
+
+    /// The same as `gathered_u64_each`, by at most two ranks of each level for each query.
+    #[inline(always)]
+    pub fn gathered_u64_each_counted(&self, queries: &mut [GatheredQuery], tally: &mut Tally) {
+        ask_each(self.levels(), self.len(), queries, tally);
+    }
+}

@@ -1,0 +1,144 @@
+//! The nearest symbol of a range on one side of a symbol, by one way down through the levels.
+
+use crate::rattle::prelude::*;
+
+use crate::proved::vers_wavelet::wavelet::digits::{Digits, copy_digits};
+use crate::proved::vers_wavelet::wavelet::level::{Part, chosen_place, part_of_bit, zeros_before_both};
+use crate::proved::vers_wavelet::wavelet::walk::find_kth;
+use crate::rattle::Allocator;
+use crate::proved::vers_rank::fast_rs_vec::RsVec;
+use crate::proved::vers_tally::tally::Tally;
+
+// The places of a level, counted from 1 on, whose symbols have the digits of the one sought but for the
+// last of these digits, where that one leaves the side that is asked for. Where there are none, it
+// ends where it starts.
+#[derive(Clone, Copy)]
+pub(super) struct Beside {
+    pub(super) level: usize,
+    pub(super) start: usize,
+    pub(super) end: usize,
+}
+
+// The places that the digits of a symbol lead to, and the last ones that they left beside.
+#[derive(Clone, Copy)]
+pub(super) struct Trail {
+    pub(super) part: Part,
+    pub(super) beside: Beside,
+}
+
+// The trail after level `k`. What was left beside is chosen by values.
+#[inline(always)]
+fn follow_level<A: Allocator + Copy, D: Digits>(
+    levels: &[RsVec<A>],
+    len: usize,
+    k: usize,
+    is_up: bool,
+    symbol: &D,
+    trail: Trail,
+    tally: &mut Tally,
+) -> Trail {
+    let level = &levels[k];
+    let part = trail.part;
+    let bit = symbol.digit(levels.len() - (k + 1));
+    let zeros = zeros_before_both(level, part.start, part.end, tally);
+    let left = Beside {
+        level: k + 1,
+        start: chosen_place(level, is_up, part.start, zeros.first),
+        end: chosen_place(level, is_up, part.end, zeros.last),
+    };
+    let next = part_of_bit(level, bit, part, zeros);
+    if bit == is_up || left.start == left.end {
+        return Trail {
+            part: next,
+            beside: trail.beside,
+        };
+    }
+    Trail {
+        part: next,
+        beside: left,
+    }
+}
+
+// The trail of a symbol, which ends where none of the range's symbols have its digits so far.
+#[inline(always)]
+fn follow<A: Allocator + Copy, D: Digits>(
+    levels: &[RsVec<A>],
+    len: usize,
+    start: usize,
+    end: usize,
+    is_up: bool,
+    symbol: &D,
+    tally: &mut Tally,
+) -> Trail {
+    let part = Part {
+        start,
+        end,
+        less: 0,
+    };
+    let beside = Beside {
+        level: 0,
+        start: 0,
+        end: 0,
+    };
+    let mut trail = Trail { part, beside };
+    for k in 0..levels.len() {
+        if trail.part.start == trail.part.end {
+            return trail;
+        }
+        trail = follow_level(levels, len, k, is_up, symbol, trail, tally);
+    }
+    trail
+}
+
+// The number of the first of so many members, or of the last where `is_up` is false.
+#[inline(always)]
+fn first_or_last(is_up: bool, many: usize) -> usize {
+    if is_up { 0 } else { many - 1 }
+}
+
+// Writes the least symbol of what was left beside a symbol into a number that is 0, or the greatest where
+// `is_up` is false: the digits above, the digit that leaves the symbol's, and those found below.
+#[inline(always)]
+fn write_beside<A: Allocator + Copy, D: Digits>(
+    levels: &[RsVec<A>],
+    len: usize,
+    is_up: bool,
+    symbol: &D,
+    beside: Beside,
+    answer: &mut D,
+    tally: &mut Tally,
+) {
+    let last = levels.len() - beside.level;
+    copy_digits(symbol, last + 1, levels.len(), answer);
+    answer.put_digit(last, is_up);
+    let i = first_or_last(is_up, beside.end - beside.start);
+    let below = &levels[beside.level..];
+    find_kth(below, len, beside.start, beside.end, i, answer, tally);
+}
+
+// Whether a range has a symbol that is not below a symbol, or, where `is_up` is false, one that is not
+// above it; and writes the nearest of these into a number that is 0. It is the symbol itself, where
+// the range has it.
+#[inline(always)]
+pub(super) fn find_nearest<A: Allocator + Copy, D: Digits>(
+    levels: &[RsVec<A>],
+    len: usize,
+    start: usize,
+    end: usize,
+    is_up: bool,
+    symbol: &D,
+    answer: &mut D,
+    tally: &mut Tally,
+) -> bool {
+    let trail = follow(levels, len, start, end, is_up, symbol, tally);
+    if trail.part.start < trail.part.end {
+        copy_digits(symbol, 0, levels.len(), answer);
+        return true;
+    }
+    let beside = trail.beside;
+    if beside.start == beside.end {
+        return false;
+    }
+    write_beside(levels, len, is_up, symbol, beside, answer, tally);
+    true
+}

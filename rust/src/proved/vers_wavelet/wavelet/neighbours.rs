@@ -1,0 +1,132 @@
+//! The nearest symbols of a range on either side of a symbol.
+
+use crate::rattle::prelude::*;
+
+use crate::proved::vers_wavelet::wavelet::WaveletMatrix;
+use crate::rattle::AllocError;
+use crate::rattle::Allocator;
+use std::ops::Range;
+use crate::proved::vers_bits::bit_vec::BitVec;
+use crate::proved::vers_tally::tally::Tally;
+
+impl<A: Allocator + Copy> WaveletMatrix<A> {
+    /// The greatest symbol of a range that is not above a symbol. None for a symbol of another length,
+    /// for a range that is reversed or ends past the end, and where there is no such symbol.
+    pub fn predecessor(
+        &self,
+        range: Range<usize>,
+        symbol: &BitVec<A>,
+    ) -> Result<Option<BitVec<A>>, AllocError> {
+        let mut tally = Tally::new();
+        self.predecessor_counted(range, symbol, &mut tally)
+    }
+
+    /// The same as `predecessor`, by at most four ranks of each level: `4k` rank calls for symbols of
+    /// `k` bits.
+    #[inline(always)]
+    pub fn predecessor_counted(
+        &self,
+        range: Range<usize>,
+        symbol: &BitVec<A>,
+        tally: &mut Tally,
+    ) -> Result<Option<BitVec<A>>, AllocError> {
+        if symbol.len() != self.bits_per_element()
+            || range.start >= range.end
+            || range.end > self.len()
+        {
+            return Ok(None);
+        }
+        let mut answer = self.zero_symbol()?;
+        if !self.nearest_in(false, range.start, range.end, symbol, &mut answer, tally) {
+            return Ok(None);
+        }
+        Ok(Some(answer))
+    }
+
+    /// The least symbol of a range that is not below a symbol. None for a symbol of another length, for
+    /// a range that is reversed or ends past the end, and where there is no such symbol.
+    pub fn successor(
+        &self,
+        range: Range<usize>,
+        symbol: &BitVec<A>,
+    ) -> Result<Option<BitVec<A>>, AllocError> {
+        let mut tally = Tally::new();
+        self.successor_counted(range, symbol, &mut tally)
+    }
+
+    /// The same as `successor`, by at most four ranks of each level: `4k` rank calls for symbols of `k`
+    /// bits.
+    #[inline(always)]
+    pub fn successor_counted(
+        &self,
+        range: Range<usize>,
+        symbol: &BitVec<A>,
+        tally: &mut Tally,
+    ) -> Result<Option<BitVec<A>>, AllocError> {
+        if symbol.len() != self.bits_per_element()
+            || range.start >= range.end
+            || range.end > self.len()
+        {
+            return Ok(None);
+        }
+        let mut answer = self.zero_symbol()?;
+        if !self.nearest_in(true, range.start, range.end, symbol, &mut answer, tally) {
+            return Ok(None);
+        }
+        Ok(Some(answer))
+    }
+
+    /// The greatest symbol of a range that is not above a symbol, of which the low digits count. None
+    /// where the symbols have more than 64 bits, for a range that is reversed or ends past the end, and
+    /// where there is no such symbol.
+    pub fn predecessor_u64(&self, range: Range<usize>, symbol: u64) -> Option<u64> {
+        let mut tally = Tally::new();
+        self.predecessor_u64_counted(range, symbol, &mut tally)
+    }
+
+    /// The same as `predecessor_u64`, by at most four ranks of each level: `4k` rank calls for symbols
+    /// of `k` bits.
+    #[inline(always)]
+    pub fn predecessor_u64_counted(
+        &self,
+        range: Range<usize>,
+        symbol: u64,
+        tally: &mut Tally,
+    ) -> Option<u64> {
+        if !self.fits_word() || range.start > range.end || range.end > self.len() {
+            return None;
+        }
+        let mut answer: u64 = 0;
+        if !self.nearest_in(false, range.start, range.end, &symbol, &mut answer, tally) {
+            return None;
+        }
+        Some(answer)
+    }
+
+    /// The least symbol of a range that is not below a symbol, of which the low digits count. None
+    /// where the symbols have more than 64 bits, for a range that is reversed or ends past the end, and
+    /// where there is no such symbol.
+    pub fn successor_u64(&self, range: Range<usize>, symbol: u64) -> Option<u64> {
+        let mut tally = Tally::new();
+        self.successor_u64_counted(range, symbol, &mut tally)
+    }
+
+    /// The same as `successor_u64`, by at most four ranks of each level: `4k` rank calls for symbols of
+    /// `k` bits.
+    #[inline(always)]
+    pub fn successor_u64_counted(
+        &self,
+        range: Range<usize>,
+        symbol: u64,
+        tally: &mut Tally,
+    ) -> Option<u64> {
+        if !self.fits_word() || range.start > range.end || range.end > self.len() {
+            return None;
+        }
+        let mut answer: u64 = 0;
+        if !self.nearest_in(true, range.start, range.end, &symbol, &mut answer, tally) {
+            return None;
+        }
+        Some(answer)
+    }
+}

@@ -1,0 +1,142 @@
+//! Rows that were worked out by hand.
+
+use crate::rattle::prelude::*;
+use crate::proved_tests::postings_tests::shared::{Question, answer, posted, share};
+use crate::proved::postings::{Postings, PostingsError};
+use crate::rattle::Global;
+use crate::proved_tests::test_alloc::{asked, asked_both, first_wrong};
+
+const ANSWERS: [(Question, Option<u64>); 14] = [
+    (Question::Len, Some(4)),
+    (Question::IsEmpty, Some(0)),
+    (Question::Contains(6), Some(0)),
+    (Question::Contains(9), Some(1)),
+    (Question::Rank(9), Some(2)),
+    (Question::Rank(u64::MAX), Some(4)),
+    (Question::Next(6), Some(9)),
+    (Question::Next(13), None),
+    (Question::Cheapest(0, u64::MAX), Some(5)),
+    (Question::Cheapest(6, 12), Some(9)),
+    (Question::Cheapest(6, 8), None),
+    (Question::Cheapest(9, 2), None),
+    (Question::Cheapest(12, 12), Some(12)),
+    (Question::Cheapest(13, u64::MAX), None),
+];
+
+const NO_ANSWERS: [(Question, Option<u64>); 6] = [
+    (Question::Len, Some(0)),
+    (Question::IsEmpty, Some(1)),
+    (Question::Contains(0), Some(0)),
+    (Question::Rank(5), Some(0)),
+    (Question::Next(0), None),
+    (Question::Cheapest(0, 9), None),
+];
+
+// The number of the first question that a list answers otherwise.
+fn wrong_answer(
+    alloc: Global,
+    documents: &[u64],
+    costs: &[u64],
+    rows: &[(Question, Option<u64>)],
+) -> Result<Option<usize>, PostingsError> {
+    asked(
+        posted(alloc, documents, costs),
+        |list: &Postings<Global>| first_wrong(list, rows, answer),
+    )
+}
+
+#[test]
+fn four_documents() {
+    let rt = HostRuntime;
+    let wrong = wrong_answer(rt.alloc(), &[2, 5, 9, 12], &[7, 3, 3, 8], &ANSWERS);
+    assert!(matches!(wrong, Ok(None)));
+}
+
+#[test]
+fn no_documents() {
+    let rt = HostRuntime;
+    assert!(matches!(wrong_answer(rt.alloc(), &[], &[], &NO_ANSWERS), Ok(None)));
+}
+
+// Whether a list gives these documents and costs.
+fn gives(list: &Postings<Global>, documents: &[u64], costs: &[u64]) -> bool {
+    for (place, document) in documents.iter().enumerate() {
+        if list.documents().get(place) != Some(*document) {
+            return false;
+        }
+    }
+    list.documents().len() == documents.len() && list.costs() == costs
+}
+
+#[test]
+fn documents_and_costs() {
+    let rt = HostRuntime;
+    let told = asked(
+        posted(rt.alloc(), &[2, 5, 9, 12], &[7, 3, 3, 8]),
+        |list: &Postings<Global>| gives(list, &[2, 5, 9, 12], &[7, 3, 3, 8]),
+    );
+    assert!(told == Ok(true));
+}
+
+// Documents, costs, and the fault that a maker tells of them.
+type Fault<'a> = (&'a [u64], &'a [u64], Option<PostingsError>);
+
+const FAULTS: [Fault; 6] = [
+    (&[2, 1], &[3], Some(PostingsError::LengthMismatch)),
+    (&[1], &[], Some(PostingsError::LengthMismatch)),
+    (&[], &[1], Some(PostingsError::LengthMismatch)),
+    (&[1, 1], &[3, 4], Some(PostingsError::NotAscending)),
+    (&[0, 2, 1], &[3, 4, 5], Some(PostingsError::NotAscending)),
+    (&[0, u64::MAX], &[u64::MAX, 0], None),
+];
+
+// The number of the first row of which a maker tells another one.
+fn wrong_fault(alloc: Global, rows: &[Fault]) -> Option<usize> {
+    for (row, (documents, costs, wanted)) in rows.iter().enumerate() {
+        let fault = asked(posted(alloc, documents, costs), |_: &Postings<Global>| ()).err();
+        if fault != *wanted {
+            return Some(row);
+        }
+    }
+    None
+}
+
+#[test]
+fn faults_in_their_order() {
+    let rt = HostRuntime;
+    assert!(wrong_fault(rt.alloc(), &FAULTS).is_none());
+}
+
+// The documents of two lists, and those that both have.
+type Pair<'a> = (&'a [u64], &'a [u64], &'a [u64]);
+
+const PAIRS: [Pair; 5] = [
+    (&[2, 5, 9, 12], &[5, 6, 12, 40], &[5, 12]),
+    (&[2, 5, 9, 12], &[], &[]),
+    (&[0, u64::MAX], &[u64::MAX], &[u64::MAX]),
+    (&[1, 2, 3], &[1, 2, 3], &[1, 2, 3]),
+    (&[1, 3, 5], &[0, 2, 4, 6], &[]),
+];
+
+// The number of the first pair that shares others, whichever is asked.
+fn wrong_pair(alloc: Global, pairs: &[Pair]) -> Option<usize> {
+    for (row, (one, other, wanted)) in pairs.iter().enumerate() {
+        let shared = asked_both(
+            posted(alloc, one, one),
+            posted(alloc, other, other),
+            |one: &Postings<Global>, other: &Postings<Global>| {
+                share(one, other, wanted) && share(other, one, wanted)
+            },
+        );
+        if shared != Ok(true) {
+            return Some(row);
+        }
+    }
+    None
+}
+
+#[test]
+fn shared_documents() {
+    let rt = HostRuntime;
+    assert!(wrong_pair(rt.alloc(), &PAIRS).is_none());
+}

@@ -1,0 +1,125 @@
+//! Texts beside a plain scan, and what the counted calls read.
+
+use crate::rattle::prelude::*;
+use crate::proved_tests::text_index_tests::shared::{are_counted, are_listed, periodic, scattered};
+use crate::rattle::Global;
+use crate::proved_tests::test_alloc::asked;
+use crate::proved::text_index::{TextError, TextIndex};
+use crate::proved::vers_tally::tally::Tally;
+
+// Of how many places one is kept.
+const STEPS: [usize; 4] = [1, 3, 32, usize::MAX];
+
+// Whether a text of these symbols answers queries of its patterns as a plain scan does.
+fn is_counted_plainly(alloc: Global, symbols: &[u64]) -> bool {
+    let is_right = asked(
+        TextIndex::from_slice(alloc, symbols, 2),
+        |text: &TextIndex<Global>| are_counted(text, symbols),
+    );
+    is_right == Ok(true)
+}
+
+// Whether it lists their places so, with each step.
+fn is_listed_plainly(alloc: Global, symbols: &[u64]) -> bool {
+    for step in STEPS {
+        let is_right = asked(
+            TextIndex::with_step(alloc, symbols, 2, step),
+            |text: &TextIndex<Global>| text.step() == step && are_listed(text, symbols),
+        );
+        if is_right != Ok(true) {
+            return false;
+        }
+    }
+    true
+}
+
+fn scattered_is_right(alloc: Global, n: usize) -> bool {
+    match scattered(alloc, n, 2) {
+        Ok(symbols) => is_counted_plainly(alloc, symbols.as_slice()),
+        Err(_) => false,
+    }
+}
+
+fn scattered_is_listed(alloc: Global, n: usize) -> bool {
+    match scattered(alloc, n, 2) {
+        Ok(symbols) => is_listed_plainly(alloc, symbols.as_slice()),
+        Err(_) => false,
+    }
+}
+
+fn periodic_is_right(alloc: Global, n: usize, period: u64) -> bool {
+    match periodic(alloc, n, period) {
+        Ok(symbols) => {
+            is_counted_plainly(alloc, symbols.as_slice())
+                && is_listed_plainly(alloc, symbols.as_slice())
+        }
+        Err(_) => false,
+    }
+}
+
+#[test]
+fn scattered_symbols() {
+    let rt = HostRuntime;
+    let mut are_right = true;
+    for n in 0..70 {
+        are_right = are_right && scattered_is_right(rt.alloc(), n);
+    }
+    assert!(are_right && scattered_is_right(rt.alloc(), 500));
+}
+
+#[test]
+fn scattered_symbols_are_listed() {
+    let rt = HostRuntime;
+    let mut are_right = true;
+    for n in 0..40 {
+        are_right = are_right && scattered_is_listed(rt.alloc(), n);
+    }
+    assert!(are_right && scattered_is_listed(rt.alloc(), 300));
+}
+
+#[test]
+fn periods_and_one_symbol() {
+    let rt = HostRuntime;
+    let mut are_right = true;
+    for period in 1..5 {
+        are_right = are_right && periodic_is_right(rt.alloc(), 100, period);
+    }
+    assert!(are_right && periodic_is_right(rt.alloc(), 257, 1));
+}
+
+// How many rank calls and numbers a count of a pattern of five symbols of two bits reads.
+fn reads_of_count(text: &TextIndex<Global>) -> (u64, u64) {
+    let mut tally = Tally::new();
+    text.count_counted(&[0, 0, 0, 0, 0], &mut tally);
+    (tally.rank_calls(), tally.items())
+}
+
+// How many rank calls, numbers and kept places finding the last of its places reads.
+fn reads_of_place(text: &TextIndex<Global>) -> (u64, u64, u64) {
+    let mut tally = Tally::new();
+    text.places(&[0, 0, 0, 0, 0]).next_back_counted(&mut tally);
+    (tally.rank_calls(), tally.items(), tally.low_parts())
+}
+
+fn reads_of_one_symbol(
+    alloc: Global,
+    n: usize,
+) -> Result<((u64, u64), (u64, u64, u64)), TextError> {
+    let symbols = periodic(alloc, n, 1)?;
+    let made = TextIndex::from_slice(alloc, symbols.as_slice(), 2);
+    asked(made, |text: &TextIndex<Global>| {
+        (reads_of_count(text), reads_of_place(text))
+    })
+}
+
+#[test]
+fn counts_and_places_read_within_their_bounds() {
+    let rt = HostRuntime;
+    match reads_of_one_symbol(rt.alloc(), 20000) {
+        Ok((count, place)) => {
+            assert!(count.0 <= 5 * 2 * 2 && count.1 <= 5);
+            assert!(place.0 <= 32 * (1 + 2 * 2) + 2 && place.1 <= 32 && place.2 == 1);
+        }
+        Err(_) => assert!(false),
+    }
+}

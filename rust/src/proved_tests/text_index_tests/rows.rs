@@ -1,0 +1,120 @@
+//! Rows that were worked out by hand.
+
+use crate::rattle::prelude::*;
+use crate::rattle::Global;
+use crate::proved_tests::test_alloc::asked;
+use crate::proved::text_index::{TextError, TextIndex};
+
+// Symbols, their width, a pattern, and how many places it has.
+type Row<'a> = (&'a [u64], u16, &'a [u64], usize);
+
+const ROWS: [Row; 13] = [
+    (&[2, 1, 2, 1, 2], 2, &[2, 1, 2], 2),
+    (&[2, 1, 2, 1, 2], 2, &[2, 2], 0),
+    (&[2, 1, 2, 1, 2], 2, &[], 6),
+    (&[2, 1, 2, 1, 2], 2, &[2, 1, 2, 1, 2], 1),
+    (&[2, 1, 2, 1, 2], 2, &[2, 1, 2, 1, 2, 1], 0),
+    (&[2, 1, 2, 1, 2], 2, &[4], 0),
+    (&[0, 1, 2, 3, 0, 1, 2, 0, 1, 2, 3, 3], 2, &[0, 1, 2], 3),
+    (&[], 1, &[], 1),
+    (&[], 1, &[0], 0),
+    (&[0, 0, 0, 0], 1, &[0, 0], 3),
+    (&[0], 16, &[0], 1),
+    (&[65535, 0, 65535], 16, &[65535], 2),
+    (&[65535, 0, 65535], 16, &[u64::MAX], 0),
+];
+
+// The number of the first row whose pattern has another number of places.
+fn wrong_row(alloc: Global, rows: &[Row]) -> Option<usize> {
+    for (row, (symbols, width, pattern, wanted)) in rows.iter().enumerate() {
+        let is_right = asked(
+            TextIndex::from_slice(alloc, symbols, *width),
+            |text: &TextIndex<Global>| {
+                text.count(pattern) == *wanted
+                    && text.len() == symbols.len()
+                    && text.is_empty() == symbols.is_empty()
+                    && text.bits_per_symbol() == *width
+            },
+        );
+        if is_right != Ok(true) {
+            return Some(row);
+        }
+    }
+    None
+}
+
+#[test]
+fn patterns_have_their_places() {
+    let rt = HostRuntime;
+    assert!(wrong_row(rt.alloc(), &ROWS).is_none());
+}
+
+// Symbols of two bits, a pattern, and its places in the order of what the text goes on with from them.
+type Places<'a> = (&'a [u64], &'a [u64], &'a [usize]);
+
+const PLACES: [Places; 6] = [
+    (&[2, 1, 2, 1, 2], &[2], &[4, 2, 0]),
+    (&[2, 1, 2, 1, 2], &[], &[5, 3, 1, 4, 2, 0]),
+    (&[2, 1, 2, 1, 2], &[2, 2], &[]),
+    (
+        &[0, 1, 2, 3, 0, 1, 2, 0, 1, 2, 3, 3],
+        &[0, 1, 2],
+        &[4, 0, 7],
+    ),
+    (&[0, 0, 0, 0], &[0, 0], &[2, 1, 0]),
+    (&[], &[], &[0]),
+];
+
+// The number of the first row whose pattern has other places.
+fn wrong_places(alloc: Global, rows: &[Places]) -> Option<usize> {
+    for (row, (symbols, pattern, wanted)) in rows.iter().enumerate() {
+        let is_right = asked(
+            TextIndex::from_slice(alloc, symbols, 2),
+            |text: &TextIndex<Global>| match text.first_places(pattern, 6) {
+                Ok(found) => found.as_slice() == *wanted,
+                Err(_) => false,
+            },
+        );
+        if is_right != Ok(true) {
+            return Some(row);
+        }
+    }
+    None
+}
+
+#[test]
+fn places_in_their_order() {
+    let rt = HostRuntime;
+    assert!(wrong_places(rt.alloc(), &PLACES).is_none());
+}
+
+// Symbols, their width, the step, and the fault that a maker tells of them.
+type Fault<'a> = (&'a [u64], u16, usize, Option<TextError>);
+
+const FAULTS: [Fault; 7] = [
+    (&[0], 0, 0, Some(TextError::WidthOutOfRange)),
+    (&[u64::MAX], 17, 1, Some(TextError::WidthOutOfRange)),
+    (&[0, 3, 4], 2, 0, Some(TextError::NoStep)),
+    (&[0, 3, 4], 2, 1, Some(TextError::WideSymbol)),
+    (&[65536], 16, 32, Some(TextError::WideSymbol)),
+    (&[0, 3], 2, 1, None),
+    (&[0, 3], 2, usize::MAX, None),
+];
+
+// The number of the first row of which a maker tells another one.
+fn wrong_fault(alloc: Global, rows: &[Fault]) -> Option<usize> {
+    for (row, (symbols, width, step, wanted)) in rows.iter().enumerate() {
+        let made = TextIndex::with_step(alloc, symbols, *width, *step);
+        let fault = asked(made, |_: &TextIndex<Global>| ()).err();
+        if fault != *wanted {
+            return Some(row);
+        }
+    }
+    None
+}
+
+#[test]
+fn faults_in_their_order() {
+    let rt = HostRuntime;
+    assert!(wrong_fault(rt.alloc(), &FAULTS).is_none());
+}

@@ -1,0 +1,124 @@
+//! Sizes that a text tells, compared with the memory that it and its clone hold.
+
+use crate::rattle::prelude::*;
+use crate::proved_tests::text_index_tests::shared::{periodic, scattered};
+use crate::rattle::Allocator;
+use crate::rattle::Global;
+use std::mem::size_of;
+use crate::proved_tests::test_alloc::{Refusing, Size, Sizing, Spare, asked, first_wrong_size, spare_of};
+use crate::proved::text_index::TextIndex;
+use crate::proved::vers_rank::fast_rs_vec::RsVec;
+
+type Heap = Refusing<Global>;
+
+// How many levels a text of symbols of two bits has.
+const LEVELS: usize = 2;
+
+// Lengths of texts at and around the ends of limbs and blocks.
+const LENGTHS: [usize; 7] = [0, 1, 63, 64, 65, 511, 600];
+
+// The most bytes by which the vectors of a text that was made are rounded up.
+const ROUNDED: usize = 96;
+
+// The size that a text tells.
+#[derive(Clone, Copy)]
+struct HeapSize;
+
+impl<A: Allocator + Copy> Size<TextIndex<A>> for HeapSize {
+    fn bytes(&self, text: &TextIndex<A>) -> usize {
+        text.heap_size()
+    }
+}
+
+// A text with one place kept for each so many.
+#[derive(Clone, Copy)]
+struct Kept {
+    step: usize,
+}
+
+// A clone holds just what is told, and a vector of its levels.
+impl Sizing<Global> for Kept {
+    fn spare(self, inner: Global, heap: &Heap, len: usize) -> Option<Spare> {
+        match periodic(inner, len, 3) {
+            Ok(symbols) => spare_of(
+                heap,
+                TextIndex::with_step(heap, symbols.as_slice(), 2, self.step),
+                &HeapSize,
+            ),
+            Err(_) => None,
+        }
+    }
+
+    fn is_allowed(self, _len: usize, spare: Spare) -> bool {
+        let structs = LEVELS.wrapping_mul(size_of::<RsVec<&Heap>>());
+        spare.cloned == structs
+            && structs <= spare.made
+            && spare.made <= structs.saturating_add(ROUNDED)
+    }
+}
+
+#[test]
+fn sizes_told_are_held() {
+    let rt = HostRuntime;
+    let steps = [Kept { step: 1 }, Kept { step: 32 }];
+    assert!(first_wrong_size(rt.alloc(), &LENGTHS, &steps).is_none());
+}
+
+// Lengths of texts that are made, up to one whose vectors would show that they grow by doubling.
+const MADE: [usize; 7] = [0, 1, 2, 99, 100, 10_000, 100_000];
+
+// The same of texts with so many symbols that each takes long to make.
+const WIDE: [usize; 3] = [0, 100, 100_000];
+
+// The most bytes held while a text is made: 24 for each place and for each symbol that there may be, and some for each
+// level and the text.
+fn most_at_work(len: usize, width: u16) -> usize {
+    let level: usize = 200;
+    level
+        .wrapping_mul(width as usize)
+        .wrapping_add(24usize.wrapping_mul(len.wrapping_add(1)))
+        .wrapping_add(24usize << width.min(16))
+        .wrapping_add(400)
+}
+
+// Whether no more is held while a text is made.
+fn is_made_within(inner: Global, len: usize, width: u16, step: usize) -> bool {
+    let symbols = match scattered(inner, len, width) { Ok(symbols) => symbols, _ => {
+        return false;
+    } };
+    let heap = Refusing::none(inner);
+    let made = asked(
+        TextIndex::with_step(&heap, symbols.as_slice(), width, step),
+        |text: &TextIndex<&Heap>| text.len() == len,
+    );
+    made == Ok(true) && heap.most_held_bytes() <= most_at_work(len, width)
+}
+
+// Whether that is so of texts of all lengths.
+fn are_made_within(inner: Global, lengths: &[usize], width: u16, step: usize) -> bool {
+    for len in lengths {
+        if !is_made_within(inner, *len, width, step) {
+            return false;
+        }
+    }
+    true
+}
+
+#[test]
+fn bases_are_made_within_their_memory() {
+    let rt = HostRuntime;
+    assert!(are_made_within(rt.alloc(), &MADE, 2, 1));
+    assert!(are_made_within(rt.alloc(), &MADE, 2, 32));
+}
+
+#[test]
+fn bytes_are_made_within_their_memory() {
+    let rt = HostRuntime;
+    assert!(are_made_within(rt.alloc(), &MADE, 8, 32));
+}
+
+#[test]
+fn wide_symbols_are_made_within_their_memory() {
+    let rt = HostRuntime;
+    assert!(are_made_within(rt.alloc(), &WIDE, 16, 32));
+}

@@ -1,0 +1,6 @@
+//! Tests of the list of bits.
+
+use crate::rattle::prelude::*;
+
+#[cfg(test)]
+mod tests;

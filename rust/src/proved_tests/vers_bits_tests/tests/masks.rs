@@ -1,0 +1,187 @@
+//! The masks of two lists, by one table.
+
+use crate::rattle::prelude::*;
+
+use crate::proved_tests::vers_bits_tests::tests::queries::{Query, is_part, number_of};
+use crate::rattle::AllocError;
+use crate::rattle::Allocator;
+use crate::proved::vers_bits::bit_vec::mask::MaskedBitVec;
+use crate::proved::vers_bits::bit_vec::{BitMask, BitVec, LengthMismatch};
+
+/// A mask; the last one is a closure, or a function where a list is changed.
+#[derive(Clone, Copy)]
+pub enum Mask {
+    Or,
+    And,
+    Xor,
+    AndNot,
+}
+
+fn and_not(x: u64, y: u64) -> u64 {
+    x & !y
+}
+
+/// The bit that a mask makes of two.
+pub fn masked_bit(mask: Mask, left: bool, right: bool) -> bool {
+    match mask {
+        Mask::Or => left | right,
+        Mask::And => left & right,
+        Mask::Xor => left != right,
+        Mask::AndNot => left & !right,
+    }
+}
+
+/// The list that a mask of two lists makes. Err has None where their lengths differ.
+pub fn masked<A: Allocator + Copy>(
+    mask: Mask,
+    left: &BitVec<A>,
+    right: &BitVec<A>,
+) -> Result<BitVec<A>, Option<AllocError>> {
+    let made = match mask {
+        Mask::Or => left.mask_or(right),
+        Mask::And => left.mask_and(right),
+        Mask::Xor => left.mask_xor(right),
+        Mask::AndNot => return masked_by_closure(left, right),
+    };
+    match made {
+        Ok(both) => or_no_memory(both.to_bit_vec()),
+        Err(_) => Err(None),
+    }
+}
+
+fn masked_by_closure<A: Allocator + Copy>(
+    left: &BitVec<A>,
+    right: &BitVec<A>,
+) -> Result<BitVec<A>, Option<AllocError>> {
+    match left.mask_custom(right, |x: u64, y: u64| x & !y) {
+        Ok(both) => or_no_memory(both.to_bit_vec()),
+        Err(_) => Err(None),
+    }
+}
+
+fn or_no_memory<T>(made: Result<T, AllocError>) -> Result<T, Option<AllocError>> {
+    match made {
+        Ok(it) => Ok(it),
+        Err(fault) => Err(Some(fault)),
+    }
+}
+
+/// Changes a list by a mask.
+pub fn apply<A: Allocator + Copy>(
+    mask: Mask,
+    list: &mut BitVec<A>,
+    other: &BitVec<A>,
+) -> Result<(), LengthMismatch> {
+    match mask {
+        Mask::Or => list.apply_mask_or(other),
+        Mask::And => list.apply_mask_and(other),
+        Mask::Xor => list.apply_mask_xor(other),
+        Mask::AndNot => list.apply_mask_custom(other, and_not),
+    }
+}
+
+/// Whether a mask was made, and its clone is read as it is.
+pub fn is_cloned<A: Allocator + Copy>(mask: Result<BitMask<'_, '_, A>, LengthMismatch>) -> bool {
+    let mask = match mask { Ok(mask) => mask, _ => {
+        return false;
+    } };
+    let twin = mask.clone();
+    for query in &[
+        Query::Get(0),
+        Query::GetBits(0, 64),
+        Query::CountOnes,
+        Query::CountZeros,
+    ] {
+        if checked_answer(&mask, *query) != checked_answer(&twin, *query) {
+            return false;
+        }
+    }
+    true
+}
+
+// The answers of the calls of a mask that have no condition.
+fn checked_answer<A: Allocator + Copy>(mask: &BitMask<'_, '_, A>, query: Query) -> Option<u64> {
+    match query {
+        Query::CountOnes => Some(mask.count_ones()),
+        Query::CountZeros => Some(mask.count_zeros()),
+        Query::Get(place) => mask.get(place),
+        Query::IsBitSet(place) => number_of(mask.is_bit_set(place)),
+        Query::GetBits(place, n) => mask.get_bits(place, n),
+        _ => None,
+    }
+}
+
+// Those of a mask of `len` bits that have one, where it holds.
+fn unchecked_answer<A: Allocator + Copy>(
+    mask: &BitMask<'_, '_, A>,
+    len: usize,
+    query: Query,
+) -> Option<u64> {
+    match query {
+        Query::GetUnchecked(place) if place < len => Some(mask.get_unchecked(place)),
+        Query::IsBitSetUnchecked(place) if place < len => {
+            Some(u64::from(mask.is_bit_set_unchecked(place)))
+        }
+        Query::GetBitsUnchecked(place, n) if is_part(len, place, n) => {
+            Some(mask.get_bits_unchecked(place, n))
+        }
+        _ => None,
+    }
+}
+
+/// The answer of a question of the or of two lists. None for a question that masks don't have, and for lists of
+/// different lengths.
+pub fn answer_of_or<A: Allocator + Copy>(
+    left: &BitVec<A>,
+    right: &BitVec<A>,
+    query: Query,
+) -> Option<u64> {
+    let mask = match left.mask_or(right) { Ok(mask) => mask, _ => {
+        return None;
+    } };
+    checked_answer(&mask, query).or(unchecked_answer(&mask, left.len(), query))
+}
+
+// The same as `checked_answer`, of a mask by a closure.
+fn checked_of_closure<F: Fn(u64, u64) -> u64, A: Allocator + Copy>(
+    mask: &MaskedBitVec<'_, '_, F, A>,
+    query: Query,
+) -> Option<u64> {
+    match query {
+        Query::CountOnes => Some(mask.count_ones()),
+        Query::CountZeros => Some(mask.count_zeros()),
+        Query::Get(place) => mask.get(place),
+        Query::IsBitSet(place) => number_of(mask.is_bit_set(place)),
+        Query::GetBits(place, n) => mask.get_bits(place, n),
+        _ => None,
+    }
+}
+
+fn unchecked_of_closure<F: Fn(u64, u64) -> u64, A: Allocator + Copy>(
+    mask: &MaskedBitVec<'_, '_, F, A>,
+    len: usize,
+    query: Query,
+) -> Option<u64> {
+    match query {
+        Query::GetUnchecked(place) if place < len => Some(mask.get_unchecked(place)),
+        Query::IsBitSetUnchecked(place) if place < len => {
+            Some(u64::from(mask.is_bit_set_unchecked(place)))
+        }
+        Query::GetBitsUnchecked(place, n) if is_part(len, place, n) => {
+            Some(mask.get_bits_unchecked(place, n))
+        }
+        _ => None,
+    }
+}
+
+/// The same as `answer_of_or`, of a closure that makes a one of two zeros.
+pub fn answer_of_nor<A: Allocator + Copy>(
+    left: &BitVec<A>,
+    right: &BitVec<A>,
+    query: Query,
+) -> Option<u64> {
+    let mask = match left.mask_custom(right, |x: u64, y: u64| !(x | y)) { Ok(mask) => mask, _ => {
+        return None;
+    } };
+    checked_of_closure(&mask, query).or(unchecked_of_closure(&mask, left.len(), query))
+}

@@ -1,0 +1,204 @@
+//! What is asked of a list of bits, and what is done to it, by tables.
+
+use crate::rattle::prelude::*;
+
+use crate::rattle::Allocator;
+use crate::proved::vers_bits::bit_vec::{BitVec, GrowError};
+
+/// A question. An unchecked one is asked only where its condition holds, and answered None elsewhere.
+#[derive(Clone, Copy)]
+pub enum Query {
+    Len,
+    IsEmpty,
+    HeapSize,
+    CountOnes,
+    CountZeros,
+    Limb(usize),
+    Get(usize),
+    GetUnchecked(usize),
+    IsBitSet(usize),
+    IsBitSetUnchecked(usize),
+    GetBits(usize, usize),
+    GetBitsUnchecked(usize, usize),
+    UnpackElement(usize, usize),
+    UnpackElementUnchecked(usize, usize),
+}
+
+/// The answer of a question, a truth value as 1 or 0.
+pub fn answer<A: Allocator + Copy>(list: &BitVec<A>, query: Query) -> Option<u64> {
+    match query {
+        Query::Len => Some(list.len() as u64),
+        Query::IsEmpty => Some(u64::from(list.is_empty())),
+        Query::HeapSize => Some(list.heap_size() as u64),
+        Query::CountOnes => Some(list.count_ones()),
+        Query::CountZeros => Some(list.count_zeros()),
+        Query::Get(place) => list.get(place),
+        Query::IsBitSet(place) => number_of(list.is_bit_set(place)),
+        Query::GetBits(place, n) => list.get_bits(place, n),
+        Query::UnpackElement(index, n) => list.unpack_element(index, n),
+        _ => unchecked_answer(list, query),
+    }
+}
+
+/// A truth value as 1 or 0.
+pub fn number_of(bit: Option<bool>) -> Option<u64> {
+    Some(u64::from(bit?))
+}
+
+// The answers of the calls that have a condition.
+fn unchecked_answer<A: Allocator + Copy>(list: &BitVec<A>, query: Query) -> Option<u64> {
+    match query {
+        Query::Limb(k) => limb(list, k),
+        Query::GetUnchecked(place) => get_unchecked(list, place),
+        Query::IsBitSetUnchecked(place) => is_bit_set_unchecked(list, place),
+        Query::GetBitsUnchecked(place, n) => get_bits_unchecked(list, place, n),
+        Query::UnpackElementUnchecked(index, n) => unpack_element_unchecked(list, index, n),
+        _ => None,
+    }
+}
+
+fn limb<A: Allocator + Copy>(list: &BitVec<A>, k: usize) -> Option<u64> {
+    if k >= list.len().div_ceil(64) {
+        return None;
+    }
+    Some(list.limb(k))
+}
+
+fn get_unchecked<A: Allocator + Copy>(list: &BitVec<A>, place: usize) -> Option<u64> {
+    if place >= list.len() {
+        return None;
+    }
+    Some(list.get_unchecked(place))
+}
+
+fn is_bit_set_unchecked<A: Allocator + Copy>(list: &BitVec<A>, place: usize) -> Option<u64> {
+    if place >= list.len() {
+        return None;
+    }
+    Some(u64::from(list.is_bit_set_unchecked(place)))
+}
+
+/// Whether a list of `len` bits has so many from a place on, and a number has room for them.
+pub fn is_part(len: usize, place: usize, n: usize) -> bool {
+    n <= 64 && place <= len && n <= len - place
+}
+
+fn get_bits_unchecked<A: Allocator + Copy>(
+    list: &BitVec<A>,
+    place: usize,
+    n: usize,
+) -> Option<u64> {
+    if !is_part(list.len(), place, n) {
+        return None;
+    }
+    Some(list.get_bits_unchecked(place, n))
+}
+
+fn unpack_element_unchecked<A: Allocator + Copy>(
+    list: &BitVec<A>,
+    index: usize,
+    n: usize,
+) -> Option<u64> {
+    if !is_part(list.len(), index.checked_mul(n)?, n) {
+        return None;
+    }
+    Some(list.unpack_element_unchecked(index, n))
+}
+
+/// The row of the first question, counted from 0, that has another answer.
+pub fn first_wrong_answer<A: Allocator + Copy>(
+    list: &BitVec<A>,
+    rows: &[(Query, Option<u64>)],
+) -> Option<usize> {
+    for (row, (query, wanted)) in rows.iter().enumerate() {
+        if answer(list, *query) != *wanted {
+            return Some(row);
+        }
+    }
+    None
+}
+
+/// A change. One with a condition is made only where that holds.
+#[derive(Clone, Copy)]
+pub enum Change {
+    Append(bool),
+    AppendBit(u64),
+    AppendBitU8(u8),
+    AppendBitU16(u16),
+    AppendBitU32(u32),
+    AppendWord(u64),
+    AppendBits(u64, usize),
+    AppendBitsUnchecked(u64, usize),
+    Set(usize, u64),
+    SetUnchecked(usize, u64),
+    FlipBit(usize),
+    FlipBitUnchecked(usize),
+    DropLast(usize),
+}
+
+/// Makes a change that appends bits.
+pub fn append<A: Allocator + Copy>(list: &mut BitVec<A>, change: Change) -> Result<(), GrowError> {
+    match change {
+        Change::Append(bit) => list.append(bit),
+        Change::AppendBit(number) => list.append_bit(number),
+        Change::AppendBitU8(number) => list.append_bit_u8(number),
+        Change::AppendBitU16(number) => list.append_bit_u16(number),
+        Change::AppendBitU32(number) => list.append_bit_u32(number),
+        Change::AppendWord(word) => list.append_word(word),
+        Change::AppendBits(bits, n) => list.append_bits(bits, n.min(64)),
+        Change::AppendBitsUnchecked(bits, n) => list.append_bits_unchecked(bits, n.min(64)),
+        _ => Ok(()),
+    }
+}
+
+/// Makes a change, and answers whether it was made.
+pub fn is_made<A: Allocator + Copy>(list: &mut BitVec<A>, change: Change) -> bool {
+    let len = list.len();
+    match change {
+        Change::Set(place, value) => list.set(place, value).is_ok(),
+        Change::SetUnchecked(place, value) if place < len => {
+            list.set_unchecked(place, value);
+            true
+        }
+        Change::FlipBit(place) if place < len => {
+            list.flip_bit(place);
+            true
+        }
+        Change::FlipBitUnchecked(place) if place < len => {
+            list.flip_bit_unchecked(place);
+            true
+        }
+        Change::SetUnchecked(..) | Change::FlipBit(_) | Change::FlipBitUnchecked(_) => false,
+        Change::DropLast(n) => {
+            list.drop_last(n);
+            true
+        }
+        _ => append(list, change).is_ok(),
+    }
+}
+
+/// A line of a script: a change that is made, one that is refused, or a question and its answer.
+#[derive(Clone, Copy)]
+pub enum Line {
+    Make(Change),
+    Refuse(Change),
+    Ask(Query, Option<u64>),
+}
+
+/// The number of the first line of a script, counted from 0, that goes otherwise than it says.
+pub fn first_wrong_line<A: Allocator + Copy>(
+    list: &mut BitVec<A>,
+    script: &[Line],
+) -> Option<usize> {
+    for (number, line) in script.iter().enumerate() {
+        let is_right = match *line {
+            Line::Make(change) => is_made(list, change),
+            Line::Refuse(change) => !is_made(list, change),
+            Line::Ask(query, wanted) => answer(list, query) == wanted,
+        };
+        if !is_right {
+            return Some(number);
+        }
+    }
+    None
+}

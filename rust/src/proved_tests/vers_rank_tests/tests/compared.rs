@@ -1,0 +1,256 @@
+//! Every query at every place compared with a plain list, around the ends of limbs, blocks and superblocks.
+
+use crate::rattle::prelude::*;
+use crate::proved_tests::vers_rank_tests::tests::lists::{Look, bits_of, list_of, turned_at};
+use crate::proved_tests::vers_rank_tests::tests::plain::PlainList;
+use crate::proved_tests::vers_rank_tests::tests::queries::{Query, is_right, queries_at};
+use crate::rattle::Allocator;
+use crate::rattle::Global;
+use crate::rattle::testing::Fail;
+use crate::proved_tests::test_alloc::{asked, asked_both};
+use crate::proved::vers_bits::bit_vec::GrowError;
+use crate::proved::vers_rank::fast_rs_vec::{BitSetIter, RsVec};
+
+const LENGTHS: [usize; 15] = [
+    0, 1, 15, 16, 17, 63, 64, 65, 511, 512, 513, 8191, 8192, 8193, 16385,
+];
+
+const LOOKS: [Look; 4] = [Look::Zeros, Look::Ones, Look::Mixed, Look::Sparse];
+
+fn plain_of<A: Allocator + Copy>(
+    alloc: A,
+    look: Look,
+    len: usize,
+) -> Result<PlainList<A>, GrowError> {
+    match bits_of(alloc, look, len) {
+        Ok(bits) => Ok(PlainList::new(bits)),
+        Err(fault) => Err(fault),
+    }
+}
+
+// What the plain list answers.
+fn plain_answer<A: Allocator + Copy>(plain: &PlainList<A>, query: Query) -> Option<u64> {
+    match query {
+        Query::Zeros => Some(plain.rank(false, plain.len()) as u64),
+        Query::Ones => Some(plain.rank(true, plain.len()) as u64),
+        Query::Get(place) => plain.get(place),
+        Query::GetBits(place, n) => plain.get_bits(place, n),
+        Query::Rank0(place) => Some(plain.rank(false, place) as u64),
+        Query::Rank1(place) => Some(plain.rank(true, place) as u64),
+        Query::Select(bit, r) => Some(plain.select(bit, r) as u64),
+        Query::Select0(r) | Query::Select0Each(r) => Some(plain.select(false, r) as u64),
+        Query::Select1(r) | Query::Select1Each(r) => Some(plain.select(true, r) as u64),
+        Query::ZeroPairFirst(r) => Some(plain.select(false, r) as u64),
+        Query::ZeroPairSecond(r) => Some(plain.select(false, r.saturating_add(1)) as u64),
+        Query::PairFirst(r) => Some(plain.select(true, r) as u64),
+        Query::PairSecond(r) => Some(plain.select(true, r.saturating_add(1)) as u64),
+        Query::Successor0(place) => plain.successor(false, place),
+        Query::Successor1(place) => plain.successor(true, place),
+        Query::Predecessor0(place) => plain.predecessor(false, place),
+        Query::Predecessor1(place) => plain.predecessor(true, place),
+        _ => None,
+    }
+}
+
+// Whether all queries at a place are right.
+fn are_right_at<A: Allocator + Copy>(list: &RsVec<A>, plain: &PlainList<A>, place: usize) -> bool {
+    for query in queries_at(place) {
+        if !is_right(list, query, plain_answer(plain, query)) {
+            return false;
+        }
+    }
+    true
+}
+
+// Whether the first number of a bit, the last and later ones stand where the plain list has them, by a
+// select that is told the bit.
+fn are_right_ends<A: Allocator + Copy>(list: &RsVec<A>, plain: &PlainList<A>, bit: bool) -> bool {
+    let total = plain.rank(bit, plain.len());
+    for r in [0, total.saturating_sub(1), total, usize::MAX] {
+        let query = Query::Select(bit, r);
+        if !is_right(list, query, plain_answer(plain, query)) {
+            return false;
+        }
+    }
+    true
+}
+
+// The first place with a wrong query, up to two past the end and at the greatest place of all.
+fn first_wrong_place<A: Allocator + Copy>(plain: &PlainList<A>, list: &RsVec<A>) -> Option<usize> {
+    for place in 0..plain.len().saturating_add(3) {
+        if !are_right_at(list, plain, place) {
+            return Some(place);
+        }
+    }
+    if are_right_at(list, plain, usize::MAX)
+        && are_right_ends(list, plain, false)
+        && are_right_ends(list, plain, true)
+    {
+        return None;
+    }
+    Some(usize::MAX)
+}
+
+// The most numbers that a batch is tried with.
+const MOST: usize = 130;
+
+// Whether a batch of `n` numbers, one in `step` from 0 on, is answered number by number, and what
+// stands after it is kept.
+fn is_right_batch<A: Allocator + Copy>(list: &RsVec<A>, n: usize, step: usize) -> bool {
+    let mut numbers = [7usize; MOST];
+    for (i, number) in numbers.iter_mut().enumerate() {
+        if i < n {
+            *number = i.wrapping_mul(step);
+        }
+    }
+    if n <= MOST {
+        list.select1_each(&mut numbers[..n]);
+    }
+    numbers.iter().enumerate().all(|(i, place)| {
+        if i < n {
+            *place == list.select1(i.wrapping_mul(step))
+        } else {
+            *place == 7
+        }
+    })
+}
+
+// Whether batches of few and of many numbers are, where they end with a group and where they don't.
+fn are_right_batches<A: Allocator + Copy>(list: &RsVec<A>) -> bool {
+    [0, 1, 63, 64, 65, 128, 130].iter().all(|n| is_right_batch(list, *n, 1)
+        && is_right_batch(list, *n, 57))
+}
+
+#[test]
+fn batches_of_every_length() -> Result<(), Fail> {
+    let rt = HostRuntime;
+    let list = list_of(rt.alloc(), Look::Mixed, 8193);
+    assert!(asked(list, |list| are_right_batches(list))?);
+    Ok(())
+}
+
+// Whether a walk by chunks gives the places that hold the bit, one after another, and no more.
+fn gives_places<const ZERO: bool, A: Allocator + Copy>(
+    mut walk: BitSetIter<'_, ZERO, A>,
+    plain: &PlainList<A>,
+) -> bool {
+    for place in 0..plain.len() {
+        if plain.get(place) == Some(u64::from(!ZERO)) && walk.next() != Some(place) {
+            return false;
+        }
+    }
+    walk.next().is_none()
+}
+
+// Whether both walks by chunks over a list give the places of the plain one.
+fn have_places<A: Allocator + Copy>(plain: &PlainList<A>, list: &RsVec<A>) -> bool {
+    gives_places(list.bit_set_iter0(), plain) && gives_places(list.bit_set_iter1(), plain)
+}
+
+// The first place at which both disagree on a list; its length where it was not made.
+fn disagreement(alloc: Global, look: Look, len: usize) -> Option<usize> {
+    let plain = plain_of(alloc, look, len);
+    let list = list_of(alloc, look, len);
+    asked_both(plain, list, |plain, list| first_wrong_place(plain, list)).unwrap_or(Some(len))
+}
+
+// The first length, and the place there, at which both disagree on a list of some look.
+fn first_disagreement(alloc: Global, lengths: &[usize]) -> Option<(usize, usize)> {
+    for len in lengths {
+        for look in LOOKS.iter() {
+            if let Some(place) = disagreement(alloc, *look, *len) {
+                return Some((*len, place));
+            }
+        }
+    }
+    None
+}
+
+#[test]
+fn around_a_limb_and_a_block() {
+    let rt = HostRuntime;
+    let lengths = [0, 1, 15, 16, 17, 63, 64, 65, 511, 512, 513];
+    assert_eq!(first_disagreement(rt.alloc(), &lengths), None);
+}
+
+#[test]
+#[ignore = "slow without optimization"]
+fn around_a_superblock() {
+    let rt = HostRuntime;
+    assert_eq!(first_disagreement(rt.alloc(), &[8191, 8192, 8193]), None);
+}
+
+#[test]
+#[ignore = "slow without optimization"]
+fn past_two_superblocks() {
+    let rt = HostRuntime;
+    assert_eq!(first_disagreement(rt.alloc(), &[16385]), None);
+}
+
+fn chunks_are_right(alloc: Global, look: Look, len: usize) -> bool {
+    let plain = plain_of(alloc, look, len);
+    let list = list_of(alloc, look, len);
+    asked_both(plain, list, |plain, list| have_places(plain, list)).unwrap_or(false)
+}
+
+// The first length, and the row of the look, of which the walks by chunks do not give every place.
+fn first_wrong_chunks(alloc: Global) -> Option<(usize, usize)> {
+    for len in LENGTHS.iter() {
+        for (row, look) in LOOKS.iter().enumerate() {
+            if !chunks_are_right(alloc, *look, *len) {
+                return Some((*len, row));
+            }
+        }
+    }
+    None
+}
+
+#[test]
+fn chunks_give_every_place() {
+    let rt = HostRuntime;
+    assert_eq!(first_wrong_chunks(rt.alloc()), None, "a length and a look");
+}
+
+fn are_told_apart<A: Allocator + Copy>(list: &RsVec<A>, turned: &RsVec<A>) -> bool {
+    !list.full_equals(turned) && list.full_equals(list)
+}
+
+// Whether a list is told apart from one with another bit at a place.
+fn is_seen(alloc: Global, len: usize, place: usize) -> bool {
+    let list = list_of(alloc, Look::Mixed, len);
+    let turned = turned_at(alloc, Look::Mixed, len, place);
+    asked_both(list, turned, |list, turned| are_told_apart(list, turned)).unwrap_or(false)
+}
+
+// The first place of each 61, and the last one, at which another bit is not seen.
+fn first_unseen(alloc: Global, len: usize) -> Option<usize> {
+    for step in 0..len.div_ceil(61) {
+        let place = step.wrapping_mul(61);
+        if !is_seen(alloc, len, place) {
+            return Some(place);
+        }
+    }
+    let last = len.checked_sub(1)?;
+    if is_seen(alloc, len, last) {
+        return None;
+    }
+    Some(last)
+}
+
+fn first_unseen_of_all(alloc: Global) -> Option<(usize, usize)> {
+    for len in LENGTHS.iter() {
+        if let Some(place) = first_unseen(alloc, *len) {
+            return Some((*len, place));
+        }
+    }
+    None
+}
+
+#[test]
+fn full_equality_sees_every_limb() {
+    let rt = HostRuntime;
+    assert_eq!(first_unseen_of_all(rt.alloc()),
+        None,
+        "a length and a place"
+    );
+}

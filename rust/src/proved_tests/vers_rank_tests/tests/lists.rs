@@ -1,0 +1,122 @@
+//! Lists of bits that the tests run over.
+
+use crate::rattle::prelude::*;
+use crate::rattle::Allocator;
+use crate::proved::vers_bits::bit_vec::{BitVec, GrowError};
+use crate::proved::vers_rank::fast_rs_vec::RsVec;
+
+/// The same bits, indexed.
+pub fn indexed<A: Allocator + Copy>(bits: BitVec<A>) -> Result<RsVec<A>, GrowError> {
+    match RsVec::from_bit_vec(bits) {
+        Ok(list) => Ok(list),
+        Err(_) => Err(GrowError::Memory),
+    }
+}
+
+/// Runs of equal bits, one after another, indexed: each with its bit and its length.
+pub fn runs<A: Allocator + Copy>(alloc: A, runs: &[(bool, usize)]) -> Result<RsVec<A>, GrowError> {
+    let mut bits = BitVec::new(alloc);
+    for (bit, length) in runs {
+        for _ in 0..*length {
+            bits.append(*bit)?;
+        }
+    }
+    indexed(bits)
+}
+
+/// So many ones, each after `gap` zeros, indexed.
+pub fn spread<A: Allocator + Copy>(
+    alloc: A,
+    gap: usize,
+    ones: usize,
+) -> Result<RsVec<A>, GrowError> {
+    let mut bits = BitVec::new(alloc);
+    for _ in 0..ones {
+        for _ in 0..gap {
+            bits.append(false)?;
+        }
+        bits.append(true)?;
+    }
+    indexed(bits)
+}
+
+/// The bits 10110, indexed.
+pub fn list_10110<A: Allocator + Copy>(alloc: A) -> Result<RsVec<A>, GrowError> {
+    runs(alloc, &[(true, 1), (false, 1), (true, 2), (false, 1)])
+}
+
+/// What a list looks like.
+#[derive(Clone, Copy)]
+pub enum Look {
+    Zeros,
+    Ones,
+    Mixed,
+    Sparse,
+}
+
+/// The bit at a place.
+pub fn bit_of(look: Look, place: usize) -> bool {
+    match look {
+        Look::Zeros => false,
+        Look::Ones => true,
+        Look::Mixed => (place as u64).wrapping_mul(0x9E37_79B9_7F4A_7C15) >> 63 == 1,
+        Look::Sparse => place % 1000 == 999,
+    }
+}
+
+/// So many bits of a look.
+pub fn bits_of<A: Allocator + Copy>(
+    alloc: A,
+    look: Look,
+    len: usize,
+) -> Result<BitVec<A>, GrowError> {
+    let mut bits = BitVec::new(alloc);
+    for place in 0..len {
+        bits.append(bit_of(look, place))?;
+    }
+    Ok(bits)
+}
+
+/// The same, indexed.
+pub fn list_of<A: Allocator + Copy>(
+    alloc: A,
+    look: Look,
+    len: usize,
+) -> Result<RsVec<A>, GrowError> {
+    match bits_of(alloc, look, len) {
+        Ok(bits) => indexed(bits),
+        Err(fault) => Err(fault),
+    }
+}
+
+/// The same, with another bit at one place.
+pub fn turned_at<A: Allocator + Copy>(
+    alloc: A,
+    look: Look,
+    len: usize,
+    turned: usize,
+) -> Result<RsVec<A>, GrowError> {
+    let mut bits = BitVec::new(alloc);
+    for place in 0..len {
+        bits.append(bit_of(look, place) != (place == turned))?;
+    }
+    indexed(bits)
+}
+
+/// Over which items a list is walked.
+#[derive(Clone, Copy)]
+pub enum Over {
+    Bits,
+    Zeros,
+    Ones,
+}
+
+/// The item that a walk over a list of a look gives for a place, if it gives one.
+pub fn item_at(over: Over, look: Look, place: usize) -> Option<u64> {
+    let bit = bit_of(look, place);
+    match over {
+        Over::Bits => Some(u64::from(bit)),
+        Over::Zeros => (!bit).then_some(place as u64),
+        Over::Ones => bit.then_some(place as u64),
+    }
+}

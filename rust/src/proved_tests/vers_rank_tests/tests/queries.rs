@@ -1,0 +1,209 @@
+//! Each query by its plain and its counted form, over tables of queries and their answers.
+
+use crate::rattle::prelude::*;
+use crate::rattle::Allocator;
+use crate::proved::vers_rank::fast_rs_vec::RsVec;
+use crate::proved::vers_tally::tally::Tally;
+
+/// A query and its arguments.
+#[derive(Clone, Copy)]
+pub enum Query {
+    Len,
+    IsEmpty,
+    Zeros,
+    Ones,
+    HeapSize,
+    Get(usize),
+    GetBits(usize, usize),
+    Rank0(usize),
+    Rank1(usize),
+    Select0(usize),
+    Select1(usize),
+    Select(bool, usize),
+    Select0Each(usize),
+    Select1Each(usize),
+    ZeroPairFirst(usize),
+    ZeroPairSecond(usize),
+    PairFirst(usize),
+    PairSecond(usize),
+    Successor0(usize),
+    Successor1(usize),
+    Predecessor0(usize),
+    Predecessor1(usize),
+}
+
+// A few numbers to be asked at once, the last of which is `r`.
+fn batch_with(r: usize) -> [usize; 3] {
+    [0, usize::MAX, r]
+}
+
+// What was answered for the last of them.
+fn answer_of(places: [usize; 3]) -> Option<u64> {
+    Some(places[2] as u64)
+}
+
+/// What a query answers in its plain form.
+pub fn answer<A: Allocator + Copy>(list: &RsVec<A>, query: Query) -> Option<u64> {
+    match query {
+        Query::Len => Some(list.len() as u64),
+        Query::IsEmpty => Some(u64::from(list.is_empty())),
+        Query::Zeros => Some(list.zeros() as u64),
+        Query::Ones => Some(list.ones() as u64),
+        Query::HeapSize => Some(list.heap_size() as u64),
+        Query::Get(place) => list.get(place),
+        Query::GetBits(place, n) => list.get_bits(place, n),
+        Query::Rank0(place) => Some(list.rank0(place) as u64),
+        Query::Rank1(place) => Some(list.rank1(place) as u64),
+        Query::Select0(r) | Query::Select(false, r) => Some(list.select0(r) as u64),
+        Query::Select1(r) | Query::Select(true, r) => Some(list.select1(r) as u64),
+        Query::Select0Each(r) => {
+            let mut numbers = batch_with(r);
+            list.select0_each(&mut numbers);
+            answer_of(numbers)
+        }
+        Query::Select1Each(r) => {
+            let mut numbers = batch_with(r);
+            list.select1_each(&mut numbers);
+            answer_of(numbers)
+        }
+        Query::ZeroPairFirst(r) => Some(list.select0_pair(r).first as u64),
+        Query::ZeroPairSecond(r) => Some(list.select0_pair(r).second as u64),
+        Query::PairFirst(r) => Some(list.select1_pair(r).first as u64),
+        Query::PairSecond(r) => Some(list.select1_pair(r).second as u64),
+        Query::Successor0(place) => list.successor0(place),
+        Query::Successor1(place) => list.successor1(place),
+        Query::Predecessor0(place) => list.predecessor0(place),
+        Query::Predecessor1(place) => list.predecessor1(place),
+    }
+}
+
+/// What a query answers in its counted form, which the calls without one have not.
+pub fn counted<A: Allocator + Copy>(
+    list: &RsVec<A>,
+    query: Query,
+    tally: &mut Tally,
+) -> Option<u64> {
+    match query {
+        Query::Get(place) => list.get_counted(place, tally),
+        Query::GetBits(place, n) => list.get_bits_counted(place, n, tally),
+        Query::Rank0(place) => Some(list.rank0_counted(place, tally) as u64),
+        Query::Rank1(place) => Some(list.rank1_counted(place, tally) as u64),
+        Query::Select0(r) => Some(list.select0_counted(r, tally) as u64),
+        Query::Select1(r) => Some(list.select1_counted(r, tally) as u64),
+        Query::Select(bit, r) => Some(list.select_counted(bit, r, tally) as u64),
+        Query::Select0Each(r) => {
+            let mut numbers = batch_with(r);
+            list.select0_each_counted(&mut numbers, tally);
+            answer_of(numbers)
+        }
+        Query::Select1Each(r) => {
+            let mut numbers = batch_with(r);
+            list.select1_each_counted(&mut numbers, tally);
+            answer_of(numbers)
+        }
+        Query::ZeroPairFirst(r) => Some(list.select0_pair_counted(r, tally).first as u64),
+        Query::ZeroPairSecond(r) => Some(list.select0_pair_counted(r, tally).second as u64),
+        Query::PairFirst(r) => Some(list.select1_pair_counted(r, tally).first as u64),
+        Query::PairSecond(r) => Some(list.select1_pair_counted(r, tally).second as u64),
+        Query::Successor0(place) => list.successor0_counted(place, tally),
+        Query::Successor1(place) => list.successor1_counted(place, tally),
+        Query::Predecessor0(place) => list.predecessor0_counted(place, tally),
+        Query::Predecessor1(place) => list.predecessor1_counted(place, tally),
+        _ => answer(list, query),
+    }
+}
+
+/// The nine counters, in the order in which a counter declares them.
+pub fn counters(tally: &Tally) -> [u64; 9] {
+    [
+        tally.data_words(),
+        tally.block_entries(),
+        tally.superblock_entries(),
+        tally.low_parts(),
+        tally.rank_calls(),
+        tally.items(),
+        tally.blocks(),
+        tally.nodes(),
+        tally.chunks(),
+    ]
+}
+
+// The binary digits of a number.
+fn digits(n: usize) -> u64 {
+    u64::from(64 - (n as u64).leading_zeros())
+}
+
+/// The most that each counter may show after one query.
+pub fn bounds<A: Allocator + Copy>(list: &RsVec<A>, query: Query) -> [u64; 9] {
+    let superblocks = digits(list.len().div_ceil(8192)).wrapping_add(12);
+    match query {
+        Query::Get(_) => [1, 0, 0, 0, 1, 0, 0, 0, 0],
+        Query::GetBits(..) => [2, 0, 0, 0, 1, 0, 0, 0, 0],
+        Query::Rank0(_) | Query::Rank1(_) => [8, 1, 1, 0, 1, 0, 0, 0, 0],
+        Query::Select0(_) | Query::Select1(_) | Query::Select(..) => {
+            [8, 17, superblocks, 0, 1, 0, 0, 0, 0]
+        }
+        Query::Select0Each(_) | Query::Select1Each(_) => {
+            [24, 51, superblocks.wrapping_mul(3), 0, 3, 0, 0, 0, 0]
+        }
+        Query::ZeroPairFirst(_)
+        | Query::ZeroPairSecond(_)
+        | Query::PairFirst(_)
+        | Query::PairSecond(_) => [16, 34, superblocks.wrapping_mul(2), 0, 2, 0, 0, 0, 0],
+        Query::Successor0(_)
+        | Query::Successor1(_)
+        | Query::Predecessor0(_)
+        | Query::Predecessor1(_) => [16, 18, superblocks.wrapping_add(1), 0, 2, 0, 0, 0, 0],
+        _ => [0, 0, 0, 0, 0, 0, 0, 0, 0],
+    }
+}
+
+/// Whether no counter is above its bound.
+pub fn is_within(counters: [u64; 9], bounds: [u64; 9]) -> bool {
+    counters
+        .iter()
+        .zip(bounds.iter())
+        .all(|(counter, bound)| *counter <= *bound)
+}
+
+/// Whether both forms of a query answer so, the counted one within its bounds.
+pub fn is_right<A: Allocator + Copy>(list: &RsVec<A>, query: Query, wanted: Option<u64>) -> bool {
+    let mut tally = Tally::new();
+    answer(list, query) == wanted
+        && counted(list, query, &mut tally) == wanted
+        && is_within(counters(&tally), bounds(list, query))
+}
+
+/// The number of the first query that is answered otherwise, or reads more than it may.
+pub fn first_wrong_answer<A: Allocator + Copy>(
+    list: &RsVec<A>,
+    rows: &[(Query, Option<u64>)],
+) -> Option<usize> {
+    for (row, (query, wanted)) in rows.iter().enumerate() {
+        if !is_right(list, *query, *wanted) {
+            return Some(row);
+        }
+    }
+    None
+}
+
+/// The queries about a place, or about the bits of that number.
+pub fn queries_at(place: usize) -> [Query; 15] {
+    [
+        Query::Get(place),
+        Query::GetBits(place, 1),
+        Query::GetBits(place, 64),
+        Query::Rank0(place),
+        Query::Rank1(place),
+        Query::Select0(place),
+        Query::Select1(place),
+        Query::ZeroPairFirst(place),
+        Query::ZeroPairSecond(place),
+        Query::PairFirst(place),
+        Query::PairSecond(place),
+        Query::Successor0(place),
+        Query::Successor1(place),
+        Query::Predecessor0(place),
+        Query::Predecessor1(place),
+    ]
+}

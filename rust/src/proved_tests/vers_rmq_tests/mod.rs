@@ -1,0 +1,6 @@
+//! Tests of range minima.
+
+use crate::rattle::prelude::*;
+
+#[cfg(test)]
+mod tests;

@@ -1,0 +1,249 @@
+//! Range minima of lists, and what is asked of them.
+
+use crate::rattle::prelude::*;
+
+use crate::rattle::AllocError;
+use crate::rattle::Allocator;
+use std::ops::Bound;
+use crate::proved::vers_bits::bit_vec::GrowError;
+use crate::proved::vers_rmq::rmq::binary_rmq::BinaryRmq;
+use crate::proved::vers_rmq::rmq::fast_rmq::FastRmq;
+use crate::proved::vers_tally::tally::Tally;
+
+/// What both types are asked.
+pub trait RangeMinima: Clone {
+    /// The most items that one query reads.
+    const MOST_READS: u64;
+
+    fn numbers(&self) -> &[u64];
+
+    fn count(&self) -> usize;
+
+    fn has_none(&self) -> bool;
+
+    fn bytes(&self) -> usize;
+
+    // The query and its counted form, and both with ends.
+    fn place(&self, i: usize, j: usize) -> usize;
+
+    fn place_counted(&self, i: usize, j: usize, tally: &mut Tally) -> usize;
+
+    fn place_in(&self, start: Bound<usize>, end: Bound<usize>) -> usize;
+
+    fn place_in_counted(&self, start: Bound<usize>, end: Bound<usize>, tally: &mut Tally) -> usize;
+
+    // Whether the calls that this type alone has agree that the first least item stands at a place.
+    fn agrees(&self, i: usize, j: usize, place: usize) -> bool;
+}
+
+/// How both types are made, with memory of an allocator.
+pub trait MadeOf<A>: RangeMinima {
+    /// A vector of items.
+    type Items: Sized;
+
+    fn vec_of(alloc: A, items: &[u64]) -> Result<Self::Items, AllocError>;
+
+    /// Refused, as if there were no memory, where there are too many items.
+    fn of_vec(items: Self::Items) -> Result<Self, AllocError>;
+
+    /// The items of an iterator.
+    fn of_iter(alloc: A, items: &[u64]) -> Result<Self, GrowError>;
+}
+
+/// The place of the first least item from `i` to `j`. None of a range that the list does not have, and
+/// where another form answers another place, or reads more items than it may.
+pub fn least<R: RangeMinima>(minima: &R, i: usize, j: usize) -> Option<usize> {
+    if i > j || j >= minima.count() {
+        return None;
+    }
+    let mut tally = Tally::new();
+    let place = minima.place_counted(i, j, &mut tally);
+    let is_few = tally.items() <= R::MOST_READS;
+    if is_few && minima.place(i, j) == place && minima.agrees(i, j, place) {
+        Some(place)
+    } else {
+        None
+    }
+}
+
+/// The same of a range with ends.
+pub fn least_in<R: RangeMinima>(
+    minima: &R,
+    start: Bound<usize>,
+    end: Bound<usize>,
+) -> Option<usize> {
+    if !may_ask(start, end, minima.count()) {
+        return None;
+    }
+    let mut tally = Tally::new();
+    let place = minima.place_in_counted(start, end, &mut tally);
+    if tally.items() <= R::MOST_READS && minima.place_in(start, end) == place {
+        Some(place)
+    } else {
+        None
+    }
+}
+
+// Whether the ends may be asked of a list of `n` items.
+fn may_ask(start: Bound<usize>, end: Bound<usize>, n: usize) -> bool {
+    if n == 0 {
+        return false;
+    }
+    let first = match start {
+        Bound::Included(place) => place,
+        Bound::Excluded(place) => {
+            if place == usize::MAX {
+                return false;
+            }
+            place + 1
+        }
+        Bound::Unbounded => 0,
+    };
+    let last = match end {
+        Bound::Included(place) => place,
+        Bound::Excluded(place) => {
+            if place == 0 {
+                return false;
+            }
+            place - 1
+        }
+        Bound::Unbounded => n - 1,
+    };
+    first.min(n - 1) <= last.min(n - 1)
+}
+
+impl<A: Allocator + Copy> MadeOf<A> for BinaryRmq<A> {
+    type Items = Vec<u64, A>;
+
+    fn vec_of(alloc: A, items: &[u64]) -> Result<Vec<u64, A>, AllocError> {
+        Vec::from_slice(alloc, items)
+    }
+
+    fn of_vec(items: Vec<u64, A>) -> Result<Self, AllocError> {
+        if items.len() > crate::proved::vers_rmq::rmq::binary_rmq::MAX_LEN {
+            return Err(AllocError);
+        }
+        BinaryRmq::from_vec(items)
+    }
+
+    fn of_iter(alloc: A, items: &[u64]) -> Result<Self, GrowError> {
+        BinaryRmq::from_iter(alloc, items.iter().copied())
+    }
+}
+
+impl<A: Allocator + Copy> RangeMinima for BinaryRmq<A> {
+    const MOST_READS: u64 = 2;
+
+    fn numbers(&self) -> &[u64] {
+        self.as_slice()
+    }
+
+    fn count(&self) -> usize {
+        self.len()
+    }
+
+    fn has_none(&self) -> bool {
+        self.is_empty()
+    }
+
+    fn bytes(&self) -> usize {
+        self.heap_size()
+    }
+
+    fn place(&self, i: usize, j: usize) -> usize {
+        self.range_min(i, j)
+    }
+
+    fn place_counted(&self, i: usize, j: usize, tally: &mut Tally) -> usize {
+        self.range_min_counted(i, j, tally)
+    }
+
+    fn place_in(&self, start: Bound<usize>, end: Bound<usize>) -> usize {
+        self.range_min_with_range(start, end)
+    }
+
+    fn place_in_counted(&self, start: Bound<usize>, end: Bound<usize>, tally: &mut Tally) -> usize {
+        self.range_min_with_range_counted(start, end, tally)
+    }
+
+    fn agrees(&self, i: usize, j: usize, place: usize) -> bool {
+        if place >= self.len() {
+            return false;
+        }
+        let mut tally = Tally::new();
+        let least = self.range_min_item(i, j);
+        let counted = self.range_min_item_counted(i, j, &mut tally);
+        least.place == place
+            && counted.place == place
+            && least.value == self.item(place)
+            && counted.value == self.item_counted(place, &mut tally)
+            && tally.items() <= 3
+    }
+}
+
+impl<A: Allocator + Copy> MadeOf<A> for FastRmq<A> {
+    type Items = Vec<u64, A>;
+
+    fn vec_of(alloc: A, items: &[u64]) -> Result<Vec<u64, A>, AllocError> {
+        Vec::from_slice(alloc, items)
+    }
+
+    fn of_vec(items: Vec<u64, A>) -> Result<Self, AllocError> {
+        if items.len() > crate::proved::vers_rmq::rmq::fast_rmq::MAX_LEN {
+            return Err(AllocError);
+        }
+        FastRmq::from_vec(items)
+    }
+
+    fn of_iter(alloc: A, items: &[u64]) -> Result<Self, GrowError> {
+        FastRmq::from_iter(alloc, items.iter().copied())
+    }
+}
+
+impl<A: Allocator + Copy> RangeMinima for FastRmq<A> {
+    const MOST_READS: u64 = 18;
+
+    fn numbers(&self) -> &[u64] {
+        self.as_slice()
+    }
+
+    fn count(&self) -> usize {
+        self.len()
+    }
+
+    fn has_none(&self) -> bool {
+        self.is_empty()
+    }
+
+    fn bytes(&self) -> usize {
+        self.heap_size()
+    }
+
+    fn place(&self, i: usize, j: usize) -> usize {
+        self.range_min(i, j)
+    }
+
+    fn place_counted(&self, i: usize, j: usize, tally: &mut Tally) -> usize {
+        self.range_min_counted(i, j, tally)
+    }
+
+    fn place_in(&self, start: Bound<usize>, end: Bound<usize>) -> usize {
+        self.range_min_with_range(start, end)
+    }
+
+    fn place_in_counted(&self, start: Bound<usize>, end: Bound<usize>, tally: &mut Tally) -> usize {
+        self.range_min_with_range_counted(start, end, tally)
+    }
+
+    fn agrees(&self, _: usize, _: usize, _: usize) -> bool {
+        true
+    }
+}
+
+/// The range minima of numbers.
+pub fn made<A, R: MadeOf<A>>(alloc: A, numbers: &[u64]) -> Result<R, AllocError> {
+    match R::vec_of(alloc, numbers) {
+        Ok(items) => R::of_vec(items),
+        Err(fault) => Err(fault),
+    }
+}

@@ -1,0 +1,65 @@
+//! A reader and a writer over memory that fail at one call of a chosen number.
+
+use crate::rattle::prelude::*;
+use crate::rattle::Global;
+use std::io;
+use std::io::Read;
+use std::io::Write;
+
+// Counts a call, and answers its number.
+fn count_call(calls: &mut u64) -> u64 {
+    *calls = calls.saturating_add(1);
+    *calls
+}
+
+/// Gives `rest` in pieces of at most `piece` bytes. The read of number `fails_at` fails.
+pub struct Pieces<'a> {
+    pub rest: &'a [u8],
+    pub piece: usize,
+    pub fails_at: u64,
+    pub reads: u64,
+}
+
+impl Read for Pieces<'_> {
+    fn read(&mut self, buf: &mut [u8]) -> io::Result<usize> {
+        if count_call(&mut self.reads) == self.fails_at {
+            return Err(io::Error::from(io::ErrorKind::Other));
+        }
+        let most = self.piece.min(buf.len());
+        self.rest.read(&mut buf[..most])
+    }
+}
+
+/// Takes at most `piece` bytes at once. The write of number `fails_at` fails.
+pub struct Held {
+    pub bytes: Vec<u8>,
+    pub piece: usize,
+    pub fails_at: u64,
+    pub writes: u64,
+}
+
+impl Held {
+    /// A writer that takes pieces of at most so many bytes.
+    pub fn of(alloc: Global, piece: usize, fails_at: u64) -> Held {
+        Held {
+            bytes: Vec::new(alloc),
+            piece,
+            fails_at,
+            writes: 0,
+        }
+    }
+}
+
+impl Write for Held {
+    fn write(&mut self, buf: &[u8]) -> io::Result<usize> {
+        if count_call(&mut self.writes) == self.fails_at {
+            return Err(io::Error::from(io::ErrorKind::Other));
+        }
+        let most = self.piece.min(buf.len());
+        self.bytes.write(&buf[..most])
+    }
+
+    fn flush(&mut self) -> io::Result<()> {
+        Ok(())
+    }
+}

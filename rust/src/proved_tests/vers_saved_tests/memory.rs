@@ -1,0 +1,212 @@
+//! Each request for memory refused, and heads that say more than there is.
+
+use crate::rattle::prelude::*;
+use crate::proved_tests::vers_saved_tests::stored::{BITS, HOSTILE, PADDING, POSTINGS, SORTED, SPARSE, SYMBOLS, VALUES};
+use crate::proved::postings::Postings;
+use crate::rattle::AllocError;
+use crate::rattle::Allocator;
+use crate::rattle::Global;
+use crate::proved_tests::test_alloc::{Ending, Refusing, done_if, out_of_memory_if};
+use crate::proved::vers_bits::bit_vec::BitVec;
+use crate::proved::vers_rank::fast_rs_vec::RsVec;
+use crate::proved::vers_rmq::rmq::binary_rmq::BinaryRmq;
+use crate::proved::vers_rmq::rmq::fast_rmq::FastRmq;
+use crate::proved::vers_saved::fault::{LoadError, SaveError};
+use crate::proved::vers_saved::saved::{Loaded, load_from_slice, save_to_vec, saved_size};
+use crate::proved::vers_saved::stream::load;
+use crate::proved::vers_sorted::elias_fano::EliasFanoVec;
+use crate::proved::vers_sorted::sparse::SparseRSVec;
+use crate::proved::vers_wavelet::wavelet::WaveletMatrix;
+
+/// An allocator of which requests are refused.
+pub type Heap = Refusing<Global>;
+
+// How a load from a slice ends where a request is refused.
+fn tried<'a, S: Loaded<&'a Heap>>(heap: &'a Heap, bytes: &[u8]) -> Ending {
+    heap.start();
+    let loaded: Result<S, LoadError> = load_from_slice(heap, bytes);
+    match loaded {
+        Ok(list) => done_if(saved_size(&list) == Some(bytes.len())),
+        Err(fault) => out_of_memory_if(fault == LoadError::Memory),
+    }
+}
+
+fn tried_bits<'a>(heap: &'a Heap) -> Ending {
+    tried::<BitVec<&'a Heap>>(heap, &BITS)
+}
+
+fn tried_indexed<'a>(heap: &'a Heap) -> Ending {
+    tried::<RsVec<&'a Heap>>(heap, &BITS)
+}
+
+fn tried_sorted<'a>(heap: &'a Heap) -> Ending {
+    tried::<EliasFanoVec<&'a Heap>>(heap, &SORTED)
+}
+
+fn tried_sparse<'a>(heap: &'a Heap) -> Ending {
+    tried::<SparseRSVec<&'a Heap>>(heap, &SPARSE)
+}
+
+fn tried_table<'a>(heap: &'a Heap) -> Ending {
+    tried::<BinaryRmq<&'a Heap>>(heap, &VALUES)
+}
+
+fn tried_blocks<'a>(heap: &'a Heap) -> Ending {
+    tried::<FastRmq<&'a Heap>>(heap, &VALUES)
+}
+
+fn tried_symbols<'a>(heap: &'a Heap) -> Ending {
+    tried::<WaveletMatrix<&'a Heap>>(heap, &SYMBOLS)
+}
+
+fn tried_documents<'a>(heap: &'a Heap) -> Ending {
+    tried::<Postings<&'a Heap>>(heap, &POSTINGS)
+}
+
+/// Whether a load ends as out of memory or right, whichever request is refused, and right where none is.
+/// Each gives all memory back.
+pub fn ends_well<F: Fn(&Heap) -> Ending>(alloc: Global, tried: F) -> bool {
+    for n in 1..100 {
+        let heap = Refusing::after_start(alloc, n);
+        let ending = tried(&heap);
+        if ending == Ending::Wrong || heap.is_waiting() || !heap.is_empty() {
+            return false;
+        }
+        if heap.refused() == 0 {
+            return ending == Ending::Done;
+        }
+    }
+    false
+}
+
+#[test]
+fn each_request_refused() {
+    let rt = HostRuntime;
+    assert!(ends_well(rt.alloc(), |heap: &Heap| tried_bits(heap)));
+    assert!(ends_well(rt.alloc(), |heap: &Heap| tried_indexed(heap)));
+    assert!(ends_well(rt.alloc(), |heap: &Heap| tried_sorted(heap)));
+    assert!(ends_well(rt.alloc(), |heap: &Heap| tried_sparse(heap)));
+    assert!(ends_well(rt.alloc(), |heap: &Heap| tried_table(heap)));
+    assert!(ends_well(rt.alloc(), |heap: &Heap| tried_blocks(heap)));
+    assert!(ends_well(rt.alloc(), |heap: &Heap| tried_symbols(heap)));
+    assert!(ends_well(rt.alloc(), |heap: &Heap| tried_documents(heap)));
+}
+
+// The fault of a load from a slice whose first request is refused.
+fn fault_without_memory<'a>(heap: &'a Heap, bytes: &[u8]) -> Option<LoadError> {
+    heap.start();
+    let loaded: Result<BitVec<&'a Heap>, LoadError> = load_from_slice(heap, bytes);
+    loaded.err()
+}
+
+#[test]
+fn faults_are_told_where_no_memory_is() {
+    let rt = HostRuntime;
+    let mut other = BITS;
+    other[40] ^= 1;
+    for (bytes, fault) in [
+        (BITS, LoadError::Memory),
+        (other, LoadError::BadSum),
+        (PADDING, LoadError::BadPadding),
+    ] {
+        let heap = Refusing::after_start(rt.alloc(), 1);
+        assert!(fault_without_memory(&heap, &bytes) == Some(fault));
+        assert!(heap.refused() == 1);
+    }
+}
+
+// How a load from a reader ends where a request is refused.
+fn tried_reading<'a>(heap: &'a Heap) -> Ending {
+    heap.start();
+    let mut rest: &[u8] = &POSTINGS;
+    let loaded: Result<Postings<&'a Heap>, LoadError> = load(heap, &mut rest);
+    match loaded.err() {
+        None => Ending::Done,
+        Some(fault) => out_of_memory_if(fault == LoadError::Memory),
+    }
+}
+
+#[test]
+fn each_request_of_a_reader_refused() {
+    let rt = HostRuntime;
+    assert!(ends_well(rt.alloc(), |heap: &Heap| tried_reading(heap)));
+}
+
+// Whether bytes are too short, and no memory was asked for to tell it.
+fn is_told_without_memory<'a, S: Loaded<&'a Heap>>(heap: &'a Heap, bytes: &[u8]) -> bool {
+    let loaded: Result<S, LoadError> = load_from_slice(heap, bytes);
+    loaded.err() == Some(LoadError::TooShort) && heap.asked() == 0
+}
+
+fn hostile_bits<'a>(heap: &'a Heap) -> bool {
+    is_told_without_memory::<BitVec<&'a Heap>>(heap, &HOSTILE)
+}
+
+#[test]
+fn a_hostile_length_takes_no_memory() {
+    let rt = HostRuntime;
+    let heap = Refusing::none(rt.alloc());
+    assert!(hostile_bits(&heap));
+}
+
+/// How many bytes are read at once.
+const BLOCK: usize = 65536;
+
+// A head that says 2 ^ 62 bits, and zeros after it, so many bytes in all.
+fn hostile(alloc: Global, len: usize) -> Result<Vec<u8>, AllocError> {
+    let mut bytes = Vec::from_slice(alloc, &HOSTILE[..40])?;
+    bytes.resize(len, 0)?;
+    Ok(bytes)
+}
+
+// Whether a reader of so many bytes, whose head says more, is too short, and no more was held at once to tell
+// it than three times these bytes and a block.
+fn is_told_by_what_came(alloc: Global, len: usize) -> bool {
+    let bytes = match hostile(alloc, len) { Ok(bytes) => bytes, _ => {
+        return false;
+    } };
+    let heap = Refusing::none(alloc);
+    let mut rest = bytes.as_slice();
+    let loaded: Result<BitVec<&Heap>, LoadError> = load(&heap, &mut rest);
+    let most = len.saturating_mul(3).saturating_add(BLOCK);
+    loaded.err() == Some(LoadError::TooShort) && heap.most_held_bytes() <= most
+}
+
+#[test]
+fn a_hostile_length_takes_no_more_memory_than_comes() {
+    let rt = HostRuntime;
+    for len in [56, 1000, 65_584, 300_000, 1_000_000] {
+        assert!(is_told_by_what_came(rt.alloc(), len));
+    }
+}
+
+// Whether a list of zeros, so many words of them, is read with no more held at once than twice its form and a
+// block.
+fn is_held_twice_at_most(alloc: Global, words: usize) -> bool {
+    let bytes = match zeros_saved(alloc, words) { Ok(bytes) => bytes, _ => {
+        return false;
+    } };
+    let heap = Refusing::none(alloc);
+    let mut rest = bytes.as_slice();
+    let loaded: Result<BitVec<&Heap>, LoadError> = load(&heap, &mut rest);
+    let most = bytes.len().saturating_mul(2).saturating_add(BLOCK);
+    loaded.is_ok() && heap.most_held_bytes() <= most
+}
+
+// The saved form of so many words of zeros.
+fn zeros_saved(alloc: Global, words: usize) -> Result<Vec<u8>, SaveError> {
+    let limbs = Vec::from_elem(alloc, 0u64, words)?;
+    let mut bytes = Vec::new(alloc);
+    if let Ok(bits) = BitVec::from_vec(limbs) {
+        save_to_vec(&bits, &mut bytes)?;
+    }
+    Ok(bytes)
+}
+
+#[test]
+fn a_list_is_read_with_no_second_copy_of_its_bytes() {
+    let rt = HostRuntime;
+    for words in [0, 1, 8_185, 8_186, 8_187, 20_000, 100_000] {
+        assert!(is_held_twice_at_most(rt.alloc(), words));
+    }
+}

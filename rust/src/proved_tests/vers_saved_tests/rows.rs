@@ -1,0 +1,195 @@
+//! Stored forms, loaded and saved again, with each byte flipped and each cut.
+
+use crate::rattle::prelude::*;
+use crate::proved_tests::vers_saved_tests::stored::{
+    BITS, DESCENDING, EQUAL_DOCUMENTS, HOSTILE, NO_BITS, NO_LENGTH, NOT_OURS, OTHER_VERSION,
+    PADDING, POSTINGS, SORTED, SPARSE, SYMBOLS, TOO_LONG, VALUES, WIDE_SYMBOLS,
+};
+use crate::proved::postings::Postings;
+use crate::rattle::AllocError;
+use crate::rattle::Allocator;
+use crate::rattle::Global;
+use crate::proved::vers_bits::bit_vec::BitVec;
+use crate::proved::vers_rank::fast_rs_vec::RsVec;
+use crate::proved::vers_rmq::rmq::binary_rmq::BinaryRmq;
+use crate::proved::vers_rmq::rmq::fast_rmq::FastRmq;
+use crate::proved::vers_saved::fault::LoadError;
+use crate::proved::vers_saved::saved::{Loaded, Saved, load_from_slice, save_to_vec, saved_size};
+use crate::proved::vers_saved::stream::load;
+use crate::proved::vers_sorted::elias_fano::EliasFanoVec;
+use crate::proved::vers_sorted::sparse::SparseRSVec;
+use crate::proved::vers_wavelet::wavelet::WaveletMatrix;
+
+/// Whether a list is saved as these bytes, behind those that are there.
+pub fn is_saved_as<S: Saved, A: Allocator>(alloc: A, list: &S, bytes: &[u8]) -> bool {
+    let mut out: Vec<u8, A> = Vec::new(alloc);
+    if out.push(7).is_err() || save_to_vec(list, &mut out).is_err() {
+        return false;
+    }
+    saved_size(list) == Some(bytes.len()) && out.len() > 0 && out[0] == 7 && &out[1..] == bytes
+}
+
+// Whether bytes are loaded, and the list that was loaded is saved as they are.
+fn is_loaded<S: Loaded<A>, A: Allocator + Copy>(alloc: A, bytes: &[u8]) -> bool {
+    let loaded: Result<S, LoadError> = load_from_slice(alloc, bytes);
+    match loaded {
+        Ok(list) => is_saved_as(alloc, &list, bytes),
+        Err(_) => false,
+    }
+}
+
+// The fault of bytes, or None where they are loaded.
+fn slice_fault<S: Loaded<A>, A: Allocator + Copy>(
+    alloc: A,
+    bytes: &[u8],
+) -> Option<LoadError> {
+    let loaded: Result<S, LoadError> = load_from_slice(alloc, bytes);
+    loaded.err()
+}
+
+// The fault of a reader of these bytes, or None where they are loaded.
+fn reader_fault<S: Loaded<A>, A: Allocator + Copy>(
+    alloc: A,
+    bytes: &[u8],
+) -> Option<LoadError> {
+    let mut rest = bytes;
+    let loaded: Result<S, LoadError> = load(alloc, &mut rest);
+    loaded.err()
+}
+
+// The fault of bytes, from a slice and from a reader, or None where both load them. Read where these differ.
+fn fault_of<S: Loaded<A>, A: Allocator + Copy>(alloc: A, bytes: &[u8]) -> Option<LoadError> {
+    let fault = slice_fault::<S, A>(alloc, bytes);
+    if reader_fault::<S, A>(alloc, bytes) == fault {
+        fault
+    } else {
+        Some(LoadError::Read)
+    }
+}
+
+// Bytes with one bit changed.
+fn flipped<A: Allocator>(
+    alloc: A,
+    bytes: &[u8],
+    i: usize,
+    bit: u32,
+) -> Result<Vec<u8, A>, AllocError> {
+    let mut other = Vec::from_slice(alloc, bytes)?;
+    if let Some(byte) = other.get_mut(i) {
+        *byte ^= 1u8.wrapping_shl(bit);
+    }
+    Ok(other)
+}
+
+// Whether no form with one bit changed is loaded, and none is refused for memory or the reader.
+fn flips_are_told<F: Fn(&[u8]) -> Option<LoadError>>(alloc: Global, bytes: &[u8], fault: F) -> bool {
+    for i in 0..bytes.len() {
+        for bit in 0..8 {
+            let other = match flipped(alloc, bytes, i, bit) { Ok(other) => other, _ => {
+                return false;
+            } };
+            match fault(other.as_slice()) {
+                None | Some(LoadError::Memory | LoadError::Read) => return false,
+                Some(_) => {}
+            }
+        }
+    }
+    true
+}
+
+// Whether each beginning of a form is too short.
+fn cuts_are_told<F: Fn(&[u8]) -> Option<LoadError>>(bytes: &[u8], fault: F) -> bool {
+    for i in 0..bytes.len() {
+        if fault(&bytes[..i]) != Some(LoadError::TooShort) {
+            return false;
+        }
+    }
+    true
+}
+
+// Whether a form with a byte more has a wrong length.
+fn more_is_told<F: Fn(&[u8]) -> Option<LoadError>>(alloc: Global, bytes: &[u8], fault: F) -> bool {
+    let mut longer = match Vec::from_slice(alloc, bytes) { Ok(longer) => longer, _ => {
+        return false;
+    } };
+    longer.push(0).is_ok() && fault(longer.as_slice()) == Some(LoadError::BadLength)
+}
+
+/// Whether a form has no fault, and each change of it has one.
+pub fn changes_are_told<F: Fn(&[u8]) -> Option<LoadError>>(
+    alloc: Global,
+    bytes: &[u8],
+    fault: F,
+) -> bool {
+    fault(bytes).is_none()
+        && flips_are_told(alloc, bytes, &fault)
+        && cuts_are_told(bytes, &fault)
+        && more_is_told(alloc, bytes, &fault)
+}
+
+// Whether a form is that of the list that it is loaded as, and each change of it has a fault.
+fn is_kept<S: Loaded<Global>>(alloc: Global, bytes: &[u8]) -> bool {
+    is_loaded::<S, Global>(alloc, bytes)
+        && changes_are_told(
+            alloc,
+            bytes,
+            |bytes: &[u8]| fault_of::<S, Global>(alloc, bytes),
+        )
+}
+
+#[test]
+fn lists_of_bits() {
+    let rt = HostRuntime;
+    assert!(is_kept::<BitVec<Global>>(rt.alloc(), &BITS));
+    assert!(is_kept::<BitVec<Global>>(rt.alloc(), &NO_BITS));
+    assert!(is_kept::<RsVec<Global>>(rt.alloc(), &BITS));
+}
+
+#[test]
+fn lists_of_numbers() {
+    let rt = HostRuntime;
+    assert!(is_kept::<EliasFanoVec<Global>>(rt.alloc(), &SORTED));
+    assert!(is_kept::<BinaryRmq<Global>>(rt.alloc(), &VALUES));
+    assert!(is_kept::<FastRmq<Global>>(rt.alloc(), &VALUES));
+}
+
+#[test]
+fn sparse_bits() {
+    let rt = HostRuntime;
+    assert!(is_kept::<SparseRSVec<Global>>(rt.alloc(), &SPARSE));
+}
+
+#[test]
+fn documents() {
+    let rt = HostRuntime;
+    assert!(is_kept::<Postings<Global>>(rt.alloc(), &POSTINGS));
+}
+
+#[test]
+fn symbols() {
+    let rt = HostRuntime;
+    assert!(is_kept::<WaveletMatrix<Global>>(rt.alloc(), &SYMBOLS));
+    assert!(is_kept::<WaveletMatrix<Global>>(rt.alloc(), &WIDE_SYMBOLS));
+}
+
+#[test]
+fn faults() {
+    let rt = HostRuntime;
+    let alloc = rt.alloc();
+    assert!(fault_of::<BitVec<Global>, Global>(alloc, &NOT_OURS) == Some(LoadError::NotOurs));
+    assert!(fault_of::<BitVec<Global>, Global>(alloc, &OTHER_VERSION) == Some(LoadError::OtherVersion)
+    );
+    assert!(fault_of::<BitVec<Global>, Global>(alloc, &SORTED) == Some(LoadError::OtherKind));
+    assert!(fault_of::<BitVec<Global>, Global>(alloc, &HOSTILE) == Some(LoadError::TooShort));
+    assert!(fault_of::<BitVec<Global>, Global>(alloc, &PADDING) == Some(LoadError::BadPadding));
+    assert!(fault_of::<BinaryRmq<Global>, Global>(alloc, &TOO_LONG) == Some(LoadError::BadLength)
+    );
+    assert!(fault_of::<EliasFanoVec<Global>, Global>(alloc, &DESCENDING)
+            == Some(LoadError::NotAscending)
+    );
+    assert!(fault_of::<SparseRSVec<Global>, Global>(alloc, &NO_LENGTH) == Some(LoadError::NotAscending)
+    );
+    assert!(fault_of::<Postings<Global>, Global>(alloc, &EQUAL_DOCUMENTS)
+            == Some(LoadError::NotAscending)
+    );
+}

@@ -1,0 +1,272 @@
+//! The sizes that structures tell, against the memory that they hold: each structure and its clone at lengths
+//! around the ends of limbs, blocks and superblocks.
+//!
+//! What is made of a given block size names its allocator: its size over any allocator is not known.
+
+use crate::rattle::prelude::*;
+
+use crate::proved::postings::{Postings, PostingsError};
+use crate::rattle::AllocError;
+use crate::rattle::Allocator;
+use crate::rattle::Global;
+use std::mem::size_of;
+use crate::proved_tests::test_alloc::{Refusing, SIZES, Size, Sizing, Spare, asked, first_wrong_size, spare_of};
+use crate::proved::vers_bits::bit_vec::{BitVec, GrowError};
+use crate::proved::vers_rank::fast_rs_vec::RsVec;
+use crate::proved::vers_rmq::rmq::binary_rmq::{self, BinaryRmq};
+use crate::proved::vers_rmq::rmq::fast_rmq::{self, FastRmq};
+use crate::proved::vers_sorted::elias_fano::EliasFanoVec;
+use crate::proved::vers_sorted::order::is_ascending;
+use crate::proved::vers_sorted::sparse::SparseRSVec;
+use crate::proved::vers_trees::trees::bp::{BpTree, MAX_BLOCK_SIZE};
+use crate::proved::vers_wavelet::wavelet::WaveletMatrix;
+
+mod bits;
+
+type Heap = Refusing<Global>;
+
+// How many levels a matrix of symbols of three bits has.
+const LEVELS: usize = 3;
+
+// `len` ascending numbers.
+fn numbers_of<A: Allocator + Copy>(alloc: A, len: usize) -> Result<Vec<u64, A>, AllocError> {
+    let mut numbers = Vec::with_capacity(alloc, len)?;
+    for k in 0..len as u64 {
+        numbers.push(k.wrapping_mul(3).wrapping_add(1))?;
+    }
+    Ok(numbers)
+}
+
+// The size that each structure tells.
+#[derive(Clone, Copy)]
+struct HeapSize;
+
+impl<A: Allocator + Copy> Size<BitVec<A>> for HeapSize {
+    fn bytes(&self, list: &BitVec<A>) -> usize {
+        list.heap_size()
+    }
+}
+
+impl<A: Allocator + Copy> Size<RsVec<A>> for HeapSize {
+    fn bytes(&self, list: &RsVec<A>) -> usize {
+        list.heap_size()
+    }
+}
+
+impl<A: Allocator + Copy> Size<EliasFanoVec<A>> for HeapSize {
+    fn bytes(&self, list: &EliasFanoVec<A>) -> usize {
+        list.heap_size()
+    }
+}
+
+impl<A: Allocator + Copy> Size<SparseRSVec<A>> for HeapSize {
+    fn bytes(&self, list: &SparseRSVec<A>) -> usize {
+        list.heap_size()
+    }
+}
+
+impl<A: Allocator + Copy> Size<WaveletMatrix<A>> for HeapSize {
+    fn bytes(&self, symbols: &WaveletMatrix<A>) -> usize {
+        symbols.heap_size()
+    }
+}
+
+impl<A: Allocator + Copy> Size<BinaryRmq<A>> for HeapSize {
+    fn bytes(&self, minima: &BinaryRmq<A>) -> usize {
+        minima.heap_size()
+    }
+}
+
+impl<A: Allocator + Copy> Size<FastRmq<A>> for HeapSize {
+    fn bytes(&self, minima: &FastRmq<A>) -> usize {
+        minima.heap_size()
+    }
+}
+
+impl<const N: usize, A: Allocator + Copy> Size<BpTree<N, A>> for HeapSize {
+    fn bytes(&self, tree: &BpTree<N, A>) -> usize {
+        tree.heap_size()
+    }
+}
+
+// A structure, and how it is made.
+#[derive(Clone, Copy)]
+enum Made {
+    Indexed,
+    BitsAgain,
+    Ascending,
+    Sparse,
+    Symbols,
+    SymbolsCounted,
+    Binary,
+    Fast,
+    SmallBlocks,
+    LargeBlocks,
+    Posted,
+}
+
+const ALL: [Made; 11] = [
+    Made::Indexed,
+    Made::BitsAgain,
+    Made::Ascending,
+    Made::Sparse,
+    Made::Symbols,
+    Made::SymbolsCounted,
+    Made::Binary,
+    Made::Fast,
+    Made::SmallBlocks,
+    Made::LargeBlocks,
+    Made::Posted,
+];
+
+fn indexed<A: Allocator + Copy>(alloc: A, numbers: &[u64]) -> Result<RsVec<A>, GrowError> {
+    Ok(RsVec::from_bit_vec(BitVec::from_bits_u64(alloc, numbers)?)?)
+}
+
+fn bits_again<A: Allocator + Copy>(alloc: A, numbers: &[u64]) -> Result<BitVec<A>, GrowError> {
+    Ok(indexed(alloc, numbers)?.into_bit_vec())
+}
+
+fn sparse<A: Allocator + Copy>(alloc: A, numbers: &[u64]) -> Result<SparseRSVec<A>, GrowError> {
+    let bits = BitVec::from_bits_u64(alloc, numbers)?;
+    Ok(SparseRSVec::from_bitvec(&bits)?)
+}
+
+fn tree<const N: usize, A: Allocator + Copy>(
+    alloc: A,
+    numbers: &[u64],
+) -> Result<BpTree<N, A>, GrowError> {
+    BpTree::from_bit_vector(BitVec::from_bits_u64(alloc, numbers)?)
+}
+
+fn ascending<A: Allocator + Copy>(
+    alloc: A,
+    numbers: &[u64],
+) -> Result<EliasFanoVec<A>, AllocError> {
+    if !is_ascending(numbers) {
+        return Err(AllocError);
+    }
+    EliasFanoVec::from_slice(alloc, numbers)
+}
+
+fn binary<A: Allocator + Copy>(alloc: A, numbers: &[u64]) -> Result<BinaryRmq<A>, AllocError> {
+    if numbers.len() > binary_rmq::MAX_LEN {
+        return Err(AllocError);
+    }
+    BinaryRmq::from_vec(Vec::from_slice(alloc, numbers)?)
+}
+
+fn fast<A: Allocator + Copy>(alloc: A, numbers: &[u64]) -> Result<FastRmq<A>, AllocError> {
+    if numbers.len() > fast_rmq::MAX_LEN {
+        return Err(AllocError);
+    }
+    FastRmq::from_vec(Vec::from_slice(alloc, numbers)?)
+}
+
+fn posted<A: Allocator + Copy>(alloc: A, numbers: &[u64]) -> Result<Postings<A>, PostingsError> {
+    Postings::from_sorted(numbers, Vec::from_slice(alloc, numbers)?)
+}
+
+// What the two lists of documents and of costs tell.
+fn told_of_parts(inner: Global, numbers: &[u64]) -> Result<usize, AllocError> {
+    let documents = asked(
+        ascending(inner, numbers),
+        |list: &EliasFanoVec<Global>| list.heap_size(),
+    )?;
+    let costs = asked(
+        fast(inner, numbers),
+        |list: &FastRmq<Global>| list.heap_size(),
+    )?;
+    Ok(documents.wrapping_add(costs))
+}
+
+fn spare_of_posted(inner: Global, heap: &Heap, numbers: &[u64]) -> Option<Spare> {
+    let told = told_of_parts(inner, numbers).ok()?;
+    let held = asked(
+        posted(heap, numbers),
+        |_: &Postings<&Heap>| heap.held_bytes(),
+    )
+    .ok()?;
+    Some(Spare {
+        made: held.checked_sub(told)?,
+        cloned: 0,
+    })
+}
+
+fn spare_of_tree(made: Made, heap: &Heap, numbers: &[u64]) -> Option<Spare> {
+    match made {
+        Made::SmallBlocks => spare_of(heap, tree::<8, &Heap>(heap, numbers), &HeapSize),
+        _ => spare_of(heap, tree::<512, &Heap>(heap, numbers), &HeapSize),
+    }
+}
+
+fn spare_of_bits(made: Made, heap: &Heap, numbers: &[u64]) -> Option<Spare> {
+    match made {
+        Made::Indexed => spare_of(heap, indexed(heap, numbers), &HeapSize),
+        Made::BitsAgain => spare_of(heap, bits_again(heap, numbers), &HeapSize),
+        Made::Sparse => spare_of(heap, sparse(heap, numbers), &HeapSize),
+        _ => spare_of_tree(made, heap, numbers),
+    }
+}
+
+fn spare_of_symbols(made: Made, heap: &Heap, numbers: &[u64]) -> Option<Spare> {
+    match made {
+        Made::Symbols => spare_of(heap, WaveletMatrix::from_slice(heap, numbers, 3), &HeapSize),
+        _ => spare_of(
+            heap,
+            WaveletMatrix::from_slice_pc(heap, numbers, 3),
+            &HeapSize,
+        ),
+    }
+}
+
+fn spare_of_made(made: Made, inner: Global, heap: &Heap, numbers: &[u64]) -> Option<Spare> {
+    match made {
+        Made::Ascending => spare_of(heap, ascending(heap, numbers), &HeapSize),
+        Made::Symbols | Made::SymbolsCounted => spare_of_symbols(made, heap, numbers),
+        Made::Binary => spare_of(heap, binary(heap, numbers), &HeapSize),
+        Made::Fast => spare_of(heap, fast(heap, numbers), &HeapSize),
+        Made::Posted => spare_of_posted(inner, heap, numbers),
+        _ => spare_of_bits(made, heap, numbers),
+    }
+}
+
+// The bytes that are held beside the lists: a matrix has a vector of its levels.
+fn structs(made: Made) -> usize {
+    match made {
+        Made::Symbols | Made::SymbolsCounted => LEVELS.wrapping_mul(size_of::<RsVec<&Heap>>()),
+        _ => 0,
+    }
+}
+
+// The most bytes by which the vectors of a made value are rounded up. A vector that grows has room for four
+// words at least.
+fn rounded(made: Made) -> usize {
+    match made {
+        Made::Ascending | Made::Sparse | Made::Posted => 24,
+        Made::SymbolsCounted => LEVELS.wrapping_mul(32),
+        _ => 0,
+    }
+}
+
+// A clone holds just what is told.
+impl Sizing<Global> for Made {
+    fn spare(self, inner: Global, heap: &Heap, len: usize) -> Option<Spare> {
+        match numbers_of(inner, len) {
+            Ok(numbers) => spare_of_made(self, inner, heap, numbers.as_slice()),
+            Err(_) => None,
+        }
+    }
+
+    fn is_allowed(self, _len: usize, spare: Spare) -> bool {
+        let structs = structs(self);
+        let most = structs.saturating_add(rounded(self));
+        spare.cloned == structs && structs <= spare.made && spare.made <= most
+    }
+}
+
+#[test]
+fn sizes_told_are_held() {
+    let rt = HostRuntime;
+    assert!(first_wrong_size(rt.alloc(), &SIZES, &ALL).is_none());
+}

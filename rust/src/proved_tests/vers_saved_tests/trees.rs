@@ -1,0 +1,70 @@
+//! Trees, which are loaded by calls of their own.
+
+use crate::rattle::prelude::*;
+use crate::proved_tests::vers_saved_tests::memory::{Heap, ends_well};
+use crate::proved_tests::vers_saved_tests::rows::{changes_are_told, is_saved_as};
+use crate::proved_tests::vers_saved_tests::stored::{BITS, PARENTHESES};
+use crate::rattle::Global;
+use crate::proved_tests::test_alloc::{Ending, Refusing, asked, done_if, out_of_memory_if};
+use crate::proved::vers_saved::fault::LoadError;
+use crate::proved::vers_saved::trees::{load_tree, load_tree_from_slice};
+use crate::proved::vers_trees::trees::bp::BpTree;
+
+// A tree that is loaded from a slice.
+fn loaded<'a>(heap: &'a Heap, bytes: &[u8]) -> Result<BpTree<8, &'a Heap>, LoadError> {
+    load_tree_from_slice(heap, bytes)
+}
+
+// The fault of bytes as those of a tree, from a reader.
+fn reader_fault<'a>(heap: &'a Heap, bytes: &[u8]) -> Option<LoadError> {
+    let mut rest = bytes;
+    let read: Result<BpTree<8, &'a Heap>, LoadError> = load_tree(heap, &mut rest);
+    read.err()
+}
+
+// The fault of bytes as those of a tree, from a slice and from a reader. Read where these differ.
+fn tree_fault<'a>(heap: &'a Heap, bytes: &[u8]) -> Option<LoadError> {
+    let fault = loaded(heap, bytes).err();
+    if reader_fault(heap, bytes) == fault {
+        fault
+    } else {
+        Some(LoadError::Read)
+    }
+}
+
+// Whether a tree is loaded that is saved as the bytes again.
+fn is_loaded<'a>(alloc: Global, heap: &'a Heap, bytes: &[u8]) -> bool {
+    let is_saved = asked(loaded(heap, bytes), |tree: &BpTree<8, &Heap>| {
+        is_saved_as(alloc, tree, bytes)
+    });
+    is_saved == Ok(true)
+}
+
+#[test]
+fn parentheses() {
+    let rt = HostRuntime;
+    let heap = Refusing::none(rt.alloc());
+    assert!(is_loaded(rt.alloc(), &heap, &PARENTHESES));
+    assert!(changes_are_told(
+            rt.alloc(),
+            &PARENTHESES,
+            |bytes: &[u8]| tree_fault(&heap, bytes)
+        )
+    );
+    assert!(tree_fault(&heap, &BITS) == Some(LoadError::OtherKind));
+}
+
+// How the load of a tree ends where a request is refused.
+fn tried_tree<'a>(heap: &'a Heap) -> Ending {
+    heap.start();
+    match loaded(heap, &PARENTHESES) {
+        Ok(tree) => done_if(tree.len() == 6 && tree.close(0) == Some(5)),
+        Err(fault) => out_of_memory_if(fault == LoadError::Memory),
+    }
+}
+
+#[test]
+fn each_request_of_a_tree_refused() {
+    let rt = HostRuntime;
+    assert!(ends_well(rt.alloc(), |heap: &Heap| tried_tree(heap)));
+}

@@ -1,0 +1,151 @@
+//! Batches of places and of numbers, compared with written answers and with single calls.
+
+use crate::rattle::prelude::*;
+use crate::proved_tests::vers_sorted_tests::tests::lists::list_of;
+use crate::rattle::Allocator;
+use crate::rattle::testing::Fail;
+use crate::proved_tests::test_alloc::asked;
+use crate::proved::vers_sorted::elias_fano::EliasFanoVec;
+
+// The most places that a batch is tried with.
+const MOST: usize = 130;
+
+// Whether the members at some places of 2, 4, 4 and 9 are these.
+fn are_as_written<A: Allocator + Copy>(list: &EliasFanoVec<A>) -> bool {
+    let mut members = [Some(0), None, Some(3), Some(4), Some(u64::MAX), Some(1)];
+    list.get_each(&mut members);
+    members == [Some(2), None, Some(9), None, None, Some(4)]
+}
+
+// Whether as many of 2, 4, 4 and 9 are below some numbers as these.
+fn are_below_as_written<A: Allocator + Copy>(list: &EliasFanoVec<A>) -> bool {
+    let mut numbers = [4, 0, u64::MAX, 5, 9, 10, 2, 3];
+    list.rank_each(&mut numbers);
+    numbers == [1, 0, 4, 3, 3, 4, 0, 1]
+}
+
+// Whether the members beside some numbers are these.
+fn are_beside_as_written<A: Allocator + Copy>(list: &EliasFanoVec<A>) -> bool {
+    let asked = [Some(4), None, Some(1), Some(u64::MAX), Some(8), Some(9)];
+    let mut before = asked;
+    list.predecessor_each(&mut before);
+    let mut after = asked;
+    list.successor_each(&mut after);
+    before == [Some(4), None, None, Some(9), Some(4), Some(9)]
+        && after == [Some(4), None, Some(2), None, Some(9), Some(9)]
+}
+
+#[test]
+fn written_answers() -> Result<(), Fail> {
+    let rt = HostRuntime;
+    assert!(asked(
+            list_of(rt.alloc(), &[2, 4, 4, 9]),
+            |list| are_as_written(list) && are_below_as_written(list) && are_beside_as_written(list)
+        )?
+    );
+    Ok(())
+}
+
+// A place of a batch: each third is none.
+fn place_at(i: usize) -> Option<u64> {
+    if i % 3 == 2 {
+        return None;
+    }
+    Some((i / 7) as u64)
+}
+
+// Whether the first `n` of the places are answered as single calls are, and the others are kept.
+fn is_right<A: Allocator + Copy>(list: &EliasFanoVec<A>, n: usize) -> bool {
+    let mut members = [None; MOST];
+    for (i, member) in members.iter_mut().enumerate() {
+        *member = place_at(i);
+    }
+    if n <= MOST {
+        list.get_each(&mut members[..n]);
+    }
+    members.iter().enumerate().all(|(i, member)| {
+        let place = place_at(i);
+        if i < n && place.is_some() {
+            *member == list.get(i / 7)
+        } else {
+            *member == place
+        }
+    })
+}
+
+// Number `i` of a batch: below, among and above the members, in no order.
+fn number_at(i: usize) -> u64 {
+    (i as u64).wrapping_mul(389) % 1000
+}
+
+// Whether the first `n` of the numbers are ranked as single calls do, and the others are kept.
+fn is_ranked<A: Allocator + Copy>(list: &EliasFanoVec<A>, n: usize) -> bool {
+    let mut numbers = [0; MOST];
+    for (i, number) in numbers.iter_mut().enumerate() {
+        *number = number_at(i);
+    }
+    if n <= MOST {
+        list.rank_each(&mut numbers[..n]);
+    }
+    numbers.iter().enumerate().all(|(i, number)| {
+        let asked = number_at(i);
+        *number == if i < n { list.rank(asked) } else { asked }
+    })
+}
+
+// Value `i` of a batch of neighbours: each fifth is none.
+fn value_at(i: usize) -> Option<u64> {
+    if i % 5 == 3 {
+        return None;
+    }
+    Some(number_at(i))
+}
+
+// Whether the first `n` of the values are answered as single calls are, and the others are kept.
+fn are_beside<A: Allocator + Copy>(list: &EliasFanoVec<A>, n: usize) -> bool {
+    let mut before = [None; MOST];
+    for (i, value) in before.iter_mut().enumerate() {
+        *value = value_at(i);
+    }
+    let mut after = before;
+    if n <= MOST {
+        list.predecessor_each(&mut before[..n]);
+        list.successor_each(&mut after[..n]);
+    }
+    before.iter().zip(&after).enumerate().all(|(i, (one, other))| {
+        let value = value_at(i);
+        if i < n && value.is_some() {
+            *one == list.predecessor(number_at(i)) && *other == list.successor(number_at(i))
+        } else {
+            *one == value && *other == value
+        }
+    })
+}
+
+// Whether batches of few and of many places are, where they end with a group and where they don't.
+fn are_right<A: Allocator + Copy>(list: &EliasFanoVec<A>) -> bool {
+    [0, 1, 63, 64, 65, 128, 130].iter().all(|n| is_right(list, *n)
+        && is_ranked(list, *n)
+        && are_beside(list, *n))
+}
+
+#[test]
+fn batches_of_every_length() -> Result<(), Fail> {
+    let rt = HostRuntime;
+    let members = [3, 3, 8, 20, 21, 22, 300, 301, 500, 900, 901, 902, 903];
+    assert!(asked(list_of(rt.alloc(), &members), |list| are_right(list))?);
+    assert!(asked(list_of(rt.alloc(), &[]), |list| are_right(list))?);
+    Ok(())
+}
+
+// More members with one high part than a word has bits, and equal ones among them.
+#[test]
+fn batches_of_crowded_members() -> Result<(), Fail> {
+    let rt = HostRuntime;
+    let mut members = [500; 100];
+    members[0] = 1;
+    members[98] = 501;
+    members[99] = u64::MAX;
+    assert!(asked(list_of(rt.alloc(), &members), |list| are_right(list))?);
+    Ok(())
+}

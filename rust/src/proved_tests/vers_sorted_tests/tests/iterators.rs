@@ -1,0 +1,273 @@
+//! Iterators over ascending lists.
+
+use crate::rattle::prelude::*;
+use crate::proved_tests::vers_sorted_tests::tests::bits::bits_of;
+use crate::proved_tests::vers_sorted_tests::tests::lists::list_of;
+use crate::proved_tests::vers_sorted_tests::tests::walks::{
+    Step, first_wrong_step, follows, sum_by_mut, sum_by_reference, sum_by_value, walk_over,
+    wrong_step,
+};
+use crate::rattle::AllocError;
+use crate::rattle::Allocator;
+use crate::rattle::Global;
+use crate::proved_tests::test_alloc::{asked, asked_mut};
+use crate::proved::vers_sorted::elias_fano::{EliasFanoIter, EliasFanoVec};
+use crate::proved::vers_sorted::sparse::SparseRSVec;
+
+// The members, the steps of one iterator, and what they answer.
+type Walk<'a> = (&'a [u64], &'a [(Step, Option<u64>)]);
+
+const WALKS: [Walk; 5] = [
+    (
+        &[0, 1, 2, 3, 4, 5, 6, 7, 8],
+        &[
+            (Step::Len, Some(9)),
+            (Step::Nth(2), Some(2)),
+            (Step::NthBack(4), Some(4)),
+            (Step::Next, Some(3)),
+            (Step::Next, None),
+            (Step::NextBack, None),
+        ],
+    ),
+    (
+        &[0, 1, 2, 3, 4, 5, 6, 7, 8],
+        &[
+            (Step::Nth(10), None),
+            (Step::Next, None),
+            (Step::Len, Some(0)),
+        ],
+    ),
+    (
+        &[100, 101, 102, 103],
+        &[
+            (Step::Last, Some(103)),
+            (Step::Max, Some(103)),
+            (Step::Min, Some(100)),
+            (Step::Count, Some(4)),
+            (Step::SizeHint, Some(4)),
+            (Step::NextBack, Some(103)),
+            (Step::Max, Some(102)),
+            (Step::Next, Some(100)),
+            (Step::Min, Some(101)),
+            (Step::Count, Some(2)),
+        ],
+    ),
+    (
+        &[2, 4, 4, 9],
+        &[
+            (Step::NextCounted, Some(2)),
+            (Step::NextBackCounted, Some(9)),
+            (Step::NthCounted(1), Some(4)),
+            (Step::NthBackCounted(0), None),
+            (Step::Last, None),
+            (Step::Min, None),
+        ],
+    ),
+    (
+        &[2, 4, 4, 9],
+        &[
+            (Step::Max, Some(9)),
+            (Step::NthBack(0), Some(9)),
+            (Step::Len, Some(3)),
+        ],
+    ),
+];
+
+// The first walk that answers wrong, over a list or one that owns it, and its step.
+fn first_wrong_walk<A: Allocator + Copy>(
+    alloc: A,
+    walks: &[Walk],
+) -> Result<Option<(usize, usize)>, AllocError> {
+    for (walk, (numbers, rows)) in walks.iter().enumerate() {
+        let wrong = asked(list_of(alloc, numbers), |list| wrong_step(list, rows))?;
+        let wrong_owned = asked_mut(
+            walk_over(alloc, numbers),
+            |members| first_wrong_step(members, rows),
+        )?;
+        if let Some(step) = wrong.or(wrong_owned) {
+            return Ok(Some((walk, step)));
+        }
+    }
+    Ok(None)
+}
+
+// The table stands in a function of its own, which is faster to prove than in a test.
+fn first_wrong_of_all<A: Allocator + Copy>(alloc: A) -> Result<Option<(usize, usize)>, AllocError> {
+    first_wrong_walk(alloc, &WALKS)
+}
+
+#[test]
+fn steps_and_their_answers() {
+    let rt = HostRuntime;
+    assert!(matches!(first_wrong_of_all(rt.alloc()), Ok(None)));
+}
+
+// The sums by loops over a reference to a list, over a `&mut` to it, and over the list itself.
+fn sums<A: Allocator + Copy>(alloc: A, numbers: &[u64]) -> [Result<u64, AllocError>; 3] {
+    [
+        asked(list_of(alloc, numbers), sum_by_reference),
+        asked_mut(list_of(alloc, numbers), sum_by_mut),
+        sum_by_value(list_of(alloc, numbers)),
+    ]
+}
+
+#[test]
+fn loops_over_members() {
+    let rt = HostRuntime;
+    assert_eq!(sums(rt.alloc(), &[4, 4, 9]), [Ok(17); 3]);
+}
+
+// Mixtures of steps from both ends, by single members and by whole words and blocks of them.
+const MIXTURES: [&[Step]; 5] = [
+    &[Step::Next, Step::NextBack],
+    &[
+        Step::Len,
+        Step::Next,
+        Step::NextCounted,
+        Step::NextBack,
+        Step::Nth(1),
+        Step::NextBackCounted,
+        Step::SizeHint,
+        Step::NthBack(2),
+    ],
+    &[
+        Step::NthCounted(63),
+        Step::NextBack,
+        Step::Next,
+        Step::NthBackCounted(64),
+        Step::NextCounted,
+        Step::Nth(0),
+    ],
+    &[
+        Step::NthBack(511),
+        Step::Next,
+        Step::NextBack,
+        Step::Nth(511),
+        Step::NextBackCounted,
+    ],
+    &[
+        Step::Next,
+        Step::Min,
+        Step::NextBack,
+        Step::Max,
+        Step::Nth(64),
+        Step::Last,
+        Step::NthBack(63),
+        Step::Count,
+    ],
+];
+
+// How many members there are: more than a word has bits, than two, than a block, and than two.
+const LONG: [usize; 4] = [65, 130, 513, 1100];
+
+// How the members of a long list lie.
+#[derive(Clone, Copy)]
+enum Lie {
+    Twice,
+    Equal,
+    Apart,
+    WithAGap,
+}
+
+// The last two ascend strictly, and can be places of ones.
+const LIES: [Lie; 4] = [Lie::Twice, Lie::Equal, Lie::Apart, Lie::WithAGap];
+
+fn member(lie: Lie, i: u64) -> u64 {
+    match lie {
+        Lie::Twice => i / 2,
+        Lie::Equal => 7,
+        Lie::Apart => i.wrapping_mul(1_000_003),
+        Lie::WithAGap => i.wrapping_add(if i < 70 { 0 } else { 1 << 40 }),
+    }
+}
+
+fn members<A: Allocator + Copy>(alloc: A, lie: Lie, len: usize) -> Result<Vec<u64, A>, AllocError> {
+    let mut numbers = Vec::new(alloc);
+    for i in 0..len as u64 {
+        numbers.push(member(lie, i))?;
+    }
+    Ok(numbers)
+}
+
+// What is walked, by an iterator over it or as one.
+trait Walked: Sized {
+    // Whether the walk gives the numbers.
+    fn gives(&mut self, numbers: &[u64], steps: &[Step]) -> bool;
+}
+
+impl<A: Allocator + Copy> Walked for EliasFanoVec<A> {
+    fn gives(&mut self, numbers: &[u64], steps: &[Step]) -> bool {
+        follows(&mut self.iter(), numbers, steps)
+    }
+}
+
+impl<A: Allocator + Copy> Walked for EliasFanoIter<A> {
+    fn gives(&mut self, numbers: &[u64], steps: &[Step]) -> bool {
+        follows(self, numbers, steps)
+    }
+}
+
+impl<A: Allocator + Copy> Walked for SparseRSVec<A> {
+    fn gives(&mut self, numbers: &[u64], steps: &[Step]) -> bool {
+        follows(&mut self.iter1(), numbers, steps)
+    }
+}
+
+// The same of what was made.
+fn made_gives<T: Walked>(
+    made: Result<T, AllocError>,
+    numbers: &[u64],
+    steps: &[Step],
+) -> Result<bool, AllocError> {
+    match made {
+        Ok(mut it) => Ok(it.gives(numbers, steps)),
+        Err(fault) => Err(fault),
+    }
+}
+
+// Whether the iterators over a list, that own one, and over the ones of a sparse list give the numbers.
+fn are_followed<A: Allocator + Copy>(
+    alloc: A,
+    lie: Lie,
+    numbers: &[u64],
+    steps: &[Step],
+) -> Result<bool, AllocError> {
+    let can_be_ones = matches!(lie, Lie::Apart | Lie::WithAGap);
+    Ok(
+        made_gives(list_of(alloc, numbers), numbers, steps)?
+            && made_gives(walk_over(alloc, numbers), numbers, steps)?
+            && (!can_be_ones || made_gives(bits_of(alloc, numbers, u64::MAX), numbers, steps)?),
+    )
+}
+
+// The first mixture that is not followed, of lists of one length.
+fn first_wrong_mixture<A: Allocator + Copy>(
+    alloc: A,
+    len: usize,
+) -> Result<Option<usize>, AllocError> {
+    for lie in LIES {
+        let numbers = members(alloc, lie, len)?;
+        for (row, steps) in MIXTURES.iter().enumerate() {
+            if !are_followed(alloc, lie, numbers.as_slice(), steps)? {
+                return Ok(Some(row));
+            }
+        }
+    }
+    Ok(None)
+}
+
+// The first length at which one is not.
+fn first_wrong_of_long(alloc: Global) -> Result<Option<(usize, usize)>, AllocError> {
+    for len in LONG {
+        if let Some(row) = first_wrong_mixture(alloc, len)? {
+            return Ok(Some((len, row)));
+        }
+    }
+    Ok(None)
+}
+
+#[test]
+fn mixtures_of_both_ends_over_long_lists() {
+    let rt = HostRuntime;
+    assert!(matches!(first_wrong_of_long(rt.alloc()), Ok(None)));
+}

@@ -1,0 +1,526 @@
+//! Every call that takes memory, each of its requests refused in turn, and the calls that take none, of
+//! lists of every length.
+
+use crate::rattle::prelude::*;
+use crate::proved_tests::vers_sorted_tests::tests::bits::{Query as BitQuery, answer as bit_answer, bits_of, counted};
+use crate::proved_tests::vers_sorted_tests::tests::lists::{Query, answer, counted_answer, list_in_turn, list_of};
+use crate::proved_tests::vers_sorted_tests::tests::walks::{Step, end, follows, plain_answer, sum_by_mut, sum_by_reference};
+use crate::rattle::AllocError;
+use crate::rattle::Allocator;
+use crate::rattle::Global;
+use crate::proved_tests::test_alloc::{
+    Check, Ending, LENGTHS, Making, Refusing, Trial, first_wrong_trial, try_clone_checked,
+    try_making, try_use_checked,
+};
+use crate::proved::vers_bits::bit_vec::{BitVec, GrowError};
+use crate::proved::vers_sorted::elias_fano::{EliasFanoIter, EliasFanoVec};
+use crate::proved::vers_sorted::sparse::SparseRSVec;
+
+type Heap = Refusing<Global>;
+
+// Member `i` of the ascending list: each member twice.
+fn member(i: usize) -> u64 {
+    (i as u64 / 2).wrapping_mul(3)
+}
+
+// One number `i` of the sparse list.
+fn place_of_one(i: usize) -> u64 {
+    (i as u64).wrapping_mul(3).wrapping_add(1)
+}
+
+fn is_one(place: u64) -> bool {
+    place % 3 == 1
+}
+
+// How many bits the sparse list of so many ones has.
+fn bit_count(len: usize) -> u64 {
+    (len as u64).wrapping_mul(3)
+}
+
+fn members_of<A: Allocator + Copy>(alloc: A, len: usize) -> Result<Vec<u64, A>, AllocError> {
+    let mut numbers = Vec::new(alloc);
+    for i in 0..len {
+        numbers.push(member(i))?;
+    }
+    Ok(numbers)
+}
+
+fn ones_of<A: Allocator + Copy>(alloc: A, len: usize) -> Result<Vec<u64, A>, AllocError> {
+    let mut numbers = Vec::new(alloc);
+    for i in 0..len {
+        numbers.push(place_of_one(i))?;
+    }
+    Ok(numbers)
+}
+
+// All bits of the sparse list, as many as told.
+fn all_bits<A: Allocator + Copy>(alloc: A, len: usize) -> Result<BitVec<A>, GrowError> {
+    let mut bits = BitVec::new(alloc);
+    for place in 0..len {
+        bits.append(is_one(place as u64))?;
+    }
+    Ok(bits)
+}
+
+// Whether both forms of each query answer as told.
+fn answers_all<A: Allocator + Copy>(list: &EliasFanoVec<A>, rows: &[(Query, Option<u64>)]) -> bool {
+    for (query, wanted) in rows {
+        if answer(list, *query) != *wanted || counted_answer(list, *query).answer != *wanted {
+            return false;
+        }
+    }
+    true
+}
+
+// Whether the queries answer about member `i`.
+fn knows_member<A: Allocator + Copy>(list: &EliasFanoVec<A>, i: usize) -> bool {
+    let v = member(i);
+    let is_second_value = i > 0 && i % 2 == 0;
+    let rows = [
+        (Query::Get(i), Some(v)),
+        (Query::GetUnchecked(i), Some(v)),
+        (Query::Select(i), Some(v)),
+        (Query::Delta(i), Some(if is_second_value { 3 } else { 0 })),
+        (Query::Rank(v), Some((i - i % 2) as u64)),
+        (Query::Has(v), Some(1)),
+        (Query::Has(v.wrapping_add(1)), Some(0)),
+        (Query::Predecessor(v), Some(v)),
+        (Query::Predecessor(v.wrapping_add(1)), Some(v)),
+        (Query::PredecessorUnchecked(v), Some(v)),
+        (Query::Successor(v), Some(v)),
+        (Query::SuccessorUnchecked(v), Some(v)),
+    ];
+    answers_all(list, &rows) && knows_in_batch(list, i)
+}
+
+// Whether a batch answers about member `i`, and keeps what is none.
+fn knows_in_batch<A: Allocator + Copy>(list: &EliasFanoVec<A>, i: usize) -> bool {
+    let mut members = [Some(i as u64), None];
+    list.get_each(&mut members);
+    members == [Some(member(i)), None]
+}
+
+// Whether a list knows its length, and where it ends.
+fn knows_ends<A: Allocator + Copy>(list: &EliasFanoVec<A>, len: usize) -> bool {
+    let rows = [
+        (Query::Len, Some(len as u64)),
+        (Query::IsEmpty, Some(u64::from(len == 0))),
+        (Query::Get(len), None),
+        (Query::Select(len), None),
+        (Query::Delta(len), None),
+        (Query::Rank(u64::MAX), Some(len as u64)),
+        (Query::Successor(u64::MAX), None),
+    ];
+    answers_all(list, &rows) && knows_ends_in_batches(list, len) && list.heap_size() > 0
+}
+
+// The same of batches.
+fn knows_ends_in_batches<A: Allocator + Copy>(list: &EliasFanoVec<A>, len: usize) -> bool {
+    let mut members = [Some(len as u64)];
+    list.get_each(&mut members);
+    let mut ranks = [u64::MAX];
+    list.rank_each(&mut ranks);
+    let mut before = [Some(u64::MAX)];
+    list.predecessor_each(&mut before);
+    let mut after = [Some(u64::MAX)];
+    list.successor_each(&mut after);
+    members == [None]
+        && ranks == [len as u64]
+        && before[0].is_some() == (len > 0)
+        && after == [None]
+}
+
+// Whether a list has so many members, and answers about the first, one amid and the last.
+fn has_members<A: Allocator + Copy>(list: &EliasFanoVec<A>, len: usize) -> bool {
+    for i in 0..len {
+        if list.get(i) != Some(member(i)) {
+            return false;
+        }
+    }
+    for i in some_of(len) {
+        if i < len && !knows_member(list, i) {
+            return false;
+        }
+    }
+    knows_ends(list, len)
+}
+
+// The first of so many numbers, two amid and the last, where there are as many.
+fn some_of(len: usize) -> [usize; 4] {
+    [0, len / 2, len / 2 + 1, len.saturating_sub(1)]
+}
+
+// The steps of a walk: all that take no copy of it.
+const STEPS: [Step; 10] = [
+    Step::Len,
+    Step::Next,
+    Step::NextBack,
+    Step::NextCounted,
+    Step::NextBackCounted,
+    Step::SizeHint,
+    Step::Nth(1),
+    Step::NthBack(0),
+    Step::NthCounted(0),
+    Step::NthBackCounted(1),
+];
+
+// The steps of a walk over a list that stands elsewhere, whose copies take no memory.
+const STEPS_AND_ENDS: [Step; 7] = [
+    Step::Last,
+    Step::Count,
+    Step::Min,
+    Step::Max,
+    Step::Nth(63),
+    Step::NthBack(7),
+    Step::Next,
+];
+
+// The members of a list, where it takes its memory, and whether it is made of numbers that are read in turn.
+#[derive(Clone, Copy)]
+struct Members<'a, 'b> {
+    heap: &'a Heap,
+    numbers: &'b [u64],
+    in_turn: bool,
+}
+
+impl<A: Allocator + Copy> Check<EliasFanoVec<A>> for Members<'_, '_> {
+    fn is_right(&self, list: &mut EliasFanoVec<A>) -> bool {
+        has_members(list, self.numbers.len())
+            && follows(&mut list.iter(), self.numbers, &STEPS)
+            && follows(&mut list.iter(), self.numbers, &STEPS_AND_ENDS)
+            && sum_by_reference(list) == sum_by_mut(list)
+    }
+}
+
+// Whether a walk that owns its list gives the members.
+impl<A: Allocator + Copy> Check<EliasFanoIter<A>> for Members<'_, '_> {
+    fn is_right(&self, walk: &mut EliasFanoIter<A>) -> bool {
+        follows(walk, self.numbers, &STEPS)
+    }
+}
+
+impl<'a> Making for Members<'a, '_> {
+    type Made = EliasFanoVec<&'a Heap>;
+
+    type Fault = AllocError;
+
+    fn out_of_memory(&self) -> AllocError {
+        AllocError
+    }
+
+    fn make(&self) -> Result<EliasFanoVec<&'a Heap>, AllocError> {
+        if self.in_turn {
+            return list_in_turn(self.heap, self.numbers);
+        }
+        list_of(self.heap, self.numbers)
+    }
+
+    fn is_right(&self, list: &EliasFanoVec<&'a Heap>) -> bool {
+        has_members(list, self.numbers.len())
+    }
+}
+
+// A list that becomes a walk, which is asked for its end.
+trait Walked: Sized {
+    fn end_of_walk(self, asked: Step) -> Option<u64>;
+}
+
+impl<A: Allocator + Copy> Walked for EliasFanoVec<A> {
+    fn end_of_walk(self, asked: Step) -> Option<u64> {
+        end(self.into_iter(), asked)
+    }
+}
+
+// A call about numbers. Those from `Queries` on take no memory.
+#[derive(Clone, Copy)]
+enum Call {
+    FromSlice,
+    FromNumbers,
+    Clone,
+    CloneWalk,
+    New,
+    CloneSparse,
+    FromBitvec,
+    FromBitvecInverted,
+    Queries,
+    WalkOf,
+    EndOfWalk(Step),
+    SparseQueries,
+}
+
+const CALLS: [Call; 15] = [
+    Call::FromSlice,
+    Call::FromNumbers,
+    Call::Clone,
+    Call::CloneWalk,
+    Call::New,
+    Call::CloneSparse,
+    Call::FromBitvec,
+    Call::FromBitvecInverted,
+    Call::Queries,
+    Call::WalkOf,
+    Call::EndOfWalk(Step::Last),
+    Call::EndOfWalk(Step::Count),
+    Call::EndOfWalk(Step::Min),
+    Call::EndOfWalk(Step::Max),
+    Call::SparseQueries,
+];
+
+// A walk that owns what was made, and its clone.
+fn tried_walk<B: Allocator, T: IntoIterator, X: Sized, C: Check<T::IntoIter>>(
+    heap: &Refusing<B>,
+    made: Result<T, X>,
+    call: Call,
+    check: &C,
+) -> Ending
+where
+    T::IntoIter: Clone,
+{
+    let it = match made { Ok(it) => it, _ => {
+        return Ending::Wrong;
+    } };
+    if matches!(call, Call::CloneWalk) {
+        return try_clone_checked(heap, Ok::<_, X>(it.into_iter()), check);
+    }
+    heap.start();
+    let mut walk = it.into_iter();
+    ending_if(check.is_right(&mut walk))
+}
+
+fn tried_end<B: Allocator, T: Walked, X: Sized>(
+    heap: &Refusing<B>,
+    made: Result<T, X>,
+    asked: Step,
+    wanted: Option<u64>,
+) -> Ending {
+    let it = match made { Ok(it) => it, _ => {
+        return Ending::Wrong;
+    } };
+    heap.start();
+    ending_if(it.end_of_walk(asked) == wanted)
+}
+
+fn ending_if(is_right: bool) -> Ending {
+    if is_right {
+        Ending::Done
+    } else {
+        Ending::Wrong
+    }
+}
+
+// A call of an ascending list, of any type, since a list itself is slower to prove.
+fn tried_made<
+    B: Allocator,
+    T: Walked + Clone + IntoIterator,
+    X: Sized,
+    C: Check<T> + Check<T::IntoIter>,
+>(heap: &Refusing<B>, made: Result<T, X>, call: Call, check: &C, numbers: &[u64]) -> Ending
+where
+    T::IntoIter: Clone,
+{
+    match call {
+        Call::Clone => try_clone_checked(heap, made, check),
+        Call::CloneWalk | Call::WalkOf => tried_walk(heap, made, call, check),
+        Call::EndOfWalk(asked) => tried_end(heap, made, asked, plain_answer(numbers, asked)),
+        _ => try_use_checked(heap, made, check),
+    }
+}
+
+fn tried_list(heap: &Heap, call: Call, numbers: &[u64]) -> Ending {
+    let members = Members {
+        heap,
+        numbers,
+        in_turn: matches!(call, Call::FromNumbers),
+    };
+    if matches!(call, Call::FromSlice | Call::FromNumbers) {
+        return try_making(heap, &members);
+    }
+    tried_made(heap, list_of(heap, numbers), call, &members, numbers)
+}
+
+// Whether both forms of each query of a sparse list answer as told.
+fn bits_answer_all<A: Allocator + Copy>(
+    bits: &SparseRSVec<A>,
+    rows: &[(BitQuery, Option<u64>)],
+) -> bool {
+    for (query, wanted) in rows {
+        if bit_answer(bits, *query) != *wanted || counted(bits, *query) != *wanted {
+            return false;
+        }
+    }
+    true
+}
+
+// Whether a sparse list knows one number `i`, and the zeros beside it.
+fn knows_one<A: Allocator + Copy>(bits: &SparseRSVec<A>, i: usize) -> bool {
+    let place = place_of_one(i);
+    let zeros = place.wrapping_sub(i as u64);
+    let rows = [
+        (BitQuery::Get(place), Some(1)),
+        (BitQuery::GetUnchecked(place), Some(1)),
+        (BitQuery::IsSet(place), Some(1)),
+        (BitQuery::IsSetUnchecked(place), Some(1)),
+        (BitQuery::Rank1(place), Some(i as u64)),
+        (BitQuery::Rank0(place), Some(zeros)),
+        (BitQuery::Select1(i), Some(place)),
+        (BitQuery::Iter1(i), Some(place)),
+        (BitQuery::Get(place.wrapping_add(1)), Some(0)),
+        (BitQuery::IsSet(place.wrapping_sub(1)), Some(0)),
+        (
+            BitQuery::Rank1(place.wrapping_add(1)),
+            Some((i as u64).wrapping_add(1)),
+        ),
+    ];
+    bits_answer_all(bits, &rows)
+}
+
+// Whether it has so many ones, and knows some of them and where it ends.
+fn has_all_ones<A: Allocator + Copy>(bits: &SparseRSVec<A>, len: usize) -> bool {
+    for i in 0..len {
+        if bits.select1(i) != place_of_one(i) {
+            return false;
+        }
+    }
+    for i in some_of(len) {
+        if i < len && !knows_one(bits, i) {
+            return false;
+        }
+    }
+    let rows = [
+        (BitQuery::Len, Some(bit_count(len))),
+        (BitQuery::IsEmpty, Some(u64::from(len == 0))),
+        (BitQuery::Get(bit_count(len)), None),
+        (BitQuery::IsSet(bit_count(len)), None),
+        (BitQuery::Select1(len), Some(bit_count(len))),
+        (BitQuery::Rank1(u64::MAX), Some(len as u64)),
+    ];
+    bits_answer_all(bits, &rows) && bits.heap_size() > 0
+}
+
+// Whether a list of all bits has its ones, or its zeros where it is inverted.
+fn has_bits<A: Allocator + Copy>(bits: &SparseRSVec<A>, len: u64, is_inverted: bool) -> bool {
+    for place in 0..len {
+        if bits.is_set(place) != Some(is_one(place) != is_inverted) {
+            return false;
+        }
+    }
+    bits.len() == len
+}
+
+// The places of the ones of a sparse list.
+#[derive(Clone, Copy)]
+struct Ones<'a> {
+    places: &'a [u64],
+}
+
+impl<A: Allocator + Copy> Check<SparseRSVec<A>> for Ones<'_> {
+    fn is_right(&self, bits: &mut SparseRSVec<A>) -> bool {
+        has_all_ones(bits, self.places.len()) && follows(&mut bits.iter1(), self.places, &STEPS)
+    }
+}
+
+// A maker of a sparse list, by the places of its ones or by as many bits.
+struct SparseMaker<'a, 'b> {
+    heap: &'a Heap,
+    call: Call,
+    places: &'b [u64],
+    bits: &'b BitVec<&'a Heap>,
+}
+
+impl<'a> Making for SparseMaker<'a, '_> {
+    type Made = SparseRSVec<&'a Heap>;
+
+    type Fault = AllocError;
+
+    fn out_of_memory(&self) -> AllocError {
+        AllocError
+    }
+
+    fn make(&self) -> Result<SparseRSVec<&'a Heap>, AllocError> {
+        match self.call {
+            Call::FromBitvec => SparseRSVec::from_bitvec(self.bits),
+            Call::FromBitvecInverted => SparseRSVec::from_bitvec_inverted(self.bits),
+            _ => bits_of(self.heap, self.places, bit_count(self.places.len())),
+        }
+    }
+
+    fn is_right(&self, list: &SparseRSVec<&'a Heap>) -> bool {
+        let len = self.places.len();
+        match self.call {
+            Call::FromBitvec => has_bits(list, len as u64, false),
+            Call::FromBitvecInverted => has_bits(list, len as u64, true),
+            _ => has_all_ones(list, len),
+        }
+    }
+}
+
+fn tried_sparse_maker(heap: &Heap, call: Call, places: &[u64]) -> Ending {
+    match all_bits(heap, places.len()) {
+        Ok(bits) => {
+            let bits = &bits;
+            try_making(
+                heap,
+                &SparseMaker {
+                    heap,
+                    call,
+                    places,
+                    bits,
+                },
+            )
+        }
+        Err(_) => Ending::Wrong,
+    }
+}
+
+fn tried_sparse(heap: &Heap, call: Call, places: &[u64]) -> Ending {
+    let ones = Ones { places };
+    let made = bits_of(heap, places, bit_count(places.len()));
+    if matches!(call, Call::CloneSparse) {
+        return try_clone_checked(heap, made, &ones);
+    }
+    try_use_checked(heap, made, &ones)
+}
+
+fn tried_of_members(heap: &Heap, call: Call, len: usize) -> Ending {
+    match members_of(heap, len) {
+        Ok(numbers) => tried_list(heap, call, numbers.as_slice()),
+        Err(_) => Ending::Wrong,
+    }
+}
+
+fn tried_of_ones(heap: &Heap, call: Call, len: usize) -> Ending {
+    let places = match ones_of(heap, len) { Ok(places) => places, _ => {
+        return Ending::Wrong;
+    } };
+    match call {
+        Call::CloneSparse | Call::SparseQueries => tried_sparse(heap, call, places.as_slice()),
+        _ => tried_sparse_maker(heap, call, places.as_slice()),
+    }
+}
+
+impl Trial<Global> for Call {
+    fn run(self, heap: &Heap, len: usize) -> Ending {
+        match self {
+            Call::New
+            | Call::CloneSparse
+            | Call::FromBitvec
+            | Call::FromBitvecInverted
+            | Call::SparseQueries => tried_of_ones(heap, self, len),
+            _ => tried_of_members(heap, self, len),
+        }
+    }
+
+    fn takes_memory(self, _: usize) -> bool {
+        match self {
+            Call::Queries | Call::WalkOf | Call::EndOfWalk(_) | Call::SparseQueries => false,
+            _ => true,
+        }
+    }
+}
+
+// Each request of a call that takes memory is refused in turn, and the other calls make none.
+#[test]
+fn calls_take_memory_or_none() {
+    let rt = HostRuntime;
+    assert!(first_wrong_trial(rt.alloc(), &LENGTHS, &CALLS).is_none());
+}

@@ -1,0 +1,246 @@
+//! Walks along the members of a list.
+
+use crate::rattle::prelude::*;
+use crate::proved_tests::vers_sorted_tests::tests::lists::list_of;
+use crate::rattle::AllocError;
+use crate::rattle::Allocator;
+use crate::proved::vers_sorted::elias_fano::{EliasFanoIter, EliasFanoRefIter, EliasFanoVec};
+use crate::proved::vers_tally::ends::{Ascending, Borrowing, BothEnds, Owning};
+use crate::proved::vers_tally::tally::Tally;
+
+/// What is asked of an iterator. The last four are asked of a copy.
+#[derive(Clone, Copy)]
+pub enum Step {
+    Len,
+    SizeHint,
+    Next,
+    NextBack,
+    Nth(usize),
+    NthBack(usize),
+    NextCounted,
+    NextBackCounted,
+    NthCounted(usize),
+    NthBackCounted(usize),
+    Last,
+    Count,
+    Min,
+    Max,
+}
+
+/// What a walk ends with.
+pub fn end<S: Ascending>(members: BothEnds<S>, asked: Step) -> Option<u64> {
+    match asked {
+        Step::Last => members.last(),
+        Step::Count => Some(members.count() as u64),
+        Step::Min => members.min(),
+        _ => members.max(),
+    }
+}
+
+// The same of a copy of a walk that owns its list. None where there is none.
+fn end_of_copy<S: Ascending + Owning>(members: &BothEnds<S>, asked: Step) -> Option<u64> {
+    let copy: Result<_, _> = members.clone();
+    match copy {
+        Ok(second) => end(second, asked),
+        Err(_) => None,
+    }
+}
+
+fn is_of_copy(asked: Step) -> bool {
+    matches!(asked, Step::Last | Step::Count | Step::Min | Step::Max)
+}
+
+// One counted step of a walk.
+fn counted_step<S: Ascending>(members: &mut BothEnds<S>, asked: Step) -> Option<u64> {
+    let mut tally = Tally::new();
+    match asked {
+        Step::NextCounted => members.next_counted(&mut tally),
+        Step::NextBackCounted => members.next_back_counted(&mut tally),
+        Step::NthCounted(n) => members.nth_counted(n, &mut tally),
+        Step::NthBackCounted(n) => members.nth_back_counted(n, &mut tally),
+        _ => None,
+    }
+}
+
+// One step of a walk, or None where it is asked of a copy.
+fn answer_of_step<S: Ascending>(members: &mut BothEnds<S>, asked: Step) -> Option<u64> {
+    match asked {
+        Step::Len => Some(members.len() as u64),
+        Step::SizeHint => as_number(members.size_hint().1),
+        Step::Next => members.next(),
+        Step::NextBack => members.next_back(),
+        Step::Nth(n) => members.nth(n),
+        Step::NthBack(n) => members.nth_back(n),
+        _ => counted_step(members, asked),
+    }
+}
+
+// A count as a number.
+fn as_number(count: Option<usize>) -> Option<u64> {
+    match count {
+        Some(count) => Some(count as u64),
+        None => None,
+    }
+}
+
+// The answer of one step of a walk over a list that stands elsewhere.
+fn answer_of_borrowing<S: Ascending + Borrowing>(
+    members: &mut BothEnds<S>,
+    asked: Step,
+) -> Option<u64> {
+    if is_of_copy(asked) {
+        return end(members.clone(), asked);
+    }
+    answer_of_step(members, asked)
+}
+
+// The same of a walk that owns its list.
+fn answer_of_owning<S: Ascending + Owning>(members: &mut BothEnds<S>, asked: Step) -> Option<u64> {
+    if is_of_copy(asked) {
+        return end_of_copy(members, asked);
+    }
+    answer_of_step(members, asked)
+}
+
+/// A walk that is asked step by step.
+pub trait Walk {
+    /// The answer of one step.
+    fn answer(&mut self, asked: Step) -> Option<u64>;
+}
+
+impl<'a, A: Allocator + Copy> Walk for EliasFanoRefIter<'a, A> {
+    fn answer(&mut self, asked: Step) -> Option<u64> {
+        answer_of_borrowing(self, asked)
+    }
+}
+
+impl<A: Allocator + Copy> Walk for EliasFanoIter<A> {
+    fn answer(&mut self, asked: Step) -> Option<u64> {
+        answer_of_owning(self, asked)
+    }
+}
+
+// What a step takes of a plain list, or is told of it, and what is left then.
+type AnswerAndRest<'a> = (Option<u64>, &'a [u64]);
+
+// Item `n` from the front, and what stands after it.
+fn from_front(left: &[u64], n: usize) -> AnswerAndRest<'_> {
+    match left.get(n) {
+        Some(item) => (Some(*item), &left[n + 1..]),
+        None => (None, &[]),
+    }
+}
+
+// Item `n` from the back, and what stands before it.
+fn from_back(left: &[u64], n: usize) -> AnswerAndRest<'_> {
+    if n >= left.len() {
+        return (None, &[]);
+    }
+    let place = left.len() - 1 - n;
+    (Some(left[place]), &left[..place])
+}
+
+// The first and the last item of a plain list.
+fn first_of(left: &[u64]) -> Option<u64> {
+    from_front(left, 0).0
+}
+
+fn last_of(left: &[u64]) -> Option<u64> {
+    from_back(left, 0).0
+}
+
+// The plain answer of a step.
+fn taken(left: &[u64], asked: Step) -> AnswerAndRest<'_> {
+    match asked {
+        Step::Next | Step::NextCounted => from_front(left, 0),
+        Step::NextBack | Step::NextBackCounted => from_back(left, 0),
+        Step::Nth(n) | Step::NthCounted(n) => from_front(left, n),
+        Step::NthBack(n) | Step::NthBackCounted(n) => from_back(left, n),
+        Step::Len | Step::SizeHint | Step::Count => (Some(left.len() as u64), left),
+        Step::Min => (first_of(left), left),
+        Step::Last | Step::Max => (last_of(left), left),
+    }
+}
+
+/// The same without what is left.
+pub fn plain_answer(left: &[u64], asked: Step) -> Option<u64> {
+    taken(left, asked).0
+}
+
+/// Whether a walk gives the numbers of a plain list, where these steps are taken in turn until all have
+/// passed, and once more then.
+pub fn follows<W: Walk>(walk: &mut W, numbers: &[u64], steps: &[Step]) -> bool {
+    let mut left = numbers;
+    for _ in 0..numbers.len().saturating_add(2) {
+        let has_ended = left.is_empty();
+        for step in steps {
+            let (wanted, rest) = taken(left, *step);
+            if walk.answer(*step) != wanted {
+                return false;
+            }
+            left = rest;
+        }
+        if has_ended {
+            return true;
+        }
+    }
+    false
+}
+
+/// The number of the first step that answers wrong.
+pub fn first_wrong_step<W: Walk>(walk: &mut W, rows: &[(Step, Option<u64>)]) -> Option<usize> {
+    for (row, (step, wanted)) in rows.iter().enumerate() {
+        if walk.answer(*step) != *wanted {
+            return Some(row);
+        }
+    }
+    None
+}
+
+/// The same of a walk over a list.
+pub fn wrong_step<A: Allocator + Copy>(
+    list: &EliasFanoVec<A>,
+    rows: &[(Step, Option<u64>)],
+) -> Option<usize> {
+    first_wrong_step(&mut list.iter(), rows)
+}
+
+/// A walk that owns the list of the numbers.
+pub fn walk_over<A: Allocator + Copy>(
+    alloc: A,
+    numbers: &[u64],
+) -> Result<EliasFanoIter<A>, AllocError> {
+    match list_of(alloc, numbers) {
+        Ok(list) => Ok(list.into_iter()),
+        Err(fault) => Err(fault),
+    }
+}
+
+// The sum of the members by a loop.
+fn sum_of<S: Ascending>(members: BothEnds<S>) -> u64 {
+    let mut sum = 0u64;
+    for member in members {
+        sum = sum.wrapping_add(member);
+    }
+    sum
+}
+
+/// The sum of the members by a loop over a reference to the list.
+pub fn sum_by_reference<A: Allocator + Copy>(list: &EliasFanoVec<A>) -> u64 {
+    sum_of(list.into_iter())
+}
+
+/// The same by a loop over a `&mut` to it.
+pub fn sum_by_mut<A: Allocator + Copy>(list: &mut EliasFanoVec<A>) -> u64 {
+    sum_of(list.into_iter())
+}
+
+/// The same by a loop over the list itself, which was made.
+pub fn sum_by_value<A: Allocator + Copy>(
+    list: Result<EliasFanoVec<A>, AllocError>,
+) -> Result<u64, AllocError> {
+    match list {
+        Ok(list) => Ok(sum_of(list.into_iter())),
+        Err(fault) => Err(fault),
+    }
+}

@@ -1,0 +1,6 @@
+//! Tests of trees of parentheses.
+
+use crate::rattle::prelude::*;
+
+#[cfg(test)]
+mod tests;

@@ -1,0 +1,94 @@
+//! The tables of bytes of parentheses, compared with a plain scan of each byte.
+
+use crate::rattle::prelude::*;
+use crate::proved::vers_trees::trees::bp::ByteTables;
+
+// The sum after a bit, from the start of a byte or from its end; each sum is 8 more than it counts.
+fn after_bit(sum: u64, byte: u8, place: u64, from_end: bool) -> u64 {
+    if (u64::from(byte) >> (place % 8)) % 2 == u64::from(!from_end) {
+        sum.saturating_add(1)
+    } else {
+        sum.saturating_sub(1)
+    }
+}
+
+// The first place, from one of the byte's ends, whose bit makes the sum `wanted`, or 7.
+fn first_place(byte: u8, from_end: bool, wanted: u64) -> u64 {
+    let mut sum = 8;
+    for step in 0..8u64 {
+        let place = if from_end { 7 - step } else { step };
+        sum = after_bit(sum, byte, place, from_end);
+        if sum == wanted {
+            return place;
+        }
+    }
+    7
+}
+
+// The least and the greatest of the sums along a byte.
+fn extremes(byte: u8, from_end: bool) -> (u64, u64) {
+    let mut sum = 8;
+    let mut least = 16;
+    let mut greatest = 0;
+    for step in 0..8u64 {
+        let place = if from_end { 7 - step } else { step };
+        sum = after_bit(sum, byte, place, from_end);
+        least = sum.min(least);
+        greatest = sum.max(greatest);
+    }
+    (least, greatest)
+}
+
+// The place that an entry has for a sum.
+fn place_of(entry: u64, sum: u64) -> u64 {
+    (entry >> (10 + 3 * (sum % 17))) % 8
+}
+
+// Whether an entry has what a plain scan of its byte meets.
+fn is_plain(entry: u64, byte: u8, from_end: bool) -> bool {
+    let (least, greatest) = extremes(byte, from_end);
+    for sum in 0..17 {
+        if place_of(entry, sum) != first_place(byte, from_end, sum) {
+            return false;
+        }
+    }
+    entry % 32 == greatest && (entry >> 5) % 32 == least && entry >> 61 == 0
+}
+
+// The first byte whose entries have something else.
+fn wrong_byte(tables: &ByteTables) -> Option<u8> {
+    for byte in 0..=255u8 {
+        if !is_plain(tables.forward_entry(byte), byte, false)
+            || !is_plain(tables.backward_entry(byte), byte, true)
+        {
+            return Some(byte);
+        }
+    }
+    None
+}
+
+#[test]
+fn all_entries_are_those_of_a_plain_scan() {
+    let rt = HostRuntime;
+    assert!(wrong_byte(&ByteTables::new()).is_none());
+}
+
+// Whether an entry has these ends of its sums, and these places for sums.
+fn has_places(entry: u64, greatest: u64, least: u64, places: &[(u64, u64)]) -> bool {
+    for (sum, place) in places {
+        if place_of(entry, *sum) != *place {
+            return false;
+        }
+    }
+    entry % 32 == greatest && (entry >> 5) % 32 == least
+}
+
+#[test]
+fn entries_of_byte_seven() {
+    let rt = HostRuntime;
+    let tables = ByteTables::new();
+    let places = [(9, 0), (10, 1), (11, 2), (8, 5), (7, 6), (6, 7)];
+    assert!(has_places(tables.forward_entry(7), 11, 6, &places));
+    let places = [(9, 7), (10, 6), (11, 5), (12, 4), (13, 3)];
+    assert!(has_places(tables.backward_entry(7), 13, 9, &places));
+}

@@ -1,0 +1,92 @@
+//! Trees of parentheses, and what is asked of them.
+
+use crate::rattle::prelude::*;
+
+use crate::proved_tests::vers_trees_tests::tests::nodes::ask_balanced;
+pub use crate::proved_tests::vers_trees_tests::tests::queries::{Answer, Query, number};
+use crate::rattle::Allocator;
+use crate::proved::vers_bits::bit_vec::{BitVec, GrowError};
+use crate::proved::vers_tally::tally::Tally;
+use crate::proved::vers_trees::trees::bp::{BpTree, MAX_BLOCK_SIZE};
+
+// The excess past a place that the tree has; None for another one.
+fn excess<const N: usize, A: Allocator + Copy>(tree: &BpTree<N, A>, i: usize) -> Answer {
+    if i >= tree.len() {
+        return Answer::uncounted(None);
+    }
+    let mut tally = Tally::new();
+    Answer::of(
+        Some(tree.excess(i)),
+        Some(tree.excess_counted(i, &mut tally)),
+    )
+}
+
+// The answers of a query about a place, or of one that asks for balanced parentheses.
+fn ask_place<const N: usize, A: Allocator + Copy>(tree: &BpTree<N, A>, query: Query) -> Answer {
+    let mut tally = Tally::new();
+    match query {
+        Query::IsOpen(i) => {
+            Answer::of_truths(tree.is_open(i), tree.is_open_counted(i, &mut tally))
+        }
+        Query::Excess(i) => excess(tree, i),
+        Query::Forward(i, r) => {
+            Answer::of_places(
+                tree.fwd_search(i, r),
+                tree.fwd_search_counted(i, r, &mut tally),
+            )
+        }
+        Query::Backward(i, r) => {
+            Answer::of_places(
+                tree.bwd_search(i, r),
+                tree.bwd_search_counted(i, r, &mut tally),
+            )
+        }
+        Query::Close(i) => Answer::of_places(tree.close(i), tree.close_counted(i, &mut tally)),
+        Query::Open(i) => Answer::of_places(tree.open(i), tree.open_counted(i, &mut tally)),
+        Query::Enclose(i) => Answer::of_places(
+            tree.enclose(i),
+            tree.enclose_counted(i, &mut tally),
+        ),
+        _ => ask_balanced(tree, query).unwrap_or(Answer::not_asked()),
+    }
+}
+
+/// The answers of a query, a truth value as 1 or 0. The excess is asked only of places that the tree
+/// has, and the other queries only where their conditions hold.
+pub fn ask<const N: usize, A: Allocator + Copy>(tree: &BpTree<N, A>, query: Query) -> Answer {
+    let mut tally = Tally::new();
+    match query {
+        Query::Len => Answer::uncounted(number(Some(tree.len()))),
+        Query::Size => Answer::uncounted(number(Some(tree.size()))),
+        Query::IsEmpty => Answer::of_truths(Some(tree.is_empty()), Some(tree.is_empty())),
+        Query::Root => Answer::of_places(tree.root(), tree.root()),
+        Query::IsBalanced => Answer::of_truths(
+            Some(tree.is_balanced()),
+            Some(tree.is_balanced_counted(&mut tally)),
+        ),
+        Query::Handle(i) => Answer::of_places(
+            Some(tree.node_handle(i)),
+            Some(tree.node_handle_counted(i, &mut tally)),
+        ),
+        _ => ask_place(tree, query),
+    }
+}
+
+/// Asks what was made, or hands on why it was not.
+pub fn asked<T: Sized, R, E, F: FnOnce(&T) -> Result<R, E>>(
+    made: Result<T, E>,
+    question: F,
+) -> Result<R, E> {
+    match made {
+        Ok(owned) => question(&owned),
+        Err(error) => Err(error),
+    }
+}
+
+/// The tree of bits, each a one where the number is odd.
+pub fn tree_of<const N: usize, A: Allocator + Copy>(
+    alloc: A,
+    bits: &[u8],
+) -> Result<BpTree<N, A>, GrowError> {
+    BpTree::from_bit_vector(BitVec::from_bits(alloc, bits)?)
+}

@@ -1,0 +1,172 @@
+//! What is asked of balanced parentheses alone.
+
+use crate::rattle::prelude::*;
+
+use crate::proved_tests::vers_trees_tests::tests::queries::{Answer, Query, Question};
+use crate::rattle::Allocator;
+use crate::proved::vers_tally::tally::Tally;
+use crate::proved::vers_trees::laws::ones_are_nodes;
+use crate::proved::vers_trees::trees::bp::{BpTree, LevelEnd, Measure, Relative};
+
+/// Whether the parentheses are balanced.
+pub fn are_balanced<const N: usize, A: Allocator + Copy>(tree: &BpTree<N, A>) -> bool {
+    tree.is_balanced()
+}
+
+// The node of this number in preorder. None where there are no more.
+fn numbered<const N: usize, A: Allocator + Copy>(
+    tree: &BpTree<N, A>,
+    number: usize,
+) -> Option<usize> {
+    ones_are_nodes();
+    if number >= tree.size() {
+        return None;
+    }
+    Some(tree.node_handle(number))
+}
+
+/// The place, where a node opens there. None for other places.
+pub fn node_at<const N: usize, A: Allocator + Copy>(
+    tree: &BpTree<N, A>,
+    place: usize,
+) -> Option<usize> {
+    for number in 0..tree.size() {
+        let node = numbered(tree, number)?;
+        if node == place {
+            return Some(node);
+        }
+    }
+    None
+}
+
+// Another node, or none, by the plain form, which a value names, and by the counted form.
+fn relatives<const N: usize, A: Allocator + Copy>(
+    tree: &BpTree<N, A>,
+    node: usize,
+    question: Question,
+) -> (Option<usize>, Option<usize>) {
+    let mut counter = Tally::new();
+    let tally = &mut counter;
+    match question {
+        Question::FirstChild => (
+            tree.relative(node, Relative::FirstChild),
+            tree.first_child_counted(node, tally),
+        ),
+        Question::LastChild => (
+            tree.relative(node, Relative::LastChild),
+            tree.last_child_counted(node, tally),
+        ),
+        Question::NextSibling => (
+            tree.relative(node, Relative::NextSibling),
+            tree.next_sibling_counted(node, tally),
+        ),
+        Question::PreviousSibling => (
+            tree.relative(node, Relative::PreviousSibling),
+            tree.previous_sibling_counted(node, tally),
+        ),
+        Question::LevelNext => (
+            tree.relative(node, Relative::LevelNext),
+            tree.level_next_counted(node, tally),
+        ),
+        Question::LevelPrev => (
+            tree.relative(node, Relative::LevelPrev),
+            tree.level_prev_counted(node, tally),
+        ),
+        Question::LevelAncestor(levels) => (
+            tree.level_ancestor(node, levels),
+            tree.level_ancestor_counted(node, levels, tally),
+        ),
+        _ => (
+            tree.relative(node, Relative::Parent),
+            tree.parent_counted(node, tally),
+        ),
+    }
+}
+
+// The answers about a node.
+fn about_node<const N: usize, A: Allocator + Copy>(
+    tree: &BpTree<N, A>,
+    node: usize,
+    question: Question,
+) -> Answer {
+    let mut tally = Tally::new();
+    match question {
+        Question::Index => Answer::of_places(
+            Some(tree.measure(node, Measure::NodeIndex) as usize),
+            Some(tree.node_index_counted(node, &mut tally)),
+        ),
+        Question::IsLeaf => Answer::of_truths(
+            Some(tree.measure(node, Measure::IsLeaf) == 1),
+            Some(tree.is_leaf_counted(node, &mut tally)),
+        ),
+        Question::Depth => Answer::of_places(
+            Some(tree.measure(node, Measure::Depth) as usize),
+            Some(tree.depth_counted(node, &mut tally) as usize),
+        ),
+        Question::SubtreeSize => Answer::of_places(
+            Some(tree.measure(node, Measure::SubtreeSize) as usize),
+            tree.subtree_size_counted(node, &mut tally),
+        ),
+        _ => {
+            let (plain, counted) = relatives(tree, node, question);
+            Answer::of_places(plain, counted)
+        }
+    }
+}
+
+// Whether a node is an ancestor of another one. None where a place has no node.
+fn about_pair<const N: usize, A: Allocator + Copy>(
+    tree: &BpTree<N, A>,
+    ancestor: usize,
+    descendant: usize,
+) -> Option<Answer> {
+    let above = node_at(tree, ancestor)?;
+    let below = node_at(tree, descendant)?;
+    let mut tally = Tally::new();
+    Some(Answer::of_truths(
+        tree.is_ancestor(above, below),
+        tree.is_ancestor_counted(above, below, &mut tally),
+    ))
+}
+
+// The answers about the node at a place. None where the place has no node.
+fn about_place<const N: usize, A: Allocator + Copy>(
+    tree: &BpTree<N, A>,
+    place: usize,
+    question: Question,
+) -> Option<Answer> {
+    let node = node_at(tree, place)?;
+    Some(about_node(tree, node, question))
+}
+
+// The answers about the two ends of a level.
+fn about_ends<const N: usize, A: Allocator + Copy>(
+    tree: &BpTree<N, A>,
+    depth: u64,
+) -> (Answer, Answer) {
+    let mut tally = Tally::new();
+    let leftmost = tree.level_leftmost_counted(depth, &mut tally);
+    let rightmost = tree.level_rightmost_counted(depth, &mut tally);
+    (
+        Answer::of_places(tree.level_end(depth, LevelEnd::Leftmost), leftmost),
+        Answer::of_places(tree.level_end(depth, LevelEnd::Rightmost), rightmost),
+    )
+}
+
+/// The answers of a query that asks for balanced parentheses. None where they are not balanced, and
+/// where a place has no node.
+pub fn ask_balanced<const N: usize, A: Allocator + Copy>(
+    tree: &BpTree<N, A>,
+    query: Query,
+) -> Option<Answer> {
+    if !are_balanced(tree) {
+        return None;
+    }
+    match query {
+        Query::Node(place, question) => about_place(tree, place, question),
+        Query::IsAncestor(ancestor, descendant) => about_pair(tree, ancestor, descendant),
+        Query::LevelLeftmost(depth) => Some(about_ends(tree, depth).0),
+        Query::LevelRightmost(depth) => Some(about_ends(tree, depth).1),
+        _ => None,
+    }
+}

@@ -1,0 +1,72 @@
+//! What a builder answers where it is refused memory, and what it takes and builds then.
+
+use crate::rattle::prelude::*;
+use crate::proved_tests::vers_trees_tests::tests::builders::stepped;
+use crate::proved_tests::vers_trees_tests::tests::lists::asked;
+use crate::rattle::Allocator;
+use crate::rattle::Global;
+use crate::proved_tests::test_alloc::Refusing;
+use crate::proved::vers_bits::bit_vec::GrowError;
+use crate::proved::vers_trees::trees::bp::{BpBuilder, BpTree, BuildError};
+
+type Heap = Refusing<Global>;
+
+// A builder that has entered 32 nodes and left them. Their 64 bits fill the room that it was given.
+fn builder_of_64_bits(heap: &Heap) -> Result<BpBuilder<8, &Heap>, GrowError> {
+    let entered = stepped(BpBuilder::with_capacity(heap, 32), &[1; 32]);
+    stepped(entered, &[0; 32])
+}
+
+// How many bits the tree of a builder has, and whether they are balanced.
+fn built(builder: BpBuilder<8, &Heap>) -> Result<(usize, bool), BuildError> {
+    asked(
+        builder.build(),
+        |tree: &BpTree<8, &Heap>| Ok((tree.len(), tree.is_balanced())),
+    )
+}
+
+// What a builder answers with every request refused, and with memory again.
+fn refused_and_taken_steps<const N: usize, A: Allocator + Copy>(
+    heap: &Heap,
+    builder: &mut BpBuilder<N, A>,
+) -> [Result<(), GrowError>; 4] {
+    heap.refuse_all();
+    let enters = builder.enter_node();
+    let leaves = builder.leave_node();
+    heap.allow_all();
+    [enters, leaves, builder.enter_node(), builder.leave_node()]
+}
+
+// Whether a full builder does not take what it is refused, and takes and builds what it is granted.
+fn takes_what_is_granted(heap: &Heap, made: Result<BpBuilder<8, &Heap>, GrowError>) -> bool {
+    let mut builder = match made { Ok(builder) => builder, _ => {
+        return false;
+    } };
+    let refused = Err(GrowError::Memory);
+    refused_and_taken_steps(heap, &mut builder) == [refused, refused, Ok(()), Ok(())]
+        && built(builder) == Ok((66, true))
+}
+
+#[test]
+fn after_a_refusal_nodes_are_entered() {
+    let rt = HostRuntime;
+    let heap = Refusing::none(rt.alloc());
+    assert!(takes_what_is_granted(&heap, builder_of_64_bits(&heap)));
+}
+
+// Whether a builder that has left a node too many tells so, with every request refused, and asks for no memory.
+fn tells_excess(heap: &Heap, made: Result<BpBuilder<8, &Heap>, GrowError>) -> bool {
+    let builder = match stepped(made, &[0]) { Ok(builder) => builder, _ => {
+        return false;
+    } };
+    heap.refuse_all();
+    let requests = heap.asked();
+    built(builder) == Err(BuildError::Excess(-1)) && heap.asked() == requests
+}
+
+#[test]
+fn the_excess_is_told_before_memory() {
+    let rt = HostRuntime;
+    let heap = Refusing::none(rt.alloc());
+    assert!(tells_excess(&heap, builder_of_64_bits(&heap)));
+}

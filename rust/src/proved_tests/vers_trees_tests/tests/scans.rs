@@ -1,0 +1,219 @@
+//! Every list of up to 10 bits, asked everything and compared with a plain scan of its excesses.
+
+use crate::rattle::prelude::*;
+
+use crate::proved_tests::vers_trees_tests::tests::lists::{Query, ask, asked, number};
+use crate::rattle::AllocError;
+use crate::rattle::Allocator;
+use crate::rattle::Global;
+use crate::proved::vers_bits::bit_vec::{BitVec, GrowError};
+use crate::proved::vers_trees::trees::bp::{BpTree, MAX_BLOCK_SIZE};
+
+// How many bits the longest lists have.
+const LONGEST: usize = 10;
+
+// How far the excess is asked to rise, up and down: once more than it can.
+const WINDOW: i64 = 11;
+
+// How many lists, searches and other queries there are for each block size: 2 ^ n lists of n bits, two
+// searches by 23 numbers at each place up to the length, and two queries of a list and five at such a
+// place.
+const LISTS: u64 = 2047;
+
+const SEARCHES: u64 = 942126;
+
+const OTHERS: u64 = 106499;
+
+// Bit `k` of list number `code` is bit `k` of the number.
+fn is_one(code: usize, k: usize) -> bool {
+    k < 64 && (code >> k) % 2 == 1
+}
+
+// The excess before each place of a list of `n` bits, and at its end.
+fn excesses<A: Allocator + Copy>(
+    alloc: A,
+    n: usize,
+    code: usize,
+) -> Result<Vec<i64, A>, AllocError> {
+    let mut sums = Vec::new(alloc);
+    let mut sum = 0i64;
+    for k in 0..n.saturating_add(1) {
+        sums.push(sum)?;
+        sum = sum.saturating_add(if is_one(code, k) { 1 } else { -1 });
+    }
+    Ok(sums)
+}
+
+// The first place after `i` past which the excess is `r` more than past `i`.
+fn rise_after(sums: &[i64], i: usize, r: i64) -> Option<i64> {
+    let sought = sums.get(i.checked_add(1)?)?.checked_add(r)?;
+    for (k, sum) in sums.iter().enumerate() {
+        if k > i && k - i > 1 && *sum == sought {
+            return i64::try_from(k - 1).ok();
+        }
+    }
+    None
+}
+
+// The last place before `i` before which the excess is `r` more than before `i`.
+fn rise_before(sums: &[i64], i: usize, r: i64) -> Option<i64> {
+    let _past = sums.get(i.checked_add(1)?)?;
+    let sought = sums.get(i)?.checked_add(r)?;
+    let mut met = None;
+    for (k, sum) in sums.iter().enumerate() {
+        if k < i && *sum == sought {
+            met = i64::try_from(k).ok();
+        }
+    }
+    met
+}
+
+// The place of one number `i`, or the length.
+fn place_of_one(sums: &[i64], i: usize) -> Option<i64> {
+    let mut left = i;
+    for (k, pair) in sums.windows(2).enumerate() {
+        if pair.first() < pair.last() {
+            if left == 0 {
+                return i64::try_from(k).ok();
+            }
+            left -= 1;
+        }
+    }
+    number(sums.len().checked_sub(1))
+}
+
+// Whether no excess is below 0, and the last is 0.
+fn is_level(sums: &[i64]) -> bool {
+    for sum in sums {
+        if *sum < 0 {
+            return false;
+        }
+    }
+    sums.last() == Some(&0)
+}
+
+// How many answers were compared, and how many were wrong.
+#[derive(Clone, Copy, PartialEq)]
+struct Compared {
+    lists: u64,
+    searches: u64,
+    others: u64,
+    wrong: u64,
+}
+
+impl Compared {
+    // Counts an answer.
+    fn note(&mut self, is_right: bool) {
+        if !is_right {
+            self.wrong = self.wrong.saturating_add(1);
+        }
+    }
+
+    // Both searches at a place, for every rise of the window.
+    fn note_searches<const N: usize, A: Allocator + Copy>(
+        &mut self,
+        tree: &BpTree<N, A>,
+        sums: &[i64],
+        i: usize,
+    ) {
+        for step in 0..23u8 {
+            let r = i64::from(step).saturating_sub(WINDOW);
+            self.searches = self.searches.saturating_add(2);
+            self.note(number(tree.fwd_search(i, r)) == rise_after(sums, i, r));
+            self.note(number(tree.bwd_search(i, r)) == rise_before(sums, i, r));
+        }
+    }
+
+    // The other queries at a place.
+    fn note_others<const N: usize, A: Allocator + Copy>(
+        &mut self,
+        tree: &BpTree<N, A>,
+        sums: &[i64],
+        code: usize,
+        i: usize,
+    ) {
+        let past = sums.get(i.saturating_add(1)).copied();
+        let depth = if is_one(code, i) { -1 } else { -2 };
+        self.others = self.others.saturating_add(5);
+        self.note(ask(tree, Query::Excess(i)).is(past));
+        self.note(ask(tree, Query::Close(i)).is(rise_after(sums, i, -1)));
+        self.note(ask(tree, Query::Open(i)).is(rise_before(sums, i, -1)));
+        self.note(ask(tree, Query::Enclose(i)).is(rise_before(sums, i, depth)));
+        self.note(ask(tree, Query::Handle(i)).is(place_of_one(sums, i)));
+    }
+
+    // All queries of a tree of the list.
+    fn note_tree<const N: usize, A: Allocator + Copy>(
+        &mut self,
+        tree: &BpTree<N, A>,
+        sums: &[i64],
+        code: usize,
+    ) {
+        self.lists = self.lists.saturating_add(1);
+        self.others = self.others.saturating_add(2);
+        let balanced = i64::from(is_level(sums));
+        self.note(ask(tree, Query::IsBalanced).is(Some(balanced)));
+        let ones = i64::from(code.count_ones());
+        self.note(ask(tree, Query::Size).is(Some(ones)));
+        for i in 0..sums.len() {
+            self.note_searches(tree, sums, i);
+            self.note_others(tree, sums, code, i);
+        }
+    }
+}
+
+// The tree of list number `code` of `n` bits.
+fn tree_of_code<const N: usize>(
+    alloc: Global,
+    n: usize,
+    code: usize,
+) -> Result<BpTree<N, Global>, GrowError> {
+    let mut bits = BitVec::new(alloc);
+    for k in 0..n {
+        bits.append(is_one(code, k))?;
+    }
+    BpTree::from_bit_vector(bits)
+}
+
+// All lists of up to the longest, with blocks of `N` bits.
+fn compared_at<const N: usize>(alloc: Global) -> Result<Compared, GrowError> {
+    let mut all = Compared {
+        lists: 0,
+        searches: 0,
+        others: 0,
+        wrong: 0,
+    };
+    for n in 0..LONGEST + 1 {
+        for code in 0..1usize << n {
+            let sums = excesses(alloc, n, code)?;
+            let before = all;
+            all = asked(
+                tree_of_code::<N>(alloc, n, code),
+                |tree: &BpTree<N, Global>| {
+                    let mut after = before;
+                    after.note_tree(tree, sums.as_slice(), code);
+                    Ok(after)
+                },
+            )?;
+        }
+    }
+    Ok(all)
+}
+
+#[test]
+fn every_answer_is_that_of_a_scan() {
+    let rt = HostRuntime;
+    let wanted = Compared {
+        lists: LISTS,
+        searches: SEARCHES,
+        others: OTHERS,
+        wrong: 0,
+    };
+    let compared = [
+        compared_at::<1>(rt.alloc()),
+        compared_at::<3>(rt.alloc()),
+        compared_at::<8>(rt.alloc()),
+        compared_at::<12>(rt.alloc()),
+    ];
+    assert!(compared == [Ok(wanted); 4]);
+}

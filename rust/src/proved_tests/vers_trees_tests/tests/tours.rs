@@ -1,0 +1,150 @@
+//! Walks from a node of balanced parentheses, and over all nodes, by plain and by counted steps.
+
+use crate::rattle::prelude::*;
+
+use crate::proved_tests::vers_trees_tests::tests::nodes::{are_balanced, node_at};
+use crate::rattle::Allocator;
+use crate::proved::vers_tally::tally::Tally;
+use crate::proved::vers_trees::trees::bp::{BpTree, ChildrenIter, DfsIter, PostIter};
+
+/// A walk, whose steps have a counted form.
+trait Walk: Sized {
+    fn step(&mut self) -> Option<usize>;
+
+    fn step_counted(&mut self, tally: &mut Tally) -> Option<usize>;
+}
+
+impl<'a, const N: usize, A: Allocator + Copy> Walk for ChildrenIter<'a, N, true, A> {
+    fn step(&mut self) -> Option<usize> {
+        self.next()
+    }
+
+    fn step_counted(&mut self, tally: &mut Tally) -> Option<usize> {
+        self.next_counted(tally)
+    }
+}
+
+impl<'a, const N: usize, A: Allocator + Copy> Walk for ChildrenIter<'a, N, false, A> {
+    fn step(&mut self) -> Option<usize> {
+        self.next()
+    }
+
+    fn step_counted(&mut self, tally: &mut Tally) -> Option<usize> {
+        self.next_counted(tally)
+    }
+}
+
+impl<'a, A: Allocator + Copy> Walk for DfsIter<'a, A> {
+    fn step(&mut self) -> Option<usize> {
+        self.next()
+    }
+
+    fn step_counted(&mut self, tally: &mut Tally) -> Option<usize> {
+        self.next_counted(tally)
+    }
+}
+
+impl<'a, const N: usize, A: Allocator + Copy> Walk for PostIter<'a, N, A> {
+    fn step(&mut self) -> Option<usize> {
+        self.next()
+    }
+
+    fn step_counted(&mut self, tally: &mut Tally) -> Option<usize> {
+        self.next_counted(tally)
+    }
+}
+
+/// Which form the first step of a walk has. The forms take turns.
+#[derive(Clone, Copy, PartialEq)]
+pub enum First {
+    Plain,
+    Counted,
+}
+
+// Whether a walk gives just these nodes, and none ever after.
+fn gives<W: Walk>(mut walk: W, first: First, wanted: &[usize]) -> bool {
+    let mut tally = Tally::new();
+    let mut is_counted = first == First::Counted;
+    for node in wanted {
+        let given = if is_counted {
+            walk.step_counted(&mut tally)
+        } else {
+            walk.step()
+        };
+        if given != Some(*node) {
+            return false;
+        }
+        is_counted = !is_counted;
+    }
+    let past = [
+        walk.step_counted(&mut tally),
+        walk.step(),
+        walk.step(),
+        walk.step_counted(&mut tally),
+    ];
+    past == [None; 4]
+}
+
+/// A walk over nodes.
+#[derive(Clone, Copy)]
+pub enum Tour {
+    Children,
+    RevChildren,
+    Subtree,
+    SubtreePost,
+    Iter,
+    All,
+    AllPost,
+}
+
+/// All of them.
+pub const TOURS: [Tour; 7] = [
+    Tour::Children,
+    Tour::RevChildren,
+    Tour::Subtree,
+    Tour::SubtreePost,
+    Tour::Iter,
+    Tour::All,
+    Tour::AllPost,
+];
+
+// Whether a walk from a node gives just these nodes.
+fn tour_from<const N: usize, A: Allocator + Copy>(
+    tree: &BpTree<N, A>,
+    tour: Tour,
+    node: usize,
+    first: First,
+    wanted: &[usize],
+) -> bool {
+    match tour {
+        Tour::Children => gives(tree.children(node), first, wanted),
+        Tour::RevChildren => gives(tree.rev_children(node), first, wanted),
+        Tour::Subtree => gives(tree.subtree_iter(node), first, wanted),
+        _ => gives(tree.subtree_post_iter(node), first, wanted),
+    }
+}
+
+/// Whether a walk gives just these nodes, from the node at a place or, where it is over all nodes, from the
+/// first. None where the parentheses are not balanced, of which the walks over all ones may be asked, and
+/// where the place has no node.
+pub fn tour_gives<const N: usize, A: Allocator + Copy>(
+    tree: &BpTree<N, A>,
+    tour: Tour,
+    place: usize,
+    first: First,
+    wanted: &[usize],
+) -> Option<bool> {
+    match tour {
+        Tour::Iter => return Some(gives(tree.iter(), first, wanted)),
+        Tour::All => return Some(gives(tree.dfs_iter(), first, wanted)),
+        _ => {}
+    }
+    if !are_balanced(tree) {
+        return None;
+    }
+    if matches!(tour, Tour::AllPost) {
+        return Some(gives(tree.dfs_post_iter(), first, wanted));
+    }
+    let node = node_at(tree, place)?;
+    Some(tour_from(tree, tour, node, first, wanted))
+}

@@ -1,0 +1,232 @@
+//! Many queries at once, compared with worked values, with a plain list and with single queries.
+
+use crate::rattle::prelude::*;
+use crate::proved_tests::vers_wavelet_tests::tests::compared::{LISTS, count, found, kth};
+use crate::proved_tests::vers_wavelet_tests::tests::numbers::{WIDTH, falling_numbers, symbols_of};
+use crate::rattle::AllocError;
+use crate::rattle::Allocator;
+use crate::rattle::Global;
+use crate::proved_tests::test_alloc::{Check, is_made_right};
+use crate::proved::vers_wavelet::wavelet::{GetQuery, QuantileQuery, RankQuery, SelectQuery, WaveletMatrix};
+
+// More places than a list has, so that a batch asks past the end too.
+const PLACES: usize = 16;
+
+// Symbols to be asked for. Of 3 digits they are the eight that there are, and the first of them again.
+const SYMBOLS: [u64; 9] = [0, 1, 2, 3, 4, 5, 6, 7, 8];
+
+// Whether the symbols at all places, past the end too, are those of a plain list.
+fn gets_are_right<A: Allocator + Copy>(list: &WaveletMatrix<A>, numbers: &[u64]) -> bool {
+    let mut queries = [GetQuery::new(0); PLACES];
+    for (place, query) in queries.iter_mut().enumerate() {
+        *query = GetQuery::new(place);
+    }
+    list.get_u64_each(&mut queries);
+    for (place, query) in queries.iter().enumerate() {
+        let wanted = numbers.get(place).copied();
+        if query.answer != wanted || list.get_u64(place) != wanted {
+            return false;
+        }
+    }
+    true
+}
+
+// Whether each symbol is counted as in a plain list, in so many of its first places.
+fn ranks_are_right<A: Allocator + Copy>(
+    list: &WaveletMatrix<A>,
+    numbers: &[u64],
+    end: usize,
+) -> bool {
+    let mut queries = [RankQuery::new(end, 0); SYMBOLS.len()];
+    for (query, symbol) in queries.iter_mut().zip(&SYMBOLS) {
+        *query = RankQuery::new(end, *symbol);
+    }
+    list.rank_u64_each(&mut queries);
+    for (query, symbol) in queries.iter().zip(&SYMBOLS) {
+        let digits = *symbol % 8;
+        let wanted = match numbers.get(0..end) {
+            Some(part) => Some(count(part, digits, digits + 1)),
+            None => None,
+        };
+        if query.answer != wanted || list.rank_u64(end, *symbol) != wanted {
+            return false;
+        }
+    }
+    true
+}
+
+// Whether occurrence `rank` of each symbol is found where it is in a plain list.
+fn selects_are_right<A: Allocator + Copy>(
+    list: &WaveletMatrix<A>,
+    numbers: &[u64],
+    rank: usize,
+) -> bool {
+    let mut queries = [SelectQuery::new(rank, 0); SYMBOLS.len()];
+    for (query, symbol) in queries.iter_mut().zip(&SYMBOLS) {
+        *query = SelectQuery::new(rank, *symbol);
+    }
+    list.select_u64_each(&mut queries);
+    for (query, symbol) in queries.iter().zip(&SYMBOLS) {
+        let place = query.answer.map(|it| it as u64);
+        if place != found(numbers, rank, *symbol % 8)
+            || query.answer != list.select_u64(rank, *symbol)
+        {
+            return false;
+        }
+    }
+    true
+}
+
+// Whether the members by size of each range that begins at a place are those of a plain list.
+fn quantiles_are_right<A: Allocator + Copy>(
+    list: &WaveletMatrix<A>,
+    numbers: &[u64],
+    start: usize,
+    i: usize,
+) -> bool {
+    let mut queries = [QuantileQuery::new(start, 0, i); PLACES];
+    for (end, query) in queries.iter_mut().enumerate() {
+        *query = QuantileQuery::new(start, end, i);
+    }
+    list.quantile_u64_each(&mut queries);
+    for (end, query) in queries.iter().enumerate() {
+        let wanted = match numbers.get(start..end) {
+            Some(part) => kth(part, i),
+            None => None,
+        };
+        if query.answer != wanted || list.quantile_u64(start..end, i) != wanted {
+            return false;
+        }
+    }
+    true
+}
+
+// Whether that is so of each range and each number of a member.
+fn all_quantiles_are_right<A: Allocator + Copy>(list: &WaveletMatrix<A>, numbers: &[u64]) -> bool {
+    for start in 0..PLACES {
+        for i in 0..PLACES {
+            if !quantiles_are_right(list, numbers, start, i) {
+                return false;
+            }
+        }
+    }
+    true
+}
+
+// A plain list, as which symbols answer every batch.
+struct Plain<'a>(&'a [u64]);
+
+impl<A: Allocator + Copy> Check<WaveletMatrix<A>> for Plain<'_> {
+    fn is_right(&self, list: &mut WaveletMatrix<A>) -> bool {
+        for n in 0..PLACES {
+            if !ranks_are_right(list, self.0, n) || !selects_are_right(list, self.0, n) {
+                return false;
+            }
+        }
+        gets_are_right(list, self.0) && all_quantiles_are_right(list, self.0)
+    }
+}
+
+#[test]
+fn batches_as_a_plain_list() {
+    let rt = HostRuntime;
+    for numbers in LISTS {
+        assert!(is_made_right(symbols_of(rt.alloc(), numbers, 3), &Plain(numbers)));
+    }
+}
+
+// Batches with answers that were worked out by hand for the first of the lists. What was an answer before is
+// overwritten.
+struct Worked;
+
+impl<A: Allocator + Copy> Check<WaveletMatrix<A>> for Worked {
+    fn is_right(&self, list: &mut WaveletMatrix<A>) -> bool {
+        let mut gets = [
+            GetQuery {
+                place: 4,
+                answer: Some(9),
+            },
+            GetQuery {
+                place: usize::MAX,
+                answer: Some(9),
+            },
+            GetQuery::new(9),
+        ];
+        list.get_u64_each(&mut gets);
+        let mut ranks = [
+            RankQuery::new(10, 4),
+            RankQuery::new(2, 12),
+            RankQuery {
+                end: 11,
+                symbol: 4,
+                answer: Some(9),
+            },
+        ];
+        list.rank_u64_each(&mut ranks);
+        let mut selects = [
+            SelectQuery::new(2, 4),
+            SelectQuery::new(0, 8),
+            SelectQuery {
+                rank: 3,
+                symbol: 4,
+                answer: Some(9),
+            },
+            SelectQuery::new(usize::MAX, 1),
+        ];
+        list.select_u64_each(&mut selects);
+        let mut quantiles = [
+            QuantileQuery::new(1, 5, 1),
+            QuantileQuery::new(5, 1, 0),
+            QuantileQuery {
+                start: 0,
+                end: 11,
+                i: 0,
+                answer: Some(9),
+            },
+            QuantileQuery::new(0, 10, 9),
+        ];
+        list.quantile_u64_each(&mut quantiles);
+        gets.map(|it| it.answer) == [Some(3), None, Some(0)]
+            && ranks.map(|it| it.answer) == [Some(3), Some(1), None]
+            && selects.map(|it| it.answer) == [Some(6), Some(9), None, None]
+            && quantiles.map(|it| it.answer) == [Some(3), None, None, Some(4)]
+    }
+}
+
+#[test]
+fn batches_with_worked_answers() {
+    let rt = HostRuntime;
+    assert!(is_made_right(symbols_of(rt.alloc(), LISTS[0], 3), &Worked));
+}
+
+// Falling numbers from 64 on, each of them there twice.
+struct Twice;
+
+// More queries than ask a level together, some of which are for symbols that are not there.
+impl<A: Allocator + Copy> Check<WaveletMatrix<A>> for Twice {
+    fn is_right(&self, list: &mut WaveletMatrix<A>) -> bool {
+        let mut queries = [SelectQuery::new(0, 0); 200];
+        for (i, query) in queries.iter_mut().enumerate() {
+            *query = SelectQuery::new(i / 70, i as u64 % 70);
+        }
+        list.select_u64_each(&mut queries);
+        for (i, query) in queries.iter().enumerate() {
+            let place = (128 + i / 70).checked_sub(i % 70 * 2);
+            if query.answer != if i / 70 < 2 { place } else { None } {
+                return false;
+            }
+        }
+        true
+    }
+}
+
+fn twice_is_right(alloc: Global) -> Result<bool, AllocError> {
+    let numbers = falling_numbers(alloc, 130)?;
+    Ok(is_made_right(symbols_of(alloc, numbers.as_slice(), WIDTH), &Twice))
+}
+
+#[test]
+fn batches_of_several_groups() {
+    let rt = HostRuntime;
+    assert!(matches!(twice_is_right(rt.alloc()), Ok(true)));
+}

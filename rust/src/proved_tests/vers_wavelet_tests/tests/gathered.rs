@@ -1,0 +1,206 @@
+//! Where symbols are gathered, compared with a plain list and with values that were worked out by hand.
+
+use crate::rattle::prelude::*;
+use crate::proved_tests::vers_wavelet_tests::tests::compared::{LISTS, count};
+use crate::proved_tests::vers_wavelet_tests::tests::numbers::symbols_of;
+use crate::rattle::Allocator;
+use std::ops::Range;
+use crate::proved_tests::test_alloc::{Check, is_made_right};
+use crate::proved::vers_tally::tally::Tally;
+use crate::proved::vers_wavelet::wavelet::{Gathered, GatheredQuery, WaveletMatrix};
+
+// The number that the three digits of each symbol make from the lowest to the highest.
+const TURNED: [u64; 8] = [0, 4, 2, 6, 1, 5, 3, 7];
+
+// The most rank calls: two for each of three digits.
+const MOST: u64 = 6;
+
+fn turned(symbol: u64) -> u64 {
+    TURNED[(symbol % 8) as usize]
+}
+
+// How many of the first places hold a symbol.
+fn seen(numbers: &[u64], end: usize, symbol: u64) -> usize {
+    count(
+        numbers.get(0..end).unwrap_or(&[]),
+        symbol,
+        symbol.saturating_add(1),
+    )
+}
+
+// Where the first of a symbol from a place on goes in the order of the digits from the lowest to the highest.
+fn gathered(numbers: &[u64], place: usize, symbol: u64) -> usize {
+    let mut before = seen(numbers, place, symbol % 8);
+    for it in numbers {
+        if turned(*it) < turned(symbol) {
+            before = before.saturating_add(1);
+        }
+    }
+    before
+}
+
+fn ends(range: Option<Range<usize>>) -> Option<(usize, usize)> {
+    match range {
+        Some(range) => Some((range.start, range.end)),
+        None => None,
+    }
+}
+
+// Whether both forms of the call give the symbol at a place and where it goes, within their reads.
+fn is_gathered<A: Allocator + Copy>(
+    list: &WaveletMatrix<A>,
+    numbers: &[u64],
+    place: usize,
+) -> bool {
+    let mut tally = Tally::new();
+    let wanted = match numbers.get(place) {
+        Some(symbol) => Some(Gathered {
+            symbol: *symbol,
+            place: gathered(numbers, place, *symbol),
+        }),
+        None => None,
+    };
+    list.get_gathered_u64(place) == wanted
+        && list.get_gathered_u64_counted(place, &mut tally) == wanted
+        && tally.rank_calls() <= MOST
+}
+
+// Whether all forms of the call give where the first of each symbol from a place on goes, within their reads.
+fn is_place_gathered<A: Allocator + Copy>(
+    list: &WaveletMatrix<A>,
+    numbers: &[u64],
+    place: usize,
+) -> bool {
+    for symbol in 0..10 {
+        let mut tally = Tally::new();
+        let wanted = match numbers.get(0..place) {
+            Some(_) => Some(gathered(numbers, place, symbol)),
+            None => None,
+        };
+        if list.gathered_u64(place, symbol) != wanted
+            || list.gathered_u64_counted(place, symbol, &mut tally) != wanted
+            || tally.rank_calls() > MOST / 2
+        {
+            return false;
+        }
+        if place <= list.len() && list.bits_per_element() <= 64 {
+            let is_same = Some(list.gathered_u64_unchecked(place, symbol)) == wanted;
+            if !is_same {
+                return false;
+            }
+        }
+    }
+    true
+}
+
+// Whether a batch gives where the first of each symbol from a place on goes.
+fn are_gathered_together<A: Allocator + Copy>(
+    list: &WaveletMatrix<A>,
+    numbers: &[u64],
+    place: usize,
+) -> bool {
+    let mut queries = [GatheredQuery::new(place, 0); 10];
+    for (symbol, query) in queries.iter_mut().enumerate() {
+        *query = GatheredQuery::new(place, symbol as u64);
+    }
+    list.gathered_u64_each(&mut queries);
+    for (symbol, query) in queries.iter().enumerate() {
+        let wanted = match numbers.get(0..place) {
+            Some(_) => Some(gathered(numbers, place, symbol as u64)),
+            None => None,
+        };
+        if query.answer != wanted {
+            return false;
+        }
+    }
+    true
+}
+
+// Where the places from `a` on, before `b`, that hold a symbol go.
+fn range_gathered(numbers: &[u64], a: usize, b: usize, symbol: u64) -> Option<(usize, usize)> {
+    numbers.get(a..b)?;
+    let start = gathered(numbers, a, symbol);
+    let end = gathered(numbers, b, symbol);
+    if start < end {
+        Some((start, end))
+    } else {
+        None
+    }
+}
+
+// Whether both forms of the call give where the symbols of a range go, within their reads.
+fn is_range_gathered<A: Allocator + Copy>(
+    list: &WaveletMatrix<A>,
+    numbers: &[u64],
+    a: usize,
+    b: usize,
+) -> bool {
+    for symbol in 0..10 {
+        let mut tally = Tally::new();
+        let wanted = range_gathered(numbers, a, b, symbol);
+        let counted = list.gathered_range_u64_counted(a..b, symbol, &mut tally);
+        if ends(list.gathered_range_u64(a..b, symbol)) != wanted
+            || ends(counted) != wanted
+            || tally.rank_calls() > MOST
+        {
+            return false;
+        }
+    }
+    true
+}
+
+// A plain list, as which symbols are gathered.
+struct Plain<'a>(&'a [u64]);
+
+impl<A: Allocator + Copy> Check<WaveletMatrix<A>> for Plain<'_> {
+    fn is_right(&self, list: &mut WaveletMatrix<A>) -> bool {
+        let end = self.0.len().saturating_add(3);
+        for a in 0..end {
+            if !is_gathered(list, self.0, a)
+                || !is_place_gathered(list, self.0, a)
+                || !are_gathered_together(list, self.0, a)
+            {
+                return false;
+            }
+            for b in 0..end {
+                if !is_range_gathered(list, self.0, a, b) {
+                    return false;
+                }
+            }
+        }
+        is_gathered(list, self.0, usize::MAX)
+    }
+}
+
+#[test]
+fn gathered_as_a_plain_list() {
+    let rt = HostRuntime;
+    for numbers in LISTS {
+        assert!(is_made_right(symbols_of(rt.alloc(), numbers, 3), &Plain(numbers)));
+    }
+}
+
+// Values for the first of the lists, whose symbols are 0, 4, 4, 4, 2, 1, 1, 1, 3, 3 in the order of their digits from
+// the lowest to the highest.
+struct Worked;
+
+impl<A: Allocator + Copy> Check<WaveletMatrix<A>> for Worked {
+    fn is_right(&self, list: &mut WaveletMatrix<A>) -> bool {
+        let second_three = Gathered {
+            symbol: 3,
+            place: 9,
+        };
+        list.get_gathered_u64(7) == Some(second_three)
+            && list.gathered_u64(5, 3) == Some(9)
+            && list.gathered_u64(10, 5) == Some(8)
+            && ends(list.gathered_range_u64(0..10, 4)) == Some((1, 4))
+            && ends(list.gathered_range_u64(2..6, 9)) == Some((6, 8))
+            && ends(list.gathered_range_u64(4..6, 4)).is_none()
+    }
+}
+
+#[test]
+fn gathered_at_worked_places() {
+    let rt = HostRuntime;
+    assert!(is_made_right(symbols_of(rt.alloc(), LISTS[0], 3), &Worked));
+}

@@ -1,0 +1,301 @@
+//! Symbols that are lists of their bits, asked for the same answers as numbers.
+//!
+//! A refused answer stays one: it is never taken for none.
+
+use crate::rattle::prelude::*;
+use crate::proved_tests::vers_wavelet_tests::tests::numbers::{Query, answer, as_number, is_within, place_below};
+use crate::rattle::AllocError;
+use crate::rattle::Allocator;
+use crate::proved_tests::test_alloc::{Check, is_made_right};
+use crate::proved::vers_bits::bit_vec::{BitVec, GrowError};
+use crate::proved::vers_tally::tally::Tally;
+use crate::proved::vers_wavelet::wavelet::WaveletMatrix;
+
+/// What a query for lists of bits answers, as a number.
+pub type Told = Result<Option<u64>, AllocError>;
+
+/// The low bits of a number.
+pub fn symbol_of<A: Allocator + Copy>(
+    alloc: A,
+    number: u64,
+    width: usize,
+) -> Result<BitVec<A>, GrowError> {
+    BitVec::pack_sequence_u64(alloc, &[number], width)
+}
+
+/// The number of a list of at most 64 bits.
+pub fn number_of<A: Allocator + Copy>(symbol: &BitVec<A>) -> u64 {
+    symbol.get_bits(0, symbol.len()).unwrap_or(0)
+}
+
+// The number of three digits that stand at the first, the middle and the last place.
+fn number_of_digits<A: Allocator + Copy>(symbol: &BitVec<A>) -> u64 {
+    let first = symbol.get(0).unwrap_or(0);
+    let middle = symbol.get(symbol.len() / 2).unwrap_or(0);
+    let last = symbol.get(symbol.len().saturating_sub(1)).unwrap_or(0);
+    (first | middle << 1) | last << 2
+}
+
+/// What number a symbol that is a list of bits stands for.
+#[derive(Clone, Copy)]
+pub enum Coding {
+    /// That of its bits, of which there are at most 64.
+    Bits,
+    /// One of three digits, which are its first, its middle and its last bit. The others are zeros.
+    Digits,
+}
+
+// The number that a symbol stands for.
+fn number_by<A: Allocator + Copy>(coding: Coding, symbol: &BitVec<A>) -> u64 {
+    match coding {
+        Coding::Bits => number_of(symbol),
+        Coding::Digits => number_of_digits(symbol),
+    }
+}
+
+// The number of an answer that may be none.
+fn told<A: Allocator + Copy>(coding: Coding, found: Result<Option<BitVec<A>>, AllocError>) -> Told {
+    match found {
+        Ok(Some(symbol)) => Ok(Some(number_by(coding, &symbol))),
+        Ok(None) => Ok(None),
+        Err(fault) => Err(fault),
+    }
+}
+
+// The number of an answer that is there.
+fn told_one<A: Allocator + Copy>(coding: Coding, found: Result<BitVec<A>, AllocError>) -> Told {
+    match found {
+        Ok(symbol) => Ok(Some(number_by(coding, &symbol))),
+        Err(fault) => Err(fault),
+    }
+}
+
+// The answer of a query for a symbol that is a list of bits.
+fn answer_for<A: Allocator + Copy>(
+    list: &WaveletMatrix<A>,
+    query: Query,
+    coding: Coding,
+    symbol: &BitVec<A>,
+) -> Told {
+    match query {
+        Query::RankRange(a, b, _) => Ok(as_number(list.rank_range(a..b, symbol))),
+        Query::RankOffset(a, b, _) => Ok(as_number(list.rank_offset(a, b, symbol))),
+        Query::Rank(i, _) => Ok(as_number(list.rank(i, symbol))),
+        Query::SelectOffset(o, r, _) => Ok(as_number(list.select_offset(o, r, symbol))),
+        Query::Select(r, _) => Ok(as_number(list.select(r, symbol))),
+        Query::Predecessor(a, b, _) => told(coding, list.predecessor(a..b, symbol)),
+        Query::Successor(a, b, _) => told(coding, list.successor(a..b, symbol)),
+        _ => Ok(None),
+    }
+}
+
+// The same of the counted form.
+fn counted_for<A: Allocator + Copy>(
+    list: &WaveletMatrix<A>,
+    query: Query,
+    coding: Coding,
+    symbol: &BitVec<A>,
+    tally: &mut Tally,
+) -> Told {
+    match query {
+        Query::RankRange(a, b, _) => Ok(as_number(list.rank_range_counted(a..b, symbol, tally))),
+        Query::RankOffset(a, b, _) => Ok(as_number(list.rank_offset_counted(a, b, symbol, tally))),
+        Query::Rank(i, _) => Ok(as_number(list.rank_counted(i, symbol, tally))),
+        Query::SelectOffset(o, r, _) => {
+            Ok(as_number(list.select_offset_counted(o, r, symbol, tally)))
+        }
+        Query::Select(r, _) => Ok(as_number(list.select_counted(r, symbol, tally))),
+        Query::Predecessor(a, b, _) => told(coding, list.predecessor_counted(a..b, symbol, tally)),
+        Query::Successor(a, b, _) => told(coding, list.successor_counted(a..b, symbol, tally)),
+        _ => Ok(None),
+    }
+}
+
+// The same of the unchecked form, where there is one and its condition holds.
+fn unchecked_for<A: Allocator + Copy>(
+    list: &WaveletMatrix<A>,
+    query: Query,
+    coding: Coding,
+    symbol: &BitVec<A>,
+) -> Told {
+    let len = list.len();
+    if symbol.len() != list.bits_per_element() {
+        return answer_for(list, query, coding, symbol);
+    }
+    match query {
+        Query::RankRange(a, b, _) if a < len && a <= b && b <= len => {
+            Ok(Some(list.rank_range_unchecked(a..b, symbol) as u64))
+        }
+        Query::RankOffset(a, b, _) if a < len && a <= b && b <= len => {
+            Ok(Some(list.rank_offset_unchecked(a, b, symbol) as u64))
+        }
+        Query::Rank(i, _) if i <= len => Ok(Some(list.rank_unchecked(i, symbol) as u64)),
+        Query::SelectOffset(o, r, _) if o < len => {
+            Ok(place_below(list.select_offset_unchecked(o, r, symbol), len))
+        }
+        Query::Select(r, _) => Ok(place_below(list.select_unchecked(r, symbol), len)),
+        _ => answer_for(list, query, coding, symbol),
+    }
+}
+
+// The answer of a query that answers a symbol.
+fn symbol_answer<A: Allocator + Copy>(
+    list: &WaveletMatrix<A>,
+    query: Query,
+    coding: Coding,
+) -> Told {
+    match query {
+        Query::Get(i) => told(coding, list.get_value(i)),
+        Query::Quantile(a, b, i) => told(coding, list.quantile(a..b, i)),
+        Query::Sorted(i) => told(coding, list.get_sorted(i)),
+        Query::Min(a, b) => told(coding, list.range_min(a..b)),
+        Query::Max(a, b) => told(coding, list.range_max(a..b)),
+        Query::Median(a, b) => told(coding, list.range_median(a..b)),
+        _ => Ok(answer(list, query)),
+    }
+}
+
+// The same of the counted form.
+fn counted_symbol<A: Allocator + Copy>(
+    list: &WaveletMatrix<A>,
+    query: Query,
+    coding: Coding,
+    tally: &mut Tally,
+) -> Told {
+    match query {
+        Query::Get(i) => told(coding, list.get_value_counted(i, tally)),
+        Query::Quantile(a, b, i) => told(coding, list.quantile_counted(a..b, i, tally)),
+        Query::Sorted(i) => told(coding, list.get_sorted_counted(i, tally)),
+        Query::Min(a, b) => told(coding, list.range_min_counted(a..b, tally)),
+        Query::Max(a, b) => told(coding, list.range_max_counted(a..b, tally)),
+        Query::Median(a, b) => told(coding, list.range_median_counted(a..b, tally)),
+        _ => Ok(answer(list, query)),
+    }
+}
+
+// The same of the unchecked form, where its condition holds.
+fn unchecked_symbol<A: Allocator + Copy>(
+    list: &WaveletMatrix<A>,
+    query: Query,
+    coding: Coding,
+) -> Told {
+    let len = list.len();
+    match query {
+        Query::Get(i) if i < len => told_one(coding, list.get_value_unchecked(i)),
+        Query::Quantile(a, b, i) if a < b && b <= len && i < b - a => {
+            told_one(coding, list.quantile_unchecked(a..b, i))
+        }
+        Query::Sorted(i) if i < len => told_one(coding, list.get_sorted_unchecked(i)),
+        Query::Min(a, b) if a < b && b <= len => told_one(coding, list.range_min_unchecked(a..b)),
+        Query::Max(a, b) if a < b && b <= len => told_one(coding, list.range_max_unchecked(a..b)),
+        Query::Median(a, b) if a < b && b <= len => {
+            told_one(coding, list.range_median_unchecked(a..b))
+        }
+        _ => symbol_answer(list, query, coding),
+    }
+}
+
+/// The number of the symbol that a query is for, if it is for one.
+pub fn symbol_asked(query: Query) -> Option<u64> {
+    match query {
+        Query::RankRange(_, _, s)
+        | Query::RankOffset(_, _, s)
+        | Query::Rank(_, s)
+        | Query::SelectOffset(_, _, s)
+        | Query::Select(_, s)
+        | Query::Predecessor(_, _, s)
+        | Query::Successor(_, _, s) => Some(s),
+        _ => None,
+    }
+}
+
+/// In which form a query is asked. One whose condition doesn't hold is not asked unchecked.
+#[derive(Clone, Copy)]
+pub enum Form {
+    Plain,
+    Counted,
+    Unchecked,
+}
+
+/// The answer of a form of a query, for which a symbol of at most 64 bits is at hand.
+pub fn answer_in<A: Allocator + Copy>(
+    list: &WaveletMatrix<A>,
+    query: Query,
+    form: Form,
+    symbol: &BitVec<A>,
+) -> Told {
+    let is_for_symbol = symbol_asked(query).is_some();
+    let coding = Coding::Bits;
+    match form {
+        Form::Plain if is_for_symbol => answer_for(list, query, coding, symbol),
+        Form::Plain => symbol_answer(list, query, coding),
+        Form::Counted if is_for_symbol => {
+            counted_for(list, query, coding, symbol, &mut Tally::new())
+        }
+        Form::Counted => counted_symbol(list, query, coding, &mut Tally::new()),
+        Form::Unchecked if is_for_symbol => unchecked_for(list, query, coding, symbol),
+        Form::Unchecked => unchecked_symbol(list, query, coding),
+    }
+}
+
+/// A query of a list, how its symbols are read, and what it should answer.
+pub struct Asked<'a, A: Allocator + Copy> {
+    pub list: &'a WaveletMatrix<A>,
+    pub query: Query,
+    pub coding: Coding,
+    pub wanted: Option<u64>,
+}
+
+/// Whether all forms of a query for a symbol answer so, and the counted one within its reads.
+pub fn is_answered_to<A: Allocator + Copy>(asked: &Asked<'_, A>, symbol: &BitVec<A>) -> bool {
+    let wanted = Ok(asked.wanted);
+    let mut tally = Tally::new();
+    answer_for(asked.list, asked.query, asked.coding, symbol) == wanted
+        && counted_for(asked.list, asked.query, asked.coding, symbol, &mut tally) == wanted
+        && is_within(asked.list, &tally)
+        && unchecked_for(asked.list, asked.query, asked.coding, symbol) == wanted
+}
+
+impl<A: Allocator + Copy> Check<BitVec<A>> for Asked<'_, A> {
+    fn is_right(&self, symbol: &mut BitVec<A>) -> bool {
+        is_answered_to(self, symbol)
+    }
+}
+
+/// The same of a query that answers a symbol.
+pub fn is_symbol_answered<A: Allocator + Copy>(asked: &Asked<'_, A>) -> bool {
+    let wanted = Ok(asked.wanted);
+    let mut tally = Tally::new();
+    symbol_answer(asked.list, asked.query, asked.coding) == wanted
+        && counted_symbol(asked.list, asked.query, asked.coding, &mut tally) == wanted
+        && is_within(asked.list, &tally)
+        && unchecked_symbol(asked.list, asked.query, asked.coding) == wanted
+}
+
+/// Whether all forms of a query answer so, asked for the symbol where it is for one.
+pub fn is_answered_for<A: Allocator + Copy>(
+    asked: &Asked<'_, A>,
+    symbol: Result<BitVec<A>, GrowError>,
+) -> bool {
+    match symbol_asked(asked.query) {
+        Some(_) => is_made_right(symbol, asked),
+        None => is_symbol_answered(asked),
+    }
+}
+
+/// The same for a symbol of the low bits of the query's number.
+pub fn is_answered_in_lists<A: Allocator + Copy>(
+    alloc: A,
+    list: &WaveletMatrix<A>,
+    query: Query,
+    wanted: Option<u64>,
+) -> bool {
+    let number = symbol_asked(query).unwrap_or(0);
+    let asked = Asked {
+        list,
+        query,
+        coding: Coding::Bits,
+        wanted,
+    };
+    is_answered_for(&asked, symbol_of(alloc, number, list.bits_per_element()))
+}

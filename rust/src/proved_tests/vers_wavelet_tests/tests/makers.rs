@@ -1,0 +1,339 @@
+//! Makers of symbols: by stable sorting and by counting prefixes, of numbers and of lists of bits.
+
+use crate::rattle::prelude::*;
+use crate::rattle::AllocError;
+use crate::rattle::Allocator;
+use crate::rattle::Global;
+use crate::proved_tests::test_alloc::asked;
+use crate::proved::vers_bits::bit_vec::{BitVec, GrowError};
+use crate::proved::vers_wavelet::wavelet::WaveletMatrix;
+
+/// By which method symbols are made.
+#[derive(Clone, Copy)]
+pub enum Method {
+    Sorting,
+    Counting,
+}
+
+/// The symbols of numbers. Out of memory for a width that the maker isn't asked for.
+pub fn of_numbers<A: Allocator + Copy>(
+    alloc: A,
+    method: Method,
+    numbers: &[u64],
+    width: u16,
+) -> Result<WaveletMatrix<A>, AllocError> {
+    if width > 64 {
+        return Err(AllocError);
+    }
+    match method {
+        Method::Sorting => WaveletMatrix::from_slice(alloc, numbers, width),
+        Method::Counting => {
+            if width == 0 || width > 63 {
+                return Err(AllocError);
+            }
+            WaveletMatrix::from_slice_pc(alloc, numbers, width)
+        }
+    }
+}
+
+/// The symbols of a list of bits. Out of memory where the maker isn't asked for them.
+pub fn of_bits<A: Allocator + Copy>(
+    method: Method,
+    bits: &BitVec<A>,
+    width: u16,
+) -> Result<WaveletMatrix<A>, AllocError> {
+    if width == 0 || bits.len() % width as usize != 0 {
+        return Err(AllocError);
+    }
+    match method {
+        Method::Sorting => WaveletMatrix::from_bit_vec(bits, width),
+        Method::Counting => {
+            if width > 63 {
+                return Err(AllocError);
+            }
+            WaveletMatrix::from_bit_vec_pc(bits, width)
+        }
+    }
+}
+
+/// Whether a matrix has the numbers as its symbols.
+pub fn has_numbers<A: Allocator + Copy>(
+    symbols: &WaveletMatrix<A>,
+    width: u16,
+    numbers: &[u64],
+) -> bool {
+    for (place, number) in numbers.iter().enumerate() {
+        if symbols.get_u64(place) != Some(*number) {
+            return false;
+        }
+    }
+    symbols.len() == numbers.len() && symbols.bit_len() == width
+}
+
+// Numbers, a width, and the symbols that their low bits are.
+#[derive(Clone, Copy)]
+struct Row<'a> {
+    numbers: &'a [u64],
+    width: u16,
+    symbols: &'a [u64],
+}
+
+const HIGHEST: u64 = 1 << 63;
+
+// The number of the first row of which a maker makes other symbols.
+fn first_wrong_numbers(alloc: Global, method: Method, rows: &[Row]) -> Option<usize> {
+    for (at, row) in rows.iter().enumerate() {
+        let made = of_numbers(alloc, method, row.numbers, row.width);
+        let is_right = asked(made, |it| has_numbers(it, row.width, row.symbols));
+        if is_right != Ok(true) {
+            return Some(at);
+        }
+    }
+    None
+}
+
+// Numbers that count by their low bits.
+const LOW_BITS: [Row; 5] = [
+    Row {
+        numbers: &[9, 5, 3],
+        width: 3,
+        symbols: &[1, 5, 3],
+    },
+    Row {
+        numbers: &[2, 3, 4, 5],
+        width: 1,
+        symbols: &[0, 1, 0, 1],
+    },
+    Row {
+        numbers: &[7, 7, 6, 0, 7, 1],
+        width: 3,
+        symbols: &[7, 7, 6, 0, 7, 1],
+    },
+    Row {
+        numbers: &[],
+        width: 8,
+        symbols: &[],
+    },
+    Row {
+        numbers: &[u64::MAX, 0, 256],
+        width: 8,
+        symbols: &[255, 0, 0],
+    },
+];
+
+#[test]
+fn numbers_count_by_their_low_bits() {
+    let rt = HostRuntime;
+    let wrong = first_wrong_numbers(rt.alloc(), Method::Sorting, &LOW_BITS);
+    assert!(wrong.is_none());
+    let wrong = first_wrong_numbers(rt.alloc(), Method::Counting, &LOW_BITS);
+    assert!(wrong.is_none());
+}
+
+// Numbers of no bits, and of as many as there are.
+const ENDS: [Row; 5] = [
+    Row {
+        numbers: &[7, 7],
+        width: 0,
+        symbols: &[],
+    },
+    Row {
+        numbers: &[],
+        width: 0,
+        symbols: &[],
+    },
+    Row {
+        numbers: &[],
+        width: 64,
+        symbols: &[],
+    },
+    Row {
+        numbers: &[u64::MAX, 0, HIGHEST, 5],
+        width: 64,
+        symbols: &[u64::MAX, 0, HIGHEST, 5],
+    },
+    Row {
+        numbers: &[HIGHEST, 5],
+        width: 63,
+        symbols: &[0, 5],
+    },
+];
+
+#[test]
+fn numbers_of_no_bits_and_of_64_bits() {
+    let rt = HostRuntime;
+    let wrong = first_wrong_numbers(rt.alloc(), Method::Sorting, &ENDS);
+    assert!(wrong.is_none());
+}
+
+// How many symbols a maker makes of numbers.
+fn len_of(alloc: Global, method: Method, numbers: &[u64], width: u16) -> Result<usize, AllocError> {
+    asked(of_numbers(alloc, method, numbers, width), |it| it.len())
+}
+
+#[test]
+fn no_table_is_given_from_60_bits_on() {
+    let rt = HostRuntime;
+    for width in 60..64 {
+        let len = len_of(rt.alloc(), Method::Counting, &[], width);
+        assert!(len.is_err());
+    }
+}
+
+// Bit `i` of symbol `e`.
+fn is_one(e: usize, i: usize) -> bool {
+    e.wrapping_mul(e).wrapping_add(i.wrapping_mul(5)) % 7 < 3
+}
+
+/// Symbols of so many bits, one after another.
+pub fn packed<A: Allocator + Copy>(
+    alloc: A,
+    count: usize,
+    width: u16,
+) -> Result<BitVec<A>, GrowError> {
+    let mut bits = BitVec::new(alloc);
+    for e in 0..count {
+        for i in 0..width as usize {
+            bits.append(is_one(e, i))?;
+        }
+    }
+    Ok(bits)
+}
+
+// Whether a list has the bits of symbol `e`.
+fn has_bits<A: Allocator + Copy>(symbol: &BitVec<A>, width: u16, e: usize) -> bool {
+    for i in 0..width as usize {
+        if symbol.is_bit_set(i) != Some(is_one(e, i)) {
+            return false;
+        }
+    }
+    symbol.len() == width as usize
+}
+
+// What is asked of a symbol that may not be there.
+fn is_symbol<A: Allocator + Copy>(symbol: &Option<BitVec<A>>, width: u16, e: usize) -> bool {
+    match symbol {
+        Some(symbol) => has_bits(symbol, width, e),
+        None => false,
+    }
+}
+
+/// Whether a matrix has those symbols.
+pub fn has_symbols<A: Allocator + Copy>(
+    symbols: &WaveletMatrix<A>,
+    count: usize,
+    width: u16,
+) -> bool {
+    for e in 0..count {
+        if asked(symbols.get_value(e), |it| is_symbol(it, width, e)) != Ok(true) {
+            return false;
+        }
+    }
+    symbols.len() == count && symbols.bit_len() == width
+}
+
+// Whether a maker makes them.
+fn makes_symbols(alloc: Global, method: Method, count: usize, width: u16) -> bool {
+    let made = |bits: &BitVec<Global>| {
+        asked(
+            of_bits(method, bits, width),
+            |it| has_symbols(it, count, width),
+        )
+    };
+    matches!(asked(packed(alloc, count, width), made), Ok(Ok(true)))
+}
+
+// How many symbols there are: none, and numbers around the ends of 16 lanes, of words, of blocks and of
+// superblocks of a level.
+const COUNTS: [usize; 17] = [
+    0, 1, 2, 15, 16, 17, 63, 64, 65, 130, 511, 512, 513, 8191, 8192, 8193, 16385,
+];
+
+// The first width at which a maker does not make them, and how many they are.
+fn first_wrong_symbols(alloc: Global, method: Method, widths: &[u16]) -> Option<(u16, usize)> {
+    for width in widths {
+        for count in COUNTS {
+            if !makes_symbols(alloc, method, count, *width) {
+                return Some((*width, count));
+            }
+        }
+    }
+    None
+}
+
+#[test]
+fn symbols_are_parts_of_the_list() {
+    let rt = HostRuntime;
+    let widths = [1, 2, 63, 64, 65, 127];
+    let wrong = first_wrong_symbols(rt.alloc(), Method::Sorting, &widths);
+    assert!(wrong.is_none());
+}
+
+#[test]
+fn counting_makes_the_same_symbols() {
+    let rt = HostRuntime;
+    let wrong = first_wrong_symbols(rt.alloc(), Method::Counting, &[1, 2, 9, 16]);
+    assert!(wrong.is_none());
+}
+
+// The number of symbol `e`, of whose bits there are at most 64.
+fn number(e: usize, width: u16) -> u64 {
+    let mut number: u64 = 0;
+    for i in 0..u64::from(width.min(64)) {
+        number |= u64::from(is_one(e, i as usize)) << i;
+    }
+    number
+}
+
+// The numbers of so many symbols.
+fn numbers(alloc: Global, count: usize, width: u16) -> Result<Vec<u64>, AllocError> {
+    let mut numbers = Vec::new(alloc);
+    for e in 0..count {
+        numbers.push(number(e, width))?;
+    }
+    Ok(numbers)
+}
+
+// Whether a maker makes the symbols of those numbers.
+fn makes_numbers(alloc: Global, method: Method, count: usize, width: u16) -> bool {
+    let numbers = match numbers(alloc, count, width) { Ok(numbers) => numbers, _ => {
+        return false;
+    } };
+    let row = Row {
+        numbers: &numbers,
+        width,
+        symbols: &numbers,
+    };
+    first_wrong_numbers(alloc, method, &[row]).is_none()
+}
+
+// How many symbols of 9 bits a maker does not make of their numbers.
+fn first_wrong_count(alloc: Global, method: Method) -> Option<usize> {
+    for count in COUNTS {
+        if !makes_numbers(alloc, method, count, 9) {
+            return Some(count);
+        }
+    }
+    None
+}
+
+#[test]
+fn counting_makes_the_same_of_numbers() {
+    let rt = HostRuntime;
+    assert!(first_wrong_count(rt.alloc(), Method::Sorting).is_none());
+    assert!(first_wrong_count(rt.alloc(), Method::Counting).is_none());
+}
+
+#[test]
+fn the_widest_symbols() {
+    let rt = HostRuntime;
+    assert!(makes_symbols(rt.alloc(), Method::Sorting, 2, u16::MAX));
+    assert!(makes_symbols(rt.alloc(), Method::Sorting, 0, u16::MAX));
+}
+
+#[test]
+fn no_digits_are_no_symbols() {
+    let rt = HostRuntime;
+    let len = len_of(rt.alloc(), Method::Sorting, &[7, 2], 0);
+    assert!(matches!(len, Ok(0)));
+}

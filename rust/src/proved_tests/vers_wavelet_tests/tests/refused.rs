@@ -1,0 +1,377 @@
+//! Symbols that are handed out as lists of bits, each request for one refused in turn. A refused item of a walk
+//! counts as passed.
+
+use crate::rattle::prelude::*;
+use crate::proved_tests::vers_wavelet_tests::tests::lists::{Form, Told, answer_in, symbol_of};
+use crate::proved_tests::vers_wavelet_tests::tests::memory::{Heap, LENGTHS, sorted_walk_over, walk_over};
+use crate::proved_tests::vers_wavelet_tests::tests::numbers::{Falling, Query, WIDTH, falling_numbers, symbols_of};
+use crate::proved_tests::vers_wavelet_tests::tests::walks::{Walk, goes_on};
+use crate::rattle::AllocError;
+use crate::rattle::Allocator;
+use crate::rattle::Global;
+use crate::proved_tests::test_alloc::{
+    Ending, Making, Refusing, Step, Trial, Tried, done_if, first_wrong_trial, out_of_memory_if,
+    tried_on, try_making,
+};
+use crate::proved::vers_bits::bit_vec::BitVec;
+use crate::proved::vers_tally::tally::Tally;
+use crate::proved::vers_wavelet::wavelet::WaveletMatrix;
+
+// What is asked of all symbols, for the place in the middle or for its number by size.
+#[derive(Clone, Copy)]
+enum Topic {
+    Get,
+    Quantile,
+    Sorted,
+    Min,
+    Max,
+    Median,
+    Predecessor,
+    Successor,
+}
+
+impl Topic {
+    // The query about so many symbols.
+    fn query(self, len: usize) -> Query {
+        let i = len / 2;
+        let number = i as u64 / 2;
+        match self {
+            Topic::Get => Query::Get(i),
+            Topic::Quantile => Query::Quantile(0, len, i),
+            Topic::Sorted => Query::Sorted(i),
+            Topic::Min => Query::Min(0, len),
+            Topic::Max => Query::Max(0, len),
+            Topic::Median => Query::Median(0, len),
+            Topic::Predecessor => Query::Predecessor(0, len, number),
+            Topic::Successor => Query::Successor(0, len, number),
+        }
+    }
+
+    // What it answers about falling numbers, if there are any.
+    fn answer(self, len: usize) -> Option<u64> {
+        let last = len.checked_sub(1)? as u64;
+        let i = len as u64 / 2;
+        Some(match self {
+            Topic::Get => last.saturating_sub(i) / 2,
+            Topic::Min => 0,
+            Topic::Max => last / 2,
+            Topic::Median => last / 2 / 2,
+            _ => i / 2,
+        })
+    }
+}
+
+const TOPICS: [Topic; 8] = [
+    Topic::Get,
+    Topic::Quantile,
+    Topic::Sorted,
+    Topic::Min,
+    Topic::Max,
+    Topic::Median,
+    Topic::Predecessor,
+    Topic::Successor,
+];
+
+// A form of a query, whose answer is a symbol.
+#[derive(Clone, Copy)]
+struct Asking {
+    topic: Topic,
+    form: Form,
+}
+
+// The same of symbols that were made with a heap.
+struct Answering<'a> {
+    heap: &'a Heap,
+    asking: Asking,
+}
+
+// The same where a symbol is at hand for which the query is.
+struct AnsweringFor<'a, 'b> {
+    heap: &'a Heap,
+    asking: Asking,
+    list: &'b WaveletMatrix<&'a Heap>,
+}
+
+// The answer, as a number.
+struct Answer<'a, 'b, 'c> {
+    asking: Asking,
+    list: &'b WaveletMatrix<&'a Heap>,
+    symbol: &'c BitVec<&'a Heap>,
+}
+
+impl Making for Answer<'_, '_, '_> {
+    type Made = Option<u64>;
+
+    type Fault = AllocError;
+
+    fn out_of_memory(&self) -> AllocError {
+        AllocError
+    }
+
+    fn make(&self) -> Told {
+        let query = self.asking.topic.query(self.list.len());
+        answer_in(self.list, query, self.asking.form, self.symbol)
+    }
+
+    fn is_right(&self, number: &Option<u64>) -> bool {
+        *number == self.asking.topic.answer(self.list.len())
+    }
+}
+
+impl<'a> Tried<BitVec<&'a Heap>> for AnsweringFor<'a, '_> {
+    fn tried(&self, symbol: &BitVec<&'a Heap>) -> Ending {
+        let asking = self.asking;
+        let list = self.list;
+        try_making(
+            self.heap,
+            &Answer {
+                asking,
+                list,
+                symbol,
+            },
+        )
+    }
+}
+
+impl<'a> Tried<WaveletMatrix<&'a Heap>> for Answering<'a> {
+    fn tried(&self, list: &WaveletMatrix<&'a Heap>) -> Ending {
+        let heap = self.heap;
+        let asking = self.asking;
+        let number = list.len() as u64 / 2 / 2;
+        tried_on(
+            symbol_of(heap, number, WIDTH as usize),
+            &AnsweringFor { heap, asking, list },
+        )
+    }
+}
+
+impl Trial<Global> for Asking {
+    fn run(self, heap: &Heap, len: usize) -> Ending {
+        match falling_numbers(heap, len) {
+            Ok(numbers) => {
+                let list = symbols_of(heap, numbers.as_slice(), WIDTH);
+                tried_on(list, &Answering { heap, asking: self })
+            }
+            Err(_) => Ending::Wrong,
+        }
+    }
+
+    // An empty range has no symbol, and needs none.
+    fn takes_memory(self, len: usize) -> bool {
+        len > 0
+    }
+}
+
+// The first length at which a form of a query goes wrong.
+fn first_wrong_answer(alloc: Global) -> Option<(usize, usize)> {
+    for topic in TOPICS {
+        let forms = [
+            Asking {
+                topic,
+                form: Form::Plain,
+            },
+            Asking {
+                topic,
+                form: Form::Counted,
+            },
+            Asking {
+                topic,
+                form: Form::Unchecked,
+            },
+        ];
+        let wrong = first_wrong_trial(alloc, &LENGTHS, &forms);
+        if wrong.is_some() {
+            return wrong;
+        }
+    }
+    None
+}
+
+#[test]
+fn symbols_as_answers_are_refused_in_turn() {
+    let rt = HostRuntime;
+    assert!(first_wrong_answer(rt.alloc()).is_none());
+}
+
+// Which walk over lists of bits is taken.
+#[derive(Clone, Copy)]
+enum Way {
+    Borrowed,
+    BorrowedSorted,
+    Owned,
+    OwnedSorted,
+}
+
+const WAYS: [Way; 4] = [
+    Way::Borrowed,
+    Way::BorrowedSorted,
+    Way::Owned,
+    Way::OwnedSorted,
+];
+
+// How an item is taken from a walk.
+#[derive(Clone, Copy)]
+enum How {
+    Plain(Step),
+    Counted(Step),
+    Last,
+}
+
+const HOWS: [How; 9] = [
+    How::Plain(Step::Next),
+    How::Plain(Step::NextBack),
+    How::Plain(Step::Nth(1)),
+    How::Plain(Step::NthBack(2)),
+    How::Counted(Step::Next),
+    How::Counted(Step::NextBack),
+    How::Counted(Step::Nth(1)),
+    How::Counted(Step::NthBack(2)),
+    How::Last,
+];
+
+// An item that is taken from a walk.
+#[derive(Clone, Copy)]
+struct Taking {
+    way: Way,
+    how: How,
+}
+
+impl Taking {
+    // What the walk has to go through.
+    fn plain(self, len: usize) -> Falling {
+        match self.way {
+            Way::Borrowed | Way::Owned => Falling::new(len),
+            Way::BorrowedSorted | Way::OwnedSorted => Falling::new(len).by_size(),
+        }
+    }
+}
+
+// A step of a walk whose item may be refused. After it the walk goes on with the items that a plain list has then.
+fn tried_step<B: Allocator, W: Walk>(
+    heap: &Refusing<B>,
+    walk: &mut W,
+    step: Step,
+    is_counted: bool,
+    plain: Falling,
+) -> Ending {
+    let mut plain = plain;
+    let wanted = plain.take(step);
+    heap.start();
+    let found = if is_counted {
+        walk.told_counted(step, &mut Tally::new())
+    } else {
+        walk.told(step)
+    };
+    heap.allow_all();
+    match found {
+        Ok(number) => done_if(number == wanted && goes_on(walk, plain)),
+        Err(AllocError) => out_of_memory_if(goes_on(walk, plain)),
+    }
+}
+
+fn tried_last<B: Allocator, W: Walk>(heap: &Refusing<B>, walk: W, plain: Falling) -> Ending {
+    let mut plain = plain;
+    heap.start();
+    match walk.told_last() {
+        Ok(number) => done_if(number == plain.take(Step::NextBack)),
+        Err(AllocError) => Ending::OutOfMemory,
+    }
+}
+
+// An item of a walk that was made.
+fn tried_walk<B: Allocator, W: Walk, X: Sized>(
+    heap: &Refusing<B>,
+    made: Result<W, X>,
+    how: How,
+    plain: Falling,
+) -> Ending {
+    let mut walk = match made { Ok(walk) => walk, _ => {
+        return Ending::Wrong;
+    } };
+    match how {
+        How::Plain(step) => tried_step(heap, &mut walk, step, false, plain),
+        How::Counted(step) => tried_step(heap, &mut walk, step, true, plain),
+        How::Last => tried_last(heap, walk, plain),
+    }
+}
+
+// The same of a walk that borrows symbols.
+struct Borrowing<'a, B: Allocator> {
+    heap: &'a Refusing<B>,
+    taking: Taking,
+}
+
+impl<B: Allocator, A: Allocator + Copy> Tried<WaveletMatrix<A>> for Borrowing<'_, B> {
+    fn tried(&self, list: &WaveletMatrix<A>) -> Ending {
+        let how = self.taking.how;
+        let plain = self.taking.plain(list.len());
+        match self.taking.way {
+            Way::Borrowed | Way::Owned => {
+                tried_walk(self.heap, Ok::<_, AllocError>(list.iter()), how, plain)
+            }
+            Way::BorrowedSorted | Way::OwnedSorted => {
+                tried_walk(
+                    self.heap,
+                    Ok::<_, AllocError>(list.iter_sorted()),
+                    how,
+                    plain,
+                )
+            }
+        }
+    }
+}
+
+fn tried_taking<B: Allocator, A: Allocator + Copy>(
+    heap: &Refusing<B>,
+    alloc: A,
+    taking: Taking,
+    numbers: &[u64],
+) -> Ending {
+    let how = taking.how;
+    let plain = taking.plain(numbers.len());
+    match taking.way {
+        Way::Owned => tried_walk(heap, walk_over(alloc, numbers), how, plain),
+        Way::OwnedSorted => tried_walk(heap, sorted_walk_over(alloc, numbers), how, plain),
+        Way::Borrowed | Way::BorrowedSorted => {
+            let borrowing = Borrowing { heap, taking };
+            tried_on(symbols_of(alloc, numbers, WIDTH), &borrowing)
+        }
+    }
+}
+
+impl Trial<Global> for Taking {
+    fn run(self, heap: &Heap, len: usize) -> Ending {
+        match falling_numbers(heap, len) {
+            Ok(numbers) => tried_taking(heap, heap, self, numbers.as_slice()),
+            Err(_) => Ending::Wrong,
+        }
+    }
+
+    // Only an item that is there takes memory.
+    fn takes_memory(self, len: usize) -> bool {
+        let mut plain = self.plain(len);
+        match self.how {
+            How::Plain(step) | How::Counted(step) => plain.take(step).is_some(),
+            How::Last => len > 0,
+        }
+    }
+}
+
+// The first length at which an item goes wrong.
+fn first_wrong_item(alloc: Global) -> Option<(usize, usize)> {
+    for way in WAYS {
+        for how in HOWS {
+            let wrong = first_wrong_trial(alloc, &LENGTHS, &[Taking { way, how }]);
+            if wrong.is_some() {
+                return wrong;
+            }
+        }
+    }
+    None
+}
+
+#[test]
+fn refused_items_are_passed() {
+    let rt = HostRuntime;
+    assert!(first_wrong_item(rt.alloc()).is_none());
+}

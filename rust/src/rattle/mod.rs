@@ -1,0 +1,88 @@
+//! What Rattle's standard library has and Rust's lacks, as far as the proved sources use it.
+//!
+//! All of it is safe Rust. The proofs are over the contracts that Rattle's library gives these names, so each body here is to do what the
+//! contract of that name says.
+
+pub mod io;
+pub mod lanes;
+#[cfg(mutants)]
+pub mod mutants;
+pub mod older;
+#[cfg(test)]
+pub mod reads;
+#[cfg(test)]
+pub mod testing;
+mod vec;
+
+pub use vec::Vec;
+
+/// The names that every proved file sees.
+pub mod prelude {
+    pub use super::older::{Arrays, AsArrays, CeilingQuotient, InOrder};
+    #[cfg(test)]
+    pub use super::testing::HostRuntime;
+    pub use super::{Clone, Vec};
+}
+
+/// The allocator refused.
+#[derive(Clone, Copy, PartialEq, Eq, Debug)]
+pub struct AllocError;
+
+impl core::fmt::Display for AllocError {
+    fn fmt(&self, f: &mut core::fmt::Formatter<'_>) -> core::fmt::Result {
+        f.write_str("memory allocation failed")
+    }
+}
+
+impl std::error::Error for AllocError {}
+
+/// An item that found no memory.
+#[derive(Clone, Copy, Debug)]
+pub struct AllocFailed<T>(pub T);
+
+impl<T> From<AllocFailed<T>> for AllocError {
+    fn from(_: AllocFailed<T>) -> AllocError {
+        AllocError
+    }
+}
+
+/// Where memory comes from: the heap of the program, in plain Rust. An allocator is told of each request before it is made, and may
+/// refuse it.
+pub trait Allocator {
+    /// So many bytes are asked for.
+    ///
+    /// # Errors
+    /// Where they are refused.
+    #[inline(always)]
+    fn request(&self, _bytes: usize) -> Result<(), AllocError> {
+        Ok(())
+    }
+
+    /// So many bytes, which were asked for, are given back.
+    #[inline(always)]
+    fn release(&self, _bytes: usize) {}
+}
+
+/// The heap of the program.
+#[derive(Clone, Copy, PartialEq, Eq, Debug, Default)]
+pub struct Global;
+
+impl Allocator for Global {}
+
+impl<A: Allocator> Allocator for &A {
+    #[inline(always)]
+    fn request(&self, bytes: usize) -> Result<(), AllocError> {
+        A::request(self, bytes)
+    }
+
+    #[inline(always)]
+    fn release(&self, bytes: usize) {
+        A::release(self, bytes);
+    }
+}
+
+/// A second value, which may find no memory.
+pub trait Clone: Sized {
+    /// Makes the second value.
+    fn clone(&self) -> Result<Self, AllocError>;
+}

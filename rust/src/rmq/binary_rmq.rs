@@ -1,0 +1,74 @@
+//! Range minima by a table.
+
+use super::{minima, places};
+use crate::contracts::contract;
+use crate::error::{granted, BuildError};
+use crate::proved::vers_rmq::rmq::binary_rmq as proved;
+use crate::proved::vers_tally::tally::Uncounted;
+use crate::rattle::Global;
+use crate::reads::Tally;
+use crate::saved::{LoadError, SaveError, Saved};
+use std::ops::{Deref, RangeBounds};
+
+minima! {
+    /// A list of values that finds the place of a least value of any range in constant time, by a table of four bytes
+    /// for each value and power of two. It takes at most `u32::MAX` values, and can't change. [`Vec`]'s calls that read
+    /// are there too.
+    ///
+    /// ```
+    /// use vers_vecs::BinaryRmq;
+    ///
+    /// let values = BinaryRmq::from_vec(vec![5, 3, 8, 3]);
+    /// assert_eq!(values.range_min(0, 3), 1);
+    /// assert_eq!(values.range_min_with_range(2..), 3);
+    /// ```
+    BinaryRmq, proved::BinaryRmq<Global>, proved::MAX_LEN
+}
+
+/// A value with its place.
+#[derive(Clone, Copy, PartialEq, Eq, Hash, Debug)]
+pub struct PlacedItem {
+    /// The place of the value.
+    pub place: usize,
+    /// The value.
+    pub value: u64,
+}
+
+/// Least values with their places.
+impl BinaryRmq {
+    /// Returns a least value from place `i` to place `j`, both included, with its first place, in O(1).
+    ///
+    /// # Panics
+    /// If `i` is above `j`, or `j` is past the end.
+    #[doc = contract!(BinaryRmq::range_min_item)]
+    #[must_use]
+    #[inline]
+    pub fn range_min_item(&self, i: usize, j: usize) -> PlacedItem {
+        assert!(i <= j && j < self.index.len(), "the list has no range from {} to {}", i, j);
+        let found = self.index.range_min_item(i, j);
+        PlacedItem { place: found.place, value: found.value }
+    }
+
+    /// Answers as [`range_min_item`](Self::range_min_item), and adds what is read to `tally`.
+    ///
+    /// # Panics
+    /// If `i` is above `j`, or `j` is past the end.
+    #[doc = contract!(BinaryRmq::range_min_item_counted)]
+    #[inline]
+    pub fn range_min_item_counted(&self, i: usize, j: usize, tally: &mut Tally) -> PlacedItem {
+        assert!(i <= j && j < self.index.len(), "the list has no range from {} to {}", i, j);
+        let found = self.index.range_min_item_counted(i, j, &mut tally.0);
+        PlacedItem { place: found.place, value: found.value }
+    }
+
+    /// Returns the value at `place`, and adds what is read to `tally`.
+    ///
+    /// # Panics
+    /// If `place` is past the end.
+    #[doc = contract!(BinaryRmq::item_counted)]
+    #[inline]
+    pub fn item_counted(&self, place: usize, tally: &mut Tally) -> u64 {
+        assert!(place < self.index.len(), "the list has no value at {}", place);
+        self.index.item_counted(place, &mut tally.0)
+    }
+}

@@ -1,0 +1,131 @@
+//! Texts in which patterns are found, which the crate vers-vecs doesn't have.
+
+use crate::contracts::contract;
+use crate::error::{granted, BuildError};
+use crate::items::{clones, counted, lengths, shows};
+use crate::proved::text_index as proved;
+use crate::rattle::Global;
+use crate::reads::Tally;
+use std::ops::Range;
+
+/// The distance of two sampled places, if the caller doesn't choose it.
+const DEFAULT_STEP: usize = 32;
+
+/// A compressed text of symbols that counts and finds patterns. The empty pattern occurs at each place and at the end.
+///
+/// ```
+/// use vers_vecs::text::TextIndex;
+///
+/// let symbols: Vec<u64> = "abracadabra".bytes().map(u64::from).collect();
+/// let text = TextIndex::from_slice(&symbols, 8).unwrap();
+/// let pattern = symbols[..4].to_vec();
+/// assert_eq!(text.count(&pattern), 2);
+/// assert_eq!(text.places(&pattern), [0, 7]);
+/// assert_eq!(text.extract(7..11), Some(pattern));
+/// ```
+pub struct TextIndex {
+    text: proved::TextIndex<Global>,
+}
+
+impl TextIndex {
+    /// Indexes some symbols, with a sampled place for each 32.
+    ///
+    /// # Errors
+    /// Those of [`with_step`](Self::with_step).
+    #[doc = contract!(TextIndex::from_slice)]
+    pub fn from_slice(symbols: &[u64], bits_per_symbol: u16) -> Result<Self, BuildError> {
+        TextIndex::with_step(symbols, bits_per_symbol, DEFAULT_STEP)
+    }
+
+    /// Indexes some symbols, with a sampled place for each `step`: finding a place takes fewer than `step` steps, and a
+    /// smaller `step` more memory.
+    ///
+    /// # Errors
+    /// `UnsupportedWidth` if `bits_per_symbol` is 0 or above 16, `SymbolTooWide` if a symbol has more bits, `ZeroStep`,
+    /// `TooLong` if there are more than 2^32 - 2 symbols, and `OutOfMemory`.
+    #[doc = contract!(TextIndex::with_step)]
+    pub fn with_step(symbols: &[u64], bits_per_symbol: u16, step: usize) -> Result<Self, BuildError> {
+        match proved::TextIndex::with_step(Global, symbols, bits_per_symbol, step) {
+            Ok(text) => Ok(TextIndex { text }),
+            Err(proved::TextError::WidthOutOfRange) => Err(BuildError::UnsupportedWidth { bits: bits_per_symbol }),
+            Err(proved::TextError::NoStep) => Err(BuildError::ZeroStep),
+            Err(proved::TextError::TooLong) => Err(BuildError::TooLong),
+            Err(proved::TextError::WideSymbol) => {
+                let is_narrow = |symbol: &&u64| **symbol >> bits_per_symbol == 0;
+                Err(BuildError::SymbolTooWide { position: symbols.iter().take_while(is_narrow).count() })
+            }
+            Err(proved::TextError::Memory) => Err(BuildError::OutOfMemory),
+        }
+    }
+
+    /// Returns the number of bits of a symbol.
+    #[doc = contract!(TextIndex::bits_per_symbol)]
+    #[must_use]
+    pub fn bits_per_symbol(&self) -> u16 {
+        self.text.bits_per_symbol()
+    }
+
+    /// Returns the distance of two sampled places.
+    #[doc = contract!(TextIndex::step)]
+    #[must_use]
+    pub fn step(&self) -> usize {
+        self.text.step()
+    }
+
+    /// Returns how often a pattern occurs. The cost depends on the pattern's length and the width, not on the text's
+    /// length.
+    #[doc = contract!(TextIndex::count)]
+    #[must_use]
+    pub fn count(&self, pattern: &[u64]) -> usize {
+        self.text.count(pattern)
+    }
+
+    /// Returns true if a pattern occurs.
+    #[doc = contract!(TextIndex::contains)]
+    #[must_use]
+    pub fn contains(&self, pattern: &[u64]) -> bool {
+        self.text.contains(pattern)
+    }
+
+    /// Returns all places of a pattern, ascending.
+    #[doc = contract!(TextIndex::places_ascending)]
+    #[must_use]
+    pub fn places(&self, pattern: &[u64]) -> Vec<usize> {
+        granted(self.text.places_ascending(pattern)).into_plain()
+    }
+
+    /// Returns at most `limit` places of a pattern, in no certain order.
+    #[doc = contract!(TextIndex::first_places)]
+    #[must_use]
+    pub fn first_places(&self, pattern: &[u64], limit: usize) -> Vec<usize> {
+        granted(self.text.first_places(pattern, limit)).into_plain()
+    }
+
+    /// Returns the symbols of a range. `None` if the range ends past the end, or before its start.
+    #[doc = contract!(TextIndex::extract)]
+    #[must_use]
+    pub fn extract(&self, range: Range<usize>) -> Option<Vec<u64>> {
+        Some(granted(self.text.extract(range))?.into_plain())
+    }
+
+    /// Answers as [`extract`](Self::extract), and adds what is read to `tally`.
+    #[doc = contract!(TextIndex::extract_counted)]
+    pub fn extract_counted(&self, range: Range<usize>, tally: &mut Tally) -> Option<Vec<u64>> {
+        Some(granted(self.text.extract_counted(range, &mut tally.0))?.into_plain())
+    }
+
+    /// Answers as [`first_places`](Self::first_places), and adds what is read to `tally`.
+    #[doc = contract!(TextIndex::first_places_counted)]
+    pub fn first_places_counted(&self, pattern: &[u64], limit: usize, tally: &mut Tally) -> Vec<usize> {
+        granted(self.text.first_places_counted(pattern, limit, &mut tally.0)).into_plain()
+    }
+}
+
+counted! { TextIndex, text:
+    count_counted, count(pattern: &[u64]) -> usize;
+    contains_counted, contains(pattern: &[u64]) -> bool;
+}
+
+clones!(TextIndex, text);
+shows!(TextIndex, "symbols", |text| text.extract(0..text.len().min(40)).unwrap_or_default().into_iter());
+lengths!(TextIndex, text, "symbols", usize);

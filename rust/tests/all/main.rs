@@ -1,0 +1,15 @@
+//! All tests of the public calls, in one program, so that each structure is compiled once.
+mod bits;
+mod counted;
+mod features;
+mod makers;
+mod numbers;
+mod panics;
+mod plain;
+mod postings;
+mod saved;
+mod symbols;
+mod text;
+mod threads;
+mod traits;
+mod trees;

@@ -1,0 +1,205 @@
+//! Each panic of the documentation, with its message: where the proved layer requires something, no call that breaks it
+//! gets there.
+// Ranges that end before they start are asked for on purpose.
+#![allow(clippy::reversed_empty_ranges)]
+
+use std::panic::{catch_unwind, AssertUnwindSafe};
+use vers_vecs::reads::Tally;
+use vers_vecs::{BinaryRmq, BitVec, BpTree, EliasFanoVec, FastRmq, RsVec, SparseRSVec, WaveletMatrix};
+
+/// Makes a call, and returns the message of its panic.
+fn message<T>(call: impl FnOnce() -> T) -> String {
+    match catch_unwind(AssertUnwindSafe(call)).map(drop).map_err(|panic| panic.downcast::<String>()) {
+        Ok(()) => "no panic".into(),
+        Err(Ok(text)) => *text,
+        Err(Err(panic)) => panic.downcast_ref::<&str>().map_or("another payload".into(), |text| text.to_string()),
+    }
+}
+
+macro_rules! stops {
+    ($($expected:literal: $call:expr;)*) => {
+        $({
+            let message = message(|| $call);
+            assert!(message.contains($expected), "{}: {message}", stringify!($call));
+        })*
+    };
+}
+
+const FAR: usize = usize::MAX;
+
+#[test]
+fn lists_of_bits_stop() {
+    let mut bits = BitVec::from_ones(70);
+    stops! {
+        "at most 64": bits.append_bits(1, 65);
+        "at most 64": bits.append_bits_unchecked(1, FAR);
+        "no bit at 70": bits.flip_bit(70);
+        "no word has a bit at 128": bits.flip_bit_unchecked(128);
+        "no word has a bit at 128": bits.set_unchecked(128, 1);
+        "no word has a bit at 128": bits.get_unchecked(128);
+        "no word has a bit": bits.is_bit_set_unchecked(FAR);
+        "no word has a bit at 129": bits.get_bits_unchecked(70, 60);
+        "no word has a bit": bits.get_bits_unchecked(FAR, 2);
+        "at most 64": bits.get_bits_unchecked(0, 65);
+        "at most 64": bits.unpack_element_unchecked(0, 65);
+        "no word has a bit": bits.unpack_element_unchecked(FAR, 64);
+        "can't be split at 71": bits.clone().split_at_unchecked(71);
+        "too many items": BitVec::from_zeros(FAR);
+    }
+    assert_eq!(bits, BitVec::from_ones(70), "a call that panics changes nothing");
+    assert_eq!((bits.get_bits_unchecked(1000, 0), bits.get_bits_unchecked(60, 20)), (0, (1 << 10) - 1));
+    assert_eq!((bits.unpack_element_unchecked(3, 0), bits.unpack_element_unchecked(2, 32)), (0, 63));
+    assert_eq!((bits.get_unchecked(100), bits.is_bit_set_unchecked(127)), (0, false));
+}
+
+#[test]
+fn masks_stop() {
+    let (bits, mask) = (BitVec::from_ones(70), BitVec::from_zeros(70));
+    let masked = bits.mask_or(&mask).unwrap();
+    stops! {
+        "no bit at 70": masked.get_unchecked(70);
+        "no bit at 128": masked.is_bit_set_unchecked(128);
+        "no 2 bits from 69 on": masked.get_bits_unchecked(69, 2);
+        "no 65 bits from 0 on": masked.get_bits_unchecked(0, 65);
+    }
+    assert_eq!(masked.get_bits_unchecked(FAR, 0), 0);
+    let text = bits.mask_and(&BitVec::new()).err().unwrap();
+    assert_eq!(text, "mask cannot have different length than vector");
+}
+
+#[test]
+fn indexed_bits_stop() {
+    let bits = RsVec::from_bit_vec(BitVec::from_ones(70));
+    stops! {
+        "no bit at 70": bits.get_unchecked(70);
+        "no bit at 70": bits.is_one_counted(70, &mut Tally::new());
+        "no 2 bits from 69 on": bits.get_bits_unchecked(69, 2);
+        "no 65 bits from 0 on": bits.get_bits_unchecked(0, 65);
+        "bits from": bits.get_bits_unchecked(FAR, 64);
+        "ascend, and the one at position 1 does not": SparseRSVec::new(&[5, 5], 10);
+        "position 1 is not below the length": SparseRSVec::new(&[5, 10], 10);
+        "no number at 2": EliasFanoVec::from_slice(&[5, 5]).get_unchecked(2);
+        "must ascend": EliasFanoVec::from_slice(&[5, 4]);
+        "at most 4": EliasFanoVec::from_slice(&[5]).predecessor_unchecked(4);
+        "at least 6": EliasFanoVec::from_slice(&[5]).successor_unchecked(6);
+    }
+    assert_eq!(bits.get_bits_unchecked(70, 0), 0);
+}
+
+#[test]
+fn minima_stop() {
+    let values = vec![3, 1, 2];
+    let (binary, fast) = (BinaryRmq::from_vec(values.clone()), FastRmq::from_vec(values));
+    let mut tally = Tally::new();
+    stops! {
+        "no range from 1 to 3": binary.range_min(1, 3);
+        "no range from 2 to 1": fast.range_min(2, 1);
+        "no range": binary.range_min_counted(0, FAR, &mut tally);
+        "no range": fast.range_min_counted(0, 3, &mut tally);
+        "no range": binary.range_min_item(2, 1);
+        "no range": binary.range_min_item_counted(0, 3, &mut tally);
+        "no value at 3": binary.item_counted(3, &mut tally);
+        "no range from 2 to 0": fast.range_min_with_range(2..1);
+        "the range is empty": binary.range_min_with_range(0..0);
+        "no range from 2 to 0": fast.range_min_with_range_counted(2..1, &mut tally);
+        "no values": BinaryRmq::default().range_min_with_range(..);
+        "no values": FastRmq::default().range_min_with_range(0..=0);
+    }
+    use std::ops::Bound::{Excluded, Unbounded};
+    assert_eq!(fast.range_min_with_range((Excluded(FAR), Unbounded)), 2);
+}
+
+#[test]
+fn symbols_stop() {
+    let list = WaveletMatrix::from_slice(&[5, 1, 7], 3);
+    let wide = WaveletMatrix::from_bit_vec(&BitVec::from_ones(130), 65);
+    let narrow = BitVec::from_zeros(2);
+    stops! {
+        "can't have 0 bits": WaveletMatrix::from_bit_vec(&narrow, 0);
+        "no multiple": WaveletMatrix::from_bit_vec(&BitVec::from_zeros(10), 3);
+        "at most 64": WaveletMatrix::from_slice(&[1], 65);
+        "at most 64": WaveletMatrix::from_bit_vec_pc(&BitVec::from_zeros(130), 65);
+        "more bits": WaveletMatrix::from_slice_pc(&[8], 3);
+        "can't have 0 bits": WaveletMatrix::from_slice_pc(&[0], 0);
+        "no symbol at 3": list.get_value_unchecked(3);
+        "no number at 3": list.get_u64_unchecked(3);
+        "no number at 0": wide.get_u64_unchecked(0);
+        "too few bits": list.rank_unchecked(3, &narrow);
+        "too few bits": list.select_unchecked(3, &narrow);
+        "reversed": list.rank_range_unchecked(2..1, &narrow);
+        "reversed": list.rank_offset_u64_unchecked(2, 1, 0);
+        "more than 64": wide.rank_u64_unchecked(0, 0);
+        "more than 64": wide.rank_range_u64_unchecked(0..1, 0);
+        "more than 64": wide.select_u64_unchecked(0, 0);
+        "more than 64": wide.select_offset_u64_unchecked(0, 0, 0);
+        "no such symbol": list.quantile_unchecked(0..3, 3);
+        "no such symbol": list.get_sorted_unchecked(3);
+        "no such symbol": list.range_min_unchecked(1..1);
+        "no such symbol": list.range_max_unchecked(2..4);
+        "no such symbol": list.range_median_unchecked(2..1);
+        "no such number": list.quantile_u64_unchecked(0..3, 3);
+        "no such number": wide.get_sorted_u64_unchecked(0);
+        "no such number": list.range_min_u64_unchecked(1..1);
+        "no such number": list.range_max_u64_unchecked(2..4);
+        "no such number": wide.range_median_u64_unchecked(0..1);
+        "different lengths": list.rank_u64_each(&mut [1], &[], 0);
+        "different lengths": list.select_u64_each(&mut [], &[1], 0);
+        "different lengths": list.quantile_u64_each(&mut [1, 2], &[0..1, 0..1, 0..1], 0);
+        "different lengths": list.gathered_u64_each_counted(&mut [1], &[], 0, &mut Tally::new());
+    }
+    // places past the end are left out
+    assert_eq!((list.rank_u64_unchecked(9, 7), list.rank_range_u64_unchecked(3..9, 7)), (1, 0));
+    assert_eq!((list.select_offset_u64_unchecked(9, 0, 7), list.select_u64_unchecked(1, 7)), (3, 3));
+    let seven = BitVec::from_ones(4);
+    assert_eq!((list.rank_unchecked(9, &seven), list.select_offset_unchecked(9, 0, &seven)), (1, 3));
+}
+
+#[test]
+fn counted_calls_of_no_node_stop() {
+    let tree: BpTree = BpTree::from_bit_vector(BitVec::from_bits(&[1, 1, 0, 0]));
+    let open: BpTree = BpTree::from_bit_vector(BitVec::from_ones(4));
+    let tally = &mut Tally::new();
+    for (tree, node) in [(&tree, 2), (&tree, 4), (&tree, FAR), (&open, 0)] {
+        stops! {
+            "no such node": tree.parent_counted(node, tally);
+            "no such node": tree.first_child_counted(node, tally);
+            "no such node": tree.last_child_counted(node, tally);
+            "no such node": tree.next_sibling_counted(node, tally);
+            "no such node": tree.previous_sibling_counted(node, tally);
+            "no such node": tree.is_leaf_counted(node, tally);
+            "no such node": tree.node_index_counted(node, tally);
+            "no such node": tree.depth_counted(node, tally);
+            "no such node": tree.subtree_size_counted(node, tally);
+            "no such node": tree.level_ancestor_counted(node, 1, tally);
+            "no such node": tree.level_next_counted(node, tally);
+            "no such node": tree.level_prev_counted(node, tally);
+            "no such node": tree.is_ancestor_counted(0, node, tally);
+            "no such node": tree.is_ancestor_counted(node, 0, tally);
+        }
+        assert_eq!((tree.children(node).next(), tree.rev_children(node).next()), (None, None));
+        assert_eq!((tree.subtree_iter(node).next(), tree.subtree_post_iter(node).next()), (None, None));
+    }
+    stops! {
+        "no such node": open.level_leftmost_counted(0, tally);
+        "no such node": open.level_rightmost_counted(0, tally);
+        "no place 4": tree.excess_counted(4, tally);
+    }
+    assert_eq!((open.dfs_post_iter().next(), open.dfs_iter().count()), (None, 4));
+}
+
+#[test]
+#[cfg(not(debug_assertions))]
+fn calls_of_no_node_answer() {
+    use vers_vecs::{IsAncestor, LevelTree, SubtreeSize, Tree};
+    let lists = [[1, 1, 0, 0], [1, 1, 1, 1], [0, 0, 0, 0], [0, 1, 0, 1]].map(|bits| BitVec::from_bits(&bits));
+    for tree in lists.map(BpTree::<512>::from_bit_vector) {
+        for node in [0, 1, 2, 3, 4, FAR] {
+            let _ = (tree.parent(node), tree.first_child(node), tree.last_child(node), tree.next_sibling(node));
+            let _ = (tree.previous_sibling(node), tree.is_leaf(node), tree.node_index(node), tree.depth(node));
+            let _ =
+                (tree.subtree_size(node), tree.level_ancestor(node, 1), tree.level_next(node), tree.level_prev(node));
+            let _ = (tree.is_ancestor(node, 0), tree.is_ancestor(0, node), tree.excess(node), tree.node_handle(node));
+            let _ = (tree.level_leftmost(node as u64), tree.level_rightmost(node as u64));
+        }
+    }
+}

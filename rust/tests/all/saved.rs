@@ -1,0 +1,88 @@
+//! Saved forms, which are loaded as what they were made of and as nothing else.
+use crate::plain::Random;
+use vers_vecs::postings::Postings;
+use vers_vecs::saved::{LoadError, SaveError, Saved};
+use vers_vecs::{BinaryRmq, BitVec, BpTree, EliasFanoVec, FastRmq, RsVec, SparseRSVec, WaveletMatrix};
+
+/// Saves a structure and loads it; no other bytes are loaded.
+fn again<S: Saved>(structure: &S) -> S {
+    let bytes = structure.save().unwrap();
+    for length in [0, bytes.len() - 1] {
+        assert_eq!(S::load(&bytes[..length]).err(), Some(LoadError::TooShort));
+    }
+    for place in (0..bytes.len()).step_by(1 + bytes.len() / 50) {
+        let mut other = bytes.clone();
+        other[place] ^= 1;
+        assert!(S::load(&other).is_err(), "a bit of byte {place} was flipped");
+    }
+    S::load(&bytes).unwrap()
+}
+
+#[test]
+fn structures_are_loaded_as_they_were() {
+    let mut random = Random::new(1);
+    for length in [0, 1, 63, 64, 65, 700] {
+        let mut numbers = random.numbers(length, 1000);
+        let bits = BitVec::from_bits_u64(&numbers);
+        assert_eq!(again(&bits), bits);
+        assert!(again(&RsVec::from_bit_vec(bits.clone())).iter().eq(&bits));
+        let sparse = again(&SparseRSVec::from_bitvec(&bits));
+        assert!((0..length).all(|place| sparse.get(place as u64) == bits.get(place)) && sparse.len() == length as u64);
+        let symbols = again(&WaveletMatrix::from_slice(&numbers, 10));
+        assert!(symbols.iter_u64().unwrap().eq(numbers.iter().copied()) && symbols.bits_per_element() == 10);
+        assert_eq!(**again(&FastRmq::from_vec(numbers.clone())), numbers);
+        assert_eq!(**again(&BinaryRmq::from_vec(numbers.clone())), numbers);
+        let tree = again(&BpTree::<512>::from_bit_vector(bits.clone()));
+        assert_eq!(BitVec::from(tree), bits);
+        numbers.sort_unstable();
+        assert!(again(&EliasFanoVec::from_slice(&numbers)).iter().eq(numbers));
+    }
+}
+
+#[test]
+fn documents_are_loaded_as_they_were() {
+    for documents in [vec![], vec![7], vec![1, 4, 6, u64::MAX]] {
+        let costs: Vec<u64> = documents.iter().map(|&document| document % 5).collect();
+        let list = Postings::from_sorted(&documents, &costs).unwrap();
+        let other = again(&list);
+        assert_eq!((other.len(), other.intersect(&list)), (list.len(), documents.clone()));
+        for &from in &documents {
+            assert_eq!(other.cheapest(from, u64::MAX), list.cheapest(from, u64::MAX));
+        }
+    }
+}
+
+#[test]
+fn each_kind_is_loaded_as_itself() {
+    let bytes = EliasFanoVec::from_slice(&[1, 2]).save().unwrap();
+    let errors = [
+        RsVec::load(&bytes).err(),
+        SparseRSVec::load(&bytes).err(),
+        FastRmq::load(&bytes).err(),
+        BpTree::<512>::load(&bytes).err(),
+        Postings::load(&bytes).err(),
+    ];
+    assert_eq!(errors, [Some(LoadError::OtherKind); 5]);
+}
+
+#[test]
+fn the_first_fault_is_told() {
+    let bytes = RsVec::from_bit_vec(BitVec::from_bits(&[0, 1, 1, 0])).save().unwrap();
+    let fault = |place: usize| {
+        let mut bytes = bytes.clone();
+        bytes[place] ^= 1;
+        RsVec::load(&bytes).unwrap_err()
+    };
+    let faults = [0, 8, 16, 40].map(fault);
+    assert_eq!(faults, [LoadError::NotOurs, LoadError::OtherVersion, LoadError::OtherKind, LoadError::BadSum]);
+    assert_eq!(
+        RsVec::load(&[&bytes[..], &[0]].concat()).unwrap_err().to_string(),
+        "no such structure is as long, or the bytes go on after it"
+    );
+}
+
+#[test]
+fn some_symbols_have_no_form() {
+    assert_eq!(WaveletMatrix::from_slice(&[1], 0).save(), Err(SaveError::NoForm));
+    assert_eq!(WaveletMatrix::from_bit_vec(&BitVec::from_ones(130), 65).save(), Err(SaveError::NoForm));
+}

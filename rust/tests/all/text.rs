@@ -1,0 +1,32 @@
+//! Texts against plain lists.
+use crate::plain::Random;
+use vers_vecs::text::TextIndex;
+
+#[test]
+fn patterns_are_found() {
+    let mut random = Random::new(1);
+    for (length, width, step) in [(0, 1, 1), (1, 16, 32), (60, 1, 3), (400, 2, 50), (400, 16, 1)] {
+        let symbols = random.numbers(length, 1 << width.min(2));
+        let text = TextIndex::with_step(&symbols, width, step).unwrap();
+        assert_eq!((text.len(), text.is_empty()), (length, length == 0));
+        assert_eq!((text.bits_per_symbol(), text.step()), (width, step));
+        let patterns = (0..5).flat_map(|count| (0..20).map(move |_| count)).map(|count| random.numbers(count, 4));
+        for pattern in patterns.chain([symbols.clone(), vec![u64::MAX]]) {
+            let places: Vec<usize> = (0..=length).filter(|&place| symbols[place..].starts_with(&pattern)).collect();
+            assert_eq!((text.count(&pattern), text.contains(&pattern)), (places.len(), !places.is_empty()));
+            assert_eq!(text.clone().places(&pattern), places);
+        }
+        for (start, end) in
+            (0..=length).step_by(29).flat_map(|start| (0..length + 2).step_by(37).map(move |end| (start, end)))
+        {
+            assert_eq!(text.extract(start..end).as_deref(), symbols.get(start..end));
+        }
+        assert!(text.heap_size() > length * usize::from(width) / 8);
+    }
+}
+
+#[test]
+fn some_texts_are_refused() {
+    assert!(TextIndex::from_slice(&[], 0).is_err() && TextIndex::from_slice(&[0], 17).is_err());
+    assert!(TextIndex::from_slice(&[4], 2).is_err() && TextIndex::with_step(&[0], 1, 0).is_err());
+}

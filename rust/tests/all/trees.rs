@@ -1,0 +1,180 @@
+//! Trees against lists of parents.
+use crate::plain::Random;
+use vers_vecs::{BitVec, BpBuilder, BpTree, IsAncestor, LevelTree, SubtreeSize, Tree, TreeBuilder};
+
+/// A tree as plain lists over its nodes in preorder.
+#[derive(Default)]
+struct Plain {
+    places: Vec<usize>,
+    ends: Vec<usize>,
+    parents: Vec<Option<usize>>,
+    depths: Vec<u64>,
+    postorder: Vec<usize>,
+}
+
+impl Plain {
+    fn of(bits: &BitVec) -> Plain {
+        let mut plain = Plain::default();
+        let mut open = Vec::new();
+        for (place, bit) in bits.iter().enumerate() {
+            if bit == 1 {
+                plain.parents.push(open.last().copied());
+                plain.depths.push(open.len() as u64);
+                open.push(plain.places.len());
+                plain.places.push(place);
+                plain.ends.push(0);
+            } else {
+                let node = open.pop().unwrap();
+                plain.ends[node] = plain.places.len();
+                plain.postorder.push(plain.places[node]);
+            }
+        }
+        plain
+    }
+
+    fn place(&self, node: Option<usize>) -> Option<usize> {
+        node.map(|node| self.places[node])
+    }
+
+    fn children(&self, node: usize) -> Vec<usize> {
+        (node..self.ends[node]).filter(|&it| self.parents[it] == Some(node)).collect()
+    }
+}
+
+/// A random walk over a forest with so many nodes, whose nodes are deeper for a greater `down`.
+fn walk(random: &mut Random, nodes: usize, down: u64) -> BitVec {
+    let (mut builder, mut depth, mut left) = (BitVec::new(), 0, nodes);
+    while left + depth > 0 {
+        let enters = left > 0 && (depth == 0 || random.below(down + 3) <= down);
+        builder.append(enters);
+        if enters {
+            (depth, left) = (depth + 1, left - 1);
+        } else {
+            depth -= 1;
+        }
+    }
+    builder
+}
+
+#[test]
+fn nodes_are_found() {
+    let mut random = Random::new(1);
+    for (nodes, down) in [(1, 1), (2, 0), (9, 1), (80, 0), (300, 2), (1000, 1), (700, 100)] {
+        let bits = walk(&mut random, nodes, down);
+        let (plain, tree) = (Plain::of(&bits), BpTree::<64>::from(bits.clone()));
+        assert_eq!((tree.size(), tree.root(), tree.is_balanced()), (nodes, Some(0), true));
+        assert!(tree.iter().eq(plain.places.iter().copied()));
+        assert!(tree.dfs_post_iter().eq(plain.postorder.iter().copied()));
+        for node in 0..nodes {
+            asked(&mut random, &plain, &tree, node);
+        }
+        for depth in 0..5 + *plain.depths.iter().max().unwrap() {
+            let mut level = (0..nodes).filter(|&node| plain.depths[node] == depth);
+            assert_eq!(tree.level_leftmost(depth), plain.place(level.clone().next()));
+            assert_eq!(tree.level_rightmost(depth), plain.place(level.next_back()));
+        }
+        assert_eq!(BitVec::from(tree.clone()), bits);
+        assert!(tree.into_iter().eq(plain.places));
+    }
+}
+
+/// Compares the answers for a node.
+fn asked(random: &mut Random, plain: &Plain, tree: &BpTree<64>, node: usize) {
+    let (place, nodes) = (plain.places[node], plain.places.len());
+    let children = plain.children(node);
+    let siblings = match plain.parents[node] {
+        Some(parent) => plain.children(parent),
+        None => (0..nodes).filter(|&it| plain.parents[it].is_none()).collect(),
+    };
+    let number = siblings.iter().position(|&it| it == node).unwrap();
+    let same_depth = |it: &usize| plain.depths[*it] == plain.depths[node];
+    assert_eq!(tree.node_handle(node), place);
+    assert_eq!(tree.node_index(place), node);
+    assert_eq!(tree.parent(place), plain.place(plain.parents[node]));
+    assert_eq!(tree.first_child(place), plain.place(children.first().copied()));
+    assert_eq!(tree.last_child(place), plain.place(children.last().copied()));
+    assert_eq!(tree.next_sibling(place), plain.place(siblings.get(number + 1).copied()));
+    assert_eq!(tree.previous_sibling(place), plain.place(number.checked_sub(1).map(|before| siblings[before])));
+    assert_eq!(tree.level_next(place), plain.place((node + 1..nodes).find(same_depth)));
+    assert_eq!(tree.level_prev(place), plain.place((0..node).rev().find(same_depth)));
+    assert_eq!((tree.is_leaf(place), tree.depth(place)), (children.is_empty(), plain.depths[node]));
+    assert_eq!(tree.subtree_size(place), Some(plain.ends[node] - node));
+    let places = |nodes: &mut dyn Iterator<Item = usize>| nodes.map(|it| plain.places[it]).collect::<Vec<_>>();
+    assert_eq!(tree.children(place).collect::<Vec<_>>(), places(&mut children.iter().copied()));
+    assert_eq!(tree.rev_children(place).collect::<Vec<_>>(), places(&mut children.iter().rev().copied()));
+    assert_eq!(tree.subtree_iter(place).collect::<Vec<_>>(), places(&mut (node..plain.ends[node])));
+    let below = |it: &&usize| plain.places[node..plain.ends[node]].contains(it);
+    assert!(tree.subtree_post_iter(place).eq(plain.postorder.iter().filter(below).copied()));
+    let other = random.below(nodes as u64) as usize;
+    let is_ancestor = (node..plain.ends[node]).contains(&other);
+    assert_eq!(tree.is_ancestor(place, plain.places[other]), Some(is_ancestor));
+    let mut ancestor = Some(node);
+    for level in 0..4 {
+        assert_eq!(tree.level_ancestor(place, level), plain.place(ancestor));
+        ancestor = ancestor.and_then(|it| plain.parents[it]);
+    }
+}
+
+#[test]
+fn parentheses_that_are_not_balanced_are_searched() {
+    let mut random = Random::new(2);
+    for length in [0, 1, 2, 63, 64, 200, 1500] {
+        let bits = BitVec::from_bits_u64(&random.numbers(length, 2));
+        let tree: BpTree = BpTree::from_bit_vector(bits.clone());
+        // the excess before each place, and at the end
+        let mut excess = vec![0i64];
+        for bit in &bits {
+            excess.push(excess[excess.len() - 1] + if bit == 1 { 1 } else { -1 });
+        }
+        assert_eq!(tree.size(), bits.count_ones() as usize);
+        assert_eq!(tree.is_balanced(), excess.iter().all(|&it| it >= 0) && excess[length] == 0);
+        assert_eq!(tree.is_open(length), None);
+        for place in 0..length {
+            assert_eq!(tree.excess(place), excess[place + 1]);
+            for rise in -3..=3 {
+                let forward = (place + 1..length).find(|&it| excess[it + 1] == excess[place + 1] + rise);
+                let backward = (0..place).rev().find(|&it| excess[it] == excess[place] + rise);
+                assert_eq!(tree.fwd_search(place, rise), forward, "from {place} by {rise}");
+                assert_eq!(tree.bwd_search(place, rise), backward, "from {place} back by {rise}");
+            }
+            assert_eq!(tree.close(place), tree.fwd_search(place, -1));
+            assert_eq!(tree.open(place), tree.bwd_search(place, -1));
+            if bits.get(place) == Some(1) {
+                assert_eq!(tree.node_index(place), (0..place).filter(|&it| bits.get(it) == Some(1)).count());
+                assert_eq!(tree.first_child(place), Some(place + 1).filter(|&it| bits.get(it) == Some(1)));
+                assert_eq!(tree.is_leaf(place), bits.get(place + 1) == Some(0));
+                assert_eq!(tree.has_node(place), tree.is_balanced());
+                assert_eq!(tree.parent(place), tree.enclose(place));
+                assert_eq!(tree.depth(place), (excess[place + 1] - 1).max(0) as u64);
+            }
+        }
+        assert_eq!(BitVec::from(tree), bits);
+    }
+}
+
+#[test]
+fn a_walk_builds_a_tree() {
+    let mut builder = BpBuilder::<512>::with_capacity(2);
+    builder.enter_node();
+    builder.enter_node();
+    builder.leave_node();
+    builder.leave_node();
+    let tree = builder.build().unwrap();
+    assert_eq!((tree.size(), tree.parent(1)), (2, Some(0)));
+
+    let mut builder: BpBuilder = BpBuilder::default();
+    builder.enter_node();
+    builder.enter_node();
+    assert_eq!(builder.build().err(), Some(2));
+
+    let tree = BpBuilder::<512>::new().build().unwrap();
+    assert_eq!((tree.size(), tree.root(), tree.level_leftmost(0), tree.is_empty()), (0, None, None, true));
+}
+
+#[test]
+#[cfg(debug_assertions)]
+#[should_panic(expected = "no node opens at 1")]
+fn places_where_no_node_opens_stop() {
+    let tree: BpTree = BpTree::from(BitVec::from_bits(&[1, 0]));
+    let _ = tree.is_ancestor(0, 1);
+}

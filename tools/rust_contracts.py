@@ -1,0 +1,225 @@
+"""Writes what the pages of the Rust crate say of contracts, and compares the list of its guarded calls with the sources.
+
+- `contracts.rs` has the macro `contract!`: `contract!(RsVec::rank1)` is the text of that function's contract as its source has it, with a
+  link to the definition of each word. It has the functions that the facade cites.
+- `definitions.md` is the part of docs/DEFINITIONS.md that these links lead to.
+- `rust/guards.txt` has a row for each call of a proved function with a precondition: the file and the function of the facade, the proved
+  function, its precondition, and the text in the facade's function that establishes it.
+"""
+import os
+import re
+import tempfile
+from collections import defaultdict
+
+from sources import public_functions, read, read_crate, write_files
+
+DEFINITIONS, GUARDS = "docs/DEFINITIONS.md", "guards.txt"
+WRITTEN = ("proved", "proved_tests", "rattle", "contracts.rs")
+CITED = re.compile(r"\bcontract!\(\s*(\$?\w+::\$?\w+)\s*\)")
+IMPORT = re.compile(r"\bghost use Rattle\.(\w+)\.specs\.[\w.]+\.\{([^}]*)\}")
+CALL = re.compile(r"(?P<receiver>(?:<?[$\w]+(?:::<\w+>)?(?:\(\))?>?(?:\.|::))+)(?P<name>[a-z]\w*)(?:::<[^<>]*>)?\(")
+HEAD = re.compile(r"^( *)(?:pub(?:\([a-z]+\))? )?(?:const )?fn (\w+)")
+BRACKETS, PLAIN = r"^\((.*)\)$", r"\1"
+# A function of the facade with a contract, and its parameters. Besides those that the contract speaks of it may have these.
+SHOWN = re.compile(r"#\[doc = contract!\((\w+::\w+)\)\]\n(?:\s*(?:#\[.*\]|///.*)\n)*\s*(?:pub )?fn \w+(?:<[^(]*>)?\(([^)]*)\)")
+ADDED = {"tally", "other"}
+ADDS = "AddsAtMost tally.old tally.new "
+
+
+def facade_files(folder):
+    """Yields the path of each file of the facade, below its folder, and its text."""
+    for at, folders, names in os.walk(folder):
+        folders[:] = sorted(it for it in folders if it not in WRITTEN)
+        for name in sorted(names):
+            if name.endswith(".rs") and name not in WRITTEN:
+                path = os.path.join(at, name)
+                yield os.path.relpath(path, folder), read(path)
+
+
+class Definitions:
+    """The page of definitions: its sections, by the crates whose words they define, and where each word is defined."""
+
+    def __init__(self, top, crates):
+        sections = re.split(r"(?m)^(?=## )", read(f"{top}/{DEFINITIONS}"))[1:]
+        named = ((re.search(r"crates/(\w+)/specs", it.partition("\n")[0]), it) for it in sections)
+        self.sections = {found[1]: it for found, it in named if found and found[1] in crates}
+        self.linked = defaultdict(set)
+
+    def link(self, crate, word):
+        """Returns a link to a word's definition, or None for a word that the page doesn't define."""
+        if not re.search(rf"`{re.escape(word)}[ `,]", self.sections.get(crate, "")):
+            return None
+        self.linked[crate].add(word)
+        return f"[`{word}`](crate::definitions#{crate}-{word})"
+
+    def page(self):
+        """Returns the page, with an anchor at each word to which a link leads."""
+        text = ""
+        for crate, section in self.sections.items():
+            for word in sorted(self.linked[crate]):
+                section = re.sub(rf"(?=`{re.escape(word)}[ `,])", f'<a id="{crate}-{word}"></a>', section, count=1)
+            text += re.sub(r"\A## (.*?) \(.*\)", r"# \1", section)
+        return re.sub(r"\[([^\]]*)\]\((?!#)[^)]*\)", r"\1", text)
+
+
+def dedented(text):
+    """Returns the lines of a text without the blanks that all begin with."""
+    lines = text.split("\n")
+    margin = min(len(it) - len(it.lstrip()) for it in lines if it.strip())
+    return "\n".join(it[margin:].rstrip() for it in lines)
+
+
+def words_of(function):
+    """Yields the crate and the name of each word of `specs/` that a contract cites."""
+    cited = set(re.findall(r"(?<![\w.])\w+", " ".join(fact for _, fact in function.clauses)))
+    for crate, names in IMPORT.findall(function.source.text):
+        for name, *other in (it.strip().split(" as ") for it in names.split(",")):
+            if (other or [name])[0] in cited and crate != "std":
+                yield crate, name
+
+
+def contract_of(function, counted, definitions):
+    """Returns the section of a page that has a function's contract."""
+    said = ["# Contract", "", "```text", dedented(function.declared), "```", ""]
+    words = list(dict.fromkeys(words_of(function)))
+    bounds = [fact.removeprefix(ADDS) for _, fact in counted.clauses if fact.startswith(ADDS)] if counted else []
+    if bounds and counted is not function:
+        words += [it for it in words_of(counted) if it not in words and it[1] in bounds[0]]
+        said += [f"Reads at most `{re.sub(BRACKETS, PLAIN, bounds[0])}`, counted by `{counted.name}`.", ""]
+    links = [it for it in (definitions.link(*word) for word in words) if it]
+    return "\n".join(said + ([f"Words: {', '.join(links)}."] if links else []))
+
+
+def pages(top, folder, crates):
+    """Returns the texts of the two files that the script writes for the facade in a folder, by their paths there, and the faults met."""
+    definitions, known = Definitions(top, crates), {}
+    for crate in crates:
+        for it in public_functions(read_crate(top, crate)):
+            known.setdefault(it.full_name, it)
+    said = {it for _, text in facade_files(folder) for it in CITED.findall(text)}
+    # a macro's variable stands for any name
+    forms = [re.sub(r"\$\w+", r"\\w+", it) for it in said]
+    cited = sorted({name for name in known if any(re.fullmatch(it, name) for it in forms)})
+    arms, faults = [], [f"the facade cites the contract of {it}, which is no public function" for it in sorted(said - set(cited)) if "$" not in it]
+    for name, shown in [found for _, text in facade_files(folder) for found in SHOWN.findall(text) if found[0] in known]:
+        others = set(re.findall(r"(\w+):(?!:)", shown)) - ADDED - {it for it, _ in known[name].parameters}
+        faults += [f"the contract of {name}, which the facade shows, has no parameter `{it}`" for it in sorted(others)]
+    for it in [known[name] for name in cited]:
+        text = contract_of(it, known.get(f"{it.full_name}_counted"), definitions)
+        arms.append(f'    ({it.full_name}) => {{\n        r##"{text}"##\n    }};\n')
+    head = "//! Written by tools/plain_rust.py from the proved sources: the contracts that pages cite. Not to be edited.\n\n"
+    macro = f"/// Returns the text of a proved function's contract.\nmacro_rules! contract {{\n{''.join(arms)}}}\n\npub(crate) use contract;\n"
+    return {"contracts.rs": head + macro, "definitions.md": definitions.page()}, faults
+
+
+class Conditions:
+    """What public proved functions require, by their types and names."""
+
+    def __init__(self, top, crates):
+        self.known = {}
+        for it in [it for crate in crates for it in public_functions(read_crate(top, crate))]:
+            self.known.setdefault((it.holder, it.name), [fact for kind, fact in it.clauses if kind == "requires"])
+
+    def of(self, types, name):
+        """Returns what a call of a name requires, of a value of one of these types."""
+        return next((self.known[it, name] for it in sorted(types) if self.known.get((it, name))), [])
+
+
+class FacadeFile:
+    """A file of the facade: its lines without comments, and the proved types that it names, and those of its fields."""
+
+    def __init__(self, path, text):
+        self.path, self.lines = path, [re.sub(r"//.*|#\[doc.*\]", "", it) for it in text.split("\n")]
+        self.code = "\n".join(self.lines)
+        self.types = set(re.findall(r"\b(?:proved|mask)::(\w+)", self.code))
+        self.fields = defaultdict(set)
+        for field, type_ in re.findall(r"\b(\w+): (?:&'?\w* ?)?(?:(?:proved|mask)::(?=\w)|(?=\$))(\$?\w+)", self.code):
+            self.fields[field].add(type_)
+
+    def types_of(self, receiver, others):
+        """Returns the proved types that a receiver may have, none for the facade's own values; `others` are all files of the facade."""
+        path, field = re.fullmatch(r"(?:proved|mask)::(\w+)(?:::<.*>)?::", receiver), re.fullmatch(r"(?:\w+\.)+(\w+)\.", receiver)
+        found = {path[1]} if path else set()
+        if field:
+            found = self.fields.get(field[1]) or set().union(*(it.fields.get(field[1], set()) for it in others))
+        is_open = "$" in receiver + "".join(found) or receiver.endswith("masked().") or receiver == "self.0."
+        return set().union(*(it.types for it in others)) if is_open else found
+
+    def calls(self, conditions, others):
+        """Yields for each call with a precondition the name of its function, the text of that, the callee's name, and what it requires."""
+        for at, line in enumerate(self.lines):
+            for call in CALL.finditer(line):
+                required = conditions.of(self.types_of(call["receiver"], others), call["name"])
+                if required:
+                    yield (*self.function_at(at), call["name"], required)
+        for text, callee in self.written_calls():
+            required = conditions.of(self.types, callee)
+            if required:
+                yield callee, text, callee, required
+
+    def written_calls(self):
+        """Yields for each call that a macro of the file writes of a proved function the text of the macro with its use, and the callee's name."""
+        for macro, pattern, body in re.findall(r"(?ms)^macro_rules! (\w+) \{\n +\((.*?)\) => \{\n(.*?)^\}", self.code):
+            called = set(re.findall(r"(?:self\.\w+\.|proved::\w+::)\$(\w+)\(", body))
+            names = re.findall(r"\$(\w+):ident", pattern.split("$($arg")[0].split("($arg")[0].split(": $first")[0])
+            for use in re.findall(rf"(?ms)^{macro}! \{{(.*?)^\}}", self.code):
+                for item in re.sub(r'"[^"]*"', "", use).split(";"):
+                    words = re.findall(r"\w+", re.split(r"[(:]", item)[0])
+                    yield from ((body + use, word) for name, word in zip(names[-len(words):] if len(names) > len(words) else names, words) if name in called)
+
+    def function_at(self, at):
+        """Returns the name of the function in which a line is, and its text."""
+        margin = len(self.lines[at]) - len(self.lines[at].lstrip())
+        first = next(k for k in range(at, -1, -1) if HEAD.match(self.lines[k]) and len(HEAD.match(self.lines[k])[1]) <= margin)
+        indent, name = HEAD.match(self.lines[first]).groups()
+        end = next(k for k in range(at, len(self.lines)) if self.lines[k].startswith(indent + "}"))
+        return name, "\n".join(self.lines[first:end])
+
+
+def guard_faults(top, folder, crates):
+    """Yields a line for each call with a precondition that the list lacks, and for each row of the list that is not so."""
+    conditions, found = Conditions(top, crates), {}
+    files = [FacadeFile(*it) for it in facade_files(folder)]
+    for file in files:
+        for function, body, callee, required in file.calls(conditions, files):
+            found[file.path, function, callee] = body, required
+    listed = set()
+    for row in [it for it in read(f"{folder}/../{GUARDS}").splitlines() if it and not it.startswith("#")]:
+        path, function, callee, required, guard = row.split(" | ")
+        key = path, re.split("::|!", function)[-1], callee.split("::")[-1]
+        listed.add(key)
+        body, facts = found.get(key, ("", []))
+        if not facts:
+            yield f"{GUARDS}: {path} has no call of {callee} in {function}"
+        elif re.findall(r"requires (?:\w+ )?\{ (.*?) \}(?=; requires|$)", required) != facts:
+            yield f"{GUARDS}: {callee}, which {function} calls, requires {facts}"
+        elif guard not in body:
+            yield f"{GUARDS}: {function} of {path} has no `{guard}`"
+    yield from (f"{GUARDS}: no row for {name} of {path}, which calls {callee}" for path, name, callee in sorted(set(found) - listed))
+
+
+# Faults that are planted: the file of the crate, what is written for what, and what has to be said.
+PLANTS = (
+    ("guards.txt", "bit_vec/mod.rs | BitVec::flip_bit |", "# ", "no row for flip_bit of bit_vec/mod.rs"),
+    ("guards.txt", "| BitVec::flip_bit | requires { place < length self.old }", "| BitVec::flip_bit | requires { place ≤ length self.old }", "flip_bit, which"),
+    ("src/bit_vec/mod.rs", "assert!(len <= WORD_SIZE,", "assert!(true,", "append_bits of bit_vec/mod.rs has no `assert!(len <= WORD_SIZE,`"),
+    ("src/bit_vec/mod.rs", "    pub fn count_ones(&self)", "    fn word(&self) -> u64 {\n        self.bits.limb(7)\n    }\n\n    pub fn count_ones(&self)",
+     "no row for word of bit_vec/mod.rs, which calls limb"),
+    ("src/trees/bp.rs", "    depth_counted, depth(node", "    relative, depth(node", "no row for relative of trees/bp.rs"),
+    ("src/bit_vec/fast_rs_vec.rs", "fn rank1(&self, place: usize)", "fn rank1(&self, pos: usize)", "RsVec::rank1, which the facade shows, has no parameter `pos`"),
+    ("src/bit_vec/fast_rs_vec.rs", "contract!(RsVec::rank1)", "contract!(RsVec::rank2)", "the contract of RsVec::rank2, which is no public function"),
+)
+
+
+def self_test(top, folder, crates):
+    """Plants the faults in copies of the facade, and yields a line for each that isn't found."""
+    texts = {f"src/{path}": text for path, text in facade_files(folder)} | {"guards.txt": read(f"{folder}/../{GUARDS}")}
+    for path, old, new, wanted in PLANTS:
+        if old not in texts[path]:
+            yield f"the text of a plant is gone: {path}: {old}"
+            continue
+        with tempfile.TemporaryDirectory() as room:
+            write_files(room, {**texts, path: texts[path].replace(old, new, 1)})
+            said = [*guard_faults(top, f"{room}/src", crates), *pages(top, f"{room}/src", crates)[1]]
+        if not any(wanted in it for it in said):
+            yield f"not found: {path}: {new}, but {said[:3]}"
