@@ -33,7 +33,7 @@ from plain_rust import CLOSING, CRATES, Refused, Writer, real, sources
 from sources import ROW, TOP, edited, has_cargo, read
 
 RUST = f"{TOP}/rust"
-# A run may take so many times the time of the right bodies, and so many seconds more; and so much memory.
+# The limits of a run: a multiple of the time of the right bodies, seconds more, and bytes of memory.
 TIMES, SECONDS, MEMORY = 8, 2, 2 << 30
 # What rustc refuses by itself in a wrong body that it could compile.
 NOTE = "#![allow(arithmetic_overflow, unconditional_panic, unconditional_recursion, unreachable_code, unused, unstable_name_collisions)]\n\n"

@@ -71,8 +71,10 @@ def check_tests(checks):
 
 def check_lints(checks):
     """Runs the lints over what is written by hand, and the layout."""
+    if not (shutil.which("cargo-clippy") and shutil.which("cargo-fmt")):
+        return checks.leave_out("lints and layout", "no clippy or rustfmt")
     checks.cargo("lints", ["clippy", "--quiet", "--all-targets", "--", "-D", "warnings"])
-    checks.run("layout", ["cargo", "fmt", "--check"])
+    return checks.run("layout", ["cargo", "fmt", "--check"])
 
 
 def check_pages(checks):
@@ -98,11 +100,14 @@ def user(checks, name, dependencies, path, text):
 
 def check_git(checks):
     """Builds a program that takes the crate from this repository by cargo alone, with the example of the crate's page."""
+    told = subprocess.run(["git", "-C", TOP, "rev-parse", "--is-shallow-repository"], capture_output=True, text=True, check=False).stdout
+    if told.strip() != "false":
+        return checks.leave_out("a program that takes the crate by git", "no whole repository")
     example = re.search(r"(?ms)^```rust\n(.*?)^```", read(f"{RUST}/README.md"))[1]
     program = f"fn main() {{\n{example}\nprintln!(\"done\");\n}}\n"
     folder = user(checks, "program", f'vers-vecs = {{ git = "file://{TOP}" }}\n', "src/main.rs", program)
     env = {"CARGO_HOME": f"{checks.folder}/cargo", "CARGO_TARGET_DIR": f"{checks.folder}/program_target"}
-    checks.run("a program that takes the crate by git", ["cargo", "run", "--quiet"], cwd=folder, env=env, wanted="done\n")
+    return checks.run("a program that takes the crate by git", ["cargo", "run", "--quiet"], cwd=folder, env=env, wanted="done\n")
 
 
 def check_serde(checks):
