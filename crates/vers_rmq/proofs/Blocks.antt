@@ -1,5 +1,5 @@
 -- Blocks of 128 items.
-use Rattle.vers_rmq.proofs.Names.{mul-le-mul_left, ◌≡◌, ℕ, ◌+◌, ◌-◌, ◌*◌, ◌/◌, ◌%◌, ◌^◌, ◌<◌, ◌≤◌, min, List, [], ◌∷◌, ◌++◌, length, get_or, ap, inl, inr, arith, bit_at, cases_lt, length_push, get_or_push, get_or_append_left, PlacedItem, IsFirstLeast, IsLeastItem, lesser_item, IsLastSet, IsFirstSet, AreMasks, binary_heap_size, IsBlock, AreBlocks, AreAllBlocks, block_end, no_masks}
+use Rattle.vers_rmq.proofs.Names.{mul-le-mul_left, ◌≡◌, ℕ, ◌+◌, ◌-◌, ◌*◌, ◌/◌, ◌%◌, ◌^◌, ◌<◌, ◌≤◌, min, List, [], ◌∷◌, ◌++◌, length, get_or, ap, inl, inr, arith, bit_at, cases_lt, length_push, get_or_push, get_or_append_left, PlacedItem, IsFirstLeast, IsLeastItem, lesser_item, IsLastSet, IsFirstSet, AreMasks, binary_heap_size, IsBlock, AreBlocks, AreAllBlocks, block_end, no_masks, get_or_read}
 use Rattle.vers_rmq.specs.declared.rmq.fast_rmq.TheConstants.{MAX_LEN}
 use Rattle.vers_rmq.specs.declared.rmq.fast_rmq.block.BlockMasks.{BlockMasks}
 use Rattle.vers_bits.specs.Bits.{block_count}
@@ -41,47 +41,46 @@ sizes xs mi pl ms h = grind (arith, mul-le-mul_left, few_levels)
 pub block_of : (xs mi pl : List ℕ) (ms : List BlockMasks) (b : ℕ) → AreAllBlocks xs mi pl ms → 128 * b < length xs → IsBlock xs b (get_or pl b 0) (get_or mi b 0) (get_or ms b no_masks)
 block_of xs mi pl ms b h inside = h.blocks.block b (omega arith)
 
--- the masks of the block of place j
-module _ (xs ys mi pl : List ℕ) (ms t : List BlockMasks) (j : ℕ) (h : AreAllBlocks xs mi pl ms) (e : xs ≡ ys) (et : t ≡ ms) (l : j < length ys) where
-  pub block_inside : j / 128 < length t
-  block_inside = rw et (omega (arith, h.blocks.masks_counted, ap length e))
+-- the block of a place is one of those that are kept
+pub block_inside : (xs ys mi pl : List ℕ) (ms : List BlockMasks) (j : ℕ) → AreAllBlocks xs mi pl ms → xs ≡ ys → j < length ys → j / 128 < length ms
+block_inside xs ys mi pl ms j h e l = omega (arith, h.blocks.masks_counted, ap length e)
 
-  block_at : IsBlock xs (j / 128) (get_or pl (j / 128) 0) (get_or mi (j / 128) 0) (get_or t (j / 128) no_masks)
-  block_at = rw et (block_of xs mi pl ms (j / 128) h (omega (arith, ap length e)))
+-- the masks of the block of place j, as they are read
+module _ (xs ys mi pl : List ℕ) (ms : List BlockMasks) (masks : BlockMasks) (j : ℕ) (h : AreAllBlocks xs mi pl ms) (e : xs ≡ ys) (l : j < length ys) (is : masks ≡ get_or ms (j / 128) masks) where
+  block_at : IsBlock xs (j / 128) (get_or pl (j / 128) 0) (get_or mi (j / 128) 0) masks
+  block_at = rw (get_or_read ms (j / 128) masks (block_inside xs ys mi pl ms j h e l) is no_masks) (block_of xs mi pl ms (j / 128) h (omega (arith, ap length e)))
 
-  pub block_prefix_some : bit_at (get_or t (j / 128) no_masks).whole.prefixes 0 ≡ 1
+  pub block_prefix_some : bit_at masks.whole.prefixes 0 ≡ 1
   block_prefix_some = block_at.whole.prefixes.starts 0 (omega (arith, ap length e))
 
-  pub block_suffix_some : 0 < (get_or t (j / 128) no_masks).whole.suffixes / 2 ^ (j % 128)
+  pub block_suffix_some : 0 < masks.whole.suffixes / 2 ^ (j % 128)
   block_suffix_some =
       some_from _ (j % 128) _ (omega (arith, ap length e)) (block_at.whole.suffixes.ends (j % 128) (omega (arith, ap length e)) (omega (arith, ap length e)))
 
-  pub block_prefix_at : (r : ℕ) → IsLastSet (get_or t (j / 128) no_masks).whole.prefixes (j % 128) r
-      → IsFirstLeast ys (128 * (j / 128)) j (128 * (j / 128) + r)
+  pub block_prefix_at : (r : ℕ) → IsLastSet masks.whole.prefixes (j % 128) r → IsFirstLeast ys (128 * (j / 128)) j (128 * (j / 128) + r)
   block_prefix_at r found =
       let m = block_at.whole.prefixes.places (j % 128) r (omega (arith, ap length e)) found in
       grind (arith, least_ends)
 
-  pub block_suffix_at : (r : ℕ) → IsFirstSet (get_or t (j / 128) no_masks).whole.suffixes (j % 128) r
+  pub block_suffix_at : (r : ℕ) → IsFirstSet masks.whole.suffixes (j % 128) r
       → IsFirstLeast ys j (min (128 * (j / 128) + 128) (length ys) - 1) (128 * (j / 128) + r)
   block_suffix_at r found =
       let m = block_at.whole.suffixes.places (j % 128) r (omega (arith, ap length e)) (omega (arith, ap length e)) found in
       grind (arith, least_ends)
 
-  pub part_prefix_some : bit_at (get_or t (j / 128) no_masks).parts.prefixes 0 ≡ 1
+  pub part_prefix_some : bit_at masks.parts.prefixes 0 ≡ 1
   part_prefix_some = block_at.parts.prefixes.starts 0 (omega (arith, ap length e))
 
-  pub part_suffix_some : 0 < (get_or t (j / 128) no_masks).parts.suffixes / 2 ^ (j % 128)
+  pub part_suffix_some : 0 < masks.parts.suffixes / 2 ^ (j % 128)
   part_suffix_some =
       some_from _ (j % 128) _ (omega (arith, ap length e)) (block_at.parts.suffixes.ends (j % 128) (omega (arith, ap length e)) (omega (arith, ap length e)))
 
-  pub part_prefix_at : (r : ℕ) → IsLastSet (get_or t (j / 128) no_masks).parts.prefixes (j % 128) r
-      → IsFirstLeast ys (16 * (j / 16)) j (128 * (j / 128) + r)
+  pub part_prefix_at : (r : ℕ) → IsLastSet masks.parts.prefixes (j % 128) r → IsFirstLeast ys (16 * (j / 16)) j (128 * (j / 128) + r)
   part_prefix_at r found =
       let m = block_at.parts.prefixes.places (j % 128) r (omega (arith, ap length e)) found in
       grind (arith, least_ends)
 
-  pub part_suffix_at : (r : ℕ) → IsFirstSet (get_or t (j / 128) no_masks).parts.suffixes (j % 128) r
+  pub part_suffix_at : (r : ℕ) → IsFirstSet masks.parts.suffixes (j % 128) r
       → IsFirstLeast ys j (min (16 * (j / 16) + 16) (length ys) - 1) (128 * (j / 128) + r)
   part_suffix_at r found =
       let m = block_at.parts.suffixes.places (j % 128) r (omega (arith, ap length e)) (omega (arith, ap length e)) found in
@@ -89,9 +88,9 @@ module _ (xs ys mi pl : List ℕ) (ms t : List BlockMasks) (j : ℕ) (h : AreAll
 
 -- ---- ranges over blocks
 -- the least of whole blocks, from the least of their least items
-pub between : (xs ys mi pl t : List ℕ) (ms : List BlockMasks) (a c : ℕ) (q r : PlacedItem) → AreAllBlocks xs mi pl ms → xs ≡ ys → t ≡ pl → 128 * c + 128 ≤ length ys
-    → IsLeastItem mi a c q → r.place ≡ 128 * q.place + get_or t q.place 0 → r.value ≡ q.value → IsLeastItem ys (128 * a) (128 * c + 127) r
-between xs ys mi pl t ms a c q r h e et inside found place value =
+pub between : (xs ys mi pl : List ℕ) (ms : List BlockMasks) (a c : ℕ) (q r : PlacedItem) → AreAllBlocks xs mi pl ms → xs ≡ ys → 128 * c + 128 ≤ length ys
+    → IsLeastItem mi a c q → r.place ≡ 128 * q.place + get_or pl q.place 0 → r.value ≡ q.value → IsLeastItem ys (128 * a) (128 * c + 127) r
+between xs ys mi pl ms a c q r h e inside found place value =
     let room : 128 * c + 128 ≤ length xs = omega (arith, ap length e) in
     let at_block : (b : ℕ) → b ≤ c → IsBlock xs b (get_or pl b 0) (get_or mi b 0) (get_or ms b no_masks) = λ b l. block_of xs mi pl ms b h (omega arith) in
     let least = found.place in

@@ -45,8 +45,8 @@ pub room_of : (xs table : List ℕ) (k i n : ℕ) → IsTable xs table → i + 2
 room_of xs table k i n t h e = rw e (omega (arith, level_inside xs table k t (omega (arith, h)), pow_pos k))
 
 -- an entry of a level
-pub level_at : (xs table t : List ℕ) (k i n : ℕ) → IsTable xs table → t ≡ table → n ≡ length xs → i + 2 ^ k ≤ length xs → IsFirstLeast xs i (i + 2 ^ k - 1) (get_or t (n * k + i) 0)
-level_at xs table t k i n is e en inside = rw (e, en) (least_ends xs i (reach (length xs) k i) (i + 2 ^ k - 1) _ (omega arith) (is.places.place k i (omega (arith, pow_pos k)) (room_of xs table k i (length xs) is inside refl)))
+pub level_at : (xs table : List ℕ) (k i n : ℕ) → IsTable xs table → n ≡ length xs → i + 2 ^ k ≤ length xs → IsFirstLeast xs i (i + 2 ^ k - 1) (get_or table (n * k + i) 0)
+level_at xs table k i n is en inside = rw en (least_ends xs i (reach (length xs) k i) (i + 2 ^ k - 1) _ (omega arith) (is.places.place k i (omega (arith, pow_pos k)) (room_of xs table k i (length xs) is inside refl)))
 
 pub table_is : (xs table : List ℕ) (k : ℕ) → length xs < 2 ^ 32 → HoldsPlaces xs table → length table ≡ length xs * (k + 1) → length xs ≤ 2 ^ k → (0 < length xs → 2 ^ k < 2 * length xs) → IsTable xs table
 table_is xs table k few holds counted up down = record {

@@ -130,13 +130,13 @@ impl<A: Allocator + Copy> BinaryRmq<A> {
 
     // The entry of level `k` for the range from `i` on.
     #[inline(always)]
+    #[tactic(auto, using(crate::proofs::Tables::room_of))]
     fn entry(&self, k: usize, i: usize) -> usize
         requires { i + 2 ^ k ≤ length self.now }
         ensures value { IsFirstLeast self.now i (i + 2 ^ k - 1) result }
         ensures inside { result < length self.now }
     {
-        let table = self.table.as_slice();
-        table[self.items.len() * k + i] as usize
+        self.table[self.items.len() * k + i] as usize
     }
 
     /// The item at a place of the list.

@@ -172,8 +172,7 @@ impl<A: Allocator + Copy> FastRmq<A> {
         ensures value { IsFirstLeast self.now (BLOCK * (j / BLOCK)) j result }
         ensures inside { result < length self.now }
     {
-        let masks = self.masks.as_slice();
-        BLOCK * (j / BLOCK) + last_set(masks[j / BLOCK].whole.prefixes, j % BLOCK)
+        BLOCK * (j / BLOCK) + last_set(self.masks[j / BLOCK].whole.prefixes, j % BLOCK)
     }
 
     // The first place of a least item from `i` to the end of its block.
@@ -185,8 +184,7 @@ impl<A: Allocator + Copy> FastRmq<A> {
             result }
         ensures inside { result < length self.now }
     {
-        let masks = self.masks.as_slice();
-        BLOCK * (i / BLOCK) + first_set(masks[i / BLOCK].whole.suffixes, i % BLOCK)
+        BLOCK * (i / BLOCK) + first_set(self.masks[i / BLOCK].whole.suffixes, i % BLOCK)
     }
 
     // The first place of a least item from the start of the part of `j` to `j`.
@@ -197,8 +195,7 @@ impl<A: Allocator + Copy> FastRmq<A> {
         ensures value { IsFirstLeast self.now (PART * (j / PART)) j result }
         ensures inside { result < length self.now }
     {
-        let masks = self.masks.as_slice();
-        BLOCK * (j / BLOCK) + last_set(masks[j / BLOCK].parts.prefixes, j % BLOCK)
+        BLOCK * (j / BLOCK) + last_set(self.masks[j / BLOCK].parts.prefixes, j % BLOCK)
     }
 
     // The first place of a least item from `i` to the end of its part.
@@ -210,8 +207,7 @@ impl<A: Allocator + Copy> FastRmq<A> {
             result }
         ensures inside { result < length self.now }
     {
-        let masks = self.masks.as_slice();
-        BLOCK * (i / BLOCK) + first_set(masks[i / BLOCK].parts.suffixes, i % BLOCK)
+        BLOCK * (i / BLOCK) + first_set(self.masks[i / BLOCK].parts.suffixes, i % BLOCK)
     }
 
     // The first least item of the blocks from `a` to `c`, which are whole.
@@ -223,10 +219,9 @@ impl<A: Allocator + Copy> FastRmq<A> {
         ensures adds { AddsAtMost tally.old tally.new (only_items 2) }
     {
         let _ = self.items.len();
-        let places = self.places.as_slice();
         let least = self.minima.range_min_item_counted(a, c, tally);
         PlacedItem {
-            place: BLOCK * least.place + places[least.place] as usize,
+            place: BLOCK * least.place + self.places[least.place] as usize,
             value: least.value,
         }
     }

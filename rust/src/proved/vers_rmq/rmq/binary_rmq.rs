@@ -92,8 +92,7 @@ impl<A: Allocator + Copy> BinaryRmq<A> {
     // The entry of level `k` for the range from `i` on.
     #[inline(always)]
     fn entry(&self, k: usize, i: usize) -> usize {
-        let table = self.table.as_slice();
-        table[self.items.len() * k + i] as usize
+        self.table[self.items.len() * k + i] as usize
     }
 
     /// The item at a place of the list.

@@ -127,39 +127,34 @@ impl<A: Allocator + Copy> FastRmq<A> {
     // The first place of a least item from the start of the block of `j` to `j`.
     #[inline(always)]
     fn prefix_place(&self, j: usize) -> usize {
-        let masks = self.masks.as_slice();
-        BLOCK * (j / BLOCK) + last_set(masks[j / BLOCK].whole.prefixes, j % BLOCK)
+        BLOCK * (j / BLOCK) + last_set(self.masks[j / BLOCK].whole.prefixes, j % BLOCK)
     }
 
     // The first place of a least item from `i` to the end of its block.
     #[inline(always)]
     fn suffix_place(&self, i: usize) -> usize {
-        let masks = self.masks.as_slice();
-        BLOCK * (i / BLOCK) + first_set(masks[i / BLOCK].whole.suffixes, i % BLOCK)
+        BLOCK * (i / BLOCK) + first_set(self.masks[i / BLOCK].whole.suffixes, i % BLOCK)
     }
 
     // The first place of a least item from the start of the part of `j` to `j`.
     #[inline(always)]
     fn part_prefix_place(&self, j: usize) -> usize {
-        let masks = self.masks.as_slice();
-        BLOCK * (j / BLOCK) + last_set(masks[j / BLOCK].parts.prefixes, j % BLOCK)
+        BLOCK * (j / BLOCK) + last_set(self.masks[j / BLOCK].parts.prefixes, j % BLOCK)
     }
 
     // The first place of a least item from `i` to the end of its part.
     #[inline(always)]
     fn part_suffix_place(&self, i: usize) -> usize {
-        let masks = self.masks.as_slice();
-        BLOCK * (i / BLOCK) + first_set(masks[i / BLOCK].parts.suffixes, i % BLOCK)
+        BLOCK * (i / BLOCK) + first_set(self.masks[i / BLOCK].parts.suffixes, i % BLOCK)
     }
 
     // The first least item of the blocks from `a` to `c`, which are whole.
     #[inline(always)]
     fn between(&self, a: usize, c: usize, tally: &mut Tally) -> PlacedItem {
         let _ = self.items.len();
-        let places = self.places.as_slice();
         let least = self.minima.range_min_item_counted(a, c, tally);
         PlacedItem {
-            place: BLOCK * least.place + places[least.place] as usize,
+            place: BLOCK * least.place + self.places[least.place] as usize,
             value: least.value,
         }
     }
