@@ -1,5 +1,5 @@
 -- Sums over the chunks of a list, and lists whose chunks are the same.
-use Rattle.vers_bits.proofs.Names.{◌≡◌, ℕ, zero, suc, map, ◌+◌, ◌*◌, ◌<◌, ◌≤◌, Bool, true, false, List, [], take, drop, length, get_or, eqb, refl, sym, ap, ◌∙◌, arith, Fits, w64, sum_by, count_ones, range_with_len, first_chunks, drop-drop, take-append-drop, sum_by-map-range_with_len_more, sum_by-cons, sum_by-take-drop, sum_by-le, ones-le, get_or-take, get_or-drop, count, limb, limb_count, pointwise, bytes_eq-Decides, limbs}
+use Rattle.vers_bits.proofs.Names.{◌≡◌, ℕ, zero, suc, map, ◌+◌, ◌*◌, ◌/◌, get_or_read, ◌<◌, ◌≤◌, Bool, true, false, List, [], take, drop, length, get_or, eqb, refl, sym, ap, ◌∙◌, arith, Fits, w64, sum_by, count_ones, range_with_len, first_chunks, drop-drop, take-append-drop, sum_by-map-range_with_len_more, sum_by-cons, sum_by-take-drop, sum_by-le, ones-le, get_or-take, get_or-drop, count, limb, limb_count, pointwise, bytes_eq-Decides, limbs}
 use Rattle.std.proofs.lemmas.List.Elements.{All-from_get_or}
 use Rattle.vers_bits.proofs.Count.{count_limb_whole, count_none, count_past}
 use Rattle.vers_bits.proofs.Equal.{get_or-limbs, length-limbs}
@@ -62,11 +62,18 @@ chunk_item n k xs i j h small =
 pub ruleset sums = (ones-bound)
 
 -- a limb of one of the blocks of 8
-pub limb_of_block : (l : List Bool) (ws : List ℕ) (n k j : ℕ) → ws ≡ limbs l → 8 * n ≤ length ws → k < n → j < 8 → get_or (get_or (first_chunks 8 n ws) k []) j 0 ≡ limb l (8 * k + j)
+limb_of_block : (l : List Bool) (ws : List ℕ) (n k j : ℕ) → ws ≡ limbs l → 8 * n ≤ length ws → k < n → j < 8 → get_or (get_or (first_chunks 8 n ws) k []) j 0 ≡ limb l (8 * k + j)
 limb_of_block l ws n k j same short within small =
     chunk_item 8 n ws k j within small ∙ ap (λ xs. get_or xs (8 * k + j) 0) same ∙ get_or-limbs l (8 * k + j) (omega (arith, ap length same, length-limbs l))
 
-pub ruleset blocks = (limb_of_block, length-limbs)
+-- the block that is read at k
+pub limb_of_read : (l : List Bool) (ws : List ℕ) (blocks : List (List ℕ)) (block : List ℕ) (k j : ℕ) → ws ≡ limbs l → blocks ≡ first_chunks 8 (length ws / 8) ws → length blocks ≡ length ws / 8 → k < length blocks → block ≡ get_or blocks k block → j < 8
+    → get_or block j 0 ≡ limb l (8 * k + j)
+limb_of_read l ws blocks block k j same all counted within read small =
+    ap (λ b. get_or b j 0) (get_or_read blocks k block within read [] ∙ ap (λ bs. get_or bs k []) all)
+    ∙ limb_of_block l ws (length ws / 8) k j same (omega arith) (omega (arith, counted)) small
+
+pub ruleset blocks = (limb_of_read, length-limbs)
 
 pub ruleset all_limbs = (ones_of_limbs, length-limbs)
 

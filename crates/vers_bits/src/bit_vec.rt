@@ -172,10 +172,7 @@ impl<A: Allocator + Copy> BitVec<A> {
         ensures some { IsSome result ↔ (512 * k + 448 < length self.now) }
     {
         let (blocks, _) = self.limbs().as_chunks::<8>();
-        if k < blocks.len() {
-            return Some(&blocks[k]);
-        }
-        None
+        blocks.get(k)
     }
 
     // All limbs.

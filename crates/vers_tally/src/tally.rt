@@ -382,7 +382,7 @@ impl<A: Allocator + Copy> BlockEntries<A> {
         ensures adds { AddsAtMost tally.old tally.new (only_block_entries 16) }
     {
         tally.block_entries = tally.block_entries.saturating_add(16);
-        u16x16::from_slice(&self.entries.as_slice()[k..])
+        u16x16::from_slice(&self.entries.as_slice()[k..k + 16])
     }
 }
 

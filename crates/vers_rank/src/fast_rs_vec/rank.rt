@@ -230,7 +230,7 @@ impl<A: Allocator + Copy> RsVec<A> {
         ensures few { result ≤ 128 }
         ensures adds { AddsAtMost tally.old tally.new (only_data_words 2) }
     {
-        self.ones_of_whole(k, tally) + self.ones_of_whole(k + 1, tally)
+        self.ones_of_whole(k + 1, tally) + self.ones_of_whole(k, tally)
     }
 
     // The ones of a limb, which is read.

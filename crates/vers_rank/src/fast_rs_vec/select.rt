@@ -620,9 +620,11 @@ impl<A: Allocator + Copy> RsVec<A> {
     {
         let _ = self.len();
         let limb = 8 * block;
-        let first = self.ones_of_two(limb, tally);
-        let two = first + self.ones_of_two(limb + 2, tally);
+        // The last first, so that a test of its place serves all.
         let third = self.ones_of_two(limb + 4, tally);
+        let second = self.ones_of_two(limb + 2, tally);
+        let first = self.ones_of_two(limb, tally);
+        let two = first + second;
         let half = self.half_of_block(bit, r, block, first, two, third);
         let quarter = self.half_of(bit, r, block, half.found, 2, half.ones);
         let ones = self.ones_of_whole(quarter.limb, tally);

@@ -116,10 +116,7 @@ impl<A: Allocator + Copy> BitVec<A> {
     #[inline(always)]
     pub fn limb_block(&self, k: usize) -> Option<&[u64; 8]> {
         let (blocks, _) = self.limbs().as_arrays::<8>();
-        if k < blocks.len() {
-            return Some(blocks.at(k));
-        }
-        None
+        blocks.get(k)
     }
 
     // All limbs.

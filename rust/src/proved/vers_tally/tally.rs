@@ -237,7 +237,7 @@ impl<A: Allocator + Copy> BlockEntries<A> {
     #[inline(always)]
     pub fn read_16(&self, k: usize, tally: &mut Tally) -> u16x16 {
         tally.block_entries = tally.block_entries.saturating_add(16);
-        u16x16::from_slice(&self.entries.as_slice()[k..])
+        u16x16::from_slice(&self.entries.as_slice()[k..k + 16])
     }
 }
 

@@ -142,7 +142,7 @@ impl<A: Allocator + Copy> RsVec<A> {
     // The ones of two limbs, which are read.
     #[inline(always)]
     pub(super) fn ones_of_two(&self, k: usize, tally: &mut Tally) -> usize {
-        self.ones_of_whole(k, tally) + self.ones_of_whole(k + 1, tally)
+        self.ones_of_whole(k + 1, tally) + self.ones_of_whole(k, tally)
     }
 
     // The ones of a limb, which is read.
