@@ -116,6 +116,13 @@ pub(crate) fn no_bits(place: usize, n: usize) -> ! {
     panic!("the list has no {} bits from {} on", n, place)
 }
 
+/// Panics for a range of values that the list doesn't have.
+#[cold]
+#[inline(never)]
+pub(crate) fn no_range(i: usize, j: usize) -> ! {
+    panic!("the list has no range from {} to {}", i, j)
+}
+
 /// Stops at a place past the end of a list of bits.
 #[cold]
 #[inline(never)]

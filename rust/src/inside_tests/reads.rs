@@ -119,7 +119,7 @@ impl Book {
             "u64" if tally("self.numbers[k]") => Kind::Items,
             "u64" if tally("self.entries[k]") => Kind::Superblocks,
             "u64" if stands(read, "vers_bits/bit_vec.rs", FILES[1], "self.data") => Kind::Words,
-            "u64" if stands(read, "vers_bits/bit_vec.rs", FILES[1], "blocks.at(k)") => Kind::Words,
+            "u64" if stands(read, "vers_bits/bit_vec.rs", FILES[1], "blocks.get(k)") => Kind::Words,
             it if tally("self.entries[k]") && it.contains("::Node") => Kind::Nodes,
             _ => Kind::Wrong,
         };

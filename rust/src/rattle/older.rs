@@ -90,6 +90,20 @@ impl<'a, T, const N: usize> Arrays<'a, T, N> {
         array_of(found)
     }
 
+    /// Returns an array, for as long as the items are borrowed, or `None` if there are no more.
+    #[inline(always)]
+    #[cfg_attr(test, track_caller)]
+    pub fn get(self, k: usize) -> Option<&'a [T; N]> {
+        let start = k.checked_mul(N)?;
+        if start >= self.0.len() {
+            return None;
+        }
+        let found = &self.0[start..start + N];
+        #[cfg(test)]
+        note(self.0.as_ptr(), found.as_ptr(), N, Way::Array, Location::caller());
+        Some(array_of(found))
+    }
+
     /// Returns the arrays, in order.
     #[inline(always)]
     pub fn iter(self) -> ArraysIter<'a, T, N> {

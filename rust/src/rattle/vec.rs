@@ -323,6 +323,13 @@ impl<T, A: Allocator> DerefMut for Vec<T, A> {
     }
 }
 
+/// Panics. One function without arguments, so that the compiler can join the tests of several places.
+#[cold]
+#[inline(never)]
+fn past_the_end() -> ! {
+    panic!("a place past the end of a list, which the proofs rule out");
+}
+
 impl<T, A: Allocator> Vec<T, A> {
     /// Returns the entries at a place or a range. Tests note what is read.
     #[cfg(test)]
@@ -338,7 +345,10 @@ impl<T, A: Allocator> Vec<T, A> {
     #[cfg(not(any(test, feature = "unchecked")))]
     #[inline(always)]
     fn entries<I: SliceIndex<[T]>>(&self, place: I) -> &I::Output {
-        &self.items[place]
+        match self.items.get(place) {
+            Some(found) => found,
+            None => past_the_end(),
+        }
     }
 
     /// Returns the entries at a place or a range, which it doesn't test.
@@ -364,7 +374,10 @@ impl<T, A: Allocator, I: SliceIndex<[T]>> IndexMut<I> for Vec<T, A> {
     #[inline(always)]
     fn index_mut(&mut self, place: I) -> &mut I::Output {
         #[cfg(not(feature = "unchecked"))]
-        return &mut self.items[place];
+        return match self.items.get_mut(place) {
+            Some(found) => found,
+            None => past_the_end(),
+        };
         // SAFETY: as above.
         #[cfg(feature = "unchecked")]
         return unsafe { self.items.get_unchecked_mut(place) };

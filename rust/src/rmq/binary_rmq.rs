@@ -2,7 +2,7 @@
 
 use super::{minima, places};
 use crate::contracts::contract;
-use crate::error::{granted, BuildError};
+use crate::error::{granted, no_range, BuildError};
 use crate::proved::vers_rmq::rmq::binary_rmq as proved;
 use crate::proved::vers_tally::tally::Uncounted;
 use crate::rattle::Global;
@@ -44,7 +44,9 @@ impl BinaryRmq {
     #[must_use]
     #[inline]
     pub fn range_min_item(&self, i: usize, j: usize) -> PlacedItem {
-        assert!(i <= j && j < self.index.len(), "the list has no range from {} to {}", i, j);
+        if i > j || j >= self.index.len() {
+            no_range(i, j);
+        }
         let found = self.index.range_min_item(i, j);
         PlacedItem { place: found.place, value: found.value }
     }
@@ -56,7 +58,9 @@ impl BinaryRmq {
     #[doc = contract!(BinaryRmq::range_min_item_counted)]
     #[inline]
     pub fn range_min_item_counted(&self, i: usize, j: usize, tally: &mut Tally) -> PlacedItem {
-        assert!(i <= j && j < self.index.len(), "the list has no range from {} to {}", i, j);
+        if i > j || j >= self.index.len() {
+            no_range(i, j);
+        }
         let found = self.index.range_min_item_counted(i, j, &mut tally.0);
         PlacedItem { place: found.place, value: found.value }
     }

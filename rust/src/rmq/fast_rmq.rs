@@ -2,7 +2,7 @@
 
 use super::{minima, places};
 use crate::contracts::contract;
-use crate::error::{granted, BuildError};
+use crate::error::{granted, no_range, BuildError};
 use crate::proved::vers_rmq::rmq::fast_rmq as proved;
 use crate::proved::vers_tally::tally::Uncounted;
 use crate::rattle::Global;

@@ -83,7 +83,9 @@ macro_rules! minima {
             #[must_use]
             #[inline]
             pub fn range_min(&self, i: usize, j: usize) -> usize {
-                assert!(i <= j && j < self.index.len(), "the list has no range from {} to {}", i, j);
+                if i > j || j >= self.index.len() {
+                    no_range(i, j);
+                }
                 self.index.range_min(i, j)
             }
 
@@ -94,7 +96,9 @@ macro_rules! minima {
             #[doc = contract!($name::range_min_counted)]
             #[inline]
             pub fn range_min_counted(&self, i: usize, j: usize, tally: &mut Tally) -> usize {
-                assert!(i <= j && j < self.index.len(), "the list has no range from {} to {}", i, j);
+                if i > j || j >= self.index.len() {
+                    no_range(i, j);
+                }
                 self.index.range_min_counted(i, j, &mut tally.0)
             }
 
