@@ -41,6 +41,7 @@ macro_rules! range_minima {
                 <$type>::from_vec(items)
             }
 
+            #[inline(always)]
             fn first_least(&self, range: &RangeInclusive<usize>) -> usize {
                 self.range_min(*range.start(), *range.end())
             }
