@@ -1,8 +1,8 @@
 #!/usr/bin/env python3
 """Runs the benchmark of this library and that of the crate vers-vecs, and prints their times and ratios as a table.
 
-`--plain` adds two columns, for the crate of plain Rust as it is and with the feature `unchecked`, under the driver of the original, and a table
-of the geometric means over the queries of each structure.
+`--plain` adds three columns: the crate of plain Rust as it is and with the feature `unchecked`, under the driver of the original, and the C
+library that cargo builds, under the driver in `from_c/`. A table gives the geometric means over the queries of each structure.
 
 The original's driver is built by cargo. This library's is `crates/vers_bench`, which `tools/proofs.py vers_bench` proves
 and builds. The runs are interleaved: in each pass each structure is run by the one and by the other, and the least
@@ -49,6 +49,17 @@ def built_original(folder, level, target="target", features=()):
         hint = "" if folder else "; without a network, name a folder with the sources of vers-vecs 1.10.2 by --original FOLDER"
         sys.exit(f"cargo could not build the original's driver{hint}")
     return os.path.join(PROJECT, target, "release/bench_original")
+
+
+def built_from_c(level):
+    """Builds the C library by cargo and the driver over it, both for a level of processors, and returns the driver's path."""
+    library, program = os.path.join(TOP, "bindings/c"), os.path.join(PROJECT, "target/from_c")
+    flags = {"RUSTFLAGS": f"-C target-cpu={level}"}
+    subprocess.run(["cargo", "build", "--release", "--quiet", "--offline", "--target-dir", program], cwd=library, env={**os.environ, **flags}, check=True)
+    sources = [os.path.join(HERE, "from_c/queries.cpp"), os.path.join(program, "release/libvers.a")]
+    command = ["g++", "-std=c++17", "-O3", f"-march={level}", f"-I{library}", *sources, "-lpthread", "-ldl", "-lm"]
+    subprocess.run([*command, "-o", os.path.join(program, "queries")], check=True)
+    return os.path.join(program, "queries")
 
 
 def output_of(command):
@@ -184,7 +195,7 @@ def main():
     parser.add_argument("--instructions", action="store_true", help="count instructions under valgrind in place of times")
     parser.add_argument("--program", help="a driver of the original that is built, as for another processor, instead of building one")
     parser.add_argument("--under", default="", metavar="COMMAND", help="the command that runs it, as an emulator")
-    parser.add_argument("--plain", action="store_true", help="run the crate of plain Rust too, as it is and unchecked")
+    parser.add_argument("--plain", action="store_true", help="run the crate of plain Rust too, as it is, unchecked, and from C")
     parser.add_argument("--passes", type=int, default=3, help="how often each structure is run by each (3)")
     parser.add_argument("--reps", type=int, default=5, help="how often a run repeats a series, for the median (5)")
     parser.add_argument("--small", action="store_true", help="a sixteenth of the sizes")
@@ -207,7 +218,8 @@ def main():
     if asked.plain:
         for name, features in (("plain", ()), ("unchecked", ("unchecked",))):
             drivers[name] = built_original(PLAIN, asked.level, f"target/{name}", features)
-        ratios += [("plain", "here"), ("unchecked", "here"), ("plain", "original"), ("unchecked", "original")]
+        drivers["from C"] = built_from_c(asked.level)
+        ratios += [("plain", "here"), ("unchecked", "here"), ("plain", "original"), ("unchecked", "original"), ("from C", "original")]
     ratios = [it for it in ratios if set(it) <= set(drivers)]
     options = ["--reps", str(asked.reps), *(["--small"] if asked.small else [])]
     found = counted(drivers, structures) if asked.instructions else measured(drivers, structures, max(asked.passes, 1), options)
