@@ -11,7 +11,7 @@ pub struct Difference {
 }
 
 const JUNK: &str = "Bits past the length may hold junk";
-const OVERFLOW: &str = "sums and products of a place and a length wrap or stop";
+const OVERFLOW: &str = "sums and products of a position and a length wrap or panic";
 const ITERATORS: &str =
     "`nth_back(n)` of select iterators, and `nth(n)` and `nth_back(n)` of iterators over bits, limbs and members";
 const REVERSED: &str =
@@ -19,8 +19,8 @@ const REVERSED: &str =
 const SAMPLES: &str = "padding counts as ones in the select samples";
 const LEVELS: &str =
     "`level_rightmost(0)` is None on a single node and wrong on forests; `level_leftmost(0)` is Some(0) on no bits";
-const UNCHECKED: &str = "Calls named `_unchecked` answer anything, or stop, where their condition doesn't hold";
-const MINIMA: &str = "Range minima answer anything, or stop, for a range that is reversed or ends past the list";
+const UNCHECKED: &str = "Calls named `_unchecked` return anything, or panic, if their precondition fails";
+const MINIMA: &str = "Range minima return anything, or panic, for a range that is reversed or ends past the array";
 const MAKERS: &str = "Makers of ascending lists take numbers that don't ascend";
 
 /// The arguments 0 to 3 of a call, 0 where there are fewer.
@@ -65,8 +65,7 @@ pub const KNOWN: &[Difference] = &[
     Difference {
         names: &["BitVec::eq", "BitVec::hash", "RsVec::eq"],
         when: |call, _| call.arguments[0] > 0 && call.arguments[0].is_multiple_of(64),
-        sentence:
-            "Equality and hash of `BitVec` leave out the whole last limb where the length is a positive multiple of 64",
+        sentence: "Equality and hash of `BitVec` ignore the last limb if the length is a positive multiple of 64",
     },
     Difference {
         names: &["BitVec::append_bits_unchecked"],
@@ -103,7 +102,7 @@ pub const KNOWN: &[Difference] = &[
     Difference {
         names: &["MaskedBitVec::get_bits", "MaskedBitVec::get_bits_unchecked"],
         when: |call, _| call.arguments[1] == 64 && !call.arguments[0].is_multiple_of(64),
-        sentence: "`MaskedBitVec::get_bits` of 64 bits at a place that is no multiple of 64 answers 0",
+        sentence: "`MaskedBitVec::get_bits` of 64 bits at a place that is no multiple of 64 returns 0",
     },
     Difference {
         names: &["RsVec::predecessor0", "RsVec::predecessor1"],
@@ -191,7 +190,7 @@ pub const KNOWN: &[Difference] = &[
             "BinaryRmq::range_min_with_range",
         ],
         when: is_equal_minimum,
-        sentence: "Which of several equal minima a range answers is left open",
+        sentence: "Which of several equal minima a query returns is unspecified",
     },
     Difference {
         names: &["FastRmq::range_min", "BinaryRmq::range_min"],
