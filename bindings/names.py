@@ -7,6 +7,7 @@ Each name has to stand in the header, the classes and the crate; a call that is 
 import os
 import re
 import sys
+import textwrap
 from glob import glob
 
 sys.path.append(os.path.join(os.path.dirname(os.path.abspath(__file__)), "../tools"))
@@ -65,9 +66,10 @@ LEFT_OUT = (
 )
 HEAD = """# Names
 
-By which name each call of a structure is asked from C, C++, Rust and Python. `bindings/names.py` writes this page out of
-[CALLS](../docs/CALLS.md), and fails where a call has no name and no reason, or a binding lacks a name. Rust's names are those of the crate
-[rust](../rust), which are those of vers-vecs; in Python `[]` is an index, and `()` the class. `each` takes the name of a query.
+The name of each call in C, C++, Rust and Python. `bindings/names.py` writes this page from [CALLS](../docs/CALLS.md), and
+fails if a call has neither a name nor a reason, or a binding lacks a name. Rust's names are those of the crate
+[rust](../rust); in Python `[]` is an index, and `()` the class. `each` takes the name of a query. Calls with one name in
+all languages are listed above each table: in C with the prefix, and without `_u64` except in Rust.
 """
 
 
@@ -111,13 +113,18 @@ def has(structure, language, name):
     return re.search(rf"\bdef {re.escape(special.get(name, name))}\(", text)
 
 
-def named(structure, call):
-    """Returns the names of a call in each language, or None where there is none."""
+def named_alike(call):
+    """Returns the names of a call in each language if they are its own."""
     plain = call.replace("_u64", "")
+    return [plain, plain, call, plain]
+
+
+def named(structure, call):
+    """Returns the names of a call in each language, or `None` if there is none."""
     row = next((row for fits, row in NAMES if re.fullmatch(fits, f"{structure}.{call}")), None)
     if row is None and any(re.fullmatch(fits, f"{structure}.{call}") for fits, _ in LEFT_OUT):
         return None
-    own = (plain, plain, call, plain)
+    own = named_alike(call)
     return [own[k] if name == "=" else name for k, name in enumerate((row or "= = = =").split())]
 
 
@@ -133,7 +140,7 @@ def main():
     """Writes the page."""
     text, left, faults = HEAD, {reason: [] for _, reason in LEFT_OUT}, []
     for structure, names in calls().items():
-        text += f"\n## `{structure}`\n\n| Call | {' | '.join(LANGUAGES)} |\n|---|{'---|' * len(LANGUAGES)}\n"
+        same, rows = [], ""
         for call in dict.fromkeys(names):
             row = named(structure, call)
             if row is None:
@@ -141,8 +148,13 @@ def main():
                 left[reason].append(f"`{structure}::{call}`")
                 continue
             faults += [f"{structure}.{call}: no {it} in {language}" for language, it in zip(LANGUAGES, row) if it != "-" and not has(structure, language, it)]
-            text += f"| `{call}` | {' | '.join(shown(structure, *it) for it in zip(LANGUAGES, row))} |\n"
-    text += "\n## Left out of C, C++ and Python\n\nRust has those of them that the crate vers-vecs has.\n\n| Why | Calls |\n|---|---|\n"
+            if row == named_alike(call):
+                same.append(f"`{call}`")
+            else:
+                rows += f"| `{call}` | {' | '.join(shown(structure, *it) for it in zip(LANGUAGES, row))} |\n"
+        text += f"\n## `{structure}`: `vers_{STRUCTURES[structure][0]}_`\n\n{textwrap.fill(', '.join(same), 120)}\n"
+        text += f"\n| Call | {' | '.join(LANGUAGES)} |\n|---|{'---|' * len(LANGUAGES)}\n{rows}"
+    text += "\n## Left out of C, C++ and Python\n\nRust has those that vers-vecs has.\n\n| Why | Calls |\n|---|---|\n"
     text += "| Each call tests what it is asked. | those whose names end in `_unchecked` or `_counted` |\n"
     text += "| A list of bits that grows, or words, make the tree. | `BpBuilder` |\n"
     text += "".join(f"| {reason} | {', '.join(names)} |\n" for reason, names in left.items())
