@@ -7,8 +7,9 @@ form adds to the counters at most, and its time where docs/PERFORMANCE.md has on
 A row of a table of PERFORMANCE is read where its first cell is a call, as `rank1` or `FastRmq::range_min`, or a call and what its time is
 of, as "`iter1`, a place". Nothing is measured.
 
-It also says which names that the facade hands on, and which calls of its types, stand in neither table of docs/DIFFERENCES.md, of
-our own names and of those of the crate vers-vecs; and which of the first aren't our own. Counted forms and laws are all our own.
+It also says which names that the facade exports, and which calls of its types, are neither in the table of our own names in
+docs/DIFFERENCES.md nor among those of the crate vers-vecs (tools/original_names.txt); and which of the first aren't our own. Counted
+forms and laws are all our own.
 """
 import re
 import sys
@@ -17,6 +18,7 @@ from collections import defaultdict, namedtuple
 from sources import TOP, public_functions, read, read_crate, write_or_check
 
 PAGE, DIFFERENCES, FACADE = "docs/CALLS.md", "docs/DIFFERENCES.md", "crates/vers_vecs/src/lib.rt"
+ORIGINAL = "tools/original_names.txt"
 SOURCE, README = "docs/PERFORMANCE.md", "README.md"
 # The tables that are read: the heading, the type that it times where rows don't say it, over which data, and the times' column.
 BITS = "Beside the original, in time"
@@ -114,9 +116,9 @@ def page(top):
 
 def misplaced_names(top):
     """Yields a line for each name of our own that the table lacks, and for each one there that isn't our own."""
-    ours, theirs = re.split(r"(?m)^## Names of .*$", read(f"{top}/{DIFFERENCES}"))[1:]
+    ours = read(f"{top}/{DIFFERENCES}").partition("\n## Names of our own\n")[2]
     listed = {name for row in re.findall(r"(?m)^\| (`.*?) \|", ours) for name in re.findall(r"`([^`]*)`", row)}
-    original = {crate: set(names.split()) for crate, names in re.findall(r"(?m)^\| `(\w+)` \| `(.*)` \|$", theirs)}
+    original = {crate: set(names.split()) for crate, names in re.findall(r"(?m)^(\w+):$((?:\n  .*)+)", read(f"{top}/{ORIGINAL}"))}
     facade = re.sub(r"(?s)pub mod laws \{.*?\n\}", "", read(f"{top}/{FACADE}"))
     own, types = set(), {"BothEnds", "MadeEnds", "ListEnds"}
     for crate, names in re.findall(r"pub use (\w+)::[\w:]*?\{?\s*(\w+(?:,\s*\w+)*),?\s*\}?;", facade):
