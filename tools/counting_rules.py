@@ -31,7 +31,7 @@ from sources import TOP, bare_keeping_lines, closed, line_of, read_crate, tell
 BELOW, COUNTERS = "vers_bits", "vers_tally"
 # The functions that may read a whole list without a counter.
 WHOLE = {
-    "RsVec::clone", "RsVec::into_bit_vec", "RsVec::eq", "EliasFanoVec::clone", "EliasFanoVec::heap_size", "BinaryRmq::clone",
+    "RsVec::clone", "RsVec::into_bit_vec", "RsVec::eq", "EliasFanoVec::clone", "BinaryRmq::clone",
     "BinaryRmq::as_slice", "FastRmq::clone", "FastRmq::as_slice", "MinMaxTree::copied", "PackedNumbers::clone", "Rows::copied",
 }
 # Functions without a counted form that make a counter, besides the calls whose names end in `_unchecked`.

@@ -2,6 +2,7 @@ pub mod Names
 pub mod Num
 pub mod Words
 pub mod Count
+pub mod PlaceSums
 pub mod Places
 pub mod Neighbours
 pub mod Passing

@@ -1,5 +1,5 @@
 -- The laws that proofs of other crates may cite. A crate above imports this file and no other of this folder.
-use Rattle.vers_bits.proofs.Names.{arith, ◌≡◌, ℕ, ◌+◌, ◌-◌, ◌*◌, ◌%◌, ◌/◌, ◌^◌, ◌<◌, ◌≤◌, min, suc, Bool, true, false, eqb, ltb, List, ◌++◌, length, map, take, drop, get_or, slice_get, Option, None, Some, bool_byte, count_ones, filter, find, flat_map, YieldsFirst, YieldsLast, MakesProgress, item_count, bit_at, count_leading_zeros, AllPairs, count_by, last_or, get_or_default, bit_value, number, low_bits, pack, is_bit, count, places, select, place_after, place_before, limb, limbs, limb_count, Span, TakesNth, TakesNthBack, TakesFirst, TakesLast, items_in}
+use Rattle.vers_bits.proofs.Names.{arith, ◌≡◌, ℕ, ◌+◌, ◌-◌, ◌*◌, ◌%◌, ◌/◌, ◌^◌, ◌<◌, ◌≤◌, min, suc, Bool, true, false, cond, eqb, ltb, List, [], ◌∷◌, ◌++◌, length, map, take, drop, get_or, slice_get, Option, None, Some, bool_byte, count_ones, sum_by, filter, find, flat_map, YieldsFirst, YieldsLast, MakesProgress, item_count, bit_at, count_leading_zeros, AllPairs, count_by, last_or, get_or_default, bit_value, number, low_bits, pack, is_bit, count, places, select, place_after, place_before, limb, limbs, limb_count, Span, TakesNth, TakesNthBack, TakesFirst, TakesLast, items_in}
 -- `IsPlace bit bits r p`: place p is number r of those that hold the bit
 pub use Rattle.vers_bits.proofs.Places.{IsPlace}
 use Rattle.vers_bits.proofs.Num as Num
@@ -7,6 +7,7 @@ use Rattle.vers_bits.proofs.LowBits as LowBits
 use Rattle.vers_bits.proofs.Gather as Gather
 use Rattle.vers_bits.proofs.Highest as Highest
 use Rattle.vers_bits.proofs.Count as Count
+use Rattle.vers_bits.proofs.PlaceSums as PlaceSums
 use Rattle.vers_bits.proofs.Places as Places
 use Rattle.vers_bits.proofs.Neighbours as Neighbours
 use Rattle.vers_bits.proofs.Passing as Passing
@@ -60,6 +61,14 @@ pub count_limb_whole : (bits : List Bool) (k : ℕ) → count true bits (64 * k 
 count_limb_whole = Count.count_limb_whole
 
 -- ---- places
+
+-- the places of a bit before the others
+pub places-cons : (bit b : Bool) (bits : List Bool) → places bit (b ∷ bits) ≡ cond (is_bit bit b) (0 ∷ []) [] ++ map (λ i. 1 + i) (places bit bits)
+places-cons = PlaceSums.places-cons
+
+-- a number is the sum of the powers of two at the places of its ones
+pub number-places : (bits : List Bool) → number bits ≡ sum_by (λ i. 2 ^ i) (places true bits)
+number-places = PlaceSums.number-places
 
 -- all places are as many as the whole list counts
 pub length-places : (bit : Bool) (bits : List Bool) → length (places bit bits) ≡ count bit bits (length bits)

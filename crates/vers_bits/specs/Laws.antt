@@ -1,6 +1,6 @@
 -- The laws of lists of bits, as statements.
-use Rattle.std.specs.Prelude.{◌≡◌, ℕ, ◌*◌, ◌-◌, ◌/◌, ◌%◌, ◌^◌, ◌<◌, ◌≤◌, ◌||◌, ◌&&◌, Bool, false, List, ◌++◌, length, take, drop, slice_index, slice_index_or, MatchOption, Some, bit_or, bit_and, bit_xor, ◌+◌, min, true}
-use Rattle.vers_bits.specs.Bits.{number, low_bits, pack, part_number, masked, is_bit, count, select, place_after, place_before}
+use Rattle.std.specs.Prelude.{◌≡◌, ℕ, ◌*◌, ◌-◌, ◌/◌, ◌%◌, ◌^◌, ◌<◌, ◌≤◌, ◌||◌, ◌&&◌, Bool, false, List, ◌++◌, length, take, drop, slice_index, slice_index_or, MatchOption, Some, bit_or, bit_and, bit_xor, ◌+◌, min, sum_by, true}
+use Rattle.vers_bits.specs.Bits.{number, low_bits, pack, part_number, masked, is_bit, count, places, select, place_after, place_before}
 use Rattle.vers_bits.specs.Masks.{zip_bits, xor}
 use Rattle.vers_bits.specs.Equality.{hash_input}
 
@@ -26,6 +26,10 @@ LowBitsGoOn = (v j k : ℕ) → low_bits v (j + k) ≡ low_bits v j ++ low_bits 
 
 abbrev pub BitsFollowFromNumber : Type 0
 BitsFollowFromNumber = (bits : List Bool) → low_bits (number bits) (length bits) ≡ bits
+
+-- a number is the sum of the powers of two at the places of its ones
+abbrev pub NumberIsSumOfPowers : Type 0
+NumberIsSumOfPowers = (bits : List Bool) → number bits ≡ sum_by (λ i. 2 ^ i) (places true bits)
 
 abbrev pub PackedElementsAreItems : Type 0
 PackedElementsAreItems = (items : List ℕ) (k e : ℕ) → 1 ≤ k → k ≤ 64 → e < length items

@@ -2,7 +2,7 @@
 //! its contract is the law, and its proof is checked with the crate.
 #![tactic(auto, using(crate::proofs::Statements::laws))]
 
-ghost use Rattle.vers_bits.specs.Laws.{EqualListsHashEqually, SplitListsJoin, LowBitsAreAsMany, LowBitsAreTheRest, LowBitsOfRest, LowBitsGoOn, BitsFollowFromNumber, PackedElementsAreItems, ZippedBitsAreCombined, MaskOfOrIsOr, MaskOfAndIsAnd, MaskOfXorIsXor, ZerosAndOnesAddUp, SelectFindsNumber, SelectOfCountIsNext, CountsGrow, CountsOfSpansAddUp, CountsAreFew, SelectPastLastIsLength, NoneUpToNeighbour, NoneDownToNeighbour};
+ghost use Rattle.vers_bits.specs.Laws.{EqualListsHashEqually, SplitListsJoin, LowBitsAreAsMany, LowBitsAreTheRest, LowBitsOfRest, LowBitsGoOn, BitsFollowFromNumber, NumberIsSumOfPowers, PackedElementsAreItems, ZippedBitsAreCombined, MaskOfOrIsOr, MaskOfAndIsAnd, MaskOfXorIsXor, ZerosAndOnesAddUp, SelectFindsNumber, SelectOfCountIsNext, CountsGrow, CountsOfSpansAddUp, CountsAreFew, SelectPastLastIsLength, NoneUpToNeighbour, NoneDownToNeighbour};
 ghost use Rattle.vers_bits.specs.Walk.{PassesEachOnce, StaysEnded, NextIsNthOfZero, NextBackIsNthBackOfZero};
 
 /// Equal lists are fed to a hasher alike, so that they hash equally.
@@ -39,6 +39,11 @@ pub fn low_bits_go_on()
 /// A list of bits follows from its number and its length.
 pub fn bits_follow_from_number()
     ensures { BitsFollowFromNumber }
+{}
+
+/// The number of a list of bits is the sum of `2 ^ i` over the positions `i` of its ones.
+pub fn number_is_sum_of_powers()
+    ensures { NumberIsSumOfPowers }
 {}
 
 /// Element `e` of a packed list of 1 to 64 bits an item is item `e` modulo `2 ^ k`.

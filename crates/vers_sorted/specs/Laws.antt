@@ -1,5 +1,5 @@
 -- The laws of ascending lists, as statements.
-use Rattle.std.specs.Prelude.{◌≡◌, ℕ, ◌+◌, ◌-◌, ◌^◌, ◌<◌, ◌≤◌, max, List, length, slice_index, slice_get, None}
+use Rattle.std.specs.Prelude.{◌≡◌, ℕ, ◌+◌, ◌-◌, ◌^◌, ◌<◌, ◌≤◌, max, List, length, slice_index, slice_get, None, Some}
 use Rattle.std.specs.List.Sorted.{IsNonDecreasing}
 use Rattle.vers_sorted.specs.Sorted.{below, greatest_not_above, least_not_below}
 use Rattle.vers_sorted.specs.Layout.{clog, high_parts}
@@ -37,6 +37,26 @@ GreatestNotAboveIsLast = (members : List ℕ) (v : ℕ) → IsNonDecreasing memb
 abbrev pub NoneBelowNoneNotAbove : Type 0
 NoneBelowNoneNotAbove = (members : List ℕ) (v : ℕ) → IsNonDecreasing members → below members (v + 1) ≡ 0
     → greatest_not_above members v ≡ None
+
+-- x is a member that is not above v, and none that isn't above v is greater
+pub record IsGreatestNotAbove (members : List ℕ) (v x : ℕ) : Type 0 where
+  pub member : (i : ℕ) × (i < length members) × (slice_index members i ≡ x)
+  pub not_above : x ≤ v
+  pub greatest : (i : ℕ) → i < length members → slice_index members i ≤ v → slice_index members i ≤ x
+
+-- x is a member that is not below v, and none that isn't below v is less
+pub record IsLeastNotBelow (members : List ℕ) (v x : ℕ) : Type 0 where
+  pub member : (i : ℕ) × (i < length members) × (slice_index members i ≡ x)
+  pub not_below : v ≤ x
+  pub least : (i : ℕ) → i < length members → v ≤ slice_index members i → x ≤ slice_index members i
+
+abbrev pub GreatestNotAboveIsGreatest : Type 0
+GreatestNotAboveIsGreatest = (members : List ℕ) (v x : ℕ) → IsNonDecreasing members
+    → greatest_not_above members v ≡ Some x → IsGreatestNotAbove members v x
+
+abbrev pub LeastNotBelowIsLeast : Type 0
+LeastNotBelowIsLeast = (members : List ℕ) (v x : ℕ) → IsNonDecreasing members
+    → least_not_below members v ≡ Some x → IsLeastNotBelow members v x
 
 -- the high parts of n members have at most 2 + n + p bits, where p is the least power of two that is below neither n nor 2
 abbrev pub HighPartsAreFew : Type 0

@@ -111,8 +111,7 @@ impl<A: Allocator + Copy> EliasFanoVec<A> {
         ensures { result ≡ heap_size_of self.now }
     {
         let _ = self.high.len();
-        let _ = self.low.len();
-        self.high.heap_size() + self.low.as_bit_vec(Uncounted).heap_size()
+        self.high.heap_size() + 8 * self.low.len().div_ceil(64)
     }
 
     /// The member at a place. None past the last.
@@ -143,7 +142,8 @@ impl<A: Allocator + Copy> EliasFanoVec<A> {
         ensures value { result ≡ slice_get self.now i }
         ensures ascending { IsNonDecreasing self.now }
     {
-        self.get(i)
+        let mut tally = Tally::new();
+        self.select_counted(i, &mut tally)
     }
 
     /// How far member `i` lies above the one before it, and the first member itself for 0. None

@@ -1,6 +1,6 @@
 //! Laws of ascending lists. Each function does nothing: its contract is the law, and its proof is
 //! checked with the crate.
-ghost use Rattle.vers_sorted.specs.Laws.{BelowIsAtMostAll, BelowRises, FirstMembersAreBelow, OtherMembersAreNotBelow, LeastNotBelowIsNext, GreatestNotAboveIsLast, NoneBelowNoneNotAbove, ClogIsLeast, HighPartsAreFew};
+ghost use Rattle.vers_sorted.specs.Laws.{BelowIsAtMostAll, BelowRises, FirstMembersAreBelow, OtherMembersAreNotBelow, LeastNotBelowIsNext, GreatestNotAboveIsLast, GreatestNotAboveIsGreatest, LeastNotBelowIsLeast, NoneBelowNoneNotAbove, ClogIsLeast, HighPartsAreFew};
 
 /// No more members are below a number than there are.
 #[tactic(auto, using(crate::proofs::Neighbours::laws))]
@@ -37,6 +37,18 @@ pub fn least_not_below_is_next()
 #[tactic(auto, using(crate::proofs::Neighbours::laws))]
 pub fn greatest_not_above_is_last()
     ensures { GreatestNotAboveIsLast }
+{}
+
+/// In a sorted list, `greatest_not_above` is an element, not above `v`, and the greatest such element.
+#[tactic(auto, using(crate::proofs::Neighbours::laws))]
+pub fn greatest_not_above_is_greatest()
+    ensures { GreatestNotAboveIsGreatest }
+{}
+
+/// In a sorted list, `least_not_below` is an element, not below `v`, and the least such element.
+#[tactic(auto, using(crate::proofs::Neighbours::laws))]
+pub fn least_not_below_is_least()
+    ensures { LeastNotBelowIsLeast }
 {}
 
 /// Where no member is below `v + 1`, there is none that is not above `v`.

@@ -1,5 +1,6 @@
 -- Lists of places: moved to the right, and those of a list that follows another.
 use Rattle.vers_trees.proofs.Words.{◌≡◌, ℕ, zero, suc, ◌+◌, ◌<◌, Bool, true, false, cond, List, [], ◌∷◌, ◌++◌, map, length, get_or, arith, subst, sym, refl, ap, ◌∙◌, negsuc, inl, inr, filter, All, range_with_len, map-append, append_assoc, All-nil, All-cons, All-head, All-tail, All-append, All-map, All-weaker, is_bit, places, moved, Forest, none, tree, text, opening_of, pairs_by_closing, postorder, Option, unwrap_or, add_assoc, zero-add, map-id, cond_both, map-map}
+use Rattle.vers_bits.proofs.PublicLaws.{places-cons as places_after_first}
 use Rattle.vers_trees.proofs.grammar.Paired.{Paired, paired_closes}
 use Rattle.vers_trees.proofs.grammar.Pairs.{PairedIn}
 use Rattle.vers_trees.proofs.kin.Partners.{before_from_closes}
@@ -25,15 +26,8 @@ closing_moved n qs = map-map (λ (q : ℕ × ℕ). q.1) (moved n) qs ∙ sym (ma
 pub shifted-shifted : (m n : ℕ) (xs : List ℕ) → shifted m (shifted n xs) ≡ shifted (m + n) xs
 shifted-shifted m n xs = map-map (λ v. m + v) (λ v. n + v) xs ∙ simp add_assoc
 
--- numbers that pass a test, moved by one
-filter_next : (p q : ℕ → Bool) (a n : ℕ) → ((i : ℕ) → p (i + 1) ≡ q i) → filter p (range_with_len (a + 1) n) ≡ shifted 1 (filter q (range_with_len a n))
-filter_next p q a zero h = refl
-filter_next p q a (suc n) h = grind (arith, filter_next p q (a + 1) n h)
-
 pub places-cons : (bit b : Bool) (l : List Bool) → places bit (b ∷ l) ≡ cond (is_bit bit b) (0 ∷ []) [] ++ shifted 1 (places bit l)
-unfolding places
-places-cons bit b l =
-    rw (filter_next (λ p. is_bit bit (get_or (b ∷ l) p false)) (λ p. is_bit bit (get_or l p false)) 0 (length l) (λ i. ap (λ (m : ℕ). is_bit bit (get_or (b ∷ l) m false)) (let e : i + 1 ≡ suc i = omega arith in e))) (grind arith)
+places-cons = places_after_first
 
 pub places-append : (bit : Bool) (k l : List Bool) → places bit (k ++ l) ≡ places bit k ++ shifted (length k) (places bit l)
 unfolding places
