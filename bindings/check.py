@@ -17,6 +17,7 @@
 What can't be checked here, for want of a tool, is named. The last line is "N passed, M failed".
 """
 import glob
+import itertools
 import os
 import re
 import shutil
@@ -278,13 +279,13 @@ def check_python(checks, library):
     if not checks.run("shared library", [sys.executable, "-c", link], env=environment):
         return
     modules = modules_of(checks)
-    for python in modules:
-        checks.run(f"Python by {python}", [python, os.path.join(PY, "tests", "test_vers.py")], env=environment)
+    for python, test in itertools.product(modules, ("test_vers.py", "test_habits.py")):
+        checks.run(f"Python by {python}", [python, os.path.join(PY, "tests", test)], env=environment)
     having = {name: next((it for it in modules if name in modules[it]), None) for name in ("mypy", "pip", "distributed")}
     if having["distributed"]:
         checks.run("Dask", [having["distributed"], os.path.join(PY, "tests", "test_dask.py")], env=environment)
     if having["mypy"]:
-        types = ["--strict", "--cache-dir", checks.path("mypy"), os.path.join(PY, "vers")]
+        types = ["--strict", "--cache-dir", checks.path("mypy"), os.path.join(PY, "vers"), os.path.join(PY, "tests", "typed.py")]
         checks.run("types", [having["mypy"], "-m", "mypy", *types], env={**environment, "PYTHONPATH": ""})
     if having["pip"]:
         check_wheel(checks, having["pip"], PY, environment)

@@ -108,8 +108,8 @@ def has(structure, language, name):
     if language == "C++":
         text = read(f"{TOP}/bindings/cpp/vers.hpp")
         return re.search(rf"\b{name}\(", class_body(text, rf"^class {structure}\b[^\n]*\n") + class_body(text, r"^class Owner\b[^\n]*\n"))
-    text = python_class(read(f"{TOP}/bindings/python/vers/_lists.py"), structure)
-    special = {"len()": "__len__", "[]": "__getitem__", "()": "__init__", "in": "__contains__"}
+    text = python_class("".join(read(f"{TOP}/bindings/python/vers/{it}.py") for it in ("_bases", "_lists")), structure)
+    special = {"len()": "__len__", "[]": "__getitem__", "()": "__new__", "in": "__contains__"}
     return re.search(rf"\bdef {re.escape(special.get(name, name))}\(", text)
 
 

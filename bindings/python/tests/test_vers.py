@@ -212,7 +212,7 @@ class Batches(unittest.TestCase):
         kinds = [list(places), tuple(places), places, bytes(places), memoryview(array("I", places)), array("q", places)]
         for numbers in [*kinds, array("Q", places), memoryview(array("Q", places))[::1]]:
             got = made.each("rank1", numbers)
-            self.assertEqual((got.typecode, got.tolist()), ("Q", wanted))
+            self.assertEqual((got.typecode, got.tolist()), ("q", wanted))
         self.assertEqual(made.each("rank1", memoryview(array("Q", places))[::2]).tolist(), wanted[::2])
         self.assertEqual(made.each("rank1", []).tolist(), [])
 
@@ -224,7 +224,15 @@ class Batches(unittest.TestCase):
     def test_no_answer(self):
         made = vers.EliasFanoVec([3, 5])
         self.assertEqual(made.each("predecessor", [2, 4], other=7).tolist(), [7, 3])
-        self.assertEqual(made.each("get", [2]).tolist(), [vers.NONE])
+        self.assertEqual(made.each("get", [0, 2]).tolist(), [3, None])
+        self.assertEqual(made.each("get", [2], other=vers.NONE).tolist(), [vers.NONE])
+        greatest = vers.EliasFanoVec([3, vers.NONE])
+        self.assertEqual(greatest.each("get", [1, 2, 0, 1]).tolist(), [vers.NONE, None, 3, vers.NONE])
+        self.assertEqual(greatest.each("successor", [2, vers.NONE]).tolist(), [3, vers.NONE])
+        with self.assertRaisesRegex(OverflowError, "^other is 18446744073709551616"):
+            made.each("get", [2], other=vers.NONE + 1)
+        with self.assertRaisesRegex(OverflowError, "^other is 18446744073709551615, and signed"):
+            vers.BpTree("()").each("parent", [0], other=vers.NONE)
 
     def test_rows(self):
         symbols = [RANDOM.randrange(16) for _ in range(300)]
@@ -262,7 +270,7 @@ class Batches(unittest.TestCase):
         words = numpy.array(words_of(bits.tolist()))
         for made in (vers.RsVec(bits), vers.RsVec(bits.astype(bool)), vers.RsVec.from_words(words, 1000)):
             got = made.each("rank1", numpy.arange(1001))
-            self.assertEqual(got.dtype, numpy.uint64)
+            self.assertEqual(got.dtype, numpy.int64)
             self.assertTrue((got == sums).all())
         self.assertEqual((made.rank1(numpy.int64(1000)), made[numpy.uint8(3)]), (sums[1000], bits[3]))
         self.assertIn(numpy.int32(5), vers.EliasFanoVec([5]))
@@ -342,7 +350,8 @@ class Owners(unittest.TestCase):
     def test_texts_of_symbols(self):
         plain = b"abracadabra" * 5
         text = vers.TextIndex(plain, 8, 4)
-        self.assertEqual((len(text), text.bits_per_symbol(), text.step(), repr(text)), (55, 8, 4, "<vers.TextIndex of 55 symbols>"))
+        self.assertEqual((len(text), text.bits_per_symbol(), text.step()), (55, 8, 4))
+        self.assertEqual(repr(text), "<vers.TextIndex of 55 symbols: [97, 98, 114, 97, 99, 97, 100, 97, ...]>")
         for pattern in (b"", b"a", b"abra", b"raa", b"x", plain, plain + b"a"):
             places = [place for place in range(len(plain) + 1) if plain.startswith(pattern, place)]
             self.assertEqual((text.count(pattern), list(text.places(pattern)), pattern in text),
@@ -382,8 +391,11 @@ class Owners(unittest.TestCase):
                 vers.RsVec.from_bytes(wrong)
 
     def test_texts(self):
-        self.assertEqual(repr(vers.RsVec([1, 0])), "<vers.RsVec of 2 bits>")
-        self.assertEqual(repr(vers.BpTree("()")), "<vers.BpTree of 2 parentheses>")
+        self.assertEqual(repr(vers.RsVec([1, 0])), "<vers.RsVec of 2 bits: [1, 0]>")
+        self.assertEqual(repr(vers.EliasFanoVec(range(9))), "<vers.EliasFanoVec of 9 members: [0, 1, 2, 3, 4, 5, 6, 7, ...]>")
+        self.assertEqual(repr(vers.BpTree("()")), "<vers.BpTree of 2 parentheses: ()>")
+        self.assertEqual(repr(vers.BpTree("(())" * 3)), "<vers.BpTree of 12 parentheses: (())(())...>")
+        self.assertEqual(repr(vers.BitVec()), "<vers.BitVec of 0 bits: []>")
         with self.assertRaises(TypeError):
             vers.PlainNumbers()
 

@@ -12,10 +12,13 @@ from ._faults import (
     BadLength, BadPadding, BadSum, NoMemory, NotAscending, NotOurs, Occupied, OtherKind, OtherVersion, Refused, Shared,
     TooShort, Unknown, Vacant, VersError,
 )
+from ._bases import NONE
 from ._lists import (
-    NONE, BinaryRmq, BitVec, BpTree, EliasFanoVec, FastRmq, PlainNumbers, Postings, RsVec, SparseRSVec, TextIndex,
+    BinaryRmq, BitVec, BpTree, EliasFanoVec, FastRmq, PlainNumbers, Postings, RsVec, SparseRSVec, TextIndex,
     WaveletMatrix,
 )
+
+__version__ = "0.13.0"
 
 __all__ = [
     "BadLength", "BadPadding", "BadSum", "BinaryRmq", "BitVec", "BpTree", "EliasFanoVec", "FastRmq", "NONE", "NoMemory",

@@ -4,125 +4,316 @@ import ctypes
 import operator
 import sys
 from array import array
-from numbers import Integral
-from typing import Any, Iterable, NamedTuple, Tuple
+from itertools import islice
+from typing import Any, Iterable, Iterator, NamedTuple, Optional, Sequence, Tuple
 
-#: Anything that holds whole numbers: a list, an array, a numpy array, another object with a buffer.
+#: Anything that has whole numbers: a list, an array, a numpy array, another object with a buffer.
 Numbers = Iterable[int]
 
 MOST = (1 << 64) - 1
+# how many items are converted at once, which bounds the memory at work; a multiple of 64
+CHUNK = 1 << 16
 _NOWHERE = ctypes.c_uint64(0)
 _EXACT = ("Q", "L", "<Q", "<L", "=Q", "@Q", "@L", "N")
+# the digits of the bits 0 and 1, as a table of bytes
+_DIGITS = b"01" + bytes(254)
 
 
 class Held(NamedTuple):
-    """Numbers in memory: where they are, how many, and the object that keeps them there."""
+    """Numbers in memory: their address, how many, and the object that keeps them there."""
 
     address: int
     size: int
     keeper: Any
 
 
-def number(value: Any) -> int:
+def number(value: Any, what: str = "the number") -> int:
     """A number that fits into 64 bits."""
-    whole: int = operator.index(value)
+    whole = _whole(value, what)
     if 0 <= whole <= MOST:
         return whole
-    raise OverflowError("a number is from 0 to 2**64 - 1")
+    raise OverflowError(f"{what} is {whole}, and numbers are from 0 to 2**64 - 1")
+
+
+def signed_number(value: Any, what: str = "the number") -> int:
+    """A number that fits into 64 bits with a sign."""
+    whole = _whole(value, what)
+    if -(1 << 63) <= whole < 1 << 63:
+        return whole
+    raise OverflowError(f"{what} is {whole}, and signed numbers are from -2**63 to 2**63 - 1")
+
+
+def bit(value: Any, what: str = "the bit") -> int:
+    """A bit: a truth value, or the number 0 or 1."""
+    numpy = sys.modules.get("numpy")
+    is_truth = numpy is not None and isinstance(value, numpy.bool_)
+    whole = int(value) if is_truth else _whole(value, what)
+    if whole in (0, 1):
+        return whole
+    raise ValueError(f"{what} is {whole}, and bits are 0 or 1")
+
+
+def _whole(value: Any, what: str) -> int:
+    try:
+        return operator.index(value)
+    except TypeError:
+        raise TypeError(f"{what} is of type {type(value).__name__}, and not a whole number") from None
+
+
+def is_many(value: Any) -> bool:
+    """Whether an argument is many numbers, and not one."""
+    try:
+        iter(value)
+    except TypeError:
+        return False
+    return not isinstance(value, str)
 
 
 def _numpy_of(numbers: Any) -> Any:
-    """The module numpy where the numbers are one of its arrays, else None."""
+    """The module numpy if the numbers are one of its arrays, else None."""
     numpy = sys.modules.get("numpy")
     return numpy if numpy is not None and isinstance(numbers, numpy.ndarray) else None
 
 
-def copied(numbers: Any) -> Any:
+def copied(numbers: Any, what: str = "number") -> Any:
     """The numbers in an array of their own: a numpy array of the same shape for one, else an array('Q')."""
     numpy = _numpy_of(numbers)
     if numpy is not None:
-        if numbers.dtype.kind not in "iub":
-            raise TypeError("the array holds no whole numbers")
-        if numbers.dtype.kind == "i" and numbers.size and int(numbers.min()) < 0:
-            raise OverflowError("a number is from 0 to 2**64 - 1")
-        return numpy.array(numbers, dtype=numpy.uint64, order="C")
+        return numpy.array(_checked(numpy, numbers, what, 0), dtype=numpy.uint64, order="C")
+    if isinstance(numbers, str):
+        raise TypeError(f"a text is not a list of numbers: the {what} at position 0 is of type str")
     try:
         view = memoryview(numbers)
     except TypeError:
-        return array("Q", numbers)
+        return _gathered(numbers, what)
     if view.itemsize == 8 and view.format in _EXACT and view.c_contiguous:
-        return _array("Q", view.tobytes())
-    return array("Q", view.tolist())
+        made = array("Q")
+        made.frombytes(view.cast("B"))
+        return made
+    return _gathered(view, what)
 
 
-def _array(kind: str, content: bytes) -> Any:
+def _gathered(numbers: Any, what: str) -> Any:
+    """The numbers of an iterable, some at a time, in an array('Q')."""
+    made = array("Q")
+    for chunk in _chunks(numbers):
+        try:
+            made.fromlist(chunk)
+        except (TypeError, OverflowError):
+            start = len(made)
+            made.fromlist([number(it, f"the {what} at position {start + k}") for k, it in enumerate(chunk)])
+    return made
+
+
+def _chunks(items: Any) -> Iterator[Any]:
+    """The items of an iterable as lists of `CHUNK`, the last one of fewer."""
+    remaining = iter(items)
+    while True:
+        chunk = list(islice(remaining, CHUNK))
+        if not chunk:
+            return
+        yield chunk
+
+
+def _checked(numpy: Any, numbers: Any, what: str, least: int) -> Any:
+    """A numpy array without a mask, after each number is seen to be whole and at least `least`."""
+    mask = numpy.ma.getmask(numbers)
+    if mask is not numpy.ma.nomask and mask.any():
+        raise TypeError(f"the {what} at position {first(mask)} is masked")
+    numbers = numpy.asarray(numbers)
+    if numbers.dtype.kind == "O":
+        return numpy.array(_gathered(numbers.ravel().tolist(), what), dtype=numpy.uint64).reshape(numbers.shape)
+    if numbers.dtype.kind not in "iub":
+        raise TypeError(f"an array of {numbers.dtype} has no whole numbers: see the {what} at position 0")
+    if numbers.dtype.kind == "i" and numbers.size and numbers.min() < least:
+        position = first(numbers < least)
+        number(numbers.flat[position], f"the {what} at position {position}")
+    return numbers
+
+
+def first(mask: Any) -> int:
+    """The first position of a true item in a numpy array."""
+    return int(mask.reshape(-1).argmax())
+
+
+def array_of(kind: str, content: Any) -> Any:
+    """An array of a kind, of the bytes of its items."""
     made = array(kind)
     made.frombytes(content)
     return made
 
 
 def address_of(made: Any) -> int:
-    """Where the numbers of an array of `copied` are, and somewhere for those of an empty one."""
+    """The address of the numbers of an array of `copied`, and some address for those of an empty one."""
     at = made.ctypes.data if _numpy_of(made) is not None else made.buffer_info()[0]
     return int(at) or ctypes.addressof(_NOWHERE)
 
 
-def size_of(made: Any) -> int:
-    """How many numbers an array of `copied` has."""
-    return int(made.size) if _numpy_of(made) is not None else len(made)
-
-
-def held(numbers: Any) -> Held:
+def held(numbers: Any, what: str = "number") -> Held:
     """The numbers in an array of their own, so that no other thread writes them while the library reads."""
-    made = copied(numbers)
-    return Held(address_of(made), size_of(made), made)
+    return _held(copied(numbers, what))
 
 
-def words_of(bits: Any) -> Tuple[Any, int]:
-    """Truth values as words of 64 bits, the first as the lowest bit, and their number."""
+def _held(made: Any) -> Held:
+    return Held(address_of(made), len(made) if _numpy_of(made) is None else int(made.size), made)
+
+
+def bits_of(bits: Any, digits: str = "01") -> Tuple[Held, int]:
+    """Bits as words of 64 bits, the first as the lowest bit, and how many they are.
+
+    A text is read by its characters: of each pair of `digits`, the first one is 0 and the second one is 1.
+    """
     numpy = _numpy_of(bits)
-    if numpy is not None:
-        packed = numpy.packbits(bits != 0, bitorder="little").tobytes()
-        count = bits.size
-    else:
-        text = "".join("1" if bit else "0" for bit in bits)
-        count = len(text)
-        packed = int(text[::-1] or "0", 2).to_bytes((count + 7) // 8, "little")
-    words = _array("Q", packed + bytes(-len(packed) % 8))
+    words, count = array("Q"), 0
+    for flags in _flags_of_array(numpy, bits) if numpy is not None else _flags(bits, digits):
+        packed = int(flags[::-1].translate(_DIGITS), 2).to_bytes((len(flags) + 7) // 8, "little")
+        words.frombytes(packed + bytes(-len(packed) % 8))
+        count += len(flags)
     if sys.byteorder != "little":
         words.byteswap()
-    return words, count
+    return _held(words), count
 
 
-def rows_of(columns: Tuple[Any, ...]) -> Tuple[Any, Any]:
-    """The numbers of queries side by side, three in a row, and an array that says what the answers look like. A column that is
-    a single number stands in each row."""
-    made = [number(column) if isinstance(column, Integral) else copied(column) for column in columns]
-    shape = next(column for column in made if not isinstance(column, int))
-    count = size_of(shape)
-    rows = array("Q", bytes(24 * count))
-    for place, column in enumerate(made):
-        if isinstance(column, int):
-            rows[place::3] = array("Q", [column]) * count
-            continue
-        if size_of(column) != count:
-            raise ValueError("the arrays differ in length")
-        rows[place::3] = _array("Q", column.tobytes())
-    return rows, shape
+def _flags_of_array(numpy: Any, bits: Any) -> Iterator[bytes]:
+    """The bits of a numpy array, as bytes that are 0 or 1."""
+    flat = _checked(numpy, bits, "bit", 0).reshape(-1)
+    for start in range(0, flat.size, CHUNK):
+        chunk = flat[start:start + CHUNK]
+        if chunk.max() > 1:
+            position = first(chunk > 1)
+            bit(chunk[position], f"the bit at position {start + position}")
+        yield chunk.astype(numpy.uint8).tobytes()
 
 
-def shaped(answers: Any, shape: Any) -> Any:
-    """Answers as the array that they are of."""
-    numpy = _numpy_of(shape)
-    return answers if numpy is None else numpy.frombuffer(answers, dtype=numpy.uint64).reshape(shape.shape)
+def _flags(bits: Any, digits: str) -> Iterator[bytes]:
+    """The bits of a text or an iterable, as bytes that are 0 or 1."""
+    start, is_text = 0, isinstance(bits, str)
+    for chunk in _chunks(bits):
+        flags = None if is_text else _bytes_of(chunk)
+        if is_text:
+            flags = bytes(_digit(it, digits, start + k) for k, it in enumerate(chunk))
+        elif flags is None or flags.translate(None, b"\0\1"):
+            flags = bytes(bit(it, f"the bit at position {start + k}") for k, it in enumerate(chunk))
+        yield flags
+        start += len(chunk)
 
 
-def signed(answers: Any) -> Any:
-    """The same answers, as signed numbers."""
+def _bytes_of(chunk: Any) -> Optional[bytes]:
+    """Numbers as bytes. None if one of them isn't a whole number of 8 bits."""
+    try:
+        return bytes(chunk)
+    except (TypeError, ValueError):
+        return None
+
+
+def _digit(character: str, digits: str, position: int) -> int:
+    """The bit that a character of a text stands for."""
+    place = digits.find(character)
+    if place < 0:
+        raise ValueError(f"the character at position {position} is {character!r}, and bits are {' or '.join(digits)}")
+    return place % 2
+
+
+def above(what: str, numbers: Held, most: int) -> str:
+    """Says which of some numbers is above a bound, or nothing if none is."""
+    made = numbers.keeper
+    if numbers.size == 0 or int(made.max() if _numpy_of(made) is not None else max(made)) <= most:
+        return ""
+    position = first(made > most) if _numpy_of(made) is not None else next(k for k, it in enumerate(made) if it > most)
+    return f"the {what} at position {position} is {_flat(made)[position]}, and above {most}"
+
+
+def descent(what: str, numbers: Held, is_strict: bool) -> str:
+    """Says where numbers don't ascend, or nothing if they do."""
+    flat = _flat(numbers.keeper)
+    for position in range(1, numbers.size):
+        before, after = int(flat[position - 1]), int(flat[position])
+        if after < before:
+            return f"the {what}s descend at position {position}: {after} after {before}"
+        if is_strict and after == before:
+            return f"the {what}s do not ascend strictly at position {position}: {after} twice"
+    return ""
+
+
+def _flat(made: Any) -> Any:
+    """The numbers of an array, one after another."""
+    return made if _numpy_of(made) is None else made.reshape(-1)
+
+
+class Columns(NamedTuple):
+    """The arguments of many queries: each is a number for all, or an array of as many as there are queries."""
+
+    columns: Sequence[Any]
+    size: int
+    # the shape of the answers if they are a numpy array
+    shape: Optional[Tuple[int, ...]]
+
+
+def columns_of(arguments: Sequence[Any], names: Sequence[str]) -> Columns:
+    """The arguments of many queries. Those of numpy are broadcast."""
+    columns = [copied(it, name) if is_many(it) else number(it, f"the {name}") for it, name in zip(arguments, names)]
+    arrays = [it for it in columns if not isinstance(it, int)]
+    numpy = next((found for found in map(_numpy_of, arrays) if found is not None), None)
+    if numpy is None:
+        sizes = {len(it) for it in arrays}
+        if len(sizes) > 1:
+            raise ValueError(f"the arrays differ in length: {' and '.join(map(str, sorted(sizes)))}")
+        return Columns(columns, sizes.pop(), None)
+    shape = numpy.broadcast(*map(numpy.asarray, arrays)).shape
+    flat = [it if isinstance(it, int) else numpy.ascontiguousarray(numpy.broadcast_to(it, shape)).reshape(-1)
+            for it in columns]
+    return Columns(flat, next(it.size for it in flat if not isinstance(it, int)), shape)
+
+
+def rows_of(columns: Columns) -> Any:
+    """The numbers of queries, three in a row."""
+    rows = array("Q", bytes(24 * columns.size))
+    for place, column in enumerate(columns.columns):
+        same = isinstance(column, int)
+        rows[place::3] = array("Q", [column]) * columns.size if same else array_of("Q", column.tobytes())
+    return rows
+
+
+def like(answers: Any, columns: Columns) -> Any:
+    """Answers in an array('Q') as an array of the kind that the queries came in."""
+    if columns.shape is None:
+        return answers
+    numpy: Any = sys.modules["numpy"]
+    return numpy.frombuffer(answers, dtype=numpy.uint64)
+
+
+def stepped(columns: Columns, step: int) -> Columns:
+    """A column of numbers as one of the next numbers, at most 2**64 - 1, or of those before, of which 0 has 2**64 - 1."""
+    made = columns.columns[0]
+    numpy = _numpy_of(made)
+    if numpy is None:
+        made = array("Q", [min(it + 1, MOST) if step > 0 else (it - 1) % (1 << 64) for it in made])
+    else:
+        made = made + (made < MOST).astype(numpy.uint64) if step > 0 else made - numpy.uint64(1)
+    return columns._replace(columns=[made])
+
+
+def positions_of(answers: Any, value: int) -> Any:
+    """The positions of a number in an array."""
     numpy = _numpy_of(answers)
     if numpy is not None:
-        return answers.view(numpy.int64)
-    return _array("q", answers.tobytes())
+        return numpy.flatnonzero(answers == numpy.uint64(value))
+    return [k for k, it in enumerate(answers) if it == value] if answers.count(value) else []
 
 
-assert ctypes.sizeof(ctypes.c_size_t) == 8 and array("Q").itemsize == 8, "vers wants a machine of 64 bits"
+def put(answers: Any, positions: Any, value: Any) -> None:
+    """Writes a value over an array or a list at some positions."""
+    if _numpy_of(answers) is not None:
+        answers[positions] = value
+        return
+    for position in positions:
+        answers[position] = value
+
+
+def taken(columns: Columns, positions: Any) -> Columns:
+    """The queries at some positions."""
+    def part(column: Any) -> Any:
+        if isinstance(column, int):
+            return column
+        return column[positions] if _numpy_of(column) is not None else array("Q", [column[k] for k in positions])
+    return Columns([part(it) for it in columns.columns], len(positions), (len(positions),) if columns.shape else None)

@@ -1,5 +1,7 @@
 """The faults that calls of the library answer, as exceptions with their names."""
 
+from typing import Optional
+
 
 class VersError(Exception):
     """A fault of the library. Each one is also of a kind that Python has."""
@@ -68,7 +70,7 @@ FAULTS = (
 )
 
 
-def fault(status: int) -> VersError:
-    """The exception of a status that is neither done nor absent."""
+def fault(status: int, text: Optional[str] = None) -> VersError:
+    """The exception of a status that is neither done nor absent, with a text or with what it always says."""
     kind = FAULTS[status - 2]
-    return kind(kind.__doc__)
+    return kind(text or kind.__doc__)

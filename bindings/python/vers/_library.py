@@ -6,8 +6,11 @@ and ask through a handle of their own.
 
 import ctypes
 import os
-from typing import Any
+import threading
+from typing import Any, Optional, Tuple
 
+from ._buffers import CHUNK, Held
+from ._codes import REFUSED
 from ._faults import fault
 
 _U32, _U64, _SIZE, _POINTER = ctypes.c_uint32, ctypes.c_uint64, ctypes.c_size_t, ctypes.c_void_p
@@ -65,7 +68,34 @@ postings_build = _call(_unlocked, "vers_postings_build", _U32, _POINTER, _SIZE, 
 text_build = _call(_unlocked, "vers_text_build", _U32, _POINTER, _SIZE, _U32, _SIZE, _AT)
 
 
-def done(status: int) -> None:
-    """Raises the fault of a status that isn't done."""
+def done(status: int, why: Optional[str] = None) -> None:
+    """Raises the fault of a status that isn't done. A refusal says why."""
     if status:
-        raise fault(status)
+        raise fault(status, why if status == REFUSED else None)
+
+
+def clone_of(owner: Any, at: int) -> int:
+    """Makes an empty handle one more handle of an owner's list."""
+    status: int = clone(owner._at, at)
+    return status
+
+
+def built(build: Any, arguments: Tuple[Any, ...], owner: Any) -> int:
+    """Makes a list of arguments, of which numbers in memory count as two, in the handle of an owner.
+
+    A long build runs in a thread of its own while the main thread waits, so that Ctrl-C ends the wait. That thread keeps
+    the arguments and the owner as long as it runs.
+    """
+    plain = [part for it in arguments for part in (it[:2] if isinstance(it, Held) else [it])]
+    is_long = any(isinstance(it, Held) and it.size > CHUNK for it in arguments)
+    if not is_long or threading.current_thread() is not threading.main_thread():
+        return int(build(*plain, owner._at))
+    statuses = []
+
+    def run(_: Any = (arguments, owner)) -> None:
+        statuses.append(int(build(*plain, owner._at)))
+
+    worker = threading.Thread(target=run, daemon=True)
+    worker.start()
+    worker.join()
+    return statuses[0]

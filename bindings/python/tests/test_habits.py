@@ -1,0 +1,335 @@
+"""What a Python programmer expects of the classes of vers: arguments that are refused by position, arrays, equality, threads."""
+
+import collections.abc
+import copy
+import ctypes
+import os
+import pickle
+import pydoc
+import signal
+import threading
+import tracemalloc
+import typing
+import unittest
+from array import array
+from unittest import mock
+
+import vers
+from vers import _bases, _buffers, _library
+
+try:
+    import numpy
+except ImportError:
+    numpy = None
+
+BIT_MAKERS = (vers.BitVec, vers.RsVec, vers.BpTree, lambda bits: vers.BitVec().extend(bits))
+NUMBER_MAKERS = (
+    vers.EliasFanoVec, vers.FastRmq, vers.BinaryRmq, lambda it: vers.SparseRSVec(it, 99), lambda it: vers.WaveletMatrix(it, 64),
+    lambda it: vers.Postings(it, it), lambda it: vers.TextIndex(it, 16), vers.RsVec.from_words,
+)
+LISTS = (
+    vers.BitVec, vers.RsVec, vers.SparseRSVec, vers.EliasFanoVec, vers.WaveletMatrix, vers.FastRmq, vers.BinaryRmq,
+    vers.BpTree, vers.Postings, vers.PlainNumbers,
+)
+
+
+def some_lists():
+    """A list of each class, anew."""
+    postings = vers.Postings([1, 4, 9], [3, 1, 2])
+    return [
+        vers.BitVec([1, 0] * 50), vers.RsVec([1, 0] * 50), vers.SparseRSVec([1], 3), vers.EliasFanoVec([1, 1, 9]),
+        vers.WaveletMatrix([1, 0, 5], 3), vers.FastRmq([4, 2]), vers.BinaryRmq([4, 2]), vers.BpTree("(()())"), postings,
+        postings.intersect(postings), vers.TextIndex(b"abracadabra", 8),
+    ]
+
+
+class Makers(unittest.TestCase):
+    def refuses(self, makers, fault, text, *arguments):
+        """Each maker raises the same fault for each argument, or for what an argument returns if it is a function."""
+        for make in makers:
+            for argument in arguments:
+                with self.subTest(make=make, argument=repr(argument)[:80]), self.assertRaisesRegex(fault, text):
+                    make(argument() if callable(argument) else argument)
+
+    def test_texts_of_bits(self):
+        self.assertEqual((vers.RsVec("0110").rank1(4), vers.BitVec("0110").tolist()), (2, [0, 1, 1, 0]))
+        self.assertEqual(vers.BpTree("1100"), vers.BpTree("(())"))
+        long = "01" * 50_000
+        self.assertEqual(vers.RsVec(long).tolist(), [0, 1] * 50_000)
+        self.refuses(BIT_MAKERS, ValueError, "^the character at position 3 is 'x', and bits are 0 or 1", "011x")
+        self.refuses(BIT_MAKERS, ValueError, "^the character at position 100000 is 'x'", long + "x")
+
+    def test_bytes_of_bits(self):
+        content = bytes([0, 1, 1, 0])
+        for bits in (content, bytearray(content), memoryview(content), array("b", content), [False, True, 1, 0]):
+            self.assertEqual(vers.RsVec(bits).tolist(), [0, 1, 1, 0])
+        self.refuses(BIT_MAKERS, ValueError, "^the bit at position 0 is 48, and bits are 0 or 1", b"0110", array("B", b"0"))
+        self.refuses(BIT_MAKERS, ValueError, "^the bit at position 0 is 40", b"(())")
+
+    def test_bits_by_position(self):
+        many = [0, 1] * 50_000
+        self.refuses(BIT_MAKERS, ValueError, "^the bit at position 100000 is 2", many + [2], lambda: iter(many + [2]))
+        self.refuses(BIT_MAKERS, ValueError, "^the bit at position 1 is -1", [0, -1], array("q", [0, -1]))
+        self.refuses(BIT_MAKERS, TypeError, "^the bit at position 1 is of type NoneType", [0, None])
+        self.refuses(BIT_MAKERS, TypeError, "^the bit at position 1 is of type float", [0, 1.0])
+        self.refuses(BIT_MAKERS, TypeError, "^the bit at position 0 is of type str", ["1"])
+        self.refuses(BIT_MAKERS, TypeError, "not iterable", 5, None)
+        bits = vers.BitVec([1, 0])
+        for change in (lambda: bits.append("0"), lambda: bits.append(0.0), lambda: bits.__setitem__(0, None)):
+            with self.assertRaises(TypeError):
+                change()
+        with self.assertRaisesRegex(ValueError, "^the bit is 2"):
+            bits[0] = 2
+        self.assertEqual(bits.tolist(), [1, 0])
+
+    def test_numbers_by_position(self):
+        self.refuses(NUMBER_MAKERS, OverflowError, " at position 1 is -1, and numbers are from 0", [0, -1], array("q", [0, -1]))
+        self.refuses(NUMBER_MAKERS, OverflowError, " at position 1 is 18446744073709551616", [0, 1 << 64], lambda: iter([0, 1 << 64]))
+        self.refuses(NUMBER_MAKERS, OverflowError, " at position 70000 is -1", [0] * 70_000 + [-1])
+        self.refuses(NUMBER_MAKERS, TypeError, " at position 1 is of type NoneType", [0, None])
+        self.refuses(NUMBER_MAKERS, TypeError, " at position 1 is of type float", [0, 1.0])
+        self.refuses(NUMBER_MAKERS, TypeError, " at position 0 is of type float", array("d", [0, 1]))
+        self.refuses(NUMBER_MAKERS, TypeError, " at position 0 is of type str", "0110", ["0"])
+
+    @unittest.skipIf(numpy is None, "numpy isn't there")
+    def test_arrays_by_position(self):
+        masked = numpy.ma.array([0, 1, 1], mask=[False, False, True])
+        self.refuses(BIT_MAKERS + NUMBER_MAKERS, TypeError, " at position 2 is masked", masked)
+        self.assertEqual(vers.RsVec(numpy.ma.array([0, 1])).tolist(), [0, 1])
+        self.refuses(BIT_MAKERS, ValueError, "^the bit at position 1 is 2", numpy.array([0, 2]), numpy.array([1, 2], numpy.uint8))
+        self.refuses(BIT_MAKERS + NUMBER_MAKERS, OverflowError, " at position 1 is -1", numpy.array([0, -1]))
+        self.refuses(BIT_MAKERS + NUMBER_MAKERS, TypeError, "an array of float64 has no whole", numpy.array([0, 1.0]))
+        self.refuses(NUMBER_MAKERS, TypeError, " at position 1 is of type NoneType", numpy.array([0, None]))
+        self.assertEqual(vers.RsVec([numpy.bool_(True), numpy.uint8(0)]).tolist(), [1, 0])
+
+    def test_reasons(self):
+        reasons = {
+            "^the numbers descend at position 3: 1 after 2$": lambda: vers.EliasFanoVec([1, 2, 2, 1]),
+            "^the places do not ascend strictly at position 1: 3 twice$": lambda: vers.SparseRSVec([3, 3], 10),
+            "^the place at position 1 is 10, and above 9$": lambda: vers.SparseRSVec([2, 10], 10),
+            "^the documents descend at position 1: 1 after 4$": lambda: vers.Postings([4, 1], [0, 0]),
+            "^2 documents have 1 costs$": lambda: vers.Postings([1, 2], [0]),
+            "^the symbol at position 1 is 4, and above 3$": lambda: vers.TextIndex([3, 4], 2),
+            "^the width is 17, and it is from 1 to 16$": lambda: vers.TextIndex([3], 17),
+            "^the step is 0$": lambda: vers.TextIndex([3], 2, 0),
+            "^the width is 65, and it is at most 64$": lambda: vers.WaveletMatrix([3], 65),
+            "^the count is 65, and it is at most 64$": lambda: vers.BitVec().append_bits(0, 65),
+            "^5 to 12 is no range of 11 symbols$": lambda: vers.TextIndex(b"abracadabra", 8).extract(5, 12),
+        }
+        for reason, call in reasons.items():
+            with self.assertRaisesRegex(vers.Refused, reason):
+                call()
+
+    def test_wide_symbols(self):
+        wide = "^the symbol at position 1 is 9, and above 7, the greatest of 3 bits; `truncate` takes the low bits"
+        for symbols in ([7, 9], array("B", [7, 9])) + ((numpy.array([7, 9]),) if numpy is not None else ()):
+            with self.assertRaisesRegex(vers.Refused, wide):
+                vers.WaveletMatrix(symbols, 3)
+            self.assertEqual(vers.WaveletMatrix(symbols, 3, truncate=True).tolist(), [7, 1])
+        self.assertEqual(vers.WaveletMatrix([vers.NONE], 64)[0], vers.NONE)
+
+    def test_large_buffers(self):
+        content = bytes(2_000_000)
+        for make, most in ((_buffers.held, 9), (_buffers.bits_of, 1)):
+            tracemalloc.start()
+            try:
+                self.assertTrue(make(content))
+                peak = tracemalloc.get_traced_memory()[1]
+            finally:
+                tracemalloc.stop()
+            self.assertLess(peak, most * len(content) + 4_000_000, make.__name__)
+
+    def test_made_once(self):
+        for made in some_lists():
+            before, address = made.tolist(), made._at
+            made.__init__([1])
+            self.assertEqual((made.tolist(), made._at), (before, address))
+
+    def test_other_types(self):
+        bits = vers.RsVec([1])
+        for call in (lambda: bits["a"], lambda: bits[1.0], lambda: bits.rank1("1"), lambda: bits.rank1(None),
+                     lambda: vers.RsVec.from_bytes(5), lambda: vers.RsVec.from_bytes("text"), lambda: vers.BitVec([1]).append_bits(1.0, 1),
+                     lambda: vers.Postings([1], [1]).intersect([1]), lambda: bits.successor1("1"), lambda: vers.BitVec([1])["a"]):
+            with self.assertRaises(TypeError):
+                call()
+        for call in (lambda: bits.rank1(-1), lambda: bits.successor1(-1), lambda: bits.predecessor0(1 << 64),
+                     lambda: vers.SparseRSVec([1], -2)):
+            with self.assertRaises(OverflowError):
+                call()
+        with self.assertRaisesRegex(OverflowError, "^the symbol is -1"):
+            vers.WaveletMatrix([1], 1).rank(1, -1)
+
+
+class Arrays(unittest.TestCase):
+    def test_refused_by_position(self):
+        tree, other = vers.BpTree("(()())"), vers.BpTree(")(")
+        refused = {
+            "^place 5 is past the end of 2 parentheses, at position 2$": lambda: other.each("excess", [0, 1, 5]),
+            "^no node opens at place 2, at position 1$": lambda: tree.each("parent", [0, 2]),
+            "^no node opens at place 9, at position 0$": lambda: tree.each("next_sibling", [9, 0]),
+            "^the parentheses are not balanced, at position 0$": lambda: other.each("depth", [1]),
+            "^the parentheses are not balanced, at position 0": lambda: other.each("level_leftmost", [0]),
+            "^no node opens at place 5, at position 2$": lambda: tree.each("is_ancestor", 0, [0, 1, 5]),
+            "^no node opens at place 2$": lambda: tree.parent(2),
+            "^place 5 is past the end of 2 parentheses$": lambda: other.excess(5),
+        }
+        for reason, call in refused.items():
+            with self.assertRaisesRegex(vers.Refused, reason):
+                call()
+        self.assertEqual(other.each("excess", [0, 1]).tolist(), [-1, 0])
+        self.assertEqual(tree.each("parent", [0, 1, 3]).tolist(), [None, 0, 0])
+        self.assertEqual(tree.each("level_ancestor", [3, 3], [1, 2]).tolist(), [0, None])
+        self.assertEqual(tree.each("close", [0, 9]).tolist(), [5, None])
+        self.assertEqual(tree.each("is_open", [0, 2, 6]).tolist(), [True, False, None])
+
+    def test_methods_take_arrays(self):
+        bits, tree = vers.RsVec([1, 0, 1, 1]), vers.BpTree("(()())")
+        for places in ([0, 3, 4], (0, 3, 4), array("Q", [0, 3, 4]), bytes([0, 3, 4])):
+            self.assertEqual(bits.rank1(places).tolist(), [0, 2, 3])
+            self.assertEqual(bits.successor1(places).tolist(), [2, None, None])
+            self.assertEqual(bits.predecessor1(places).tolist(), [None, 2, 3])
+        self.assertEqual(bits.successor1([vers.NONE]).tolist(), [None])
+        self.assertEqual(tree.is_leaf([0, 1]).tolist(), [False, True])
+        self.assertEqual(tree.depth(tree.first_child([0])).tolist(), [1])
+        self.assertEqual(vers.WaveletMatrix([3, 1, 3], 2).rank(3, [1, 3]).tolist(), [1, 2])
+        self.assertEqual(vers.EliasFanoVec([2, 5]).has([1, 2]).tolist(), [False, True])
+
+    @unittest.skipIf(numpy is None, "numpy isn't there")
+    def test_numpy(self):
+        bits, tree, numbers = vers.RsVec([1, 0, 1, 1]), vers.BpTree("(()())"), vers.EliasFanoVec([3, vers.NONE])
+        places = numpy.array([[0, 3], [4, 9]])
+        self.assertEqual(bits.rank1(places).tolist(), [[0, 2], [3, 3]])
+        self.assertEqual((bits.rank1(places) - places).tolist(), [[0, -1], [-1, -6]])
+        self.assertEqual(bits.rank1(numpy.array(3)), 2)
+        found = bits.successor1(places)
+        self.assertEqual((found.tolist(), found.dtype), ([[2, None], [None, None]], numpy.int64))
+        self.assertEqual(bits.predecessor0(places).tolist(), [[None, 1], [1, 1]])
+        self.assertEqual(tree.parent(numpy.array([0, 3])).tolist(), [None, 0])
+        self.assertEqual(tree.each("parent", numpy.array([0, 3]), other=-1).tolist(), [-1, 0])
+        self.assertEqual(numbers.get(numpy.array([0, 1, 2])).tolist(), [3, vers.NONE, None])
+        self.assertEqual(numbers.get(numpy.arange(2)).dtype, numpy.uint64)
+        nodes = numpy.array([0, 1, 3])
+        self.assertEqual(nodes[tree.is_leaf(nodes)].tolist(), [1, 3])
+        self.assertEqual((tree.depth(nodes) - tree.depth(0)).tolist(), [0, 1, 1])
+        self.assertEqual((tree.depth(0) - tree.depth(nodes)).tolist(), [0, -1, -1])
+        symbols = vers.WaveletMatrix([3, 1, 3], 2)
+        self.assertEqual(symbols.rank(numpy.array([[1], [3]]), numpy.array([1, 3])).tolist(), [[0, 1], [1, 2]])
+        with self.assertRaisesRegex(vers.Refused, "^no node opens at place 2, at position 1$"):
+            tree.parent(numpy.array([0, 2]))
+        with self.assertRaisesRegex(TypeError, "^the node at position 1 is masked$"):
+            tree.parent(numpy.ma.array([0, 1], mask=[False, True]))
+        with self.assertRaisesRegex(OverflowError, "^the place at position 1 is -3"):
+            bits.rank1(numpy.array([0, -3]))
+
+    def test_signed(self):
+        tree = vers.BpTree("(()())")
+        for name in ("excess", "depth", "subtree_size", "node_index"):
+            self.assertEqual(tree.each(name, [0]).typecode, "q")
+
+    def test_misspelt(self):
+        with self.assertRaisesRegex(vers.Unknown, "^RsVec has no query 'rnk1'; the nearest is 'rank1'$"):
+            vers.RsVec([1]).each("rnk1", [0])
+        with self.assertRaisesRegex(vers.Unknown, "^BpTree has no query 'depht'; the nearest is 'depth'$"):
+            vers.BpTree("()").each("depht", [0])
+        with self.assertRaisesRegex(vers.Unknown, "; it has get, get_bits"):
+            vers.BitVec([1]).each("quantile", [0])
+
+    def test_help(self):
+        page = pydoc.plain(pydoc.render_doc(vers.RsVec))
+        self.assertIn("rank1(place)", page)
+        self.assertIn("How many ones stand before a place", page)
+        self.assertIn("quantile(start, end, number)", vers.WaveletMatrix.__doc__)
+
+    def test_types_name_the_queries(self):
+        for kind in LISTS:
+            bases = [it for owner in kind.__mro__ for it in getattr(owner, "__orig_bases__", ())]
+            named = next(it for base in bases for it in typing.get_args(base) if typing.get_origin(it) is typing.Literal)
+            self.assertEqual(set(typing.get_args(named)), set(kind._queries), kind)
+
+
+class Habits(unittest.TestCase):
+    def test_equality(self):
+        for made, other in zip(some_lists(), some_lists()):
+            self.assertTrue(made == other and not made != other, made)
+            if not isinstance(made, vers.BitVec):
+                self.assertEqual((hash(made), {made: 1}[other]), (hash(other), 1))
+        with self.assertRaises(TypeError):
+            hash(vers.BitVec([1]))
+        different = [
+            (vers.RsVec([1, 0]), vers.RsVec([1])), (vers.RsVec([1, 0]), vers.RsVec([0, 1])), (vers.RsVec([1]), vers.BitVec([1])),
+            (vers.RsVec([1] * 64 + [0]), vers.RsVec([1] * 65)), (vers.RsVec([1]), [1]),
+            (vers.Postings([1], [2]), vers.Postings([1], [3])), (vers.WaveletMatrix([1], 2), vers.WaveletMatrix([1], 3)),
+            (vers.FastRmq([1]), vers.BinaryRmq([1])), (vers.BpTree("()"), vers.BpTree(")(")), (vers.EliasFanoVec([1] * 9999 + [2]), vers.EliasFanoVec([1] * 10_000)),
+            (vers.TextIndex(b"ab", 8), vers.TextIndex(b"ba", 8)),
+        ]
+        for one, other in different:
+            self.assertTrue(one != other and not one == other, (one, other))
+        for made in some_lists()[:9]:
+            self.assertEqual(pickle.loads(pickle.dumps(made)), made)
+            self.assertEqual(copy.copy(made), made)
+
+    def test_sequences(self):
+        for made in some_lists():
+            items = made.tolist()
+            self.assertEqual(len(items), len(made))
+            if isinstance(made, (vers.BpTree, vers.TextIndex)):
+                continue
+            self.assertIsInstance(made, collections.abc.Sequence)
+            self.assertEqual((list(reversed(made)), made.index(items[1])), (items[::-1], items.index(items[1])))
+            self.assertEqual((made.count(items[0]), made[-1], made[1:].tolist()), (items.count(items[0]), items[-1], items[1:]))
+            if numpy is not None:
+                self.assertEqual((made[numpy.int64(-1)], made[numpy.uint8(1)]), (items[-1], items[1]))
+        self.assertEqual(vers.BpTree("(())").tolist(), [1, 1, 0, 0])
+
+    def test_version(self):
+        folder = os.path.dirname(os.path.dirname(os.path.abspath(__file__)))
+        with open(os.path.join(folder, "pyproject.toml"), encoding="utf-8") as file:
+            self.assertIn(f'\nversion = "{vers.__version__}"\n', file.read())
+
+    def test_saved_while_it_changes(self):
+        bits, saved_size = vers.BitVec([1, 0]), _library.saved_size
+
+        def size_and_change(at):
+            size = saved_size(at)
+            if len(bits) == 2:
+                bits.extend([1] * 64)
+            return size
+
+        with mock.patch.object(_library, "saved_size", size_and_change):
+            self.assertEqual(vers.BitVec.from_bytes(bits.to_bytes()), vers.BitVec([1, 0] + [1] * 64))
+
+    def test_interrupt(self):
+        libc, mutex = ctypes.CDLL(None), ctypes.create_string_buffer(64)
+        entered, interrupted, owner = threading.Event(), threading.Event(), mock.Mock(_at=0)
+        libc.pthread_mutex_lock(mutex)
+
+        def build(*_):
+            """Takes as long as the mutex is locked, and can't be interrupted."""
+            entered.set()
+            return libc.pthread_mutex_lock(mutex)
+
+        def signals():
+            entered.wait()
+            os.kill(os.getpid(), signal.SIGINT)
+            was_interrupted.append(interrupted.wait(20))
+            libc.pthread_mutex_unlock(mutex)
+
+        was_interrupted = []
+        thread = threading.Thread(target=signals)
+        thread.start()
+        with self.assertRaises(KeyboardInterrupt):
+            _library.built(build, (_buffers.Held(0, _buffers.CHUNK + 1, None),), owner)
+        interrupted.set()
+        thread.join()
+        self.assertEqual(was_interrupted, [True])
+
+    def test_long_builds(self):
+        numbers = range(_buffers.CHUNK + 1)
+        self.assertEqual(vers.EliasFanoVec(numbers)[-1], _buffers.CHUNK)
+        with self.assertRaisesRegex(vers.Refused, "^the numbers descend at position 65537"):
+            vers.EliasFanoVec([*numbers, 5])
+        self.assertEqual(_bases.NONE, vers.NONE)
+
+
+if __name__ == "__main__":
+    unittest.main()

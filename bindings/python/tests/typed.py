@@ -1,0 +1,22 @@
+"""What mypy knows of the classes. An error that isn't found is one: `python -m mypy --strict --warn-unused-ignores typed.py`."""
+
+from typing import Optional
+
+import vers
+
+bits, tree = vers.RsVec([1, 0, 1]), vers.BpTree("()")
+
+rank: int = bits.rank1(3)
+item: Optional[int] = bits.get(3)
+leaf: bool = tree.is_leaf(0)
+symbol: Optional[int] = vers.WaveletMatrix([1], 2).quantile(0, 1, 0)
+minimum: Optional[int] = vers.BinaryRmq([1]).range_min(0, 0)
+ranks = bits.rank1([1, 2])
+many = bits.each("rank1", [1, 2], other=3)
+
+wrong: str = bits.rank1(3)  # type: ignore[assignment]
+bits.rank1("3")  # type: ignore[arg-type]
+bits.each("rnk1", [1])  # type: ignore[arg-type]
+tree.each("depht", [0])  # type: ignore[arg-type]
+tree.each("rank1", [0])  # type: ignore[arg-type]
+maybe: int = bits.get(3)  # type: ignore[assignment]
