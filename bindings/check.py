@@ -8,7 +8,7 @@
 
 - The codes of statuses, queries and changes in vers.h, in the Python package and in bindings/c/src are those of
   crates/vers_c, one after another.
-- C and C++ are compiled without a warning; their tests pass, also under memcheck and helgrind.
+- C and C++ are compiled without a warning; their tests pass, also under memcheck and helgrind. What C++ refuses doesn't compile.
 - The package for pkg-config leads to header and library.
 - Python's tests pass, with each Python that is there, also from an installed wheel; the example on Dask's workers too.
 - The package for Python says in one line what it wants where there is no library, and its source distribution makes a wheel.
@@ -231,8 +231,23 @@ def check_cpp(checks, link):
         command = [compiler, "-std=c++17", *STRICT, f"-I{CPP}", test, "-o", made, *link, "-lpthread", REFUSING]
         if checks.run(f"C++ by {compiler}", command) and checks.run(f"C++ by {compiler}", [made]):
             valgrind(checks, f"C++ by {compiler}", made, compiler == "g++")
+        check_refused(checks, compiler)
         bare = ["-fno-exceptions", "-fno-rtti", "-fsyntax-only", os.path.join(CPP, "example.cpp")]
         checks.run(f"C++ by {compiler} without exceptions", [compiler, "-std=c++17", *STRICT, f"-I{CPP}", *bare])
+
+
+def check_refused(checks, compiler):
+    """C++: each call that may not compile is refused by the header's own words, and the same file without one compiles."""
+    test = os.path.join(CPP, "refused.cpp")
+    compiling = [compiler, "-std=c++17", *STRICT, f"-I{CPP}", "-fsyntax-only", test]
+    checks.run(f"C++ by {compiler} of what is taken", compiling)
+    for number in re.findall(r"REFUSED == (\d+)", read(test)):
+        done = subprocess.run([*compiling, f"-DREFUSED={number}"], capture_output=True, text=True, check=False)
+        is_refused = done.returncode != 0 and "the items are" in done.stderr
+        checks.passed += is_refused
+        checks.failed += not is_refused
+        if not is_refused:
+            print(f"failed: {test} compiles by {compiler} with REFUSED={number}")
 
 
 def check_pkg_config(checks, link):

@@ -943,6 +943,123 @@ static void test_threads(void) {
     }
 }
 
+/* Null with a count is refused by each maker, which leaves the handle empty. */
+static void test_missing_arrays(void) {
+    const uint64_t word = 1;
+    vers_growing growing = {0};
+    is("growing of null", vers_growing_of(&growing, NULL, 1, 8), VERS_REFUSED);
+    vers_bits bits = {0};
+    is("bits of null", vers_bits_of(&bits, NULL, 1, 8), VERS_REFUSED);
+    compare("bits stay empty", 0, vers_bits_len(&bits), VERS_VACANT, 0);
+    vers_tree tree = {0};
+    is("tree of null", vers_tree_of(&tree, NULL, 1, 2), VERS_REFUSED);
+    vers_sparse sparse = {0};
+    is("sparse of null", vers_sparse_of(&sparse, NULL, 1, 8), VERS_REFUSED);
+    vers_sorted sorted = {0};
+    is("sorted of null", vers_sorted_of(&sorted, NULL, 1), VERS_REFUSED);
+    compare("sorted stays empty", 0, vers_sorted_len(&sorted), VERS_VACANT, 0);
+    vers_symbols symbols = {0};
+    is("symbols of null", vers_symbols_of(&symbols, NULL, 1, 8), VERS_REFUSED);
+    vers_fast_rmq fast = {0};
+    is("fast minima of null", vers_fast_rmq_of(&fast, NULL, 1), VERS_REFUSED);
+    vers_binary_rmq binary = {0};
+    is("binary minima of null", vers_binary_rmq_of(&binary, NULL, 1), VERS_REFUSED);
+    vers_postings postings = {0};
+    is("postings of null", vers_postings_of(&postings, NULL, &word, 1), VERS_REFUSED);
+    is("postings of null costs", vers_postings_of(&postings, &word, NULL, 1), VERS_REFUSED);
+    vers_text text = {0};
+    is("text of null", vers_text_of(&text, NULL, 1, 8, 1), VERS_REFUSED);
+    is("load of null", vers_bits_load(&bits, NULL, 8), VERS_REFUSED);
+}
+
+/* Null with a count is refused by each call of a list that reads or writes an array. */
+static void test_missing_answers(void) {
+    const uint64_t words[] = {0xb5, 3};
+    vers_bits bits = {0};
+    vers_numbers places = {0};
+    vers_text text = {0};
+    is("bits", vers_bits_of(&bits, words, 1, 8), VERS_DONE);
+    is("text", vers_text_of(&text, words, 2, 8, 1), VERS_DONE);
+    is("each of null", vers_bits_each(&bits, VERS_GET, NULL, 1, 0), VERS_REFUSED);
+    is("rows of null", vers_bits_rows(&bits, VERS_GET, NULL, 1, 0), VERS_REFUSED);
+    is("save over null", vers_bits_save(&bits, NULL, (size_t)vers_bits_saved_size(&bits).value), VERS_REFUSED);
+    compare("places over null", 0, vers_bits_places1(&bits, 0, 8, NULL, 8), VERS_REFUSED, 0);
+    found("places over nothing", 0, vers_bits_places1(&bits, 0, 8, NULL, 0), 5);
+    compare("count of null", 0, vers_text_count(&text, NULL, 1), VERS_REFUSED, 0);
+    is("places of null", vers_text_places(&text, NULL, 1, &places), VERS_REFUSED);
+    is("extract", vers_text_extract(&text, 0, 2, &places), VERS_DONE);
+    is("numbers over null", vers_numbers_copy(&places, NULL, 1), VERS_REFUSED);
+    vers_numbers_free(&places);
+    vers_text_free(&text);
+    vers_bits_free(&bits);
+}
+
+/* The exports take null for no items. */
+static void test_no_items(void) {
+    vers_handle handle = {0}, other = {0};
+    is("growing", vers_growing_build(NULL, 0, 8, &handle), VERS_DONE);
+    is("each", vers_ask_each(&handle, VERS_GET, NULL, 0, 0, 0, 0), VERS_DONE);
+    is("rows", vers_ask_rows(&handle, VERS_GET, NULL, 0, 0), VERS_DONE);
+    is("save", vers_save(&handle, NULL, 0), VERS_REFUSED);
+    vers_free(&handle);
+    is("bits", vers_bits_build(NULL, 0, 8, &handle), VERS_DONE);
+    vers_free(&handle);
+    is("tree", vers_tree_build(NULL, 0, 8, &handle), VERS_DONE);
+    vers_free(&handle);
+    is("sparse", vers_sparse_build(NULL, 0, 8, &handle), VERS_DONE);
+    vers_free(&handle);
+    is("sorted", vers_sorted_build(NULL, 0, &handle), VERS_DONE);
+    vers_free(&handle);
+    is("symbols", vers_symbols_build(NULL, 0, 8, &handle), VERS_DONE);
+    vers_free(&handle);
+    is("fast minima", vers_fast_rmq_build(NULL, 0, &handle), VERS_DONE);
+    vers_free(&handle);
+    is("binary minima", vers_binary_rmq_build(NULL, 0, &handle), VERS_DONE);
+    vers_free(&handle);
+    is("postings", vers_postings_build(NULL, 0, NULL, 0, &handle), VERS_DONE);
+    vers_free(&handle);
+    is("load", vers_load(VERS_KIND_BITS, NULL, 0, &handle), VERS_TOO_SHORT);
+    is("text", vers_text_build(NULL, 0, 8, 1, &handle), VERS_DONE);
+    found("count", 0, vers_count(&handle, NULL, 0), 1);
+    is("places", vers_places(&handle, NULL, 0, &other), VERS_DONE);
+    vers_free(&other);
+    vers_free(&handle);
+}
+
+/* A handle twice, and none. */
+static void test_one_handle_twice(void) {
+    const uint64_t documents[] = {2, 5}, word = 1;
+    vers_postings postings = {0}, none = {0};
+    vers_numbers shared = {0}, others = {0};
+    vers_bits bits = {0};
+    is("postings", vers_postings_of(&postings, documents, documents, 2), VERS_DONE);
+    is("shared with itself", vers_postings_intersect(&postings, &postings, &shared), VERS_DONE);
+    found("all are shared", 0, vers_numbers_len(&shared), 2);
+    found("the last one", 0, vers_numbers_get(&shared, 1), 5);
+    found("still there", 0, vers_postings_get(&postings, 1), 5);
+    is("into a full handle", vers_postings_intersect(&postings, &postings, &shared), VERS_OCCUPIED);
+    is("none with itself", vers_postings_intersect(&none, &none, &others), VERS_REFUSED);
+    is("clone into itself", vers_postings_clone(&postings, &postings), VERS_OCCUPIED);
+    is("clone of none into itself", vers_postings_clone(&none, &none), VERS_VACANT);
+    vers_numbers_free(&shared);
+    vers_postings_free(&postings);
+    is("bits", vers_bits_of(&bits, &word, 1, 8), VERS_DONE);
+    is("bits into themselves", vers_bits_clone(&bits, &bits), VERS_OCCUPIED);
+    found("one owner", 0, vers_bits_len(&bits), 8);
+    vers_bits_free(&bits);
+    vers_bits_free(NULL);
+    vers_growing_free(NULL);
+    vers_sparse_free(NULL);
+    vers_sorted_free(NULL);
+    vers_symbols_free(NULL);
+    vers_fast_rmq_free(NULL);
+    vers_binary_rmq_free(NULL);
+    vers_tree_free(NULL);
+    vers_postings_free(NULL);
+    vers_numbers_free(NULL);
+    vers_text_free(NULL);
+}
+
 int main(void) {
     static const size_t lengths[] = {0, 1, 63, 64, 65, 500, 5000};
     for (size_t i = 0; i < sizeof lengths / sizeof *lengths; i++) {
@@ -996,6 +1113,10 @@ int main(void) {
     test_forms(300);
     test_types();
     test_sizes();
+    test_missing_arrays();
+    test_missing_answers();
+    test_no_items();
+    test_one_handle_twice();
     test_threads();
     printf("%lu passed, %lu failed\n", passed, failed);
     return failed != 0;

@@ -25,9 +25,10 @@
  *
  *  What a caller owes, since no call can test it:
  *  - a handle is all zeros, or as the last call has left it; it is copied by `_clone` alone;
- *  - pointers to handles aren't null, and are of different handles where a call takes two;
- *  - an array has as many items as its count says, and no other thread writes it during the call; it may be null
- *    where the count is 0;
+ *  - pointers to handles aren't null, except that of a `_free` below, which leaves null alone;
+ *  - an array has as many items as its count says, and no other thread writes it during the call. It may be null if its
+ *    count is 0. The calls with a type refuse null with another count: VERS_REFUSED;
+ *  - what an export below says of the handles that it takes. The calls with a type take the same handle twice;
  *  - no call from a signal handler, nor from the forked child of a process with threads.
  *  All else is tested, and told by the status: places past the end, numbers that don't ascend, queries of another
  *  list, handles that hold nothing or are full, memory that is refused.
@@ -160,48 +161,59 @@ typedef struct vers_handle {
     void *at;
 } vers_handle;
 
-/* The exports of the library, one for all lists. The names further below are the same with a type for each list. */
+/* The exports of the library, one for all lists. The names further below are the same with a type for each list.
+ *
+ * Each export says which handles have to differ, and which arrays it writes. During a call no other thread uses its
+ * handles, or touches an array that it writes. An array that it reads may be read by other threads, and may be the same
+ * as another one that it reads. Null arrays are for a count of 0 alone. */
 
-/** Asks one query. VERS_UNKNOWN, VERS_VACANT, and what the query has. */
+/** Asks one query. VERS_UNKNOWN, VERS_VACANT, and what the query has. One handle, no array. */
 vers_answer vers_ask(vers_handle *handle, uint32_t query, uint64_t a, uint64_t b, uint64_t c);
 
-/** The value of what a query of one number answers, and UINT64_MAX where its status isn't VERS_DONE. */
+/** The value of what a query of one number answers, and UINT64_MAX where its status isn't VERS_DONE. One handle, no
+ *  array. */
 uint64_t vers_value(vers_handle *handle, uint32_t query, uint64_t a);
 
 /** Puts in the place of each number what is answered to it as a, with these b and c; `other` where the status isn't
- *  VERS_DONE. VERS_UNKNOWN and VERS_VACANT leave the numbers as they were. */
+ *  VERS_DONE. VERS_UNKNOWN and VERS_VACANT leave the numbers as they were. One handle; writes `numbers`. */
 uint32_t vers_ask_each(vers_handle *handle, uint32_t query, uint64_t *numbers, size_t count, uint64_t b, uint64_t c,
                        uint64_t other);
 
-/** The same with an a, b and c for each: the answer takes the place of a. */
+/** The same with an a, b and c for each: the answer takes the place of a. One handle; writes `rows`. */
 uint32_t vers_ask_rows(vers_handle *handle, uint32_t query, vers_row *rows, size_t count, uint64_t other);
 
-/** Changes a vers_growing. */
+/** Changes a vers_growing. VERS_UNKNOWN, VERS_VACANT, VERS_REFUSED, VERS_NO_MEMORY, and VERS_SHARED while the list has
+ *  another handle, in whatever thread. One handle, no array. */
 uint32_t vers_change(vers_handle *handle, uint32_t change, uint64_t a, uint64_t b);
 
-/** Makes an empty handle one more handle of a list, for another thread. VERS_VACANT, VERS_OCCUPIED, VERS_NO_MEMORY. */
+/** Makes an empty handle one more handle of a list, for another thread. VERS_VACANT, VERS_OCCUPIED, VERS_NO_MEMORY.
+ *  The two handles differ; afterwards each is for a thread of its own. */
 uint32_t vers_clone(vers_handle *handle, vers_handle *other);
 
 /** Puts the documents that two vers_postings share into an empty third handle, as vers_numbers. VERS_REFUSED where one
- *  of the two holds no such list, VERS_OCCUPIED, VERS_NO_MEMORY. */
+ *  of the two holds no such list, VERS_OCCUPIED, VERS_NO_MEMORY. The three handles differ. Of one list alone there have
+ *  to be two handles, which `vers_postings_intersect` makes. */
 uint32_t vers_intersect(vers_handle *one, vers_handle *other, vers_handle *into);
 
-/** How many places a pattern of `count` symbols has in a vers_text. VERS_UNKNOWN of another list, VERS_VACANT. */
+/** How many places a pattern of `count` symbols has in a vers_text. VERS_UNKNOWN of another list, VERS_VACANT.
+ *  One handle; reads `pattern`. */
 vers_answer vers_count(vers_handle *handle, const uint64_t *pattern, size_t count);
 
 /** Puts the places of a pattern in a vers_text, ascending, into an empty other handle, as vers_numbers. VERS_REFUSED
- *  where the first holds no text, VERS_OCCUPIED, VERS_NO_MEMORY. */
+ *  where the first holds no text, VERS_OCCUPIED, VERS_NO_MEMORY. The two handles differ; reads `pattern`. */
 uint32_t vers_places(vers_handle *handle, const uint64_t *pattern, size_t count, vers_handle *into);
 
 /** Puts the symbols of a vers_text from place `start` up to `end` into an empty other handle, as vers_numbers.
- *  VERS_REFUSED where the first holds no text with such places, VERS_OCCUPIED, VERS_NO_MEMORY. */
+ *  VERS_REFUSED where the first holds no text with such places, VERS_OCCUPIED, VERS_NO_MEMORY. The two handles
+ *  differ. */
 uint32_t vers_extract(vers_handle *handle, size_t start, size_t end, vers_handle *into);
 
-/** Empties a handle, and frees the list if no other handle holds it. An empty handle stays empty. */
+/** Empties a handle, and frees the list if no other handle holds it. An empty handle stays empty. Other threads may
+ *  use and free other handles of the list meanwhile. */
 void vers_free(vers_handle *handle);
 
 /* Queries that are asked often, each by a call of its own: the answers of vers_ask, in fewer instructions where the
- * list is of that kind. Values are those of a vers_fast_rmq. */
+ * list is of that kind. Values are those of a vers_fast_rmq. One handle, no array. */
 vers_answer vers_quick_bits_get(vers_handle *handle, uint64_t place);
 vers_answer vers_quick_bits_rank0(vers_handle *handle, uint64_t place);
 vers_answer vers_quick_bits_rank1(vers_handle *handle, uint64_t place);
@@ -223,18 +235,20 @@ vers_answer vers_quick_tree_depth(vers_handle *handle, uint64_t node);
 vers_answer vers_quick_values_get(vers_handle *handle, uint64_t place);
 vers_answer vers_quick_values_range_min(vers_handle *handle, uint64_t first, uint64_t last);
 
-/** How many bytes the saved form of a list has. VERS_VACANT, VERS_ABSENT where there is none. */
+/** How many bytes the saved form of a list has. VERS_VACANT, VERS_ABSENT where there is none. One handle, no array. */
 vers_answer vers_saved_size(vers_handle *handle);
 
 /** Writes the saved form of a list over `count` bytes, which are as many as vers_saved_size says. VERS_VACANT,
- *  VERS_ABSENT where there is none, VERS_REFUSED for another count, VERS_NO_MEMORY. */
+ *  VERS_ABSENT where there is none, VERS_REFUSED for another count, VERS_NO_MEMORY. One handle; writes `bytes`. */
 uint32_t vers_save(vers_handle *handle, uint8_t *bytes, size_t count);
 
 /** Makes the list of a kind of which bytes are the saved form. Where they are none, the status says which test of them
  *  fails, by the first one that does: VERS_TOO_SHORT to VERS_NOT_ASCENDING. VERS_UNKNOWN for no kind, VERS_OCCUPIED,
- *  VERS_NO_MEMORY. */
+ *  VERS_NO_MEMORY. One handle; reads `bytes`. */
 uint32_t vers_load(uint32_t kind, const uint8_t *bytes, size_t count, vers_handle *handle);
 
+/* The exports that build a list into an empty handle, as the calls `_of` below say: VERS_OCCUPIED, VERS_NO_MEMORY, and
+ * VERS_REFUSED where those have it. One handle; each reads its arrays, of which `documents` and `costs` may be one. */
 uint32_t vers_growing_build(const uint64_t *words, size_t count, size_t length, vers_handle *handle);
 uint32_t vers_bits_build(const uint64_t *words, size_t count, size_t length, vers_handle *handle);
 uint32_t vers_tree_build(const uint64_t *words, size_t count, size_t length, vers_handle *handle);
@@ -277,7 +291,12 @@ static inline const char *vers_status_text(uint32_t status) {
     return status < sizeof texts / sizeof *texts ? texts[status] : "no status of this library";
 }
 
-/** An array that may be null where it is empty, as one that isn't null. */
+/** Whether an array is missing: null, though its count isn't 0. */
+static inline bool vers_is_missing(const void *array, size_t count) {
+    return !array && count > 0;
+}
+
+/** An array that may be null if it is empty, as one that isn't null. */
 static inline const uint64_t *vers_array(const uint64_t *array) {
     static const uint64_t none = 0;
     return array ? array : &none;
@@ -286,6 +305,12 @@ static inline const uint64_t *vers_array(const uint64_t *array) {
 /** A handle that a query writes to and leaves as it was. */
 static inline vers_handle *vers_held(const vers_handle *handle) {
     return (vers_handle *)(uintptr_t)handle;
+}
+
+/** Makes an empty handle one more handle of a list. The list's own handle isn't empty. */
+static inline uint32_t vers_cloned(const vers_handle *handle, vers_handle *other) {
+    if (handle == other) return handle->is_built ? VERS_OCCUPIED : VERS_VACANT;
+    return vers_clone(vers_held(handle), other);
 }
 
 /** Asks one query of a list, which stays as it is. */
@@ -313,6 +338,7 @@ static inline vers_answer vers_previous_bit(const vers_handle *handle, enum vers
 /** Asks many queries of a list, which stays as it is. */
 static inline uint32_t vers_asked_each(const vers_handle *handle, enum vers_query query, uint64_t *numbers,
                                        size_t count, uint64_t b, uint64_t c, uint64_t other) {
+    if (vers_is_missing(numbers, count)) return VERS_REFUSED;
     uint64_t none = 0;
     if (count == 0) numbers = &none;
     return vers_ask_each(vers_held(handle), (uint32_t)query, numbers, count, b, c, other);
@@ -321,6 +347,7 @@ static inline uint32_t vers_asked_each(const vers_handle *handle, enum vers_quer
 /** Writes what a query answers to the numbers from `start` on, as many as there is room for, at most `most`. */
 static inline uint32_t vers_asked_from(const vers_handle *handle, enum vers_query query, uint64_t start, uint64_t most,
                                        uint64_t *numbers, size_t count) {
+    if (vers_is_missing(numbers, count)) return VERS_REFUSED;
     if (count > most) count = (size_t)most;
     for (size_t k = 0; k < count; k++) numbers[k] = start + k;
     return vers_asked_each(handle, query, numbers, count, 0, 0, 0);
@@ -331,6 +358,8 @@ static inline uint32_t vers_asked_from(const vers_handle *handle, enum vers_quer
 static inline vers_answer vers_listed(const vers_handle *handle, enum vers_query rank, enum vers_query select,
                                       uint64_t start, uint64_t end, uint64_t *places, size_t count) {
     vers_answer first = vers_asked(handle, rank, start, 0, 0), past = vers_asked(handle, rank, end, 0, 0);
+    vers_answer missing = {VERS_REFUSED, 0};
+    if (vers_is_missing(places, count)) return missing;
     if (past.status != VERS_DONE) return past;
     past.value = past.value > first.value ? past.value - first.value : 0;
     past.status = vers_asked_from(handle, select, first.value, past.value, places, count);
@@ -340,6 +369,7 @@ static inline vers_answer vers_listed(const vers_handle *handle, enum vers_query
 /** Asks many queries of a list, with three numbers each. The list stays as it is. */
 static inline uint32_t vers_asked_rows(const vers_handle *handle, enum vers_query query, vers_row *rows, size_t count,
                                        uint64_t other) {
+    if (vers_is_missing(rows, count)) return VERS_REFUSED;
     vers_row none = {0, 0, 0};
     if (count == 0) rows = &none;
     return vers_ask_rows(vers_held(handle), (uint32_t)query, rows, count, other);
@@ -347,6 +377,7 @@ static inline uint32_t vers_asked_rows(const vers_handle *handle, enum vers_quer
 
 /** Writes the saved form of a list, which stays as it is. */
 static inline uint32_t vers_saved(const vers_handle *handle, uint8_t *bytes, size_t count) {
+    if (vers_is_missing(bytes, count)) return VERS_REFUSED;
     uint8_t none = 0;
     if (count == 0) bytes = &none;
     return vers_save(vers_held(handle), bytes, count);
@@ -354,6 +385,7 @@ static inline uint32_t vers_saved(const vers_handle *handle, uint8_t *bytes, siz
 
 /** Makes the list of a kind of which bytes are the saved form. */
 static inline uint32_t vers_loaded(enum vers_kind kind, const uint8_t *bytes, size_t count, vers_handle *handle) {
+    if (vers_is_missing(bytes, count)) return VERS_REFUSED;
     const uint8_t none = 0;
     if (count == 0) bytes = &none;
     return vers_load((uint32_t)kind, bytes, count, handle);
@@ -370,18 +402,19 @@ typedef struct vers_growing {
 /** Makes the list of the first `length` bits of `count` words, of all if they have fewer; the lowest bit of a word
  * comes first. VERS_OCCUPIED, VERS_NO_MEMORY. */
 static inline uint32_t vers_growing_of(vers_growing *list, const uint64_t *words, size_t count, size_t length) {
+    if (vers_is_missing(words, count)) return VERS_REFUSED;
     return vers_growing_build(vers_array(words), count, length, &list->handle);
 }
 
-/** Empties a handle, and frees the list if no other handle holds it. */
+/** Empties a handle, and frees the list if no other handle holds it. Null is left alone. */
 static inline void vers_growing_free(vers_growing *list) {
-    vers_free(&list->handle);
+    if (list) vers_free(&list->handle);
 }
 
 /** Makes an empty handle one more handle of the list, for another thread. VERS_VACANT, VERS_OCCUPIED,
  * VERS_NO_MEMORY. */
 static inline uint32_t vers_growing_clone(const vers_growing *list, vers_growing *other) {
-    return vers_clone(vers_held(&list->handle), &other->handle);
+    return vers_cloned(&list->handle, &other->handle);
 }
 
 /** How many bytes the saved form of the list has. */
@@ -465,18 +498,19 @@ typedef struct vers_bits {
 /** Makes the list of the first `length` bits of `count` words, of all if they have fewer; the lowest bit of a word
  * comes first. VERS_OCCUPIED, VERS_NO_MEMORY. */
 static inline uint32_t vers_bits_of(vers_bits *list, const uint64_t *words, size_t count, size_t length) {
+    if (vers_is_missing(words, count)) return VERS_REFUSED;
     return vers_bits_build(vers_array(words), count, length, &list->handle);
 }
 
-/** Empties a handle, and frees the list if no other handle holds it. */
+/** Empties a handle, and frees the list if no other handle holds it. Null is left alone. */
 static inline void vers_bits_free(vers_bits *list) {
-    vers_free(&list->handle);
+    if (list) vers_free(&list->handle);
 }
 
 /** Makes an empty handle one more handle of the list, for another thread. VERS_VACANT, VERS_OCCUPIED,
  * VERS_NO_MEMORY. */
 static inline uint32_t vers_bits_clone(const vers_bits *list, vers_bits *other) {
-    return vers_clone(vers_held(&list->handle), &other->handle);
+    return vers_cloned(&list->handle, &other->handle);
 }
 
 /** How many bytes the saved form of the list has. */
@@ -606,18 +640,19 @@ typedef struct vers_sorted {
 /** Makes the list of `count` numbers. VERS_REFUSED where one is below the one before it. VERS_OCCUPIED,
  * VERS_NO_MEMORY. */
 static inline uint32_t vers_sorted_of(vers_sorted *list, const uint64_t *numbers, size_t count) {
+    if (vers_is_missing(numbers, count)) return VERS_REFUSED;
     return vers_sorted_build(vers_array(numbers), count, &list->handle);
 }
 
-/** Empties a handle, and frees the list if no other handle holds it. */
+/** Empties a handle, and frees the list if no other handle holds it. Null is left alone. */
 static inline void vers_sorted_free(vers_sorted *list) {
-    vers_free(&list->handle);
+    if (list) vers_free(&list->handle);
 }
 
 /** Makes an empty handle one more handle of the list, for another thread. VERS_VACANT, VERS_OCCUPIED,
  * VERS_NO_MEMORY. */
 static inline uint32_t vers_sorted_clone(const vers_sorted *list, vers_sorted *other) {
-    return vers_clone(vers_held(&list->handle), &other->handle);
+    return vers_cloned(&list->handle, &other->handle);
 }
 
 /** How many bytes the saved form of the list has. */
@@ -701,18 +736,19 @@ typedef struct vers_sparse {
 /** Makes the list of `length` bits whose ones stand at `count` places. VERS_REFUSED where the places don't ascend
  * strictly, or one isn't below `length`. VERS_OCCUPIED, VERS_NO_MEMORY. */
 static inline uint32_t vers_sparse_of(vers_sparse *list, const uint64_t *ones, size_t count, uint64_t length) {
+    if (vers_is_missing(ones, count)) return VERS_REFUSED;
     return vers_sparse_build(vers_array(ones), count, length, &list->handle);
 }
 
-/** Empties a handle, and frees the list if no other handle holds it. */
+/** Empties a handle, and frees the list if no other handle holds it. Null is left alone. */
 static inline void vers_sparse_free(vers_sparse *list) {
-    vers_free(&list->handle);
+    if (list) vers_free(&list->handle);
 }
 
 /** Makes an empty handle one more handle of the list, for another thread. VERS_VACANT, VERS_OCCUPIED,
  * VERS_NO_MEMORY. */
 static inline uint32_t vers_sparse_clone(const vers_sparse *list, vers_sparse *other) {
-    return vers_clone(vers_held(&list->handle), &other->handle);
+    return vers_cloned(&list->handle, &other->handle);
 }
 
 /** How many bytes the saved form of the list has. */
@@ -787,18 +823,19 @@ typedef struct vers_symbols {
 /** Makes the list of the `width` low bits of `count` numbers; of no bits there are no symbols. VERS_REFUSED where
  * `width` is above 64. VERS_OCCUPIED, VERS_NO_MEMORY. */
 static inline uint32_t vers_symbols_of(vers_symbols *list, const uint64_t *numbers, size_t count, uint32_t width) {
+    if (vers_is_missing(numbers, count)) return VERS_REFUSED;
     return vers_symbols_build(vers_array(numbers), count, width, &list->handle);
 }
 
-/** Empties a handle, and frees the list if no other handle holds it. */
+/** Empties a handle, and frees the list if no other handle holds it. Null is left alone. */
 static inline void vers_symbols_free(vers_symbols *list) {
-    vers_free(&list->handle);
+    if (list) vers_free(&list->handle);
 }
 
 /** Makes an empty handle one more handle of the list, for another thread. VERS_VACANT, VERS_OCCUPIED,
  * VERS_NO_MEMORY. */
 static inline uint32_t vers_symbols_clone(const vers_symbols *list, vers_symbols *other) {
-    return vers_clone(vers_held(&list->handle), &other->handle);
+    return vers_cloned(&list->handle, &other->handle);
 }
 
 /** How many bytes the saved form of the list has. VERS_ABSENT where a symbol has no bits. */
@@ -917,18 +954,19 @@ typedef struct vers_fast_rmq {
 
 /** Makes the list of `count` values. VERS_OCCUPIED, VERS_NO_MEMORY. */
 static inline uint32_t vers_fast_rmq_of(vers_fast_rmq *list, const uint64_t *numbers, size_t count) {
+    if (vers_is_missing(numbers, count)) return VERS_REFUSED;
     return vers_fast_rmq_build(vers_array(numbers), count, &list->handle);
 }
 
-/** Empties a handle, and frees the list if no other handle holds it. */
+/** Empties a handle, and frees the list if no other handle holds it. Null is left alone. */
 static inline void vers_fast_rmq_free(vers_fast_rmq *list) {
-    vers_free(&list->handle);
+    if (list) vers_free(&list->handle);
 }
 
 /** Makes an empty handle one more handle of the list, for another thread. VERS_VACANT, VERS_OCCUPIED,
  * VERS_NO_MEMORY. */
 static inline uint32_t vers_fast_rmq_clone(const vers_fast_rmq *list, vers_fast_rmq *other) {
-    return vers_clone(vers_held(&list->handle), &other->handle);
+    return vers_cloned(&list->handle, &other->handle);
 }
 
 /** How many bytes the saved form of the list has. */
@@ -991,18 +1029,19 @@ typedef struct vers_binary_rmq {
 
 /** Makes the list of `count` values. VERS_OCCUPIED, VERS_NO_MEMORY. */
 static inline uint32_t vers_binary_rmq_of(vers_binary_rmq *list, const uint64_t *numbers, size_t count) {
+    if (vers_is_missing(numbers, count)) return VERS_REFUSED;
     return vers_binary_rmq_build(vers_array(numbers), count, &list->handle);
 }
 
-/** Empties a handle, and frees the list if no other handle holds it. */
+/** Empties a handle, and frees the list if no other handle holds it. Null is left alone. */
 static inline void vers_binary_rmq_free(vers_binary_rmq *list) {
-    vers_free(&list->handle);
+    if (list) vers_free(&list->handle);
 }
 
 /** Makes an empty handle one more handle of the list, for another thread. VERS_VACANT, VERS_OCCUPIED,
  * VERS_NO_MEMORY. */
 static inline uint32_t vers_binary_rmq_clone(const vers_binary_rmq *list, vers_binary_rmq *other) {
-    return vers_clone(vers_held(&list->handle), &other->handle);
+    return vers_cloned(&list->handle, &other->handle);
 }
 
 /** How many bytes the saved form of the list has. */
@@ -1068,18 +1107,19 @@ typedef struct vers_tree {
 /** Makes the list of the first `length` bits of `count` words, of all if they have fewer; the lowest bit of a word
  * comes first. VERS_OCCUPIED, VERS_NO_MEMORY. */
 static inline uint32_t vers_tree_of(vers_tree *list, const uint64_t *words, size_t count, size_t length) {
+    if (vers_is_missing(words, count)) return VERS_REFUSED;
     return vers_tree_build(vers_array(words), count, length, &list->handle);
 }
 
-/** Empties a handle, and frees the list if no other handle holds it. */
+/** Empties a handle, and frees the list if no other handle holds it. Null is left alone. */
 static inline void vers_tree_free(vers_tree *list) {
-    vers_free(&list->handle);
+    if (list) vers_free(&list->handle);
 }
 
 /** Makes an empty handle one more handle of the list, for another thread. VERS_VACANT, VERS_OCCUPIED,
  * VERS_NO_MEMORY. */
 static inline uint32_t vers_tree_clone(const vers_tree *list, vers_tree *other) {
-    return vers_clone(vers_held(&list->handle), &other->handle);
+    return vers_cloned(&list->handle, &other->handle);
 }
 
 /** How many bytes the saved form of the list has. */
@@ -1271,18 +1311,19 @@ typedef struct vers_postings {
  * VERS_OCCUPIED, VERS_NO_MEMORY. */
 static inline uint32_t vers_postings_of(vers_postings *list, const uint64_t *documents, const uint64_t *costs,
                                         size_t count) {
+    if (vers_is_missing(documents, count) || vers_is_missing(costs, count)) return VERS_REFUSED;
     return vers_postings_build(vers_array(documents), count, vers_array(costs), count, &list->handle);
 }
 
-/** Empties a handle, and frees the list if no other handle holds it. */
+/** Empties a handle, and frees the list if no other handle holds it. Null is left alone. */
 static inline void vers_postings_free(vers_postings *list) {
-    vers_free(&list->handle);
+    if (list) vers_free(&list->handle);
 }
 
 /** Makes an empty handle one more handle of the list, for another thread. VERS_VACANT, VERS_OCCUPIED,
  * VERS_NO_MEMORY. */
 static inline uint32_t vers_postings_clone(const vers_postings *list, vers_postings *other) {
-    return vers_clone(vers_held(&list->handle), &other->handle);
+    return vers_cloned(&list->handle, &other->handle);
 }
 
 /** How many bytes the saved form of the list has. */
@@ -1364,15 +1405,15 @@ typedef struct vers_numbers {
     vers_handle handle;
 } vers_numbers;
 
-/** Empties a handle, and frees the list if no other handle holds it. */
+/** Empties a handle, and frees the list if no other handle holds it. Null is left alone. */
 static inline void vers_numbers_free(vers_numbers *list) {
-    vers_free(&list->handle);
+    if (list) vers_free(&list->handle);
 }
 
 /** Makes an empty handle one more handle of the list, for another thread. VERS_VACANT, VERS_OCCUPIED,
  * VERS_NO_MEMORY. */
 static inline uint32_t vers_numbers_clone(const vers_numbers *list, vers_numbers *other) {
-    return vers_clone(vers_held(&list->handle), &other->handle);
+    return vers_cloned(&list->handle, &other->handle);
 }
 
 /** How many numbers. */
@@ -1392,12 +1433,16 @@ static inline uint32_t vers_numbers_copy(const vers_numbers *list, uint64_t *num
     return vers_asked_from(&list->handle, VERS_GET, 0, length.value, numbers, count);
 }
 
-/** Puts the documents that two lists share, ascending, into an empty third handle. VERS_REFUSED where one of the two
- * holds nothing, VERS_OCCUPIED, VERS_NO_MEMORY. */
+/** Puts the documents that two lists share, ascending, into an empty third handle. The two may be one. VERS_REFUSED if
+ * one of them holds nothing, VERS_OCCUPIED, VERS_NO_MEMORY. */
 static inline uint32_t vers_postings_intersect(const vers_postings *one, const vers_postings *two,
                                                vers_numbers *into) {
-    vers_handle *first = vers_held(&one->handle), *second = vers_held(&two->handle);
-    return vers_intersect(first, second, &into->handle);
+    vers_handle *first = vers_held(&one->handle), *second = vers_held(&two->handle), other = {false, NULL};
+    if (first != second) return vers_intersect(first, second, &into->handle);
+    uint32_t status = vers_clone(first, &other);
+    if (status != VERS_NO_MEMORY) status = vers_intersect(first, &other, &into->handle);
+    vers_free(&other);
+    return status;
 }
 
 /** Puts in the place of each number what a query of one number answers to it, `other` where there is no answer.
@@ -1420,18 +1465,19 @@ typedef struct vers_text {
  * is 0, or the symbols are more than 2^32 - 2. VERS_OCCUPIED, VERS_NO_MEMORY. */
 static inline uint32_t vers_text_of(vers_text *text, const uint64_t *symbols, size_t count, uint32_t width,
                                     size_t step) {
+    if (vers_is_missing(symbols, count)) return VERS_REFUSED;
     return vers_text_build(vers_array(symbols), count, width, step, &text->handle);
 }
 
-/** Empties a handle, and frees the text if no other handle holds it. */
+/** Empties a handle, and frees the text if no other handle holds it. Null is left alone. */
 static inline void vers_text_free(vers_text *text) {
-    vers_free(&text->handle);
+    if (text) vers_free(&text->handle);
 }
 
 /** Makes an empty handle one more handle of the text, for another thread. VERS_VACANT, VERS_OCCUPIED,
  * VERS_NO_MEMORY. */
 static inline uint32_t vers_text_clone(const vers_text *text, vers_text *other) {
-    return vers_clone(vers_held(&text->handle), &other->handle);
+    return vers_cloned(&text->handle, &other->handle);
 }
 
 /** How many symbols. */
@@ -1456,6 +1502,8 @@ static inline vers_answer vers_text_heap_size(const vers_text *text) {
 
 /** How many places a pattern of `count` symbols has. */
 static inline vers_answer vers_text_count(const vers_text *text, const uint64_t *pattern, size_t count) {
+    vers_answer missing = {VERS_REFUSED, 0};
+    if (vers_is_missing(pattern, count)) return missing;
     return vers_count(vers_held(&text->handle), vers_array(pattern), count);
 }
 
@@ -1470,6 +1518,7 @@ static inline vers_answer vers_text_contains(const vers_text *text, const uint64
  * VERS_OCCUPIED, VERS_NO_MEMORY. */
 static inline uint32_t vers_text_places(const vers_text *text, const uint64_t *pattern, size_t count,
                                         vers_numbers *into) {
+    if (vers_is_missing(pattern, count)) return VERS_REFUSED;
     return vers_places(vers_held(&text->handle), vers_array(pattern), count, &into->handle);
 }
 

@@ -51,6 +51,7 @@ static void test_owner(List list) {
     Status status;
     check("clone", moved.clone(status)->len() == length && status == Status::done);
     check("clone of none", !list.clone(status) && status == Status::vacant);
+    check("clone of none owns nothing", list.clone().len() == 0 && !list.clone().clone(status));
 }
 
 // What the saved form of a list is loaded as. With another first byte it is none, nor with another one in the middle.
@@ -316,6 +317,39 @@ static bool is_thrown(Call call) {
     return is_caught;
 }
 
+// What owns nothing answers nothing, as an argument too.
+static void test_moved_from() {
+    const Numbers documents = {2, 5};
+    Status status;
+    auto one = *vers::Postings::from(documents.data(), documents.data(), 2);
+    check("with itself", one.intersect(one).len() == 2);
+    const auto other = std::move(one);
+    check("moved", other.len() == 2 && one.len() == 0);
+    check("with none", other.intersect(one).len() == 0 && !other.intersect(one, status) && status == Status::refused);
+    check("of none", one.intersect(other).len() == 0 && !one.intersect(other, status) && status == Status::refused);
+    check("none with itself", one.intersect(one).len() == 0);
+    auto text = *vers::TextIndex::from(documents.data(), 2, 8, 1);
+    const auto kept = std::move(text);
+    check("text", kept.places(documents.data(), 1).len() == 1);
+    check("places in none", text.places(documents.data(), 1).len() == 0 && text.count(documents.data(), 1) == 0);
+    check("extract of none", !text.extract(0, 1));
+    auto bits = vers::BitVec();
+    auto grown = std::move(bits);
+    check("change of none", bits.append(true) == Status::vacant && !bits.get(0));
+    check("change", grown.append(true) == Status::done);
+}
+
+// Null is for a count of 0.
+static void test_missing_arrays() {
+    Status status;
+    check("bits of null", !vers::RsVec::from_words(nullptr, 1, 8, status) && status == Status::refused);
+    check("they own nothing", vers::RsVec::from_words(nullptr, 1, 8).len() == 0);
+    check("numbers of null", !vers::EliasFanoVec::from(static_cast<std::uint64_t *>(nullptr), 1));
+    check("no numbers", vers::EliasFanoVec::from(static_cast<std::uint64_t *>(nullptr), 0)->len() == 0);
+    check("load of null", !vers::RsVec::load(nullptr, 8, status) && status == Status::refused);
+    check("each of null", vers::BitVec().each(VERS_GET, nullptr, 1) == Status::refused);
+}
+
 static void test_memory() {
     const Numbers numbers = {1, 2, 3};
     const vers::RsVec bits = vers::RsVec::from_words(numbers.data(), 3, 192);
@@ -360,6 +394,8 @@ int main() {
     test_tree();
     test_postings();
     test_texts();
+    test_moved_from();
+    test_missing_arrays();
     test_memory();
     test_threads();
     std::printf("%lu passed, %lu failed\n", passed, failed);

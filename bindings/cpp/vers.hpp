@@ -7,7 +7,10 @@
  *      if (auto next = numbers->successor(17)) use(*next);      // nullopt where there is none
  *
  *  Owners. Each object owns its list, is moved and not copied, and frees it when it is destroyed. One that was moved
- *  from holds nothing, and answers 0, or nullopt.
+ *  from owns nothing: it answers 0 or nullopt, its clone owns nothing either, and so do the Numbers that it answers.
+ *
+ *  Arrays. Null is for a count of 0: with another one a maker answers nullopt, or an object that owns nothing. Iterators
+ *  are over unsigned whole numbers, and those of `from_bits` over whole numbers or truth values: others don't compile.
  *
  *  Exceptions. None but std::bad_alloc, where memory is out. A maker that takes a Status last throws nothing: it
  *  answers nullopt, and the status says why. Where exceptions are off, or VERS_NO_EXCEPTIONS is defined, nothing
@@ -77,7 +80,11 @@ inline std::optional<std::uint64_t> found(vers_answer answer) noexcept {
 }
 
 template <class Iterator>
+using Item = typename std::iterator_traits<Iterator>::value_type;
+
+template <class Iterator>
 std::vector<std::uint64_t> gathered(Iterator first, Iterator last) {
+    static_assert(std::is_unsigned_v<Item<Iterator>>, "the items are unsigned whole numbers");
     return std::vector<std::uint64_t>(first, last);
 }
 
@@ -88,6 +95,7 @@ struct Words {
 
     template <class Iterator>
     Words(Iterator first, Iterator last) {
+        static_assert(std::is_integral_v<Item<Iterator>>, "the items are truth values, or whole numbers");
         for (; first != last; ++first, ++length) {
             if (length % 64 == 0) words.push_back(0);
             if (*first) words.back() |= std::uint64_t{1} << (length % 64);
@@ -133,7 +141,8 @@ public:
     }
     ~Owner() { vers_free(&raw_.handle); }
 
-    /** One more owner of the list, for another thread. Takes constant time. */
+    /** One more owner of the list, for another thread. Takes constant time. Of an object that owns nothing, another
+     *  one, or Status::vacant. */
     List clone() const {
         Status status;
         return needed(clone(status), status);
@@ -207,11 +216,10 @@ protected:
         return list;
     }
 
-    /** A list that can't be refused but for memory. */
+    /** A list that is refused for want of memory alone, or one that owns nothing if there is nothing to make it of. */
     static List needed(std::optional<List> &&list, const Status &status) {
-        thrown(static_cast<std::uint32_t>(status));
-        if (!list) std::abort();
-        return std::move(*list);
+        list = wanted(std::move(list), status);
+        return list ? std::move(*list) : List(Nothing{});
     }
 
     /** A list that may be refused. */
@@ -648,10 +656,10 @@ private:
     friend class TextIndex;
     explicit Numbers(Nothing) noexcept {}
 
-    /** The numbers that a call puts into a handle. */
+    /** The numbers that a call makes. */
     template <class Call>
     static std::optional<Numbers> of(Status &status, Call &&call) noexcept {
-        return made(status, [&](vers_numbers *raw) { return call(&raw->handle); });
+        return made(status, std::forward<Call>(call));
     }
 };
 
@@ -684,15 +692,15 @@ public:
     std::optional<std::uint64_t> cheapest(std::uint64_t first, std::uint64_t last) const noexcept {
         return find(VERS_CHEAPEST, first, last);
     }
-    /** The documents that another list has too, ascending. */
+    /** The documents that another list has too, ascending. Status::refused if one of the two owns nothing. */
     Numbers intersect(const Postings &other) const {
         Status status;
         return Numbers::needed(intersect(other, status), status);
     }
     std::optional<Numbers> intersect(const Postings &other, Status &status) const noexcept {
-        const auto own = other.clone(status);
-        if (!own) return std::nullopt;
-        return Numbers::of(status, [&](vers_handle *into) { return vers_intersect(handle(), own->handle(), into); });
+        return Numbers::of(status, [&](vers_numbers *into) {
+            return vers_postings_intersect(&raw_, &other.raw_, into);
+        });
     }
 
 private:
@@ -733,8 +741,9 @@ public:
         return Numbers::needed(places(pattern, length, status), status);
     }
     std::optional<Numbers> places(const std::uint64_t *pattern, std::size_t length, Status &status) const noexcept {
-        const auto call = [&](vers_handle *into) { return vers_places(handle(), vers_array(pattern), length, into); };
-        return Numbers::of(status, call);
+        return Numbers::of(status, [&](vers_numbers *into) {
+            return vers_text_places(&raw_, pattern, length, into);
+        });
     }
     /** The symbols from a place up to another. nullopt where the text has no such places. */
     std::optional<Numbers> extract(std::size_t start, std::size_t end) const {
@@ -742,7 +751,7 @@ public:
         return Numbers::wanted(extract(start, end, status), status);
     }
     std::optional<Numbers> extract(std::size_t start, std::size_t end, Status &status) const noexcept {
-        return Numbers::of(status, [&](vers_handle *into) { return vers_extract(handle(), start, end, into); });
+        return Numbers::of(status, [&](vers_numbers *into) { return vers_text_extract(&raw_, start, end, into); });
     }
 
 private:

@@ -6,8 +6,7 @@ import ctypes
 import difflib
 import operator
 from array import array
-from collections.abc import Sequence
-from typing import Any, Callable, Dict, Generic, Iterator, Optional, Tuple, TypeVar, Union
+from typing import Any, Callable, Dict, Generic, Iterator, Optional, Sequence, Tuple, TypeVar, Union
 
 from . import _buffers, _codes as codes, _library as library, _queries
 from ._buffers import Numbers, number
@@ -276,7 +275,7 @@ class Shared(List[Q]):
         return known
 
 
-class Items(List[Q], Sequence):  # type: ignore[type-arg]
+class Items(List[Q], Sequence[int]):
     """A list of which each item can be asked."""
 
     @query(codes.GET)

@@ -97,5 +97,7 @@ def built(build: Any, arguments: Tuple[Any, ...], owner: Any) -> int:
 
     worker = threading.Thread(target=run, daemon=True)
     worker.start()
-    worker.join()
+    while worker.is_alive():
+        # it ends early now and then, since a signal that another thread gets doesn't wake this one
+        worker.join(0.1)
     return statuses[0]

@@ -1,0 +1,31 @@
+// Calls that don't compile, one for each REFUSED: iterators over items that are no unsigned whole numbers.
+#include "vers.hpp"
+
+#include <string>
+
+int main() {
+    const std::vector<std::uint32_t> unsigned_numbers = {1, 2};
+    const std::vector<std::int64_t> signed_numbers = {1, -1};
+    const std::vector<double> fractions = {1.5, 2.7};
+    (void)vers::EliasFanoVec::from(unsigned_numbers.begin(), unsigned_numbers.end());
+    (void)vers::RsVec::from_bits(signed_numbers.begin(), signed_numbers.end());
+#if REFUSED == 1
+    (void)vers::EliasFanoVec::from(signed_numbers.begin(), signed_numbers.end());
+#elif REFUSED == 2
+    (void)vers::EliasFanoVec::from(fractions.begin(), fractions.end());
+#elif REFUSED == 3
+    (void)vers::SparseRSVec::from(signed_numbers.begin(), signed_numbers.end(), 9);
+#elif REFUSED == 4
+    (void)vers::WaveletMatrix::from(signed_numbers.begin(), signed_numbers.end(), 8);
+#elif REFUSED == 5
+    (void)vers::FastRmq::from(fractions.begin(), fractions.end());
+#elif REFUSED == 6
+    (void)vers::BinaryRmq::from(signed_numbers.begin(), signed_numbers.end());
+#elif REFUSED == 7
+    (void)vers::RsVec::from_bits(fractions.begin(), fractions.end());
+#elif REFUSED == 8
+    (void)vers::BpTree::from_bits(fractions.begin(), fractions.end());
+#elif REFUSED == 9
+    (void)vers::BitVec::from_bits(fractions.begin(), fractions.end());
+#endif
+}
