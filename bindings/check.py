@@ -8,7 +8,8 @@
 
 - The codes of statuses, queries and changes in vers.h, in the Python package and in bindings/c/src are those of
   crates/vers_c, one after another.
-- C and C++ are compiled without a warning; their tests pass, also under memcheck and helgrind. What C++ refuses doesn't compile.
+- C and C++ are compiled without a warning; their tests pass, also under memcheck and helgrind. What C++ refuses doesn't
+  compile.
 - The package for pkg-config leads to header and library.
 - Python's tests pass, with each Python that is there, also from an installed wheel; the example on Dask's workers too.
 - The package for Python says in one line what it wants where there is no library, and its source distribution makes a wheel.
@@ -237,7 +238,7 @@ def check_cpp(checks, link):
 
 
 def check_refused(checks, compiler):
-    """C++: each call that may not compile is refused by the header's own words, and the same file without one compiles."""
+    """C++: the header's own words refuse each call that may not compile, and the same file without one compiles."""
     test = os.path.join(CPP, "refused.cpp")
     compiling = [compiler, "-std=c++17", *STRICT, f"-I{CPP}", "-fsyntax-only", test]
     checks.run(f"C++ by {compiler} of what is taken", compiling)
@@ -300,7 +301,8 @@ def check_python(checks, library):
     if having["distributed"]:
         checks.run("Dask", [having["distributed"], os.path.join(PY, "tests", "test_dask.py")], env=environment)
     if having["mypy"]:
-        types = ["--strict", "--cache-dir", checks.path("mypy"), os.path.join(PY, "vers"), os.path.join(PY, "tests", "typed.py")]
+        sources = [os.path.join(PY, "vers"), os.path.join(PY, "tests", "typed.py")]
+        types = ["--strict", "--cache-dir", checks.path("mypy"), *sources]
         checks.run("types", [having["mypy"], "-m", "mypy", *types], env={**environment, "PYTHONPATH": ""})
     if having["pip"]:
         check_wheel(checks, having["pip"], PY, environment)

@@ -10,8 +10,8 @@
  *      vers_bits_free(&bits);                             // all zeros again
  *
  *  Memory. A list copies what it is made of, so the caller's array is his own again when the call returns. What a
- *  call has put into a handle (`_of`, `_load`, `_clone`, `_intersect`, `_places`, `_extract`) is freed by `_free`, and by
- *  nothing else.
+ *  call has put into a handle (`_of`, `_load`, `_clone`, `_intersect`, `_places`, `_extract`) `_free` frees, and
+ *  nothing else does.
  *  Answers are numbers, never pointers. Where memory is out a call answers VERS_NO_MEMORY and changes nothing. Many
  *  queries of symbols at once ask for memory too, and are answered without it, if more slowly.
  *

@@ -9,8 +9,9 @@
  *  Owners. Each object owns its list, is moved and not copied, and frees it when it is destroyed. One that was moved
  *  from owns nothing: it answers 0 or nullopt, its clone owns nothing either, and so do the Numbers that it answers.
  *
- *  Arrays. Null is for a count of 0: with another one a maker answers nullopt, or an object that owns nothing. Iterators
- *  are over unsigned whole numbers, and those of `from_bits` over whole numbers or truth values: others don't compile.
+ *  Arrays. Null is for a count of 0: with another one a maker answers nullopt, or an object that owns nothing.
+ *  Iterators are over unsigned whole numbers, those of `from_bits` over whole numbers or truth values: others don't
+ *  compile.
  *
  *  Exceptions. None but std::bad_alloc, where memory is out. A maker that takes a Status last throws nothing: it
  *  answers nullopt, and the status says why. Where exceptions are off, or VERS_NO_EXCEPTIONS is defined, nothing
@@ -708,11 +709,11 @@ private:
     explicit Postings(Nothing) noexcept {}
 };
 
-/** A text of symbols of at most 16 bits, in which patterns are found. The pattern without symbols stands at each place, and
- *  at the end. */
+/** A text of symbols of at most 16 bits, in which patterns are found. The pattern without symbols has each place, and
+ *  the end. */
 class TextIndex : public detail::Owner<TextIndex, vers_text> {
 public:
-    /** The text of `count` symbols of `width` bits, with one place kept for each `step`. nullopt where a symbol has more
+    /** The text of `count` symbols of `width` bits, with one place kept for each `step`. nullopt if a symbol has more
      *  bits, `width` is 0 or above 16, `step` is 0, or the symbols are more than 2^32 - 2. */
     static std::optional<TextIndex> from(const std::uint64_t *symbols, std::size_t count, std::uint32_t width,
                                          std::size_t step = 32) {

@@ -1,4 +1,4 @@
-"""What a Python programmer expects of the classes of vers: arguments that are refused by position, arrays, equality, threads."""
+"""What Python programmers expect of the classes: refusals by position, arrays as arguments, equality, threads."""
 
 import collections.abc
 import copy
@@ -24,8 +24,9 @@ except ImportError:
 
 BIT_MAKERS = (vers.BitVec, vers.RsVec, vers.BpTree, lambda bits: vers.BitVec().extend(bits))
 NUMBER_MAKERS = (
-    vers.EliasFanoVec, vers.FastRmq, vers.BinaryRmq, lambda it: vers.SparseRSVec(it, 99), lambda it: vers.WaveletMatrix(it, 64),
-    lambda it: vers.Postings(it, it), lambda it: vers.TextIndex(it, 16), vers.RsVec.from_words,
+    vers.EliasFanoVec, vers.FastRmq, vers.BinaryRmq, lambda it: vers.SparseRSVec(it, 99),
+    lambda it: vers.WaveletMatrix(it, 64), lambda it: vers.Postings(it, it),
+    lambda it: vers.TextIndex(it, 16), vers.RsVec.from_words,
 )
 LISTS = (
     vers.BitVec, vers.RsVec, vers.SparseRSVec, vers.EliasFanoVec, vers.WaveletMatrix, vers.FastRmq, vers.BinaryRmq,
@@ -63,7 +64,7 @@ class Makers(unittest.TestCase):
         content = bytes([0, 1, 1, 0])
         for bits in (content, bytearray(content), memoryview(content), array("b", content), [False, True, 1, 0]):
             self.assertEqual(vers.RsVec(bits).tolist(), [0, 1, 1, 0])
-        self.refuses(BIT_MAKERS, ValueError, "^the bit at position 0 is 48, and bits are 0 or 1", b"0110", array("B", b"0"))
+        self.refuses(BIT_MAKERS, ValueError, "^the bit at position 0 is 48, and bits are", b"0110", array("B", b"0"))
         self.refuses(BIT_MAKERS, ValueError, "^the bit at position 0 is 40", b"(())")
 
     def test_bits_by_position(self):
@@ -83,8 +84,9 @@ class Makers(unittest.TestCase):
         self.assertEqual(bits.tolist(), [1, 0])
 
     def test_numbers_by_position(self):
-        self.refuses(NUMBER_MAKERS, OverflowError, " at position 1 is -1, and numbers are from 0", [0, -1], array("q", [0, -1]))
-        self.refuses(NUMBER_MAKERS, OverflowError, " at position 1 is 18446744073709551616", [0, 1 << 64], lambda: iter([0, 1 << 64]))
+        large, low = [0, 1 << 64], array("q", [0, -1])
+        self.refuses(NUMBER_MAKERS, OverflowError, " at position 1 is -1, and numbers are from 0", [0, -1], low)
+        self.refuses(NUMBER_MAKERS, OverflowError, f" at position 1 is {large[1]}", large, lambda: iter(large))
         self.refuses(NUMBER_MAKERS, OverflowError, " at position 70000 is -1", [0] * 70_000 + [-1])
         self.refuses(NUMBER_MAKERS, TypeError, " at position 1 is of type NoneType", [0, None])
         self.refuses(NUMBER_MAKERS, TypeError, " at position 1 is of type float", [0, 1.0])
@@ -96,7 +98,8 @@ class Makers(unittest.TestCase):
         masked = numpy.ma.array([0, 1, 1], mask=[False, False, True])
         self.refuses(BIT_MAKERS + NUMBER_MAKERS, TypeError, " at position 2 is masked", masked)
         self.assertEqual(vers.RsVec(numpy.ma.array([0, 1])).tolist(), [0, 1])
-        self.refuses(BIT_MAKERS, ValueError, "^the bit at position 1 is 2", numpy.array([0, 2]), numpy.array([1, 2], numpy.uint8))
+        twos = numpy.array([0, 2]), numpy.array([1, 2], numpy.uint8)
+        self.refuses(BIT_MAKERS, ValueError, "^the bit at position 1 is 2", *twos)
         self.refuses(BIT_MAKERS + NUMBER_MAKERS, OverflowError, " at position 1 is -1", numpy.array([0, -1]))
         self.refuses(BIT_MAKERS + NUMBER_MAKERS, TypeError, "an array of float64 has no whole", numpy.array([0, 1.0]))
         self.refuses(NUMBER_MAKERS, TypeError, " at position 1 is of type NoneType", numpy.array([0, None]))
@@ -148,8 +151,9 @@ class Makers(unittest.TestCase):
     def test_other_types(self):
         bits = vers.RsVec([1])
         for call in (lambda: bits["a"], lambda: bits[1.0], lambda: bits.rank1("1"), lambda: bits.rank1(None),
-                     lambda: vers.RsVec.from_bytes(5), lambda: vers.RsVec.from_bytes("text"), lambda: vers.BitVec([1]).append_bits(1.0, 1),
-                     lambda: vers.Postings([1], [1]).intersect([1]), lambda: bits.successor1("1"), lambda: vers.BitVec([1])["a"]):
+                     lambda: vers.RsVec.from_bytes(5), lambda: vers.RsVec.from_bytes("text"),
+                     lambda: vers.BitVec([1]).append_bits(1.0, 1), lambda: vers.Postings([1], [1]).intersect([1]),
+                     lambda: bits.successor1("1"), lambda: vers.BitVec([1])["a"]):
             with self.assertRaises(TypeError):
                 call()
         for call in (lambda: bits.rank1(-1), lambda: bits.successor1(-1), lambda: bits.predecessor0(1 << 64),
@@ -243,7 +247,8 @@ class Arrays(unittest.TestCase):
     def test_types_name_the_queries(self):
         for kind in LISTS:
             bases = [it for owner in kind.__mro__ for it in getattr(owner, "__orig_bases__", ())]
-            named = next(it for base in bases for it in typing.get_args(base) if typing.get_origin(it) is typing.Literal)
+            names = [it for base in bases for it in typing.get_args(base)]
+            named = next(it for it in names if typing.get_origin(it) is typing.Literal)
             self.assertEqual(set(typing.get_args(named)), set(kind._queries), kind)
 
 
@@ -256,10 +261,12 @@ class Habits(unittest.TestCase):
         with self.assertRaises(TypeError):
             hash(vers.BitVec([1]))
         different = [
-            (vers.RsVec([1, 0]), vers.RsVec([1])), (vers.RsVec([1, 0]), vers.RsVec([0, 1])), (vers.RsVec([1]), vers.BitVec([1])),
+            (vers.RsVec([1, 0]), vers.RsVec([1])), (vers.RsVec([1, 0]), vers.RsVec([0, 1])),
+            (vers.RsVec([1]), vers.BitVec([1])), (vers.EliasFanoVec([1] * 9999 + [2]), vers.EliasFanoVec([1] * 10_000)),
             (vers.RsVec([1] * 64 + [0]), vers.RsVec([1] * 65)), (vers.RsVec([1]), [1]),
-            (vers.Postings([1], [2]), vers.Postings([1], [3])), (vers.WaveletMatrix([1], 2), vers.WaveletMatrix([1], 3)),
-            (vers.FastRmq([1]), vers.BinaryRmq([1])), (vers.BpTree("()"), vers.BpTree(")(")), (vers.EliasFanoVec([1] * 9999 + [2]), vers.EliasFanoVec([1] * 10_000)),
+            (vers.Postings([1], [2]), vers.Postings([1], [3])),
+            (vers.WaveletMatrix([1], 2), vers.WaveletMatrix([1], 3)),
+            (vers.FastRmq([1]), vers.BinaryRmq([1])), (vers.BpTree("()"), vers.BpTree(")(")),
             (vers.TextIndex(b"ab", 8), vers.TextIndex(b"ba", 8)),
         ]
         for one, other in different:
@@ -276,7 +283,8 @@ class Habits(unittest.TestCase):
                 continue
             self.assertIsInstance(made, collections.abc.Sequence)
             self.assertEqual((list(reversed(made)), made.index(items[1])), (items[::-1], items.index(items[1])))
-            self.assertEqual((made.count(items[0]), made[-1], made[1:].tolist()), (items.count(items[0]), items[-1], items[1:]))
+            self.assertEqual(made.count(items[0]), items.count(items[0]))
+            self.assertEqual((made[-1], made[1:].tolist()), (items[-1], items[1:]))
             if numpy is not None:
                 self.assertEqual((made[numpy.int64(-1)], made[numpy.uint8(1)]), (items[-1], items[1]))
         self.assertEqual(vers.BpTree("(())").tolist(), [1, 1, 0, 0])

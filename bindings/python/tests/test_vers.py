@@ -392,7 +392,7 @@ class Owners(unittest.TestCase):
 
     def test_texts(self):
         self.assertEqual(repr(vers.RsVec([1, 0])), "<vers.RsVec of 2 bits: [1, 0]>")
-        self.assertEqual(repr(vers.EliasFanoVec(range(9))), "<vers.EliasFanoVec of 9 members: [0, 1, 2, 3, 4, 5, 6, 7, ...]>")
+        self.assertEqual(repr(vers.FastRmq(range(9))), "<vers.FastRmq of 9 values: [0, 1, 2, 3, 4, 5, 6, 7, ...]>")
         self.assertEqual(repr(vers.BpTree("()")), "<vers.BpTree of 2 parentheses: ()>")
         self.assertEqual(repr(vers.BpTree("(())" * 3)), "<vers.BpTree of 12 parentheses: (())(())...>")
         self.assertEqual(repr(vers.BitVec()), "<vers.BitVec of 0 bits: []>")

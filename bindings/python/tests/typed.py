@@ -1,4 +1,4 @@
-"""What mypy knows of the classes. An error that isn't found is one: `python -m mypy --strict --warn-unused-ignores typed.py`."""
+"""What mypy knows of the classes. `mypy --strict typed.py` also fails for an error that is ignored here and absent."""
 
 from typing import Optional
 

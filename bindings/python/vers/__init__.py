@@ -4,8 +4,10 @@
     bits.rank1(3), bits.select1(2), bits[0], len(bits)       # 2, 3, 1, 4
     bits.each("rank1", places)                               # many at once, numpy arrays in and out
 
-Answers are numbers, or None where there is no such thing. Faults are exceptions with their names: Refused, Unknown,
-NoMemory, Shared; where bytes are no saved form, a kind of Refused that says why. A number outside 0 to 2**64 - 1 raises OverflowError, and a place outside a list in brackets IndexError.
+Answers are numbers, or None if there is no such thing. A query takes a number or an array of numbers. Faults are
+exceptions with their names: Refused, Unknown, NoMemory, Shared; for bytes that are no saved form, a kind of Refused
+that says why. A number outside 0 to 2**64 - 1 raises OverflowError, another type TypeError, and a place outside a list in
+brackets IndexError; each names the position in an array.
 """
 
 from ._faults import (

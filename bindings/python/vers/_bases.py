@@ -63,8 +63,8 @@ class List(Generic[Q]):
         if hasattr(self, "_at"):
             free(self._at)
 
-    # A call of the library costs more with each argument, and with an answer that has fields. So a query of one number is
-    # asked by the call that takes no more, and answers a number; what that can't tell is asked again.
+    # A call of the library costs more with each argument, and with an answer that has fields. So a query of one number
+    # is asked by the call that takes no more, and answers a number; what that can't tell is asked again.
     def _find(self, code: int, a: int = 0) -> Optional[int]:
         if type(a) is not int or not 0 <= a <= NONE:
             return self._asked_otherwise(code, a)
@@ -180,25 +180,28 @@ class List(Generic[Q]):
         return f"[{', '.join(map(str, items))}{more}]"
 
     def each(self, query: Q, *numbers: Union[Numbers, int], other: Optional[int] = None) -> Any:
-        """The answers of many queries at once, `query` being the name of a method: `bits.each("rank1", places)`.
+        """Answers many queries at once, `query` being the name of a method: `bits.each("rank1", places)`.
 
-        Each argument of the query is an array or a list of numbers, or one number for all. The answers are a numpy
-        array if an argument is one, and then arguments are broadcast. Else they are an array('Q'), or one of 'q' if they
-        are counts or places, or a list if they are truths or may be None. A numpy array is masked where a single call
-        answers None. With `other`, that number is the answer there, and truths are 1 and 0. A query that a single call
-        refuses raises Refused with its position. Other threads of Python run meanwhile.
+        Each argument of the query is an array or a list of numbers, or one number for all. If one is a numpy array, all
+        are broadcast, and the answers are an array, which is masked at the positions where a single call answers None.
+        Otherwise the answers are an array('Q'), one of 'q' for counts and places, or a list if they are truths or one
+        may be None. With `other`, that number replaces None, and truths are 1 and 0. Other threads of Python run
+        meanwhile.
+
+        Raises Refused, with the position, for a query that a single call refuses.
         """
         asked = self._queries.get(query)
         if asked is None:
             near = difflib.get_close_matches(str(query), self._queries, 1, 0.5)
             hint = f"; the nearest is {near[0]!r}" if near else f"; it has {', '.join(self._queries)}"
             raise Unknown(f"{type(self).__name__} has no query {query!r}{hint}")
+        shown = f"({', '.join(asked.names)})"
         if len(numbers) != len(asked.names):
-            raise TypeError(f"{query} takes {len(asked.names)} arguments ({', '.join(asked.names)}), not {len(numbers)}")
+            raise TypeError(f"{query} takes {shown}, and not {len(numbers)} arguments")
         if not any(map(_buffers.is_many, numbers)):
             for it, name in zip(numbers, asked.names):
                 number(it, f"the {name}")
-            raise TypeError(f"one of the arguments ({', '.join(asked.names)}) has to be an array of numbers")
+            raise TypeError(f"one of the arguments {shown} has to be an array of numbers")
         return self._asked_many(query, numbers, other)
 
     def _asked_many(self, name: str, numbers: Tuple[Any, ...], other: Optional[int]) -> Any:

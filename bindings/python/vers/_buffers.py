@@ -283,7 +283,7 @@ def like(answers: Any, columns: Columns) -> Any:
 
 
 def stepped(columns: Columns, step: int) -> Columns:
-    """A column of numbers as one of the next numbers, at most 2**64 - 1, or of those before, of which 0 has 2**64 - 1."""
+    """Returns a column of the next numbers, at most 2**64 - 1, or of those before, which of 0 is 2**64 - 1."""
     made = columns.columns[0]
     numpy = _numpy_of(made)
     if numpy is None:

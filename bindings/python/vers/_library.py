@@ -83,8 +83,8 @@ def clone_of(owner: Any, at: int) -> int:
 def built(build: Any, arguments: Tuple[Any, ...], owner: Any) -> int:
     """Makes a list of arguments, of which numbers in memory count as two, in the handle of an owner.
 
-    A long build runs in a thread of its own while the main thread waits, so that Ctrl-C ends the wait. That thread keeps
-    the arguments and the owner as long as it runs.
+    A long build runs in a thread of its own while the main thread waits, so that Ctrl-C ends the wait. That thread
+    keeps the arguments and the owner as long as it runs.
     """
     plain = [part for it in arguments for part in (it[:2] if isinstance(it, Held) else [it])]
     is_long = any(isinstance(it, Held) and it.size > CHUNK for it in arguments)

@@ -58,8 +58,8 @@ class BitVec(Bits[_BitVecQuery]):
 
     @query(codes.GET_BITS)
     def get_bits(self, place: int, count: int) -> Optional[int]:
-        """The number of the bits from a place on, the lowest first. None if there are not so many, or they are none or more
-        than 64."""
+        """The number of the bits from a place on, the lowest first. None if there are not so many, or they are none or
+        more than 64."""
         return self._find_by(codes.GET_BITS, place, count)
 
     def _change(self, code: int, a: int, b: int = 0, why: Optional[str] = None) -> None:
@@ -115,8 +115,8 @@ class RsVec(Fixed[_RsVecQuery], Bits[_RsVecQuery]):
 
     @query(codes.GET_BITS)
     def get_bits(self, place: int, count: int) -> Optional[int]:
-        """The number of the bits from a place on, the lowest first; 0 for no bits. None if there are not so many, or they
-        are more than 64."""
+        """The number of the bits from a place on, the lowest first; 0 for no bits. None if there are not so many, or
+        they are more than 64."""
         return self._find_by(codes.GET_BITS, place, count)
 
     @query(codes.RANK1, True)
@@ -131,12 +131,14 @@ class RsVec(Fixed[_RsVecQuery], Bits[_RsVecQuery]):
 
     @query(codes.SELECT1, True)
     def select1(self, number: int) -> int:
-        """The place of a one by its number from 0 on; the length where there are no more."""
+        """The place of a one by its number from 0 on; the length if there are no more, while
+        `WaveletMatrix.select` answers None."""
         return self._number(codes.SELECT1, number)
 
     @query(codes.SELECT0, True)
     def select0(self, number: int) -> int:
-        """The place of a zero by its number from 0 on; the length where there are no more."""
+        """The place of a zero by its number from 0 on; the length if there are no more, while
+        `WaveletMatrix.select` answers None."""
         return self._number(codes.SELECT0, number)
 
     def iter1(self) -> Iterator[int]:
@@ -157,7 +159,8 @@ class RsVec(Fixed[_RsVecQuery], Bits[_RsVecQuery]):
 
     @many
     def successor1(self, place: int) -> Optional[int]:
-        """The least place of a one strictly above a place. None if there is none. `EliasFanoVec.successor` is at or above."""
+        """The least place of a one strictly above a place, while `EliasFanoVec.successor` is at or above. None if there
+        is none."""
         return self._neighbour(codes.RANK1, codes.SELECT1, place, 1)
 
     @many
@@ -167,8 +170,8 @@ class RsVec(Fixed[_RsVecQuery], Bits[_RsVecQuery]):
 
     @many
     def predecessor1(self, place: int) -> Optional[int]:
-        """The greatest place of a one strictly below a place, which may be past the end. None if there is none.
-        `EliasFanoVec.predecessor` is at or below."""
+        """The greatest place of a one strictly below a place, which may be past the end, while
+        `EliasFanoVec.predecessor` is at or below. None if there is none."""
         return self._neighbour(codes.RANK1, codes.SELECT1, place, -1)
 
     @many
@@ -200,8 +203,8 @@ class RsVec(Fixed[_RsVecQuery], Bits[_RsVecQuery]):
 
 
 class SparseRSVec(Fixed[_SparseQuery]):
-    """A list of bits with few ones, by their places: `SparseRSVec([3, 17], 100)`. Refused if the places don't ascend strictly,
-    or one isn't below the length."""
+    """A list of bits with few ones, by their places: `SparseRSVec([3, 17], 100)`. Refused if the places don't ascend
+    strictly, or one isn't below the length."""
 
     _items = "bits"
     _kind = codes.KIND_SPARSE
@@ -226,7 +229,8 @@ class SparseRSVec(Fixed[_SparseQuery]):
 
     @query(codes.SELECT1)
     def select1(self, number: int) -> int:
-        """The place of a one by its number from 0 on; the length where there are no more."""
+        """The place of a one by its number from 0 on; the length if there are no more, while
+        `WaveletMatrix.select` answers None."""
         return self._number(codes.SELECT1, number)
 
     def iter1(self) -> Iterator[int]:
@@ -260,12 +264,13 @@ class EliasFanoVec(Fixed[_SortedQuery]):
 
     @query(codes.PREDECESSOR)
     def predecessor(self, number: int) -> Optional[int]:
-        """The greatest member not above a number. None if there is none."""
+        """The greatest member at or below a number, while `RsVec.predecessor1` is strictly below. None if there is
+        none."""
         return self._find(codes.PREDECESSOR, number)
 
     @query(codes.SUCCESSOR)
     def successor(self, number: int) -> Optional[int]:
-        """The least member not below a number. None if there is none."""
+        """The least member at or above a number, while `RsVec.successor1` is strictly above. None if there is none."""
         return self._find(codes.SUCCESSOR, number)
 
     @query(codes.DELTA)
@@ -275,8 +280,8 @@ class EliasFanoVec(Fixed[_SortedQuery]):
 
 
 class WaveletMatrix(Fixed[_SymbolsQuery]):
-    """Symbols, which are numbers of `bits_per_symbol` bits, at most 64; of no bits there are no symbols. Ranges are without
-    their end. Of a symbol that is passed the low bits count, as many as a symbol has."""
+    """Symbols, which are numbers of `bits_per_symbol` bits, at most 64; of no bits there are no symbols. Ranges are
+    without their end. Of a symbol that a query is passed the low bits count, as many as a symbol has."""
 
     _items = "symbols"
     _kind = codes.KIND_SYMBOLS
@@ -309,7 +314,8 @@ class WaveletMatrix(Fixed[_SymbolsQuery]):
 
     @query(codes.SELECT_OF, True)
     def select(self, number: int, symbol: int) -> Optional[int]:
-        """The place of occurrence `number` of a symbol. None if there are not so many."""
+        """The place of occurrence `number` of a symbol. None if there are not so many, while `RsVec.select1` answers
+        the length."""
         return self._find_by(codes.SELECT_OF, number, symbol)
 
     @query(codes.SELECT_FROM, True)
@@ -324,7 +330,8 @@ class WaveletMatrix(Fixed[_SymbolsQuery]):
 
     @query(codes.LEAST)
     def range_min(self, start: int, end: int) -> Optional[int]:
-        """The least symbol of a range. None if it is empty."""
+        """The least symbol of a range without its end, while `FastRmq.range_min` includes the end and answers a place.
+        None if it is empty."""
         return self._find_by(codes.LEAST, start, end)
 
     @query(codes.GREATEST)
@@ -361,7 +368,8 @@ class FastRmq(Fixed[_MinimaQuery]):
 
     @query(codes.RANGE_MIN, True)
     def range_min(self, first: int, last: int) -> Optional[int]:
-        """The first place of a least value from one place to another, both included. None if that is no range of the list."""
+        """The first place of a least value from one place to another, both included, while `WaveletMatrix.range_min`
+        excludes the end and answers a symbol. None if that is no range of the list."""
         return self._find_by(codes.RANGE_MIN, first, last)
 
 
@@ -379,8 +387,8 @@ class PlainNumbers(Fixed[_NumbersQuery]):
 
 
 class BpTree(Shared[_TreeQuery]):
-    """Trees as parentheses: `BpTree("(()())")`, or of bits, of which a one opens. A node is the place where it opens. Queries
-    of nodes raise Refused if the parentheses aren't balanced, or no node opens at a place that is passed."""
+    """Trees as parentheses: `BpTree("(()())")`, or of bits, of which a one opens. A node is the place where it opens.
+    Queries of nodes raise Refused if the parentheses aren't balanced, or no node opens at a place that is passed."""
 
     _items = "parentheses"
     _kind = codes.KIND_TREE
@@ -460,7 +468,7 @@ class BpTree(Shared[_TreeQuery]):
 
     @query(codes.NODE_HANDLE, True)
     def node_handle(self, number: int) -> int:
-        """The place of a one by its number: of balanced parentheses, that node in preorder. The length where there are no
+        """The place of a one by its number: of balanced parentheses, that node in preorder. The length if there are no
         more."""
         return self._number(codes.NODE_HANDLE, number)
 
@@ -568,7 +576,7 @@ class BpTree(Shared[_TreeQuery]):
 
 
 class Postings(Fixed[_PostingsQuery]):
-    """Documents, which ascend strictly, each with a cost; Refused if they don't. `x in postings` asks whether x is one."""
+    """Documents, which ascend strictly, each with a cost; Refused if they don't. `x in postings` asks for one."""
 
     _items = "documents"
     _kind = codes.KIND_POSTINGS
@@ -623,9 +631,9 @@ class Postings(Fixed[_PostingsQuery]):
 
 
 class TextIndex(Shared[str]):
-    """A text of symbols of `bits_per_symbol` bits, at most 16, in which patterns are found: `TextIndex(b"abracadabra", 8)`. One
-    place is kept for each `step`. `pattern in text` asks whether a pattern has a place; the one without symbols has each, and
-    the end."""
+    """A text of symbols of `bits_per_symbol` bits, at most 16, in which patterns are found:
+    `TextIndex(b"abracadabra", 8)`. One place is kept for each `step`. `pattern in text` asks whether a pattern has a
+    place; the one without symbols has each, and the end."""
 
     _items = "symbols"
 

@@ -84,8 +84,8 @@ class _Decorator(Protocol):
 
 
 def query(code: int, is_signed: bool = False, absent: int = _buffers.MOST) -> _Decorator:
-    """Names a method as the query of a code, which takes numbers or arrays of them. The kind of its answers is that of the
-    method's annotation."""
+    """Names a method as the query of a code, which takes numbers or arrays of them. The method's annotation says of
+    what kind its answers are."""
     def named(method: Any) -> Any:
         names = method.__code__.co_varnames[1:method.__code__.co_argcount]
         answer = method.__annotations__["return"]
@@ -102,8 +102,8 @@ def many(method: Callable[[Any, int], T]) -> _OneMethod[T]:
 
 
 def finished(answers: Any, asked: Query, shape: Optional[Tuple[int, ...]], absent: Any, other: Optional[int]) -> Any:
-    """The answers as a caller gets them: of the query's kind, and of a shape if they are a numpy array. At the positions
-    `absent` there is none: None, masked in a numpy array, or the number `other` if that isn't None."""
+    """Returns the answers of the query's kind, and of a shape if they are a numpy array. Those at the positions
+    `absent` are None, masked in a numpy array, or the number `other` if that isn't None."""
     if other is not None:
         fits = _buffers.signed_number if asked.is_signed else _buffers.number
         _buffers.put(answers, absent, fits(other, "other") % (1 << 64))
