@@ -9,9 +9,9 @@
  *      vers_answer ones = vers_bits_rank1(&bits, 1000);   // ones.value, where ones.status is VERS_DONE
  *      vers_bits_free(&bits);                             // all zeros again
  *
- *  Memory. A list copies what it is made of, so the caller's array is his own again when the call returns. What a
- *  call has put into a handle (`_of`, `_load`, `_clone`, `_intersect`, `_places`, `_extract`) `_free` frees, and
- *  nothing else does.
+ *  Memory. A list copies what it is made of, so the caller's array is his own again when the call returns. `_free`, and
+ *  nothing else, frees what a call has put into a handle (`_of`, `_load`, `_clone`, `_intersect`, `_places`,
+ *  `_extract`).
  *  Answers are numbers, never pointers. Where memory is out a call answers VERS_NO_MEMORY and changes nothing. Many
  *  queries of symbols at once ask for memory too, and are answered without it, if more slowly.
  *
@@ -561,7 +561,8 @@ static inline vers_answer vers_bits_rank0(const vers_bits *list, uint64_t place)
     return vers_quick_bits_rank0(vers_held(&list->handle), place);
 }
 
-/** The place of one number `number`, counted from 0; the length where there are no more. */
+/** The place of one number `number`, counted from 0; the length if there are no more, while vers_symbols_select
+ * answers VERS_ABSENT. */
 static inline vers_answer vers_bits_select1(const vers_bits *list, uint64_t number) {
     return vers_quick_bits_select1(vers_held(&list->handle), number);
 }
@@ -573,7 +574,8 @@ static inline vers_answer vers_bits_places1(const vers_bits *list, uint64_t star
     return vers_listed(&list->handle, VERS_RANK1, VERS_SELECT1, start, end, places, count);
 }
 
-/** The place of zero number `number`, counted from 0; the length where there are no more. */
+/** The place of zero number `number`, counted from 0; the length if there are no more, while vers_symbols_select
+ * answers VERS_ABSENT. */
 static inline vers_answer vers_bits_select0(const vers_bits *list, uint64_t number) {
     return vers_quick_bits_select0(vers_held(&list->handle), number);
 }
@@ -595,13 +597,14 @@ static inline vers_answer vers_bits_zeros(const vers_bits *list) {
     return vers_bits_rank0(list, UINT64_MAX);
 }
 
-/** The least place of a one above a place. VERS_ABSENT where there is none. Takes a rank and a select. */
+/** The least place of a one strictly above a place, while vers_sorted_successor is at or above. VERS_ABSENT if there is
+ * none. Takes a rank and a select. */
 static inline vers_answer vers_bits_successor1(const vers_bits *list, uint64_t place) {
     return vers_next_bit(&list->handle, VERS_RANK1, VERS_SELECT1, place);
 }
 
-/** The greatest place of a one below a place, which may lie past the end. VERS_ABSENT where there is none. Takes a
- * rank and a select. */
+/** The greatest place of a one strictly below a place, which may be past the end, while vers_sorted_predecessor is at
+ * or below. VERS_ABSENT if there is none. Takes a rank and a select. */
 static inline vers_answer vers_bits_predecessor1(const vers_bits *list, uint64_t place) {
     return vers_previous_bit(&list->handle, VERS_RANK1, VERS_SELECT1, place);
 }
@@ -704,12 +707,14 @@ static inline vers_answer vers_sorted_has(const vers_sorted *list, uint64_t numb
     return vers_asked(&list->handle, VERS_HAS, number, 0, 0);
 }
 
-/** The greatest member not above a number. VERS_ABSENT where there is none. */
+/** The greatest member at or below a number, while vers_bits_predecessor1 is strictly below. VERS_ABSENT if there is
+ * none. */
 static inline vers_answer vers_sorted_predecessor(const vers_sorted *list, uint64_t number) {
     return vers_quick_sorted_predecessor(vers_held(&list->handle), number);
 }
 
-/** The least member not below a number. VERS_ABSENT where there is none. */
+/** The least member at or above a number, while vers_bits_successor1 is strictly above. VERS_ABSENT if there is
+ * none. */
 static inline vers_answer vers_sorted_successor(const vers_sorted *list, uint64_t number) {
     return vers_quick_sorted_successor(vers_held(&list->handle), number);
 }
@@ -793,7 +798,8 @@ static inline vers_answer vers_sparse_rank0(const vers_sparse *list, uint64_t pl
     return vers_asked(&list->handle, VERS_RANK0, place, 0, 0);
 }
 
-/** The place of one number `number`, counted from 0; the length where there are no more. */
+/** The place of one number `number`, counted from 0; the length if there are no more, while vers_symbols_select
+ * answers VERS_ABSENT. */
 static inline vers_answer vers_sparse_select1(const vers_sparse *list, uint64_t number) {
     return vers_asked(&list->handle, VERS_SELECT1, number, 0, 0);
 }
@@ -887,7 +893,8 @@ static inline vers_answer vers_symbols_rank_range(const vers_symbols *list, uint
     return vers_asked(&list->handle, VERS_RANK_RANGE, start, end, symbol);
 }
 
-/** The place of occurrence `number` of a symbol. VERS_ABSENT where there are not so many. */
+/** The place of occurrence `number` of a symbol. VERS_ABSENT if there are not so many, while vers_bits_select1 answers
+ * the length. */
 static inline vers_answer vers_symbols_select(const vers_symbols *list, uint64_t number, uint64_t symbol) {
     return vers_asked(&list->handle, VERS_SELECT_OF, number, symbol, 0);
 }
@@ -905,7 +912,8 @@ static inline vers_answer vers_symbols_quantile(const vers_symbols *list, uint64
     return vers_quick_symbols_quantile(vers_held(&list->handle), start, end, number);
 }
 
-/** The least symbol of a range. VERS_ABSENT where it is empty. */
+/** The least symbol of a range without its end, while vers_fast_rmq_range_min includes the end and answers a place.
+ * VERS_ABSENT if it is empty. */
 static inline vers_answer vers_symbols_range_min(const vers_symbols *list, uint64_t start, uint64_t end) {
     return vers_asked(&list->handle, VERS_LEAST, start, end, 0);
 }
@@ -1001,8 +1009,8 @@ static inline vers_answer vers_fast_rmq_get(const vers_fast_rmq *list, uint64_t 
     return vers_quick_values_get(vers_held(&list->handle), place);
 }
 
-/** The first place of a least value from `first` to `last`, both included. VERS_ABSENT where `last` is before `first`
- * or past the end. */
+/** The first place of a least value from `first` to `last`, both included, while vers_symbols_range_min excludes the
+ * end and answers a symbol. VERS_ABSENT if `last` is before `first` or past the end. */
 static inline vers_answer vers_fast_rmq_range_min(const vers_fast_rmq *list, uint64_t first, uint64_t last) {
     return vers_quick_values_range_min(vers_held(&list->handle), first, last);
 }
@@ -1076,8 +1084,8 @@ static inline vers_answer vers_binary_rmq_get(const vers_binary_rmq *list, uint6
     return vers_asked(&list->handle, VERS_GET, place, 0, 0);
 }
 
-/** The first place of a least value from `first` to `last`, both included. VERS_ABSENT where `last` is before `first`
- * or past the end. */
+/** The first place of a least value from `first` to `last`, both included, while vers_symbols_range_min excludes the
+ * end and answers a symbol. VERS_ABSENT if `last` is before `first` or past the end. */
 static inline vers_answer vers_binary_rmq_range_min(const vers_binary_rmq *list, uint64_t first, uint64_t last) {
     return vers_asked(&list->handle, VERS_RANGE_MIN, first, last, 0);
 }

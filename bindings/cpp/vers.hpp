@@ -315,21 +315,23 @@ public:
     /** How many ones, or zeros, stand before a place; all of them past the end. */
     std::uint64_t rank1(std::uint64_t place) const noexcept { return vers_bits_rank1(&raw_, place).value; }
     std::uint64_t rank0(std::uint64_t place) const noexcept { return vers_bits_rank0(&raw_, place).value; }
-    /** The place of a one, or zero, by its number from 0 on; the length where there are no more. */
+    /** The place of a one, or zero, by its number from 0 on; the length if there are no more, while that of symbols is
+     *  nullopt. */
     std::uint64_t select1(std::uint64_t number) const noexcept { return vers_bits_select1(&raw_, number).value; }
     std::uint64_t select0(std::uint64_t number) const noexcept { return vers_bits_select0(&raw_, number).value; }
 
     /** How many ones, or zeros, there are. */
     std::uint64_t ones() const noexcept { return vers_bits_ones(&raw_).value; }
     std::uint64_t zeros() const noexcept { return vers_bits_zeros(&raw_).value; }
-    /** The least place of a one, or zero, above a place. */
+    /** The least place of a one, or zero, strictly above a place; that of an ascending list is at or above. */
     std::optional<std::uint64_t> successor1(std::uint64_t place) const noexcept {
         return detail::found(vers_bits_successor1(&raw_, place));
     }
     std::optional<std::uint64_t> successor0(std::uint64_t place) const noexcept {
         return detail::found(vers_bits_successor0(&raw_, place));
     }
-    /** The greatest place of a one, or zero, below a place, which may lie past the end. */
+    /** The greatest place of a one, or zero, strictly below a place, which may be past the end; that of an ascending
+     *  list is at or below. */
     std::optional<std::uint64_t> predecessor1(std::uint64_t place) const noexcept {
         return detail::found(vers_bits_predecessor1(&raw_, place));
     }
@@ -369,7 +371,8 @@ public:
     /** How many ones, or zeros, stand before a place; all of them past the end. */
     std::uint64_t rank1(std::uint64_t place) const noexcept { return ask(VERS_RANK1, place).value; }
     std::uint64_t rank0(std::uint64_t place) const noexcept { return ask(VERS_RANK0, place).value; }
-    /** The place of a one by its number from 0 on; the length where there are no more. */
+    /** The place of a one by its number from 0 on; the length if there are no more, while that of symbols is
+     *  nullopt. */
     std::uint64_t select1(std::uint64_t number) const noexcept { return ask(VERS_SELECT1, number).value; }
 
     detail::Items<SparseRSVec> begin() const noexcept { return {this, 0}; }
@@ -404,11 +407,11 @@ public:
     std::uint64_t rank(std::uint64_t number) const noexcept { return vers_sorted_rank(&raw_, number).value; }
     /** Whether a number is a member. */
     bool has(std::uint64_t number) const noexcept { return ask(VERS_HAS, number).value == 1; }
-    /** The greatest member not above a number. */
+    /** The greatest member at or below a number; that of bits is strictly below. */
     std::optional<std::uint64_t> predecessor(std::uint64_t number) const noexcept {
         return detail::found(vers_sorted_predecessor(&raw_, number));
     }
-    /** The least member not below a number. */
+    /** The least member at or above a number; that of bits is strictly above. */
     std::optional<std::uint64_t> successor(std::uint64_t number) const noexcept {
         return detail::found(vers_sorted_successor(&raw_, number));
     }
@@ -455,7 +458,8 @@ public:
     Found rank_range(std::uint64_t start, std::uint64_t end, std::uint64_t symbol) const noexcept {
         return find(VERS_RANK_RANGE, start, end, symbol);
     }
-    /** The place of occurrence `number` of a symbol. */
+    /** The place of occurrence `number` of a symbol. nullopt if there are not so many, while that of bits is the
+     *  length. */
     Found select(std::uint64_t number, std::uint64_t symbol) const noexcept {
         return find(VERS_SELECT_OF, number, symbol);
     }
@@ -467,6 +471,7 @@ public:
     Found quantile(std::uint64_t start, std::uint64_t end, std::uint64_t number) const noexcept {
         return detail::found(vers_symbols_quantile(&raw_, start, end, number));
     }
+    /** The least or the greatest symbol of a range without its end; that of minima includes the end, and is a place. */
     Found range_min(std::uint64_t start, std::uint64_t end) const noexcept { return find(VERS_LEAST, start, end); }
     Found range_max(std::uint64_t start, std::uint64_t end) const noexcept { return find(VERS_GREATEST, start, end); }
     /** The middle one in ascending order, the lower one of two. */
@@ -509,7 +514,8 @@ public:
     std::optional<std::uint64_t> get(std::uint64_t place) const noexcept {
         return detail::found(vers_fast_rmq_get(&raw_, place));
     }
-    /** The first place of a least value from one place to another, both included; nullopt for no such range. */
+    /** The first place of a least value from one place to another, both included, while that of symbols excludes the
+     *  end and is a symbol. nullopt for no such range. */
     std::optional<std::uint64_t> range_min(std::uint64_t first, std::uint64_t last) const noexcept {
         return detail::found(vers_fast_rmq_range_min(&raw_, first, last));
     }
@@ -539,7 +545,8 @@ public:
     }
 
     std::optional<std::uint64_t> get(std::uint64_t place) const noexcept { return find(VERS_GET, place); }
-    /** The first place of a least value from one place to another, both included; nullopt for no such range. */
+    /** The first place of a least value from one place to another, both included, while that of symbols excludes the
+     *  end and is a symbol. nullopt for no such range. */
     std::optional<std::uint64_t> range_min(std::uint64_t first, std::uint64_t last) const noexcept {
         return find(VERS_RANGE_MIN, first, last);
     }
