@@ -11,7 +11,7 @@
 - C and C++ are compiled without a warning; their tests pass, also under memcheck and helgrind. What C++ refuses doesn't
   compile.
 - The package for pkg-config leads to header and library.
-- Python's tests pass, with each Python that is there, also from an installed wheel; the example on Dask's workers too.
+- Python's tests pass, with each Python that is there, also from an installed wheel; its examples too, on Dask's workers.
 - The package for Python says in one line what it wants where there is no library, and its source distribution makes a wheel.
 - Each program of each page README.md was run, and printed what the page says.
 
@@ -43,6 +43,8 @@ TABLES = (
     ("kind.rt", "vers_kind", "KIND_", r"(?m)^    ()Kind::(\w+),$"),
     ("change.rt", "vers_change_code", "", r"()Change::(\w+)(?=[,\]])"),
 )
+# the examples in Python that compare their answers with plain Python, and need nothing else
+GALLERY = ("search_engine", "sliding_quantiles", "json_tree", "dictionary_column", "ip_ranges")
 FENCE = re.compile(r"(?ms)^```(\w+)\n(.*?)^```\n(?:(?:[^`\n]*\n)*?^```text\n(.*?)^```\n)?")
 
 
@@ -298,6 +300,8 @@ def check_python(checks, library):
     for python, test in itertools.product(modules, ("test_vers.py", "test_habits.py")):
         checks.run(f"Python by {python}", [python, os.path.join(PY, "tests", test)], env=environment)
     having = {name: next((it for it in modules if name in modules[it]), None) for name in ("mypy", "pip", "distributed")}
+    for name in GALLERY:
+        checks.run("example", [sys.executable, os.path.join(PY, "examples", f"{name}.py")], env=environment)
     if having["distributed"]:
         checks.run("Dask", [having["distributed"], os.path.join(PY, "tests", "test_dask.py")], env=environment)
     if having["mypy"]:
