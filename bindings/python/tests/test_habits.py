@@ -6,6 +6,8 @@ import ctypes
 import os
 import pickle
 import pydoc
+import random
+import re
 import signal
 import threading
 import tracemalloc
@@ -224,6 +226,39 @@ class Arrays(unittest.TestCase):
             tree.parent(numpy.ma.array([0, 1], mask=[False, True]))
         with self.assertRaisesRegex(OverflowError, "^the place at position 1 is -3"):
             bits.rank1(numpy.array([0, -3]))
+
+    def test_like_single_calls(self):
+        draw = random.Random(7)
+        tree = vers.BpTree("".join(draw.choice("()") for _ in range(40)))
+        numbers = sorted(draw.choice([draw.randrange(60), vers.NONE]) for _ in range(50))
+        others = [kind(numbers) for kind in (vers.EliasFanoVec, vers.FastRmq, lambda it: vers.WaveletMatrix(it, 64))]
+        trees = [tree, vers.BpTree("(()((())))()")]
+        for made in [*some_lists()[:9], *others, *trees, vers.SparseRSVec([1, 7], vers.NONE)]:
+            for name, asked in made._queries.items():
+                for _ in range(20):
+                    row = [draw.choice([draw.randrange(12), draw.randrange(70), vers.NONE]) for _ in asked.names]
+                    column, size = draw.randrange(len(row)), draw.randrange(1, 5)
+                    row[column] = [draw.randrange(14) for _ in range(size)]
+                    self.compare(made, name, row, column)
+
+    def compare(self, made, name, arguments, column):
+        """Compares the answers to an array, as one argument, with those of single calls."""
+        wanted, refused = [], None
+        for k, number in enumerate(arguments[column]):
+            try:
+                wanted.append(getattr(made, name)(*arguments[:column], number, *arguments[column + 1:]))
+            except vers.Refused as fault:
+                refused = refused or f"^{re.escape(str(fault))}, at position {k}$"
+        kinds = [list] if numpy is None else [list, lambda it: numpy.array(it, numpy.uint64)]
+        for kind in kinds:
+            passed = [kind(it) if k == column else it for k, it in enumerate(arguments)]
+            if refused:
+                with self.assertRaisesRegex(vers.Refused, refused):
+                    getattr(made, name)(*passed)
+                continue
+            answers = made.each(name, *passed).tolist()
+            self.assertEqual((answers, [type(it) for it in answers]), (wanted, [type(it) for it in wanted]))
+            self.assertEqual(getattr(made, name)(*passed).tolist(), wanted)
 
     def test_signed(self):
         tree = vers.BpTree("(()())")

@@ -41,7 +41,7 @@ class List(Generic[Q]):
         found = {name: getattr(getattr(cls, name, None), "query", None) for name in dir(cls)}
         cls._queries = {name: asked for name, asked in found.items() if asked is not None}
         cls._names = {asked.code: name for name, asked in cls._queries.items()}
-        if cls._queries and cls.__doc__ and not cls.__name__.startswith("_"):
+        if cls._queries and cls.__doc__:
             shown = ", ".join(f"{name}({', '.join(asked.names)})" for name, asked in cls._queries.items())
             cls.__doc__ += f"\n\nQueries of a number or of an array, also by `each`: {shown}."
 
@@ -76,8 +76,8 @@ class List(Generic[Q]):
         assert found is not None, "the query finds a number"
         return found
 
-    def _truth(self, code: int, *numbers: int) -> bool:
-        found: Any = self._find_by(code, *numbers)
+    def _truth(self, code: int, a: int, *others: int) -> bool:
+        found: Any = self._find_by(code, a, *others) if others else self._find(code, a)
         truth: bool = found == 1 if type(found) is int else found
         return truth
 

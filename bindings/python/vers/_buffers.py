@@ -202,7 +202,7 @@ def _bytes_of(chunk: Any) -> Optional[bytes]:
     """Numbers as bytes. None if one of them isn't a whole number of 8 bits."""
     try:
         return bytes(chunk)
-    except (TypeError, ValueError):
+    except (TypeError, ValueError, DeprecationWarning):
         return None
 
 
