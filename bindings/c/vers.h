@@ -25,10 +25,10 @@
  *
  *  What a caller owes, since no call can test it:
  *  - a handle is all zeros, or as the last call has left it; it is copied by `_clone` alone;
- *  - pointers to handles aren't null, except that of a `_free` below, which leaves null alone;
+ *  - pointers to handles aren't null, except that of a typed `_free`, which ignores null;
  *  - an array has as many items as its count says, and no other thread writes it during the call. It may be null if its
- *    count is 0. The calls with a type refuse null with another count: VERS_REFUSED;
- *  - what an export below says of the handles that it takes. The calls with a type take the same handle twice;
+ *    count is 0. A typed call answers VERS_REFUSED to null with another count, which an export can't test;
+ *  - the handles of an export differ, as each export says. A typed call accepts one handle twice;
  *  - no call from a signal handler, nor from the forked child of a process with threads.
  *  All else is tested, and told by the status: places past the end, numbers that don't ascend, queries of another
  *  list, handles that hold nothing or are full, memory that is refused.
@@ -161,11 +161,11 @@ typedef struct vers_handle {
     void *at;
 } vers_handle;
 
-/* The exports of the library, one for all lists. The names further below are the same with a type for each list.
+/* The exports of the library, one for all lists. The typed calls further below are the same for each list.
  *
  * Each export says which handles have to differ, and which arrays it writes. During a call no other thread uses its
  * handles, or touches an array that it writes. An array that it reads may be read by other threads, and may be the same
- * as another one that it reads. Null arrays are for a count of 0 alone. */
+ * as another one that it reads. An array may be null only if its count is 0. */
 
 /** Asks one query. VERS_UNKNOWN, VERS_VACANT, and what the query has. One handle, no array. */
 vers_answer vers_ask(vers_handle *handle, uint32_t query, uint64_t a, uint64_t b, uint64_t c);
@@ -406,7 +406,7 @@ static inline uint32_t vers_growing_of(vers_growing *list, const uint64_t *words
     return vers_growing_build(vers_array(words), count, length, &list->handle);
 }
 
-/** Empties a handle, and frees the list if no other handle holds it. Null is left alone. */
+/** Empties a handle, and frees the list if no other handle holds it. Null is ignored. */
 static inline void vers_growing_free(vers_growing *list) {
     if (list) vers_free(&list->handle);
 }
@@ -502,7 +502,7 @@ static inline uint32_t vers_bits_of(vers_bits *list, const uint64_t *words, size
     return vers_bits_build(vers_array(words), count, length, &list->handle);
 }
 
-/** Empties a handle, and frees the list if no other handle holds it. Null is left alone. */
+/** Empties a handle, and frees the list if no other handle holds it. Null is ignored. */
 static inline void vers_bits_free(vers_bits *list) {
     if (list) vers_free(&list->handle);
 }
@@ -647,7 +647,7 @@ static inline uint32_t vers_sorted_of(vers_sorted *list, const uint64_t *numbers
     return vers_sorted_build(vers_array(numbers), count, &list->handle);
 }
 
-/** Empties a handle, and frees the list if no other handle holds it. Null is left alone. */
+/** Empties a handle, and frees the list if no other handle holds it. Null is ignored. */
 static inline void vers_sorted_free(vers_sorted *list) {
     if (list) vers_free(&list->handle);
 }
@@ -745,7 +745,7 @@ static inline uint32_t vers_sparse_of(vers_sparse *list, const uint64_t *ones, s
     return vers_sparse_build(vers_array(ones), count, length, &list->handle);
 }
 
-/** Empties a handle, and frees the list if no other handle holds it. Null is left alone. */
+/** Empties a handle, and frees the list if no other handle holds it. Null is ignored. */
 static inline void vers_sparse_free(vers_sparse *list) {
     if (list) vers_free(&list->handle);
 }
@@ -833,7 +833,7 @@ static inline uint32_t vers_symbols_of(vers_symbols *list, const uint64_t *numbe
     return vers_symbols_build(vers_array(numbers), count, width, &list->handle);
 }
 
-/** Empties a handle, and frees the list if no other handle holds it. Null is left alone. */
+/** Empties a handle, and frees the list if no other handle holds it. Null is ignored. */
 static inline void vers_symbols_free(vers_symbols *list) {
     if (list) vers_free(&list->handle);
 }
@@ -966,7 +966,7 @@ static inline uint32_t vers_fast_rmq_of(vers_fast_rmq *list, const uint64_t *num
     return vers_fast_rmq_build(vers_array(numbers), count, &list->handle);
 }
 
-/** Empties a handle, and frees the list if no other handle holds it. Null is left alone. */
+/** Empties a handle, and frees the list if no other handle holds it. Null is ignored. */
 static inline void vers_fast_rmq_free(vers_fast_rmq *list) {
     if (list) vers_free(&list->handle);
 }
@@ -1041,7 +1041,7 @@ static inline uint32_t vers_binary_rmq_of(vers_binary_rmq *list, const uint64_t 
     return vers_binary_rmq_build(vers_array(numbers), count, &list->handle);
 }
 
-/** Empties a handle, and frees the list if no other handle holds it. Null is left alone. */
+/** Empties a handle, and frees the list if no other handle holds it. Null is ignored. */
 static inline void vers_binary_rmq_free(vers_binary_rmq *list) {
     if (list) vers_free(&list->handle);
 }
@@ -1119,7 +1119,7 @@ static inline uint32_t vers_tree_of(vers_tree *list, const uint64_t *words, size
     return vers_tree_build(vers_array(words), count, length, &list->handle);
 }
 
-/** Empties a handle, and frees the list if no other handle holds it. Null is left alone. */
+/** Empties a handle, and frees the list if no other handle holds it. Null is ignored. */
 static inline void vers_tree_free(vers_tree *list) {
     if (list) vers_free(&list->handle);
 }
@@ -1323,7 +1323,7 @@ static inline uint32_t vers_postings_of(vers_postings *list, const uint64_t *doc
     return vers_postings_build(vers_array(documents), count, vers_array(costs), count, &list->handle);
 }
 
-/** Empties a handle, and frees the list if no other handle holds it. Null is left alone. */
+/** Empties a handle, and frees the list if no other handle holds it. Null is ignored. */
 static inline void vers_postings_free(vers_postings *list) {
     if (list) vers_free(&list->handle);
 }
@@ -1413,7 +1413,7 @@ typedef struct vers_numbers {
     vers_handle handle;
 } vers_numbers;
 
-/** Empties a handle, and frees the list if no other handle holds it. Null is left alone. */
+/** Empties a handle, and frees the list if no other handle holds it. Null is ignored. */
 static inline void vers_numbers_free(vers_numbers *list) {
     if (list) vers_free(&list->handle);
 }
@@ -1477,7 +1477,7 @@ static inline uint32_t vers_text_of(vers_text *text, const uint64_t *symbols, si
     return vers_text_build(vers_array(symbols), count, width, step, &text->handle);
 }
 
-/** Empties a handle, and frees the text if no other handle holds it. Null is left alone. */
+/** Empties a handle, and frees the text if no other handle holds it. Null is ignored. */
 static inline void vers_text_free(vers_text *text) {
     if (text) vers_free(&text->handle);
 }

@@ -119,6 +119,7 @@ def finished(answers: Any, asked: Query, shape: Optional[Tuple[int, ...]], absen
 
 
 def _finished_array(answers: Any, asked: Query, absent: Any, masks: bool) -> Any:
+    """Does the same for a numpy array of one dimension. It is masked where answers are absent, if it `masks`."""
     numpy: Any = sys.modules["numpy"]
     if asked.is_signed:
         answers = answers.view(numpy.int64)
