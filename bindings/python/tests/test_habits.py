@@ -133,6 +133,11 @@ class Makers(unittest.TestCase):
             self.assertEqual(vers.WaveletMatrix(symbols, 3, truncate=True).tolist(), [7, 1])
         self.assertEqual(vers.WaveletMatrix([vers.NONE], 64)[0], vers.NONE)
 
+    def test_buffers_of_c(self):
+        for kind in (ctypes.c_uint8, ctypes.c_uint32, ctypes.c_uint64, ctypes.c_int16):
+            self.assertEqual(vers.EliasFanoVec((kind * 3)(1, 2, 9)).tolist(), [1, 2, 9])
+            self.assertEqual(vers.RsVec((kind * 3)(1, 0, 1)).tolist(), [1, 0, 1])
+
     def test_large_buffers(self):
         content = bytes(2_000_000)
         for make, most in ((_buffers.held, 9), (_buffers.bits_of, 1)):

@@ -79,12 +79,13 @@ def copied(numbers: Any, what: str = "number") -> Any:
     """The numbers in an array of their own: a numpy array of the same shape for one, else an array('Q')."""
     numpy = _numpy_of(numbers)
     if numpy is not None:
-        return numpy.array(_checked(numpy, numbers, what, 0), dtype=numpy.uint64, order="C")
+        return numpy.array(_checked(numpy, numbers, what), dtype=numpy.uint64, order="C")
     if isinstance(numbers, str):
         raise TypeError(f"a text is not a list of numbers: the {what} at position 0 is of type str")
     try:
         view = memoryview(numbers)
-    except TypeError:
+        view[:1].tolist()
+    except (TypeError, NotImplementedError):
         return _gathered(numbers, what)
     if view.itemsize == 8 and view.format in _EXACT and view.c_contiguous:
         made = array("Q")
@@ -115,8 +116,8 @@ def _chunks(items: Any) -> Iterator[Any]:
         yield chunk
 
 
-def _checked(numpy: Any, numbers: Any, what: str, least: int) -> Any:
-    """A numpy array without a mask, after each number is seen to be whole and at least `least`."""
+def _checked(numpy: Any, numbers: Any, what: str) -> Any:
+    """A numpy array without a mask, whose numbers are whole and not negative. Raises the fault of the first that isn't."""
     mask = numpy.ma.getmask(numbers)
     if mask is not numpy.ma.nomask and mask.any():
         raise TypeError(f"the {what} at position {first(mask)} is masked")
@@ -125,8 +126,8 @@ def _checked(numpy: Any, numbers: Any, what: str, least: int) -> Any:
         return numpy.array(_gathered(numbers.ravel().tolist(), what), dtype=numpy.uint64).reshape(numbers.shape)
     if numbers.dtype.kind not in "iub":
         raise TypeError(f"an array of {numbers.dtype} has no whole numbers: see the {what} at position 0")
-    if numbers.dtype.kind == "i" and numbers.size and numbers.min() < least:
-        position = first(numbers < least)
+    if numbers.dtype.kind == "i" and numbers.size and numbers.min() < 0:
+        position = first(numbers < 0)
         number(numbers.flat[position], f"the {what} at position {position}")
     return numbers
 
@@ -176,7 +177,7 @@ def bits_of(bits: Any, digits: str = "01") -> Tuple[Held, int]:
 
 def _flags_of_array(numpy: Any, bits: Any) -> Iterator[bytes]:
     """The bits of a numpy array, as bytes that are 0 or 1."""
-    flat = _checked(numpy, bits, "bit", 0).reshape(-1)
+    flat = _checked(numpy, bits, "bit").reshape(-1)
     for start in range(0, flat.size, CHUNK):
         chunk = flat[start:start + CHUNK]
         if chunk.max() > 1:
