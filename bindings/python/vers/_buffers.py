@@ -117,7 +117,7 @@ def _chunks(items: Any) -> Iterator[Any]:
 
 
 def _checked(numpy: Any, numbers: Any, what: str) -> Any:
-    """A numpy array without a mask, whose numbers are whole and not negative. Raises the fault of the first that isn't."""
+    """A numpy array of whole numbers without a mask. Raises the fault of the first number that is none."""
     mask = numpy.ma.getmask(numbers)
     if mask is not numpy.ma.nomask and mask.any():
         raise TypeError(f"the {what} at position {first(mask)} is masked")
