@@ -327,6 +327,8 @@ class Habits(unittest.TestCase):
             self.assertEqual((made[-1], made[1:].tolist()), (items[-1], items[1:]))
             if numpy is not None:
                 self.assertEqual((made[numpy.int64(-1)], made[numpy.uint8(1)]), (items[-1], items[1]))
+                self.assertEqual((numpy.asarray(made).tolist(), numpy.asarray(made).dtype), (items, numpy.uint64))
+                self.assertEqual(numpy.asarray(made, dtype=float).dtype, float)
         self.assertEqual(vers.BpTree("(())").tolist(), [1, 1, 0, 0])
 
     def test_version(self):
@@ -373,6 +375,8 @@ class Habits(unittest.TestCase):
 
     def test_long_builds(self):
         numbers = range(_buffers.CHUNK + 1)
+        with mock.patch.object(threading.Thread, "start", side_effect=RuntimeError("can't start new thread")):
+            self.assertEqual(len(vers.EliasFanoVec(numbers)), len(numbers))
         self.assertEqual(vers.EliasFanoVec(numbers)[-1], _buffers.CHUNK)
         with self.assertRaisesRegex(vers.Refused, "^the numbers descend at position 65537"):
             vers.EliasFanoVec([*numbers, 5])

@@ -5,6 +5,7 @@ from __future__ import annotations
 import ctypes
 import difflib
 import operator
+import sys
 from array import array
 from typing import Any, Callable, Dict, Generic, Iterator, Optional, Sequence, Tuple, TypeVar, Union
 
@@ -305,6 +306,11 @@ class Items(List[Q], Sequence[int]):
         if not 0 <= at <= NONE:
             raise IndexError(f"no item at {place}")
         return at
+
+    def __array__(self, dtype: Any = None, copy: Any = None) -> Any:
+        """The items as a numpy array."""
+        numpy: Any = sys.modules["numpy"]
+        return numpy.array(self._part(0, len(self)), dtype=dtype)
 
     def __iter__(self) -> Iterator[int]:
         for part in self._parts(0, len(self)):

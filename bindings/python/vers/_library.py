@@ -96,7 +96,11 @@ def built(build: Any, arguments: Tuple[Any, ...], owner: Any) -> int:
         statuses.append(int(build(*plain, owner._at)))
 
     worker = threading.Thread(target=run, daemon=True)
-    worker.start()
+    try:
+        worker.start()
+    except RuntimeError:
+        # no thread can start, as at the interpreter's end
+        run()
     while worker.is_alive():
         # it ends early now and then, since a signal that another thread gets doesn't wake this one
         worker.join(0.1)
