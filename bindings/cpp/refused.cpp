@@ -1,4 +1,4 @@
-// Calls that don't compile, one for each REFUSED: iterators over items that are no unsigned whole numbers.
+// Calls that don't compile, one for each REFUSED: iterators over items that are no numbers or bits.
 #include "vers.hpp"
 
 #include <string>
@@ -7,8 +7,11 @@ int main() {
     const std::vector<std::uint32_t> unsigned_numbers = {1, 2};
     const std::vector<std::int64_t> signed_numbers = {1, -1};
     const std::vector<double> fractions = {1.5, 2.7};
+    const std::string text = "0110";
     (void)vers::EliasFanoVec::from(unsigned_numbers.begin(), unsigned_numbers.end());
     (void)vers::RsVec::from_bits(signed_numbers.begin(), signed_numbers.end());
+    (void)text.size();
+    (void)fractions.size();
 #if REFUSED == 1
     (void)vers::EliasFanoVec::from(signed_numbers.begin(), signed_numbers.end());
 #elif REFUSED == 2
@@ -27,5 +30,7 @@ int main() {
     (void)vers::BpTree::from_bits(fractions.begin(), fractions.end());
 #elif REFUSED == 9
     (void)vers::BitVec::from_bits(fractions.begin(), fractions.end());
+#elif REFUSED == 10
+    (void)vers::RsVec::from_bits(text.begin(), text.end());
 #endif
 }

@@ -10,8 +10,8 @@
  *  from owns nothing: it answers 0 or nullopt, its clone owns nothing either, and so do the Numbers that it answers.
  *
  *  Arrays. Null is for a count of 0: with another one a maker answers nullopt, or an object that owns nothing.
- *  Iterators are over unsigned whole numbers, those of `from_bits` over whole numbers or truth values: others don't
- *  compile.
+ *  Iterators are over unsigned whole numbers, those of `from_bits` over whole numbers or truth values: others, and
+ *  the characters of a text, don't compile.
  *
  *  Exceptions. None but std::bad_alloc, where memory is out. A maker that takes a Status last throws nothing: it
  *  answers nullopt, and the status says why. Where exceptions are off, or VERS_NO_EXCEPTIONS is defined, nothing
@@ -97,6 +97,7 @@ struct Words {
     template <class Iterator>
     Words(Iterator first, Iterator last) {
         static_assert(std::is_integral_v<Item<Iterator>>, "the items are truth values, or whole numbers");
+        static_assert(!std::is_same_v<Item<Iterator>, char>, "the items are characters, of which each is true");
         for (; first != last; ++first, ++length) {
             if (length % 64 == 0) words.push_back(0);
             if (*first) words.back() |= std::uint64_t{1} << (length % 64);

@@ -275,8 +275,10 @@ class Arrays(unittest.TestCase):
             vers.RsVec([1]).each("rnk1", [0])
         with self.assertRaisesRegex(vers.Unknown, "^BpTree has no query 'depht'; the nearest is 'depth'$"):
             vers.BpTree("()").each("depht", [0])
-        with self.assertRaisesRegex(vers.Unknown, "; it has get, get_bits"):
+        with self.assertRaisesRegex(vers.Unknown, "; it has get, get_bits$"):
             vers.BitVec([1]).each("quantile", [0])
+        with self.assertRaisesRegex(vers.Unknown, "; it has none$"):
+            vers.TextIndex(b"a", 8).each("get", [0])
 
     def test_help(self):
         page = pydoc.plain(pydoc.render_doc(vers.RsVec))
@@ -329,6 +331,8 @@ class Habits(unittest.TestCase):
                 self.assertEqual((made[numpy.int64(-1)], made[numpy.uint8(1)]), (items[-1], items[1]))
                 self.assertEqual((numpy.asarray(made).tolist(), numpy.asarray(made).dtype), (items, numpy.uint64))
                 self.assertEqual(numpy.asarray(made, dtype=float).dtype, float)
+                with self.assertRaisesRegex(ValueError, "are copied"):
+                    made.__array__(copy=False)
         self.assertEqual(vers.BpTree("(())").tolist(), [1, 1, 0, 0])
 
     def test_version(self):

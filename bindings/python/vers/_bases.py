@@ -194,7 +194,7 @@ class List(Generic[Q]):
         asked = self._queries.get(query)
         if asked is None:
             near = difflib.get_close_matches(str(query), self._queries, 1, 0.5)
-            hint = f"; the nearest is {near[0]!r}" if near else f"; it has {', '.join(self._queries)}"
+            hint = f"; the nearest is {near[0]!r}" if near else f"; it has {', '.join(self._queries) or 'none'}"
             raise Unknown(f"{type(self).__name__} has no query {query!r}{hint}")
         shown = f"({', '.join(asked.names)})"
         if len(numbers) != len(asked.names):
@@ -308,7 +308,9 @@ class Items(List[Q], Sequence[int]):
         return at
 
     def __array__(self, dtype: Any = None, copy: Any = None) -> Any:
-        """The items as a numpy array."""
+        """The items as a numpy array, which is always a copy."""
+        if copy is False:
+            raise ValueError("the items of a list are copied into an array")
         numpy: Any = sys.modules["numpy"]
         return numpy.array(self._part(0, len(self)), dtype=dtype)
 
