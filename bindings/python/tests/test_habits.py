@@ -356,6 +356,8 @@ class Habits(unittest.TestCase):
         libc, mutex = ctypes.CDLL(None), ctypes.create_string_buffer(64)
         entered, interrupted, owner = threading.Event(), threading.Event(), mock.Mock(_at=0)
         libc.pthread_mutex_lock(mutex)
+        # a shell starts what runs in the background with this signal ignored
+        self.addCleanup(signal.signal, signal.SIGINT, signal.signal(signal.SIGINT, signal.default_int_handler))
 
         def build(*_):
             """Takes as long as the mutex is locked, and can't be interrupted."""
