@@ -1,5 +1,6 @@
 """Numbers of a caller as arrays of 64 bits that the library reads or writes."""
 
+import contextlib
 import ctypes
 import operator
 import sys
@@ -95,7 +96,10 @@ def copied(numbers: Any, what: str = "number") -> Any:
 
 
 def _gathered(numbers: Any, what: str) -> Any:
-    """The numbers of an iterable, some at a time, in an array('Q')."""
+    """The numbers of an iterable in an array('Q'): of a list at once, of others some at a time."""
+    if isinstance(numbers, list):
+        with contextlib.suppress(TypeError, OverflowError):
+            return array("Q", numbers)
     made = array("Q")
     for chunk in _chunks(numbers):
         try:
@@ -164,9 +168,8 @@ def bits_of(bits: Any, digits: str = "01") -> Tuple[Held, int]:
 
     A text is read by its characters: of each pair of `digits`, the first one is 0 and the second one is 1.
     """
-    numpy = _numpy_of(bits)
     words, count = array("Q"), 0
-    for flags in _flags_of_array(numpy, bits) if numpy is not None else _flags(bits, digits):
+    for flags in _flags_of_text(bits, digits) if isinstance(bits, str) else _flags(bits):
         packed = int(flags[::-1].translate(_DIGITS), 2).to_bytes((len(flags) + 7) // 8, "little")
         words.frombytes(packed + bytes(-len(packed) % 8))
         count += len(flags)
@@ -186,14 +189,16 @@ def _flags_of_array(numpy: Any, bits: Any) -> Iterator[bytes]:
         yield chunk.astype(numpy.uint8).tobytes()
 
 
-def _flags(bits: Any, digits: str) -> Iterator[bytes]:
-    """The bits of a text or an iterable, as bytes that are 0 or 1."""
-    start, is_text = 0, isinstance(bits, str)
+def _flags(bits: Any) -> Iterator[bytes]:
+    """The bits of an iterable, as bytes that are 0 or 1."""
+    numpy = _numpy_of(bits)
+    if numpy is not None:
+        yield from _flags_of_array(numpy, bits)
+        return
+    start = 0
     for chunk in _chunks(bits):
-        flags = None if is_text else _bytes_of(chunk)
-        if is_text:
-            flags = bytes(_digit(it, digits, start + k) for k, it in enumerate(chunk))
-        elif flags is None or flags.translate(None, b"\0\1"):
+        flags = _bytes_of(chunk)
+        if flags is None or flags.translate(None, b"\0\1"):
             flags = bytes(bit(it, f"the bit at position {start + k}") for k, it in enumerate(chunk))
         yield flags
         start += len(chunk)
@@ -207,12 +212,16 @@ def _bytes_of(chunk: Any) -> Optional[bytes]:
         return None
 
 
-def _digit(character: str, digits: str, position: int) -> int:
-    """The bit that a character of a text stands for."""
-    place = digits.find(character)
-    if place < 0:
-        raise ValueError(f"the character at position {position} is {character!r}, and bits are {' or '.join(digits)}")
-    return place % 2
+def _flags_of_text(text: str, digits: str) -> Iterator[bytes]:
+    """The bits of a text, as bytes that are 0 or 1."""
+    values = str.maketrans(digits, "\0\1" * (len(digits) // 2))
+    for start in range(0, len(text), CHUNK):
+        chunk = text[start:start + CHUNK]
+        if not set(digits).issuperset(chunk):
+            place, wrong = next((k, it) for k, it in enumerate(chunk) if it not in digits)
+            shown = " or ".join(digits)
+            raise ValueError(f"the character at position {start + place} is {wrong!r}, and bits are {shown}")
+        yield chunk.translate(values).encode()
 
 
 def above(what: str, numbers: Held, most: int) -> str:
