@@ -1,4 +1,4 @@
-//! The list of bits.
+//! Lists of bits.
 ghost use Rattle.std.specs.Prelude.{◌≡◌, ℕ, ◌+◌, ◌-◌, ◌*◌, ◌/◌, ◌%◌, ◌^◌, ◌<◌, ◌≤◌, ◌↔◌, [], ◌∷◌, ◌++◌, length, take, drop, IsTrue, IsSome, IfSome, IsOk, OnOk, OnErr, IfOk, Some, None, slice_get, slice_index, slice_index_or, true, false, ◌==◌, Bool, List, option_map, flat_map};
 ghost use Rattle.vers_bits.specs.Bits.{bit_value, number, count, limb, limbs, limb_count, part, part_number};
 ghost use Rattle.vers_bits.specs.inside.Words.{HoldsBits, AddsBit};
@@ -24,8 +24,8 @@ mod words;
 /// The greatest length of a list of bits.
 pub const MAX_LEN: usize = usize::MAX - 63;
 
-/// A list of bits, with no memory beside its limbs of 64 bits. Bit `p` is bit `p % 64` of limb
-/// `p / 64`, the least significant first. Contracts see a `BitVec` as the list of its bits.
+/// A list of bits, stored in limbs of 64 bits and nothing else. Bit `p` is bit `p % 64` of limb `p / 64`, least
+/// significant first. Contracts see a `BitVec` as the list of its bits.
 #[derive(Drop)]
 pub struct BitVec<A: Allocator + Copy> {
     data: Vec<u64, A>,
@@ -48,7 +48,7 @@ impl<A: Allocator + Copy> PartialEq for BitVec<A> {
 
     ghost laws = { same_bits_per };
 
-    /// Whether both lists have the same bits.
+    /// Returns true if both lists have the same bits.
     #[tactic(auto, using(crate::proofs::Equal::equality))]
     fn eq(&self, other: &BitVec<A>) -> bool
         ensures by_bits { result ≡ same_bits self.now other.now }
@@ -67,7 +67,7 @@ impl<A: Allocator + Copy> Hash for BitVec<A> {
 
     ghost respects_eq = { hash_input-Alike };
 
-    /// Feeds the length, then each limb.
+    /// Feeds the length, then each limb, to the hasher.
     fn hash<H: Hasher>(&self, state: &mut H) {
         state.write_usize(self.len());
         for limb in self.limbs() {
@@ -79,7 +79,7 @@ impl<A: Allocator + Copy> Hash for BitVec<A> {
 impl<A: Allocator + Copy> Clone for BitVec<A> {
     ghost is_clone = { λ old new. new ≡ old };
 
-    /// A second list of the same bits.
+    /// Returns a copy of the list.
     fn clone(&self) -> Result<Self, AllocError> {
         let data = Vec::from_slice(*self.data.allocator(), self.data.as_slice())?;
         Ok(BitVec {
@@ -91,7 +91,7 @@ impl<A: Allocator + Copy> Clone for BitVec<A> {
 
 #[tactic(auto, using(crate::proofs::Words::words))]
 impl<A: Allocator + Copy> BitVec<A> {
-    /// The empty list, which takes no memory.
+    /// Returns the empty list, which allocates nothing.
     #[tactic(auto, unfolding(crate::specs::inside::Words::word_bits))]
     pub fn new(alloc: A) -> Self
         ensures { result ≡ [] }
@@ -102,7 +102,7 @@ impl<A: Allocator + Copy> BitVec<A> {
         }
     }
 
-    /// How many bits the list has.
+    /// Returns the number of bits.
     pub fn len(&self) -> usize
         ensures value { result ≡ length self.now }
         ensures bounded { result ≤ MAX_LEN }
@@ -110,14 +110,14 @@ impl<A: Allocator + Copy> BitVec<A> {
         self.len
     }
 
-    /// Whether the list has no bits.
+    /// Returns true if the list is empty.
     pub fn is_empty(&self) -> bool
         ensures { IsTrue result ↔ (self.now ≡ []) }
     {
         self.len() == 0
     }
 
-    /// Whether the bit at a place is a one. None for a place that the list doesn't have.
+    /// Returns true if the bit at `place` is a one, or `None` if `place` is out of bounds.
     pub fn is_bit_set(&self, place: usize) -> Option<bool>
         ensures { result ≡ slice_get self.now place }
     {
@@ -127,7 +127,7 @@ impl<A: Allocator + Copy> BitVec<A> {
         Some((self.data[place / 64] >> (place % 64)) & 1 == 1)
     }
 
-    /// The bit at a place, 1 or 0. None for a place that the list doesn't have.
+    /// Returns the bit at `place`, 1 or 0, or `None` if `place` is out of bounds.
     pub fn get(&self, place: usize) -> Option<u64>
         ensures { result ≡ option_map bit_value (slice_get self.now place) }
     {
@@ -137,7 +137,7 @@ impl<A: Allocator + Copy> BitVec<A> {
         Some((self.data[place / 64] >> (place % 64)) & 1)
     }
 
-    /// Whether the bit at a place that the list has is a one.
+    /// Returns true if the bit at `place` is a one. Precondition: `place` is below the length.
     pub fn is_bit_set_unchecked(&self, place: usize) -> bool
         requires { place < length self.now }
         ensures { result ≡ slice_index_or self.now place false }
@@ -145,7 +145,7 @@ impl<A: Allocator + Copy> BitVec<A> {
         (self.data[place / 64] >> (place % 64)) & 1 == 1
     }
 
-    /// The bit at a place that the list has, 1 or 0.
+    /// Returns the bit at `place`, 1 or 0. Precondition: `place` is below the length.
     pub fn get_unchecked(&self, place: usize) -> u64
         requires { place < length self.now }
         ensures { result ≡ bit_value (slice_index_or self.now place false) }
@@ -153,8 +153,8 @@ impl<A: Allocator + Copy> BitVec<A> {
         u64::from(self.is_bit_set_unchecked(place))
     }
 
-    /// Limb number `k`: the 64 bits from place `64 * k` on, the first as the least significant
-    /// one, with zeros past the length. The limb has at least one bit of the list.
+    /// Returns limb `k`: the 64 bits from position `64 * k`, least significant first, with zeros past the
+    /// length. Precondition: limb `k` contains at least one bit of the list.
     pub fn limb(&self, k: usize) -> u64
         requires { 64 * k < length self.now }
         ensures { result ≡ limb self.now k }
@@ -162,8 +162,8 @@ impl<A: Allocator + Copy> BitVec<A> {
         self.data[k]
     }
 
-    /// Returns block number `k` of 8 limbs each, from limb `8 * k` on, with zeros past the length. None if
-    /// the list has fewer limbs.
+    /// Returns block `k` of 8 limbs, from limb `8 * k`, with zeros past the length. `None` if the list has
+    /// fewer limbs.
     #[inline(always)]
     #[tactic(auto, using(crate::proofs::Chunks::blocks))]
     pub fn limb_block(&self, k: usize) -> Option<&[u64; 8]>
@@ -175,7 +175,7 @@ impl<A: Allocator + Copy> BitVec<A> {
         blocks.get(k)
     }
 
-    // All limbs.
+    // Returns all limbs.
     #[tactic(auto, using(crate::proofs::Equal::words))]
     fn limbs(&self) -> &[u64]
         ensures { result.now ≡ limbs self.now }
@@ -183,17 +183,17 @@ impl<A: Allocator + Copy> BitVec<A> {
         known_words(self.data.as_slice())
     }
 
-    /// How many ones the list has.
+    /// Returns the number of ones.
     #[tactic(auto, using(crate::proofs::Chunks::all_limbs))]
     pub fn count_ones(&self) -> u64
         ensures { result ≡ count true self.now (length self.now) }
     {
-        // The limbs are few enough for their ones to be counted.
+        // There are few enough limbs for their ones to be counted.
         let _ = self.len();
         ones_of(self.limbs())
     }
 
-    /// How many zeros the list has.
+    /// Returns the number of zeros.
     #[tactic(auto, using(crate::proofs::Counting::limbs))]
     pub fn count_zeros(&self) -> u64
         ensures { result ≡ count false self.now (length self.now) }
@@ -201,14 +201,15 @@ impl<A: Allocator + Copy> BitVec<A> {
         self.len() as u64 - self.count_ones()
     }
 
-    /// How many bytes the limbs take.
+    /// Returns the number of bytes that the limbs take.
     pub fn heap_size(&self) -> usize
         ensures { result ≡ 8 * limb_count (length self.now) }
     {
         8 * self.data.len()
     }
 
-    /// The number of the bits from `place` on, `n` of them. None where there are not so many, or `n` is 0 or above 64.
+    /// Returns the `n` bits from position `place` as a number. `None` if there are fewer, or `n` is 0 or above
+    /// 64.
     #[tactic(auto, using(crate::proofs::Counting::parts))]
     pub fn get_bits(&self, place: usize, n: usize) -> Option<u64>
         ensures { result ≡ part_number self.now place n }
@@ -220,32 +221,33 @@ impl<A: Allocator + Copy> BitVec<A> {
         Some(self.get_bits_unchecked(place, n))
     }
 
-    /// The number of the bits from `place` on, `n` of them: 0 where `n` is 0.
+    /// Returns the `n` bits from position `place` as a number: 0 if `n` is 0. Precondition: `n` is at most 64,
+    /// and `place + n` at most the length.
     #[tactic(auto, using(crate::proofs::Counting::in_limbs))]
     pub fn get_bits_unchecked(&self, place: usize, n: usize) -> u64
         requires few { n ≤ 64 }
         requires within { place + n ≤ length self.now }
         ensures { result ≡ number (part self.now place n) }
     {
-        // A place below the length is below `MAX_LEN`.
+        // A position below the length is below `MAX_LEN`.
         let _ = self.len();
         if n == 0 {
             return 0;
         }
-        // The limb of the last bit is the next one, or the first again, of which nothing is kept:
-        // with no branch on the place, which would often be guessed wrong.
+        // The limb of the last bit is the next one, or the first again, of which no bit is kept: no branch
+        // depends on the position, which would often be mispredicted.
         let first = self.limb(place / 64) >> (place % 64);
         let last = self.limb((place + n - 1) / 64) << 1 << (63 - place % 64);
         (first | last) & (u64::MAX >> (64 - n))
     }
 
-    /// Element `index` of the list as numbers of `n` bits each, one after another. None where the
-    /// list has no such element, or `n` is 0 or above 64.
+    /// Returns element `index` of the list, read as packed elements of `n` bits. `None` if there is no such
+    /// element, or `n` is 0 or above 64.
     #[tactic(auto, using(crate::proofs::Counting::elements))]
     pub fn unpack_element(&self, index: usize, n: usize) -> Option<u64>
         ensures { result ≡ part_number self.now (index * n) n }
     {
-        // A product past the machine's numbers is past `MAX_LEN`, and so past the length.
+        // A product that overflows exceeds `MAX_LEN`, and so the length.
         let _ = self.len();
         match index.checked_mul(n) {
             Some(place) => self.get_bits(place, n),
@@ -253,26 +255,26 @@ impl<A: Allocator + Copy> BitVec<A> {
         }
     }
 
-    /// Element `index` of the list as numbers of `n` bits each, one after another, which the list
-    /// has: 0 where `n` is 0.
+    /// Returns element `index` of the list, read as packed elements of `n` bits: 0 if `n` is 0. Precondition:
+    /// `n` is at most 64, and the list has the element.
     #[tactic(auto, using(crate::proofs::Counting::elements))]
     pub fn unpack_element_unchecked(&self, index: usize, n: usize) -> u64
         requires few { n ≤ 64 }
         requires within { index * n + n ≤ length self.now }
         ensures { result ≡ number (part self.now (index * n) n) }
     {
-        // A place below the length is below `MAX_LEN`.
+        // A position below the length is below `MAX_LEN`.
         let _ = self.len();
         self.get_bits_unchecked(index * n, n)
     }
 
-    /// A copy of the allocator.
+    /// Returns a copy of the allocator.
     pub fn allocator(&self) -> A {
         *self.data.allocator()
     }
 }
 
-// The same words. Its contract tells a caller's proof that each of them has 64 bits.
+// Returns the same words. The contract adds that each of them has 64 bits.
 fn known_words(words: &[u64]) -> &[u64]
     ensures same { result.now ≡ words.now }
     ensures fit { (k : ℕ) → slice_index words.now k < 2 ^ 64 }

@@ -1,4 +1,4 @@
-//! One body for all iterators that take items from both ends and count no reads.
+//! One implementation of all double-ended iterators that count no reads.
 ghost use Rattle.std.specs.Prelude.{◌≡◌, ◌<◌, List, IfOk, Some, None, length, slice_get};
 ghost use Rattle.std.specs.Iterator.{item_count, YieldsFirst, YieldsLast};
 ghost use Rattle.std.specs.List.{last_or};
@@ -8,38 +8,37 @@ use crate::walk::Span;
 use std::alloc::AllocError;
 use std::marker::Model;
 
-/// A list of items, each of which is read at its place.
+/// A list of items, each of which is read at its position.
 pub trait Listed: Drop {
     type Item;
 
     ghost items: { Self → List Self.Item };
 
-    /// How many items there are.
+    /// Returns the number of items.
     fn count_items(&self) -> usize
         ensures { result ≡ length (items self.now) };
 
-    /// The item at a place.
+    /// Returns the item at position `i`. Precondition: `i` is below the number of items.
     fn item_at(&self, i: usize) -> Self::Item
         requires { i < length (items self.now) }
         ensures { slice_get (items self.now) i ≡ Some result };
 }
 
-/// A list of items of which a second takes no memory.
+/// A list of items that is copied without allocating.
 pub trait BorrowedList: Listed {
-    /// A second list of the same items.
+    /// Returns a copy of the list.
     fn second(&self) -> Self
         ensures { result ≡ self.now };
 }
 
-/// A list of items of which a second takes memory.
+/// A list of items whose copy allocates.
 pub trait OwnedList: Listed {
-    /// A second list of the same items.
+    /// Returns a copy of the list.
     fn second(&self) -> Result<Self, AllocError>
         ensures { IfOk result (λ l. l ≡ self.now) };
 }
 
-/// An iterator over the items of a list, from both ends. Contracts see it as the list of the items
-/// that are still to come.
+/// A double-ended iterator over the items of a list. Contracts see it as the list of the items left.
 #[derive(Drop)]
 pub struct ListEnds<L: Listed> {
     list: L,
@@ -59,7 +58,7 @@ impl<L: Listed> Model for ListEnds<L> {
 
 #[tactic(auto, using(crate::proofs::BothEnds::lists))]
 impl<L: Listed> ListEnds<L> {
-    /// An iterator over all items of a list.
+    /// Returns an iterator over all items of a list.
     pub fn new(list: L) -> Self
         ensures { result ≡ L.items list }
     {
@@ -67,7 +66,7 @@ impl<L: Listed> ListEnds<L> {
         ListEnds { list, span }
     }
 
-    /// How many items are left.
+    /// Returns the number of items left.
     #[inline]
     pub fn len(&self) -> usize
         ensures { result ≡ length self.now }
@@ -75,7 +74,7 @@ impl<L: Listed> ListEnds<L> {
         self.span.len()
     }
 
-    /// How many items are left, at least and at most, which are the same.
+    /// Returns the number of items left as both the lower and the upper bound.
     pub fn size_hint(&self) -> (usize, Option<usize>)
         ensures { result ≡ (length self.now, Some (length self.now)) }
     {
@@ -83,15 +82,14 @@ impl<L: Listed> ListEnds<L> {
         (len, Some(len))
     }
 
-    /// How many items are left.
+    /// Returns the number of items left.
     pub fn count(self) -> usize
         ensures { result ≡ length self }
     {
         self.len()
     }
 
-    /// Drops `n` items and takes the next. Where no more than `n` are left, none is taken and the
-    /// iterator has ended.
+    /// Skips `n` items and takes the next. If at most `n` are left, returns `None` and the iterator has ended.
     #[inline]
     pub fn nth(&mut self, n: usize) -> Option<L::Item>
         ensures { TakesNth n self.old result self.new }
@@ -100,8 +98,8 @@ impl<L: Listed> ListEnds<L> {
         Some(self.list.item_at(i))
     }
 
-    /// Drops `n` items from the back and takes the next. Where no more than `n` are left, none is
-    /// taken and the iterator has ended.
+    /// Skips `n` items from the back and takes the next. If at most `n` are left, returns `None` and the
+    /// iterator has ended.
     #[inline]
     pub fn nth_back(&mut self, n: usize) -> Option<L::Item>
         ensures { TakesNthBack n self.old result self.new }
@@ -110,7 +108,7 @@ impl<L: Listed> ListEnds<L> {
         Some(self.list.item_at(i))
     }
 
-    /// The last item.
+    /// Returns the last item, or `None` if no item is left.
     pub fn last(mut self) -> Option<L::Item>
         ensures { result ≡ last_or None self }
     {
@@ -119,7 +117,7 @@ impl<L: Listed> ListEnds<L> {
 }
 
 impl<L: BorrowedList> ListEnds<L> {
-    /// A second iterator over what is left. Takes no memory.
+    /// Returns a second iterator over the items left. Allocates nothing.
     pub fn clone(&self) -> Self
         ensures { result ≡ self.now }
     {
@@ -133,7 +131,7 @@ impl<L: BorrowedList> ListEnds<L> {
 impl<L: OwnedList> Clone for ListEnds<L> {
     ghost is_clone = { λ old new. new ≡ old };
 
-    /// A second iterator over what is left, with a list of its own.
+    /// Returns a second iterator over the items left, with a list of its own.
     fn clone(&self) -> Result<Self, AllocError> {
         let list = self.list.second()?;
         Ok(ListEnds {

@@ -1,16 +1,16 @@
-//! What is asked of all words of a list: by chunks or lanes, and word by word at the end.
+//! Operations on all words of a list: by chunks or lanes, and word by word at the end.
 ghost use Rattle.std.specs.Prelude.{◌≡◌, ◌↔◌, ◌*◌, ◌^◌, ◌<◌, length, eqb, sum_by, count_ones, IsTrue};
 ghost use Rattle.std.specs.Cmp.Lexicographic.{pointwise};
 
 use std::simd::prelude::*;
 
-/// How many words are counted at once.
+/// The number of words counted at once.
 const CHUNK: usize = 4;
 
-/// How many words are compared at once.
+/// The number of words compared at once.
 const LANES: usize = 8;
 
-// How many ones the words have.
+// Returns the number of ones of the words.
 #[tactic(auto, using(crate::proofs::Chunks::sums))]
 pub(super) fn ones_of(words: &[u64]) -> u64
     requires { 64 * length words.now < 2 ^ 64 }
@@ -27,7 +27,7 @@ pub(super) fn ones_of(words: &[u64]) -> u64
     ones
 }
 
-// How many ones a chunk has.
+// Returns the number of ones of a chunk.
 #[inline(always)]
 fn ones_of_chunk(chunk: &[u64; CHUNK]) -> u64
     ensures { result ≡ sum_by count_ones chunk.now }
@@ -36,7 +36,7 @@ fn ones_of_chunk(chunk: &[u64; CHUNK]) -> u64
     u64::from(a.count_ones() + b.count_ones() + c.count_ones() + d.count_ones())
 }
 
-// Whether words are the same as others, which are as many.
+// Returns true if both slices are equal. Precondition: they have the same length.
 #[tactic(auto, using(crate::proofs::Chunks::equality))]
 pub(super) fn are_same(words: &[u64], others: &[u64]) -> bool
     requires { length words.now ≡ length others.now }
@@ -57,7 +57,7 @@ pub(super) fn are_same(words: &[u64], others: &[u64]) -> bool
     true
 }
 
-// Whether two chunks are the same, by lanes.
+// Returns true if two chunks are equal, by lanes.
 #[inline(always)]
 fn agree(chunk: &[u64; LANES], other: &[u64; LANES]) -> bool
     ensures { IsTrue result ↔ (chunk.now ≡ other.now) }

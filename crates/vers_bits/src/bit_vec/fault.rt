@@ -1,4 +1,4 @@
-//! The faults of the calls on lists of bits.
+//! The errors of functions on lists of bits.
 ghost use Rattle.std.specs.Prelude.{◌≡◌, codes, Some};
 ghost use Rattle.vers_bits.specs.declared.bit_vec.fault.GrowError.TheVariants.{Memory};
 
@@ -10,7 +10,7 @@ use std::fmt;
 /// Why a list of bits was not made, or did not grow.
 #[derive(Clone, Copy, PartialEq, Eq, Debug, Drop)]
 pub enum GrowError {
-    /// The allocator has no memory.
+    /// The allocator refused a request.
     Memory,
     /// The list would be longer than `MAX_LEN` bits.
     TooLong,
@@ -24,7 +24,7 @@ impl From<AllocError> for GrowError {
     }
 }
 
-/// A place lies past the end of the list.
+/// A position is past the end of the list.
 #[derive(Clone, Copy, PartialEq, Eq, Debug, Drop)]
 pub struct OutOfRange;
 
@@ -38,7 +38,7 @@ impl fmt::Display for OutOfRange {
 
 impl Error for OutOfRange {}
 
-/// Two lists of different lengths were to be masked.
+/// Two lists to be masked have different lengths.
 #[derive(Clone, Copy, PartialEq, Eq, Debug, Drop)]
 pub struct LengthMismatch;
 
@@ -55,13 +55,13 @@ impl Error for LengthMismatch {}
 /// Why a list was not split.
 #[derive(Clone, Copy, PartialEq, Eq, Debug, Drop)]
 pub enum SplitCause {
-    /// The place lies past the end of the list.
+    /// The position is past the end of the list.
     OutOfRange,
-    /// The allocator has no memory.
+    /// The allocator refused a request.
     Memory,
 }
 
-/// A list that was not split, as it was, and why.
+/// A list that was not split, unchanged, and the reason.
 #[derive(Drop)]
 pub struct SplitError<A: Allocator + Copy> {
     /// The list, unchanged.

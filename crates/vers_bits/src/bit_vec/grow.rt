@@ -1,4 +1,4 @@
-//! Calls that make a list of bits grow.
+//! Functions that append to a list of bits.
 ghost use Rattle.std.specs.Prelude.{◌≡◌, ℕ, ◌+◌, ◌-◌, ◌*◌, ◌/◌, ◌%◌, ◌^◌, ◌<◌, ◌≤◌, ◌↔◌, [], ◌∷◌, ◌++◌, length, take, drop, Some, None, IsOk, OnOk, OnErr, ◌==◌, IfErr, flat_map, replicate, Bool, List, false};
 ghost use Rattle.std.specs.Borrow.{Bor};
 ghost use Rattle.std.specs.Iterator.{Drains, IsFinite, YieldsThen};
@@ -34,8 +34,11 @@ impl<'a, A: Allocator + Copy> AsList<A> for &'a BitVec<A> {
 }
 
 impl<A: Allocator + Copy> BitVec<A> {
-    /// Appends a bit. TooLong at the greatest length alone; memory may be wanted only where the
-    /// length is a multiple of 64. The list is as it was where the call is refused.
+    /// Appends a bit. Allocates only if the length is a multiple of 64. The list is unchanged on error.
+    ///
+    /// # Errors
+    ///
+    /// `TooLong` if the length is `MAX_LEN`; `Memory` if the allocator refuses a request.
     pub fn append(&mut self, bit: bool) -> Result<(), GrowError>
         ensures grown { OnOk result (self.new ≡ self.old ++ bit ∷ []) }
         ensures kept { OnErr result (self.new ≡ self.old) }
@@ -47,7 +50,7 @@ impl<A: Allocator + Copy> BitVec<A> {
         Ok(())
     }
 
-    /// Appends the lowest bit of a number: a one where the number is odd. Refusals as of `append`.
+    /// Appends the lowest bit of a number. Errors as for `append`.
     pub fn append_bit(&mut self, number: u64) -> Result<(), GrowError>
         ensures grown { OnOk result (self.new ≡ self.old ++ (number % 2 == 1) ∷ []) }
         ensures kept { OnErr result (self.new ≡ self.old) }
@@ -57,9 +60,12 @@ impl<A: Allocator + Copy> BitVec<A> {
         self.append(number % 2 == 1)
     }
 
-    /// Appends the low `len` bits of a number, the least significant first. TooLong where the list
-    /// would be longer than `MAX_LEN`. No bits, and bits that the last limb has room for, take no
-    /// memory. The list is as it was where the call is refused.
+    /// Appends the low `len` bits of a number, least significant first. Allocates nothing if `len` is 0 or the
+    /// last limb has room. The list is unchanged on error. Precondition: `len` is at most 64.
+    ///
+    /// # Errors
+    ///
+    /// `TooLong` if the list would exceed `MAX_LEN` bits; `Memory` if the allocator refuses a request.
     #[tactic(auto, using(crate::proofs::Growing::growth))]
     pub fn append_bits(&mut self, bits: u64, len: usize) -> Result<(), GrowError>
         requires { len ≤ 64 }
@@ -79,7 +85,7 @@ impl<A: Allocator + Copy> BitVec<A> {
         Ok(())
     }
 
-    /// The same as `append_bits`.
+    /// Appends the low `len` bits of a number, as `append_bits` does.
     pub fn append_bits_unchecked(&mut self, bits: u64, len: usize) -> Result<(), GrowError>
         requires { len ≤ 64 }
         ensures grown { OnOk result (self.new ≡ self.old ++ low_bits bits len) }
@@ -91,8 +97,8 @@ impl<A: Allocator + Copy> BitVec<A> {
         self.append_bits(bits, len)
     }
 
-    // Appends the low `n` digits of a number, with zeros past its own. Where the call is refused
-    // some of them may have been appended.
+    // Appends the low `n` digits of a number, with zeros above its own. On error some of them may have been
+    // appended.
     #[tactic(auto, using(crate::proofs::Growing::growth))]
     pub(super) fn append_digits(&mut self, number: u64, n: usize) -> Result<(), GrowError>
         ensures grown { OnOk result (self.new ≡ self.old ++ low_bits number n) }
@@ -109,7 +115,7 @@ impl<A: Allocator + Copy> BitVec<A> {
         Ok(())
     }
 
-    // Appends the `n` digits of a number, which the last limb has room for.
+    // Appends the `n` digits of a number. Precondition: the last limb has room for them.
     #[tactic(auto, using(crate::proofs::Words::words, crate::proofs::Holds::held, crate::proofs::Holds::held_bits, crate::proofs::Growing::add_none))]
     pub(super) fn append_within(&mut self, bits: u64, n: usize)
         requires small { bits < 2 ^ n }
@@ -151,7 +157,7 @@ impl<A: Allocator + Copy> BitVec<A> {
         Ok(())
     }
 
-    /// Appends the 64 bits of a number, the least significant first. Refusals as of `append_bits`.
+    /// Appends the 64 bits of a number, least significant first. Errors as for `append_bits`.
     pub fn append_word(&mut self, word: u64) -> Result<(), GrowError>
         ensures grown { OnOk result (self.new ≡ self.old ++ low_bits word 64) }
         ensures kept { OnErr result (self.new ≡ self.old) }
@@ -160,7 +166,7 @@ impl<A: Allocator + Copy> BitVec<A> {
         self.append_bits(word, 64)
     }
 
-    /// Appends the lowest bit of a number: a one where the number is odd. Refusals as of `append`.
+    /// Appends the lowest bit of a number. Errors as for `append`.
     pub fn append_bit_u8(&mut self, number: u8) -> Result<(), GrowError>
         ensures grown { OnOk result (self.new ≡ self.old ++ (number % 2 == 1) ∷ []) }
         ensures kept { OnErr result (self.new ≡ self.old) }
@@ -170,7 +176,7 @@ impl<A: Allocator + Copy> BitVec<A> {
         self.append_bit(u64::from(number))
     }
 
-    /// Appends the lowest bit of a number: a one where the number is odd. Refusals as of `append`.
+    /// Appends the lowest bit of a number. Errors as for `append`.
     pub fn append_bit_u16(&mut self, number: u16) -> Result<(), GrowError>
         ensures grown { OnOk result (self.new ≡ self.old ++ (number % 2 == 1) ∷ []) }
         ensures kept { OnErr result (self.new ≡ self.old) }
@@ -180,7 +186,7 @@ impl<A: Allocator + Copy> BitVec<A> {
         self.append_bit(u64::from(number))
     }
 
-    /// Appends the lowest bit of a number: a one where the number is odd. Refusals as of `append`.
+    /// Appends the lowest bit of a number. Errors as for `append`.
     pub fn append_bit_u32(&mut self, number: u32) -> Result<(), GrowError>
         ensures grown { OnOk result (self.new ≡ self.old ++ (number % 2 == 1) ∷ []) }
         ensures kept { OnErr result (self.new ≡ self.old) }
@@ -190,8 +196,7 @@ impl<A: Allocator + Copy> BitVec<A> {
         self.append_bit(u64::from(number))
     }
 
-    // Appends the bits of another list from a place on. Where the call is refused some of them may
-    // have been appended.
+    // Appends the bits of another list from position `start`. On error some of them may have been appended.
     #[inline(always)]
     fn append_from(&mut self, other: &BitVec<A>, start: usize) -> Result<(), GrowError>
         requires start { start ≤ length other.now }
@@ -208,8 +213,8 @@ impl<A: Allocator + Copy> BitVec<A> {
         self.append_bits(other.get_bits_unchecked(start + (added - rest), rest), rest)
     }
 
-    // Appends the bits of another list from a place on. It is put where it is called: onto an empty
-    // list, or from the first place on, one of both shifts of a limb is none.
+    // Appends the bits of another list from position `start`. Inlined: for an empty list, or from position 0,
+    // the compiler drops one of the two shifts of a limb.
     #[inline(always)]
     pub(super) fn extend_from(&mut self, other: &BitVec<A>, start: usize) -> Result<(), GrowError>
         requires { start ≤ length other.now }
@@ -229,8 +234,11 @@ impl<A: Allocator + Copy> BitVec<A> {
         Ok(())
     }
 
-    /// Appends all bits of another list. TooLong where the list would be longer than `MAX_LEN`.
-    /// The list is as it was where the call is refused.
+    /// Appends all bits of another list. The list is unchanged on error.
+    ///
+    /// # Errors
+    ///
+    /// `TooLong` if the list would exceed `MAX_LEN` bits; `Memory` if the allocator refuses a request.
     pub fn extend_bitvec(&mut self, other: &BitVec<A>) -> Result<(), GrowError>
         ensures grown { OnOk result (self.new ≡ self.old ++ other.now) }
         ensures kept { OnErr result (self.new ≡ self.old) }
@@ -240,8 +248,8 @@ impl<A: Allocator + Copy> BitVec<A> {
         self.extend_from(other, 0)
     }
 
-    // Appends the lists that an iterator has left. Where the call is refused, the iterator has just
-    // passed the list that found no place.
+    // Appends the remaining lists of an iterator. On error, the iterator has just passed the list that was not
+    // appended.
     #[inline(always)]
     fn extend_by<L: AsList<A> + Drop, I: Iterator<Item = L>>(
         &mut self,
@@ -262,8 +270,12 @@ impl<A: Allocator + Copy> BitVec<A> {
         Ok(())
     }
 
-    /// Appends the lists of an iterator that ends, in order. At the first list that finds no place
-    /// the call is refused: the lists before it stay appended, and of that one nothing.
+    /// Appends the lists of a finite iterator, in order. On error, the lists before the one that failed stay
+    /// appended, and nothing of that one does.
+    ///
+    /// # Errors
+    ///
+    /// `TooLong` if the list would exceed `MAX_LEN` bits; `Memory` if the allocator refuses a request.
     pub fn extend<I: Iterator<Item = BitVec<A>> + Drop>(
         &mut self,
         mut lists: I,
@@ -279,7 +291,7 @@ impl<A: Allocator + Copy> BitVec<A> {
         self.extend_by(&mut lists)
     }
 
-    /// The same as `extend`, of lists behind references.
+    /// Appends the lists of a finite iterator over references, as `extend` does.
     pub fn extend_ref<'a, I: Iterator<Item = &'a BitVec<A>> + Drop>(
         &mut self,
         mut lists: I,
@@ -297,7 +309,7 @@ impl<A: Allocator + Copy> BitVec<A> {
         self.extend_by(&mut lists)
     }
 
-    // Makes room for `added` bits more.
+    // Reserves room for `added` more bits.
     #[tactic(auto, using(crate::proofs::Words::words))]
     fn reserve(&mut self, added: usize) -> Result<(), AllocError>
         requires { length self.old + added ≤ MAX_LEN }

@@ -1,4 +1,4 @@
-//! Makers of lists of bits.
+//! Constructors of lists of bits.
 ghost use Rattle.std.specs.Prelude.{◌≡◌, ℕ, Bool, ◌+◌, ◌-◌, ◌*◌, ◌/◌, ◌%◌, ◌^◌, ◌<◌, ◌≤◌, ◌↔◌, ◌==◌, List, [], ◌∷◌, ◌++◌, length, map, flat_map, replicate, true, false, IfOk, IfErr, IsOk, OnOk, OnErr, Some, None, if◌then◌else◌};
 ghost use Rattle.std.specs.Iterator.{Drains, IsFinite, YieldsThen};
 ghost use Rattle.vers_bits.specs.Bits.{bit_value, number, low_bits, pack};
@@ -8,17 +8,17 @@ use crate::bit_vec::words::cut;
 use crate::bit_vec::{BitVec, GrowError, MAX_LEN};
 use std::alloc::Allocator;
 
-// What lists of bits are made of: numbers of up to 64 bits, and truth values.
+// The items that lists of bits are made of: numbers of up to 64 bits, and booleans.
 trait Item: Copy + Drop {
     ghost number: { Self → ℕ };
 
     ghost is_odd: { Self → Bool };
 
-    // The item as a number.
+    // Returns the item as a number.
     fn number(self) -> u64
         ensures { result ≡ number self };
 
-    // Whether the number is odd.
+    // Returns true if the number is odd.
     fn is_odd(self) -> bool
         ensures { result ≡ is_odd self };
 }
@@ -95,7 +95,11 @@ impl Item for u64 {
 
 #[tactic(auto, using(crate::proofs::Limbs::from_words))]
 impl<A: Allocator + Copy> BitVec<A> {
-    /// The empty list, with room for `n` bits. TooLong where `n` is above `MAX_LEN`.
+    /// Returns the empty list, with room for `n` bits.
+    ///
+    /// # Errors
+    ///
+    /// `TooLong` if `n` is above `MAX_LEN`; `Memory` if the allocator refuses a request.
     #[tactic(auto, unfolding(crate::specs::inside::Words::word_bits))]
     pub fn with_capacity(alloc: A, n: usize) -> Result<Self, GrowError>
         ensures made { IfOk result (λ v. v ≡ []) }
@@ -106,7 +110,7 @@ impl<A: Allocator + Copy> BitVec<A> {
         Ok(BitVec { data, len: 0 })
     }
 
-    // `n` equal bits.
+    // Returns a list of `n` equal bits.
     #[tactic(auto, using(crate::proofs::Filling::fills))]
     fn from_equal(alloc: A, bit: bool, n: usize) -> Result<Self, GrowError>
         ensures made { IfOk result (λ v. v ≡ replicate n bit) }
@@ -120,7 +124,11 @@ impl<A: Allocator + Copy> BitVec<A> {
         Ok(BitVec { data, len: n })
     }
 
-    /// `n` zeros. TooLong where `n` is above `MAX_LEN`.
+    /// Returns a list of `n` zeros.
+    ///
+    /// # Errors
+    ///
+    /// `TooLong` if `n` is above `MAX_LEN`; `Memory` if the allocator refuses a request.
     pub fn from_zeros(alloc: A, n: usize) -> Result<Self, GrowError>
         ensures made { IfOk result (λ v. v ≡ replicate n false) }
         ensures too_long { (result ≡ Err GrowError.TooLong) ↔ (MAX_LEN < n) }
@@ -128,7 +136,11 @@ impl<A: Allocator + Copy> BitVec<A> {
         BitVec::from_equal(alloc, false, n)
     }
 
-    /// `n` ones. TooLong where `n` is above `MAX_LEN`.
+    /// Returns a list of `n` ones.
+    ///
+    /// # Errors
+    ///
+    /// `TooLong` if `n` is above `MAX_LEN`; `Memory` if the allocator refuses a request.
     pub fn from_ones(alloc: A, n: usize) -> Result<Self, GrowError>
         ensures made { IfOk result (λ v. v ≡ replicate n true) }
         ensures too_long { (result ≡ Err GrowError.TooLong) ↔ (MAX_LEN < n) }
@@ -136,8 +148,8 @@ impl<A: Allocator + Copy> BitVec<A> {
         BitVec::from_equal(alloc, true, n)
     }
 
-    /// The bits of limbs, 64 of each, its least significant bit first. Takes no memory: TooLong is
-    /// the only fault, where they are more than `MAX_LEN` bits. The limbs are dropped then.
+    /// Returns the bits of the limbs, 64 of each, least significant first. Allocates nothing. Errors: `TooLong`
+    /// if they exceed `MAX_LEN` bits; the limbs are then dropped.
     pub fn from_vec(limbs: Vec<u64, A>) -> Result<Self, GrowError>
         ensures made { IfOk result (λ v. v ≡ pack limbs.items 64) }
         ensures too_long { (result ≡ Err GrowError.TooLong) ↔ (MAX_LEN < 64 * length limbs.items) }
@@ -147,8 +159,12 @@ impl<A: Allocator + Copy> BitVec<A> {
         Ok(BitVec { data: limbs, len })
     }
 
-    /// The bits of limbs, 64 of each, its least significant bit first. TooLong where they are more
-    /// than `MAX_LEN` bits, which is tested before memory is asked for.
+    /// Returns the bits of the limbs, 64 of each, least significant first.
+    ///
+    /// # Errors
+    ///
+    /// `TooLong` if they exceed `MAX_LEN` bits, which is tested before any allocation; `Memory` if the
+    /// allocator refuses a request.
     pub fn from_limbs(alloc: A, limbs: &[u64]) -> Result<Self, GrowError>
         ensures made { IfOk result (λ v. v ≡ pack limbs.now 64) }
         ensures too_long { (result ≡ Err GrowError.TooLong) ↔ (MAX_LEN < 64 * length limbs.now) }
@@ -157,7 +173,7 @@ impl<A: Allocator + Copy> BitVec<A> {
         BitVec::from_vec(Vec::from_slice(alloc, limbs)?)
     }
 
-    // A bit an item of a slice.
+    // Returns the lowest bit of each item of a slice.
     fn odd_items<T: Item>(alloc: A, items: &[T]) -> Result<Self, GrowError>
         ensures made { IfOk result (λ v. v ≡ map T.is_odd items.now) }
         ensures too_long { (result ≡ Err GrowError.TooLong) ↔ (MAX_LEN < length items.now) }
@@ -172,9 +188,9 @@ impl<A: Allocator + Copy> BitVec<A> {
         Ok(list)
     }
 
-    // A bit an item that an iterator has left. Where it is refused, the iterator has just passed the
-    // item that found no place. The first bit of each limb is appended, which may take memory. The
-    // others are gathered in a word until the limb is full.
+    // Returns the lowest bit of each remaining item of an iterator. On error, the iterator has just passed the
+    // item that was not appended. The first bit of each limb is appended, which may allocate. The others are
+    // gathered in a word until the limb is full.
     #[inline(always)]
     fn odd_items_of<T: Item, I: Iterator<Item = T>>(
         alloc: A,
@@ -208,7 +224,7 @@ impl<A: Allocator + Copy> BitVec<A> {
         Ok(list)
     }
 
-    // The low `k` digits of each item of a slice.
+    // Returns the low `k` digits of each item of a slice.
     fn packed_items<T: Item>(alloc: A, items: &[T], k: usize) -> Result<Self, GrowError>
         ensures made { IfOk result (λ v. v ≡ flat_map (λ x. low_bits (T.number x) k) items.now) }
         ensures too_long { (result ≡ Err GrowError.TooLong) ↔ (MAX_LEN < length items.now * k) }
@@ -225,8 +241,8 @@ impl<A: Allocator + Copy> BitVec<A> {
         Ok(list)
     }
 
-    // The low `k` digits of each item that an iterator has left. Where it is refused, the iterator has
-    // just passed the item that found no place.
+    // Returns the low `k` digits of each remaining item of an iterator. On error, the iterator has just passed
+    // the item that was not appended.
     #[inline(always)]
     fn packed_items_of<T: Item, I: Iterator<Item = T>>(
         alloc: A,
@@ -248,7 +264,11 @@ impl<A: Allocator + Copy> BitVec<A> {
         Ok(list)
     }
 
-    /// A bit an item: a one where the item is odd. TooLong where the items are more than `MAX_LEN`.
+    /// Returns the lowest bit of each item.
+    ///
+    /// # Errors
+    ///
+    /// `TooLong` if there are more than `MAX_LEN` items; `Memory` if the allocator refuses a request.
     pub fn from_bits(alloc: A, bits: &[u8]) -> Result<Self, GrowError>
         ensures made { IfOk result (λ v. v ≡ map (λ n. n % 2 == 1) bits.now) }
         ensures too_long { (result ≡ Err GrowError.TooLong) ↔ (MAX_LEN < length bits.now) }
@@ -256,7 +276,11 @@ impl<A: Allocator + Copy> BitVec<A> {
         BitVec::odd_items(alloc, bits)
     }
 
-    /// A bit an item: a one where the item is odd. TooLong where the items are more than `MAX_LEN`.
+    /// Returns the lowest bit of each item.
+    ///
+    /// # Errors
+    ///
+    /// `TooLong` if there are more than `MAX_LEN` items; `Memory` if the allocator refuses a request.
     pub fn from_bits_u16(alloc: A, bits: &[u16]) -> Result<Self, GrowError>
         ensures made { IfOk result (λ v. v ≡ map (λ n. n % 2 == 1) bits.now) }
         ensures too_long { (result ≡ Err GrowError.TooLong) ↔ (MAX_LEN < length bits.now) }
@@ -264,7 +288,11 @@ impl<A: Allocator + Copy> BitVec<A> {
         BitVec::odd_items(alloc, bits)
     }
 
-    /// A bit an item: a one where the item is odd. TooLong where the items are more than `MAX_LEN`.
+    /// Returns the lowest bit of each item.
+    ///
+    /// # Errors
+    ///
+    /// `TooLong` if there are more than `MAX_LEN` items; `Memory` if the allocator refuses a request.
     pub fn from_bits_u32(alloc: A, bits: &[u32]) -> Result<Self, GrowError>
         ensures made { IfOk result (λ v. v ≡ map (λ n. n % 2 == 1) bits.now) }
         ensures too_long { (result ≡ Err GrowError.TooLong) ↔ (MAX_LEN < length bits.now) }
@@ -272,7 +300,11 @@ impl<A: Allocator + Copy> BitVec<A> {
         BitVec::odd_items(alloc, bits)
     }
 
-    /// A bit an item: a one where the item is odd. TooLong where the items are more than `MAX_LEN`.
+    /// Returns the lowest bit of each item.
+    ///
+    /// # Errors
+    ///
+    /// `TooLong` if there are more than `MAX_LEN` items; `Memory` if the allocator refuses a request.
     pub fn from_bits_u64(alloc: A, bits: &[u64]) -> Result<Self, GrowError>
         ensures made { IfOk result (λ v. v ≡ map (λ n. n % 2 == 1) bits.now) }
         ensures too_long { (result ≡ Err GrowError.TooLong) ↔ (MAX_LEN < length bits.now) }
@@ -280,8 +312,11 @@ impl<A: Allocator + Copy> BitVec<A> {
         BitVec::odd_items(alloc, bits)
     }
 
-    /// A bit an item of an iterator that ends: a one where the item is odd. TooLong at the item
-    /// that would pass `MAX_LEN` bits, Memory at the one that finds no memory.
+    /// Returns the lowest bit of each item of a finite iterator.
+    ///
+    /// # Errors
+    ///
+    /// `TooLong` at the item that would exceed `MAX_LEN` bits; `Memory` if the allocator refuses a request.
     pub fn from_bits_iter<I: Iterator<Item = u64> + Drop>(
         alloc: A,
         mut bits: I,
@@ -296,7 +331,11 @@ impl<A: Allocator + Copy> BitVec<A> {
         BitVec::odd_items_of(alloc, &mut bits)
     }
 
-    /// The truth values. TooLong where they are more than `MAX_LEN`.
+    /// Returns the booleans as bits.
+    ///
+    /// # Errors
+    ///
+    /// `TooLong` if there are more than `MAX_LEN`; `Memory` if the allocator refuses a request.
     pub fn from_bools(alloc: A, bools: &[bool]) -> Result<Self, GrowError>
         ensures made { IfOk result (λ v. v ≡ bools.now) }
         ensures too_long { (result ≡ Err GrowError.TooLong) ↔ (MAX_LEN < length bools.now) }
@@ -304,8 +343,11 @@ impl<A: Allocator + Copy> BitVec<A> {
         BitVec::odd_items(alloc, bools)
     }
 
-    /// The truth values of an iterator that ends. TooLong at the one that would pass `MAX_LEN` bits,
-    /// Memory at the one that finds no memory.
+    /// Returns the booleans of a finite iterator as bits.
+    ///
+    /// # Errors
+    ///
+    /// `TooLong` at the one that would exceed `MAX_LEN` bits; `Memory` if the allocator refuses a request.
     pub fn from_bool_iter<I: Iterator<Item = bool> + Drop>(
         alloc: A,
         mut bools: I,
@@ -319,8 +361,11 @@ impl<A: Allocator + Copy> BitVec<A> {
         BitVec::odd_items_of(alloc, &mut bools)
     }
 
-    /// The bits of the limbs of an iterator that ends, 64 of each, its least significant bit first.
-    /// TooLong at the limb that would pass `MAX_LEN` bits, Memory at the one that finds no memory.
+    /// Returns the bits of the limbs of a finite iterator, 64 of each, least significant first.
+    ///
+    /// # Errors
+    ///
+    /// `TooLong` at the limb that would exceed `MAX_LEN` bits; `Memory` if the allocator refuses a request.
     pub fn from_limbs_iter<I: Iterator<Item = u64> + Drop>(
         alloc: A,
         mut limbs: I,
@@ -335,8 +380,12 @@ impl<A: Allocator + Copy> BitVec<A> {
         BitVec::packed_items_of(alloc, &mut limbs, 64)
     }
 
-    /// The low `k` bits of each number, one after another, with zeros above its 8 bits. TooLong
-    /// where they are more than `MAX_LEN`, which is tested before memory is asked for.
+    /// Returns the low `k` bits of each number, one after another, with zeros above its 8 bits.
+    ///
+    /// # Errors
+    ///
+    /// `TooLong` if they exceed `MAX_LEN`, which is tested before any allocation; `Memory` if the allocator
+    /// refuses a request.
     pub fn pack_sequence_u8(alloc: A, sequence: &[u8], k: usize) -> Result<Self, GrowError>
         ensures made { IfOk result (λ v. v ≡ pack sequence.now k) }
         ensures too_long { (result ≡ Err GrowError.TooLong) ↔ (MAX_LEN < length sequence.now * k) }
@@ -344,8 +393,12 @@ impl<A: Allocator + Copy> BitVec<A> {
         BitVec::packed_items(alloc, sequence, k)
     }
 
-    /// The low `k` bits of each number, one after another, with zeros above its 16 bits. TooLong
-    /// where they are more than `MAX_LEN`, which is tested before memory is asked for.
+    /// Returns the low `k` bits of each number, one after another, with zeros above its 16 bits.
+    ///
+    /// # Errors
+    ///
+    /// `TooLong` if they exceed `MAX_LEN`, which is tested before any allocation; `Memory` if the allocator
+    /// refuses a request.
     pub fn pack_sequence_u16(alloc: A, sequence: &[u16], k: usize) -> Result<Self, GrowError>
         ensures made { IfOk result (λ v. v ≡ pack sequence.now k) }
         ensures too_long { (result ≡ Err GrowError.TooLong) ↔ (MAX_LEN < length sequence.now * k) }
@@ -353,8 +406,12 @@ impl<A: Allocator + Copy> BitVec<A> {
         BitVec::packed_items(alloc, sequence, k)
     }
 
-    /// The low `k` bits of each number, one after another, with zeros above its 32 bits. TooLong
-    /// where they are more than `MAX_LEN`, which is tested before memory is asked for.
+    /// Returns the low `k` bits of each number, one after another, with zeros above its 32 bits.
+    ///
+    /// # Errors
+    ///
+    /// `TooLong` if they exceed `MAX_LEN`, which is tested before any allocation; `Memory` if the allocator
+    /// refuses a request.
     pub fn pack_sequence_u32(alloc: A, sequence: &[u32], k: usize) -> Result<Self, GrowError>
         ensures made { IfOk result (λ v. v ≡ pack sequence.now k) }
         ensures too_long { (result ≡ Err GrowError.TooLong) ↔ (MAX_LEN < length sequence.now * k) }
@@ -362,8 +419,12 @@ impl<A: Allocator + Copy> BitVec<A> {
         BitVec::packed_items(alloc, sequence, k)
     }
 
-    /// The low `k` bits of each number, one after another, with zeros above its 64 bits. TooLong
-    /// where they are more than `MAX_LEN`, which is tested before memory is asked for.
+    /// Returns the low `k` bits of each number, one after another, with zeros above its 64 bits.
+    ///
+    /// # Errors
+    ///
+    /// `TooLong` if they exceed `MAX_LEN`, which is tested before any allocation; `Memory` if the allocator
+    /// refuses a request.
     pub fn pack_sequence_u64(alloc: A, sequence: &[u64], k: usize) -> Result<Self, GrowError>
         ensures made { IfOk result (λ v. v ≡ pack sequence.now k) }
         ensures too_long { (result ≡ Err GrowError.TooLong) ↔ (MAX_LEN < length sequence.now * k) }
@@ -371,8 +432,11 @@ impl<A: Allocator + Copy> BitVec<A> {
         BitVec::packed_items(alloc, sequence, k)
     }
 
-    /// The low `k` bits of each number of an iterator that ends, with zeros above its 8 bits.
-    /// TooLong at the number that would pass `MAX_LEN` bits, Memory at the one that finds no memory.
+    /// Returns the low `k` bits of each number of a finite iterator, with zeros above its 8 bits.
+    ///
+    /// # Errors
+    ///
+    /// `TooLong` at the number that would exceed `MAX_LEN` bits; `Memory` if the allocator refuses a request.
     pub fn pack_from_iter_u8<I: Iterator<Item = u8> + Drop>(
         alloc: A,
         mut sequence: I,
@@ -388,8 +452,11 @@ impl<A: Allocator + Copy> BitVec<A> {
         BitVec::packed_items_of(alloc, &mut sequence, k)
     }
 
-    /// The low `k` bits of each number of an iterator that ends, with zeros above its 16 bits.
-    /// TooLong at the number that would pass `MAX_LEN` bits, Memory at the one that finds no memory.
+    /// Returns the low `k` bits of each number of a finite iterator, with zeros above its 16 bits.
+    ///
+    /// # Errors
+    ///
+    /// `TooLong` at the number that would exceed `MAX_LEN` bits; `Memory` if the allocator refuses a request.
     pub fn pack_from_iter_u16<I: Iterator<Item = u16> + Drop>(
         alloc: A,
         mut sequence: I,
@@ -405,8 +472,11 @@ impl<A: Allocator + Copy> BitVec<A> {
         BitVec::packed_items_of(alloc, &mut sequence, k)
     }
 
-    /// The low `k` bits of each number of an iterator that ends, with zeros above its 32 bits.
-    /// TooLong at the number that would pass `MAX_LEN` bits, Memory at the one that finds no memory.
+    /// Returns the low `k` bits of each number of a finite iterator, with zeros above its 32 bits.
+    ///
+    /// # Errors
+    ///
+    /// `TooLong` at the number that would exceed `MAX_LEN` bits; `Memory` if the allocator refuses a request.
     pub fn pack_from_iter_u32<I: Iterator<Item = u32> + Drop>(
         alloc: A,
         mut sequence: I,
@@ -422,8 +492,11 @@ impl<A: Allocator + Copy> BitVec<A> {
         BitVec::packed_items_of(alloc, &mut sequence, k)
     }
 
-    /// The low `k` bits of each number of an iterator that ends, with zeros above its 64 bits.
-    /// TooLong at the number that would pass `MAX_LEN` bits, Memory at the one that finds no memory.
+    /// Returns the low `k` bits of each number of a finite iterator, with zeros above its 64 bits.
+    ///
+    /// # Errors
+    ///
+    /// `TooLong` at the number that would exceed `MAX_LEN` bits; `Memory` if the allocator refuses a request.
     pub fn pack_from_iter_u64<I: Iterator<Item = u64> + Drop>(
         alloc: A,
         mut sequence: I,
@@ -440,7 +513,7 @@ impl<A: Allocator + Copy> BitVec<A> {
     }
 }
 
-// TooLong for a length above `MAX_LEN`.
+// Errors: `TooLong` if `len` is above `MAX_LEN`.
 fn check_len(len: usize) -> Result<(), GrowError>
     ensures exact { (result ≡ Err GrowError.TooLong) ↔ (MAX_LEN < len) }
     ensures within { len ≤ MAX_LEN → IsOk result }
@@ -451,7 +524,7 @@ fn check_len(len: usize) -> Result<(), GrowError>
     Ok(())
 }
 
-// How many bits limbs have. TooLong where they are more than `MAX_LEN`.
+// Returns the number of bits of that many limbs. Errors: `TooLong` if it is above `MAX_LEN`.
 fn bits_of_limbs(limbs: usize) -> Result<usize, GrowError>
     ensures value { IfOk result (λ len. len ≡ 64 * limbs) }
     ensures exact { (result ≡ Err GrowError.TooLong) ↔ (MAX_LEN < 64 * limbs) }
@@ -463,14 +536,14 @@ fn bits_of_limbs(limbs: usize) -> Result<usize, GrowError>
     Ok(64 * limbs)
 }
 
-// A word of 64 equal bits.
+// Returns a word of 64 equal bits.
 fn equal_word(bit: bool) -> u64
     ensures { result ≡ (if bit then 18446744073709551615 else 0) }
 {
     if bit { u64::MAX } else { 0 }
 }
 
-// The number whose digits say which items are odd, the lowest digit of the first item.
+// Returns the number whose digits are the lowest bits of the items, the first item's lowest.
 fn parities<T: Item>(items: &[T]) -> u64
     requires { length items.now ≤ 64 }
     ensures { result ≡ number (map T.is_odd items.now) }
@@ -482,7 +555,7 @@ fn parities<T: Item>(items: &[T]) -> u64
     word
 }
 
-// A number of `n` digits with one more digit above them.
+// Returns a number of `n` digits with one more digit above them.
 #[tactic(auto, using(crate::proofs::Gather::digits))]
 fn with_digit(word: u64, n: usize, digit: bool) -> u64
     requires short { n < 64 }

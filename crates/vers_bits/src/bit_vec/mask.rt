@@ -1,4 +1,4 @@
-//! Two lists of bits of one length, seen as one through a function on their limbs.
+//! Two lists of bits of the same length, combined through a function on their limbs.
 ghost use Rattle.std.specs.Prelude.{◌≡◌, ℕ, ◌+◌, ◌-◌, ◌*◌, ◌/◌, ◌%◌, ◌^◌, ◌<◌, ◌≤◌, ◌||◌, ◌&&◌, true, false, min, length, take, drop, option_map, slice_get, slice_index, slice_index_or, IfOk, bit_or, bit_and, bit_xor};
 ghost use Rattle.vers_bits.specs.inside.Kinds.{limb_op};
 ghost use Rattle.vers_bits.specs.Bits.{bit_value, number, count, limb, part, part_number, masked};
@@ -9,9 +9,9 @@ use crate::bit_vec::{BitVec, LengthMismatch};
 use std::alloc::{AllocError, Allocator};
 use std::marker::Model;
 
-/// Two lists of one length and a closure on their limbs. Bit `p` is bit `p % 64` of what the
-/// closure answers of both limbs `p / 64`. Contracts see both lists and the closure. What a call
-/// answers is said for each definition `g` that the closure follows, by the list `masked g`.
+/// Two lists of the same length and a closure on their limbs. Bit `p` is bit `p % 64` of what the closure
+/// returns for both limbs `p / 64`. Contracts see both lists and the closure. They describe a result for each
+/// definition `g` that the closure follows, through the list `masked g`.
 #[derive(Drop)]
 pub struct MaskedBitVec<'a, 'b, F, A: Allocator + Copy> {
     left: &'a BitVec<A>,
@@ -31,7 +31,7 @@ impl<'a, 'b, F, A: Allocator + Copy> Model for MaskedBitVec<'a, 'b, F, A> {
 }
 
 impl<'a, 'b, F: Fn(u64, u64) -> u64, A: Allocator + Copy> MaskedBitVec<'a, 'b, F, A> {
-    // What the closure answers of both limbs number `k`.
+    // Returns what the closure returns for both limbs `k`.
     fn answer(&self, k: usize) -> u64
         requires may_call { OnEveryPair (F.pre self.now.mask) }
         requires within { 64 * k < length self.now.left }
@@ -43,7 +43,7 @@ impl<'a, 'b, F: Fn(u64, u64) -> u64, A: Allocator + Copy> MaskedBitVec<'a, 'b, F
         (self.mask)(mine, theirs)
     }
 
-    // Limb number `k` of the masked list, with zeros past the length.
+    // Returns limb `k` of the masked list, with zeros past the length.
     #[tactic(auto, using(crate::proofs::Masks::limbs))]
     fn limb(&self, k: usize) -> u64
         requires may_call { OnEveryPair (F.pre self.now.mask) }
@@ -55,7 +55,7 @@ impl<'a, 'b, F: Fn(u64, u64) -> u64, A: Allocator + Copy> MaskedBitVec<'a, 'b, F
         low_part(self.answer(k), rest.min(64))
     }
 
-    // The ones of limb number `k` of the masked list.
+    // Returns the number of ones in limb `k` of the masked list.
     #[tactic(auto, using(crate::proofs::Masks::limbs, crate::proofs::Masks::counts))]
     fn ones_of_limb(&self, k: usize) -> u64
         requires may_call { OnEveryPair (F.pre self.now.mask) }
@@ -68,7 +68,7 @@ impl<'a, 'b, F: Fn(u64, u64) -> u64, A: Allocator + Copy> MaskedBitVec<'a, 'b, F
         self.limb(k).count_ones() as u64
     }
 
-    // The number of the `n` bits from `place` on, which lie in one limb.
+    // Returns the `n` bits from `place` as a number. Precondition: they are in one limb.
     #[tactic(auto, using(crate::proofs::Masks::parts))]
     fn part(&self, place: usize, n: usize) -> u64
         requires may_call { OnEveryPair (F.pre self.now.mask) }
@@ -81,7 +81,7 @@ impl<'a, 'b, F: Fn(u64, u64) -> u64, A: Allocator + Copy> MaskedBitVec<'a, 'b, F
         (self.limb(place / 64) >> (place % 64)) & (u64::MAX >> (64 - n))
     }
 
-    /// Whether the bit at a place is a one. None for a place that the lists don't have.
+    /// Returns true if the bit at `place` is a one, or `None` if `place` is out of bounds.
     #[tactic(auto, using(crate::proofs::Masks::places))]
     pub fn is_bit_set(&self, place: usize) -> Option<bool>
         requires { OnEveryPair (F.pre self.now.mask) }
@@ -93,7 +93,7 @@ impl<'a, 'b, F: Fn(u64, u64) -> u64, A: Allocator + Copy> MaskedBitVec<'a, 'b, F
         Some(self.is_bit_set_unchecked(place))
     }
 
-    /// The bit at a place, 1 or 0. None for a place that the lists don't have.
+    /// Returns the bit at `place`, 1 or 0, or `None` if `place` is out of bounds.
     #[tactic(auto, using(crate::proofs::Masks::places))]
     pub fn get(&self, place: usize) -> Option<u64>
         requires { OnEveryPair (F.pre self.now.mask) }
@@ -106,7 +106,7 @@ impl<'a, 'b, F: Fn(u64, u64) -> u64, A: Allocator + Copy> MaskedBitVec<'a, 'b, F
         Some(self.get_unchecked(place))
     }
 
-    /// Whether the bit at a place that the lists have is a one.
+    /// Returns true if the bit at `place` is a one. Precondition: `place` is below the length.
     #[tactic(auto, using(crate::proofs::Masks::reads))]
     pub fn is_bit_set_unchecked(&self, place: usize) -> bool
         requires may_call { OnEveryPair (F.pre self.now.mask) }
@@ -117,7 +117,7 @@ impl<'a, 'b, F: Fn(u64, u64) -> u64, A: Allocator + Copy> MaskedBitVec<'a, 'b, F
         (self.answer(place / 64) >> (place % 64)) & 1 == 1
     }
 
-    /// The bit at a place that the lists have, 1 or 0.
+    /// Returns the bit at `place`, 1 or 0. Precondition: `place` is below the length.
     #[tactic(auto, using(crate::proofs::Masks::reads))]
     pub fn get_unchecked(&self, place: usize) -> u64
         requires may_call { OnEveryPair (F.pre self.now.mask) }
@@ -128,8 +128,8 @@ impl<'a, 'b, F: Fn(u64, u64) -> u64, A: Allocator + Copy> MaskedBitVec<'a, 'b, F
         u64::from(self.is_bit_set_unchecked(place))
     }
 
-    /// The number of the bits from `place` on, `n` of them. None where there are not so many, or
-    /// `n` is 0 or above 64.
+    /// Returns the `n` bits from position `place` as a number. `None` if there are fewer, or `n` is 0 or above
+    /// 64.
     #[tactic(auto, using(crate::proofs::Masks::parts))]
     pub fn get_bits(&self, place: usize, n: usize) -> Option<u64>
         requires { OnEveryPair (F.pre self.now.mask) }
@@ -143,7 +143,8 @@ impl<'a, 'b, F: Fn(u64, u64) -> u64, A: Allocator + Copy> MaskedBitVec<'a, 'b, F
         Some(self.get_bits_unchecked(place, n))
     }
 
-    /// The number of the bits from `place` on, `n` of them: 0 where `n` is 0.
+    /// Returns the `n` bits from position `place` as a number: 0 if `n` is 0. Precondition: `n` is at most 64,
+    /// and `place + n` at most the length.
     #[tactic(auto, using(crate::proofs::Masks::parts))]
     pub fn get_bits_unchecked(&self, place: usize, n: usize) -> u64
         requires may_call { OnEveryPair (F.pre self.now.mask) }
@@ -163,7 +164,7 @@ impl<'a, 'b, F: Fn(u64, u64) -> u64, A: Allocator + Copy> MaskedBitVec<'a, 'b, F
         self.part(place, room) | (self.part(place + room, n - room) << room)
     }
 
-    /// How many ones the list has.
+    /// Returns the number of ones.
     #[tactic(auto, using(crate::proofs::Masks::counts))]
     pub fn count_ones(&self) -> u64
         requires { OnEveryPair (F.pre self.now.mask) }
@@ -178,7 +179,7 @@ impl<'a, 'b, F: Fn(u64, u64) -> u64, A: Allocator + Copy> MaskedBitVec<'a, 'b, F
         ones
     }
 
-    /// How many zeros the list has.
+    /// Returns the number of zeros.
     #[tactic(auto, using(crate::proofs::Masks::counts))]
     pub fn count_zeros(&self) -> u64
         requires { OnEveryPair (F.pre self.now.mask) }
@@ -188,7 +189,7 @@ impl<'a, 'b, F: Fn(u64, u64) -> u64, A: Allocator + Copy> MaskedBitVec<'a, 'b, F
         self.left.len() as u64 - self.count_ones()
     }
 
-    /// A list of its own with the bits.
+    /// Returns a list of its own with the bits.
     pub fn to_bit_vec(&self) -> Result<BitVec<A>, AllocError>
         requires { OnEveryPair (F.pre self.now.mask) }
         ensures { IfOk result (λ v. OfMasked (F.post self.now.mask) self.now (λ bits. v ≡ bits)) }
@@ -200,7 +201,7 @@ impl<'a, 'b, F: Fn(u64, u64) -> u64, A: Allocator + Copy> MaskedBitVec<'a, 'b, F
 }
 
 impl<A: Allocator + Copy> BitVec<A> {
-    // Makes each limb what a closure answers of both limbs, and keeps no bit past the length.
+    // Replaces each limb by what a closure returns for both limbs, and clears the bits past the length.
     #[tactic(auto, using(crate::proofs::Words::words, crate::proofs::Masks::combines))]
     fn combine<F: Fn(u64, u64) -> u64>(&mut self, other: &BitVec<A>, mask: &F)
         requires same { length self.old ≡ length other.now }
@@ -211,7 +212,8 @@ impl<A: Allocator + Copy> BitVec<A> {
         cut(&mut self.data, self.len);
     }
 
-    /// Both lists seen through a closure on their limbs. LengthMismatch where their lengths differ.
+    /// Returns both lists combined through a closure on their limbs. Errors: `LengthMismatch` if their lengths
+    /// differ.
     pub fn mask_custom<'a, 'b, F: Fn(u64, u64) -> u64 + Drop>(
         &'a self,
         other: &'b BitVec<A>,
@@ -252,8 +254,7 @@ impl MaskKind {
     }
 }
 
-/// Two lists of one length combined bit by bit, by or, and or xor. Contracts see the list of the
-/// bits.
+/// Two lists of the same length combined bit by bit, by or, and or xor. Contracts see the list of the bits.
 #[derive(Drop)]
 pub struct BitMask<'s, 'b, A: Allocator + Copy> {
     left: &'s BitVec<A>,
@@ -275,7 +276,7 @@ impl<'s, 'b, A: Allocator + Copy> Model for BitMask<'s, 'b, A> {
 }
 
 impl<'s, 'b, A: Allocator + Copy> BitMask<'s, 'b, A> {
-    /// Whether the bit at a place is a one. None for a place that the list doesn't have.
+    /// Returns true if the bit at `place` is a one, or `None` if `place` is out of bounds.
     #[tactic(auto, using(crate::proofs::Masks::lengths))]
     pub fn is_bit_set(&self, place: usize) -> Option<bool>
         ensures { result ≡ slice_get self.now place }
@@ -289,7 +290,7 @@ impl<'s, 'b, A: Allocator + Copy> BitMask<'s, 'b, A> {
         .is_bit_set(place)
     }
 
-    /// The bit at a place, 1 or 0. None for a place that the list doesn't have.
+    /// Returns the bit at `place`, 1 or 0, or `None` if `place` is out of bounds.
     #[tactic(auto, using(crate::proofs::Masks::lengths))]
     pub fn get(&self, place: usize) -> Option<u64>
         ensures { result ≡ option_map bit_value (slice_get self.now place) }
@@ -303,7 +304,7 @@ impl<'s, 'b, A: Allocator + Copy> BitMask<'s, 'b, A> {
         .get(place)
     }
 
-    /// Whether the bit at a place that the list has is a one.
+    /// Returns true if the bit at `place` is a one. Precondition: `place` is below the length.
     #[tactic(auto, using(crate::proofs::Masks::lengths))]
     pub fn is_bit_set_unchecked(&self, place: usize) -> bool
         requires { place < length self.now }
@@ -318,7 +319,7 @@ impl<'s, 'b, A: Allocator + Copy> BitMask<'s, 'b, A> {
         .is_bit_set_unchecked(place)
     }
 
-    /// The bit at a place that the list has, 1 or 0.
+    /// Returns the bit at `place`, 1 or 0. Precondition: `place` is below the length.
     #[tactic(auto, using(crate::proofs::Masks::lengths))]
     pub fn get_unchecked(&self, place: usize) -> u64
         requires { place < length self.now }
@@ -333,8 +334,8 @@ impl<'s, 'b, A: Allocator + Copy> BitMask<'s, 'b, A> {
         .get_unchecked(place)
     }
 
-    /// The number of the bits from `place` on, `n` of them. None where there are not so many, or
-    /// `n` is 0 or above 64.
+    /// Returns the `n` bits from position `place` as a number. `None` if there are fewer, or `n` is 0 or above
+    /// 64.
     #[tactic(auto, using(crate::proofs::Masks::lengths))]
     pub fn get_bits(&self, place: usize, n: usize) -> Option<u64>
         ensures { result ≡ part_number self.now place n }
@@ -348,7 +349,8 @@ impl<'s, 'b, A: Allocator + Copy> BitMask<'s, 'b, A> {
         .get_bits(place, n)
     }
 
-    /// The number of the bits from `place` on, `n` of them: 0 where `n` is 0.
+    /// Returns the `n` bits from position `place` as a number: 0 if `n` is 0. Precondition: `n` is at most 64,
+    /// and `place + n` at most the length.
     #[tactic(auto, using(crate::proofs::Masks::lengths))]
     pub fn get_bits_unchecked(&self, place: usize, n: usize) -> u64
         requires few { n ≤ 64 }
@@ -364,7 +366,7 @@ impl<'s, 'b, A: Allocator + Copy> BitMask<'s, 'b, A> {
         .get_bits_unchecked(place, n)
     }
 
-    /// How many ones the list has.
+    /// Returns the number of ones.
     #[tactic(auto, using(crate::proofs::Masks::lengths))]
     pub fn count_ones(&self) -> u64
         ensures { result ≡ count true self.now (length self.now) }
@@ -378,7 +380,7 @@ impl<'s, 'b, A: Allocator + Copy> BitMask<'s, 'b, A> {
         .count_ones()
     }
 
-    /// How many zeros the list has.
+    /// Returns the number of zeros.
     #[tactic(auto, using(crate::proofs::Masks::lengths))]
     pub fn count_zeros(&self) -> u64
         ensures { result ≡ count false self.now (length self.now) }
@@ -392,7 +394,7 @@ impl<'s, 'b, A: Allocator + Copy> BitMask<'s, 'b, A> {
         .count_zeros()
     }
 
-    /// A list of its own with the bits.
+    /// Returns a list of its own with the bits.
     #[tactic(auto, using(crate::proofs::Masks::lengths))]
     pub fn to_bit_vec(&self) -> Result<BitVec<A>, AllocError>
         ensures { IfOk result (λ v. v ≡ self.now) }
@@ -406,7 +408,7 @@ impl<'s, 'b, A: Allocator + Copy> BitMask<'s, 'b, A> {
         .to_bit_vec()
     }
 
-    /// The same mask, which takes no memory.
+    /// Returns the same mask. Allocates nothing.
     pub fn clone(&self) -> Self
         ensures { result ≡ self.now }
     {
@@ -419,7 +421,7 @@ impl<'s, 'b, A: Allocator + Copy> BitMask<'s, 'b, A> {
 }
 
 impl<A: Allocator + Copy> BitVec<A> {
-    // Both lists combined by a kind of mask.
+    // Returns both lists combined by a kind of mask.
     #[tactic(auto, using(crate::proofs::Masks::lengths))]
     fn mask_by<'s, 'b>(
         &'s self,
@@ -440,7 +442,7 @@ impl<A: Allocator + Copy> BitVec<A> {
         })
     }
 
-    /// The list with a one where either list has a one. LengthMismatch where their lengths differ.
+    /// Returns the bitwise or of both lists. Errors: `LengthMismatch` if their lengths differ.
     #[tactic(auto, using(crate::proofs::Zips::zips))]
     pub fn mask_or<'s, 'b>(
         &'s self,
@@ -453,7 +455,7 @@ impl<A: Allocator + Copy> BitVec<A> {
         self.mask_by(other, MaskKind::Or)
     }
 
-    /// The list with a one where both lists have a one. LengthMismatch where their lengths differ.
+    /// Returns the bitwise and of both lists. Errors: `LengthMismatch` if their lengths differ.
     #[tactic(auto, using(crate::proofs::Zips::zips))]
     pub fn mask_and<'s, 'b>(
         &'s self,
@@ -466,7 +468,7 @@ impl<A: Allocator + Copy> BitVec<A> {
         self.mask_by(other, MaskKind::And)
     }
 
-    /// The list with a one where just one of the lists has a one. LengthMismatch where their lengths differ.
+    /// Returns the bitwise xor of both lists. Errors: `LengthMismatch` if their lengths differ.
     #[tactic(auto, using(crate::proofs::Zips::zips))]
     pub fn mask_xor<'s, 'b>(
         &'s self,
@@ -479,8 +481,8 @@ impl<A: Allocator + Copy> BitVec<A> {
         self.mask_by(other, MaskKind::Xor)
     }
 
-    // Makes each limb what a closure answers of both limbs, and keeps no bit past the length.
-    // LengthMismatch where the lengths differ, and the list is as it was.
+    // Replaces each limb by what a closure returns for both limbs, and clears the bits past the length. Errors:
+    // `LengthMismatch` if the lengths differ; the list is then unchanged.
     fn apply<F: Fn(u64, u64) -> u64>(
         &mut self,
         other: &BitVec<A>,
@@ -497,8 +499,8 @@ impl<A: Allocator + Copy> BitVec<A> {
         Ok(())
     }
 
-    /// Makes the list the one with a one where either list has a one. LengthMismatch where their lengths
-    /// differ, and the list is as it was.
+    /// Replaces the list by its bitwise or with the other. Errors: `LengthMismatch` if their lengths differ;
+    /// the list is then unchanged.
     #[tactic(auto, using(crate::proofs::Zips::zips))]
     pub fn apply_mask_or(&mut self, other: &BitVec<A>) -> Result<(), LengthMismatch>
         ensures { Applied result self.old self.new other.now
@@ -507,8 +509,8 @@ impl<A: Allocator + Copy> BitVec<A> {
         self.apply(other, &|x: u64, y: u64| x | y)
     }
 
-    /// Makes the list the one with a one where both lists have a one. LengthMismatch where their lengths
-    /// differ, and the list is as it was.
+    /// Replaces the list by its bitwise and with the other. Errors: `LengthMismatch` if their lengths differ;
+    /// the list is then unchanged.
     #[tactic(auto, using(crate::proofs::Zips::zips))]
     pub fn apply_mask_and(&mut self, other: &BitVec<A>) -> Result<(), LengthMismatch>
         ensures { Applied result self.old self.new other.now
@@ -517,8 +519,8 @@ impl<A: Allocator + Copy> BitVec<A> {
         self.apply(other, &|x: u64, y: u64| x & y)
     }
 
-    /// Makes the list the one with a one where just one of the lists has a one. LengthMismatch where their lengths
-    /// differ, and the list is as it was.
+    /// Replaces the list by its bitwise xor with the other. Errors: `LengthMismatch` if their lengths differ;
+    /// the list is then unchanged.
     #[tactic(auto, using(crate::proofs::Zips::zips))]
     pub fn apply_mask_xor(&mut self, other: &BitVec<A>) -> Result<(), LengthMismatch>
         ensures { Applied result self.old self.new other.now (self.new
@@ -527,8 +529,8 @@ impl<A: Allocator + Copy> BitVec<A> {
         self.apply(other, &|x: u64, y: u64| x ^ y)
     }
 
-    /// Makes each limb what a function answers of both limbs, and keeps no bit past the length.
-    /// LengthMismatch where the lengths differ, and the list is as it was.
+    /// Replaces each limb by what a function returns for both limbs, and clears the bits past the length.
+    /// Errors: `LengthMismatch` if the lengths differ; the list is then unchanged.
     pub fn apply_mask_custom(
         &mut self,
         other: &BitVec<A>,
@@ -542,7 +544,7 @@ impl<A: Allocator + Copy> BitVec<A> {
     }
 }
 
-// Makes each word what a closure answers of it and the other word of its number.
+// Replaces each word by what a closure returns for it and the other slice's word at its position.
 fn combine_words<F: Fn(u64, u64) -> u64, A: Allocator + Copy>(
     words: &mut Vec<u64, A>,
     others: &[u64],

@@ -1,4 +1,4 @@
-//! Edits of the words that hold a list of bits.
+//! Edits of the words that represent a list of bits.
 ghost use Rattle.std.specs.Prelude.{◌≡◌, ◌+◌, ◌*◌, ◌/◌, ◌%◌, ◌^◌, ◌<◌, ◌≤◌, [], ◌∷◌, ◌++◌, length, take, slice_index, slice_set, bit_or, IsOk, OnOk, OnErr, ◌↔◌, not, Bool, true, false, replicate};
 ghost use Rattle.vers_bits.specs.Bits.{low_bits, limb_count};
 ghost use Rattle.vers_bits.specs.inside.Words.{word_bit, word_bits, HoldsBits, Holds, AddsBit, CutsTo, Puts};
@@ -6,7 +6,7 @@ ghost use Rattle.vers_bits.specs.inside.Words.{word_bit, word_bits, HoldsBits, H
 use crate::bit_vec::{GrowError, MAX_LEN};
 use std::alloc::{AllocError, Allocator};
 
-// The low `n` bits of a word.
+// Returns the low `n` bits of a word.
 #[tactic(auto, using(crate::proofs::LowBits::masks))]
 pub(super) fn low_part(word: u64, n: usize) -> u64
     requires some { 0 < n }
@@ -17,7 +17,7 @@ pub(super) fn low_part(word: u64, n: usize) -> u64
     word & (u64::MAX >> (64 - n))
 }
 
-// Puts a word behind the others.
+// Appends a word.
 fn push_word<A: Allocator + Copy>(words: &mut Vec<u64, A>, word: u64) -> Result<(), AllocError>
     ensures pushed { OnOk result (words.new.items ≡ words.old.items ++ word ∷ []) }
     ensures kept { OnErr result (words.new.items ≡ words.old.items) }
@@ -28,7 +28,7 @@ fn push_word<A: Allocator + Copy>(words: &mut Vec<u64, A>, word: u64) -> Result<
     Ok(())
 }
 
-// Sets the bits of word `k` that `bits` has.
+// Sets the bits of word `k` that are set in `bits`.
 fn or_into<A: Allocator + Copy>(words: &mut Vec<u64, A>, k: usize, bits: u64)
     requires { k < length words.old.items }
     ensures { words.new.items ≡ slice_set words.old.items k
@@ -37,7 +37,8 @@ fn or_into<A: Allocator + Copy>(words: &mut Vec<u64, A>, k: usize, bits: u64)
     words[k] |= bits;
 }
 
-// Makes the words hold `n` bits more, those of the number `bits`, which the last word has room for.
+// Appends `n` bits, those of the number `bits`, to the list in the words. Precondition: the last word has room
+// for them.
 pub(super) fn add_within<A: Allocator + Copy>(
     words: &mut Vec<u64, A>,
     len: usize,
@@ -53,7 +54,7 @@ pub(super) fn add_within<A: Allocator + Copy>(
     or_into(words, len / 64, bits << (len % 64));
 }
 
-// Makes the words hold `n` bits more, those of the number `bits`.
+// Appends `n` bits, those of the number `bits`, to the list in the words.
 #[inline(always)]
 pub(super) fn add_bits<A: Allocator + Copy>(
     words: &mut Vec<u64, A>,
@@ -84,7 +85,7 @@ pub(super) fn add_bits<A: Allocator + Copy>(
     Ok(())
 }
 
-// Makes the words hold `n` zeros more.
+// Appends `n` zeros to the list in the words.
 pub(super) fn add_zeros<A: Allocator + Copy>(
     words: &mut Vec<u64, A>,
     len: usize,
@@ -100,7 +101,7 @@ pub(super) fn add_zeros<A: Allocator + Copy>(
     Ok(())
 }
 
-// Makes the words hold one bit more.
+// Appends a bit to the list in the words.
 #[tactic(auto, using(crate::proofs::Edits::steps))]
 pub(super) fn add_bit<A: Allocator + Copy>(
     words: &mut Vec<u64, A>,
@@ -130,7 +131,7 @@ pub(super) fn add_bit<A: Allocator + Copy>(
     Ok(())
 }
 
-// Cuts the words to those of the first `len` bits, with zeros past them.
+// Truncates the words to those of the first `len` bits, with zeros past them.
 pub(super) fn cut<A: Allocator + Copy>(words: &mut Vec<u64, A>, len: usize)
     requires { limb_count len ≤ length words.old.items }
     ensures { CutsTo words.old.items words.new.items len }
@@ -144,7 +145,7 @@ pub(super) fn cut<A: Allocator + Copy>(words: &mut Vec<u64, A>, len: usize)
     words[len / 64] = low_part(last, used);
 }
 
-// Makes the bit at a place what `bit` says.
+// Sets the bit at `place` to `bit`.
 pub(super) fn put_bit<A: Allocator + Copy>(words: &mut Vec<u64, A>, place: usize, bit: bool)
     requires { place / 64 < length words.old.items }
     ensures { Puts words.old.items words.new.items place bit }
@@ -157,7 +158,7 @@ pub(super) fn put_bit<A: Allocator + Copy>(words: &mut Vec<u64, A>, place: usize
     words[place / 64] &= !mask;
 }
 
-// Makes the bit at a place the other one.
+// Flips the bit at `place`.
 pub(super) fn flip<A: Allocator + Copy>(words: &mut Vec<u64, A>, place: usize)
     requires { place / 64 < length words.old.items }
     ensures { Puts words.old.items words.new.items place (not (word_bit words.old.items place)) }
