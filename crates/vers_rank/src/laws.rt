@@ -6,14 +6,13 @@ use crate::fast_rs_vec::RsVec;
 use std::alloc::{AllocError, Allocator};
 use vers_bits::bit_vec::BitVec;
 
-/// Beside the bits, the entries and the samples of an index take at most 56 bytes for each
-/// superblock of 8192 bits, and 32 more.
+/// The entries and the samples of an index take at most 56 bytes for each superblock of 8192 bits, and 32 more.
 #[tactic(auto, using(crate::proofs::Ranks::sums))]
 pub fn index_is_small()
     ensures { IndexIsSmall }
 {}
 
-/// Makes an indexed list and takes it apart again: the bits come back as they were.
+/// Makes an indexed list and takes it apart again: returns the same bits.
 pub fn bits_come_back<A: Allocator + Copy>(bits: BitVec<A>) -> Result<BitVec<A>, AllocError>
     ensures { IfOk result (λ v. v ≡ bits) }
 {

@@ -5,11 +5,11 @@ ghost use Rattle.vers_rank.specs.inside.Offsets.{last_first, ones_below};
 
 use std::simd::prelude::*;
 
-/// How many bits a chunk has, and how many offsets a buffer has room for.
+/// The number of bits in a chunk, and the capacity of an offset buffer.
 pub(crate) const CHUNK: usize = 16;
 
-/// Puts the offsets of the ones of 16 bits into a buffer, the highest first, by lanes: 8 for each
-/// byte, those of the low byte over what the high byte doesn't need. Returns how many there are.
+/// Puts the offsets of the ones of 16 bits into a buffer, the highest first, by lanes: 8 for each byte, those
+/// of the low byte over what the high byte doesn't need. Returns their number.
 #[inline(always)]
 pub(crate) fn put_offsets(bits: u16, offsets: &mut [u8; CHUNK]) -> u32
     ensures room { length offsets.new ≡ 16 }
@@ -37,7 +37,7 @@ fn put_lanes(offsets: &mut [u8; CHUNK], from: usize, lanes: u8x8)
     lanes.copy_to_slice(&mut offsets[from..]);
 }
 
-// The offsets of the ones of a byte, the highest first, as lanes.
+// Returns the offsets of the ones of a byte, the highest first, as lanes.
 #[inline(always)]
 #[tactic(auto, using(crate::proofs::OffsetLanes::table))]
 fn offsets_in_byte(byte: usize) -> u8x8
@@ -49,7 +49,7 @@ fn offsets_in_byte(byte: usize) -> u8x8
     lanes_from(&OFFSETS, 8 * byte)
 }
 
-// The 8 numbers from a place on, as lanes.
+// Returns the 8 numbers from a position on, as lanes.
 #[inline(always)]
 fn lanes_from(numbers: &[u8], from: usize) -> u8x8
     requires { from + 8 ≤ length numbers.now }
@@ -58,8 +58,8 @@ fn lanes_from(numbers: &[u8], from: usize) -> u8x8
     u8x8::from_slice(&numbers[from..])
 }
 
-/// Puts the offsets of the ones among the `n` lowest bits of a word into a buffer, the highest
-/// first, one by one: the plain form, for the last bits of a list. Returns how many there are.
+/// Puts the offsets of the ones among the `n` lowest bits of a word into a buffer, the highest first, one by
+/// one: the plain form, for the last bits of a list. Returns their number.
 pub(crate) fn put_offsets_plainly(word: u64, n: usize, offsets: &mut [u8; CHUNK]) -> u32
     requires { n ≤ 16 }
     ensures room { length offsets.new ≡ 16 }

@@ -8,8 +8,8 @@ use std::alloc::Allocator;
 use vers_tally::tally::{Tally, Uncounted};
 
 impl<A: Allocator + Copy> RsVec<A> {
-    /// Whether both lists have the same bits, by comparing the places of their zeros where `ZERO`
-    /// is true, and else of their ones. Fast where there are few of them.
+    /// Returns true if both lists have the same bits, comparing the positions of their zeros if `ZERO` is true,
+    /// otherwise of their ones. Fast if these are few.
     #[inline]
     pub fn sparse_equals<const ZERO: bool>(&self, other: &Self) -> bool
         ensures { IsTrue result ↔ (self.now ≡ other.now) }
@@ -17,7 +17,7 @@ impl<A: Allocator + Copy> RsVec<A> {
         self.has_places_of(!ZERO, other)
     }
 
-    /// Whether both lists have the same bits, by comparing all limbs.
+    /// Returns true if both lists have the same bits, comparing all limbs.
     #[inline]
     pub fn full_equals(&self, other: &Self) -> bool
         ensures { IsTrue result ↔ (self.now ≡ other.now) }
@@ -25,7 +25,7 @@ impl<A: Allocator + Copy> RsVec<A> {
         self == other
     }
 
-    // Whether both lists have one length and the same places of a bit, by a walk over each.
+    // Returns true if both lists have the same length and the same positions of a bit, by a walk over each.
     fn has_places_of(&self, bit: bool, other: &Self) -> bool
         ensures { IsTrue result ↔ (self.now ≡ other.now) }
     {
@@ -53,7 +53,7 @@ impl<A: Allocator + Copy> PartialEq for RsVec<A> {
 
     ghost laws = { same_bits_per };
 
-    /// Whether both lists have the same bits.
+    /// Returns true if both lists have the same bits.
     fn eq(&self, other: &RsVec<A>) -> bool
         ensures by_bits { result ≡ same_bits self.now other.now }
         ensures exact { IsTrue result ↔ (self.now ≡ other.now) }

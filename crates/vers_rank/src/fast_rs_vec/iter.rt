@@ -1,4 +1,4 @@
-//! The iterators over the bits of an indexed list.
+//! Iterators over the bits of an indexed list.
 ghost use Rattle.std.specs.Prelude.{◌≡◌, Bool, List, length, map};
 ghost use Rattle.vers_bits.specs.Bits.{bit_value};
 ghost use Rattle.vers_rank.specs.Queries.{get_reads};
@@ -8,13 +8,13 @@ use std::alloc::{AllocError, Allocator};
 use vers_tally::ends::{Borrowing, BothEnds, Owning, Source};
 use vers_tally::tally::Tally;
 
-/// An indexed list, which is borrowed or owned.
+/// An indexed list, borrowed or owned.
 pub trait Indexed: Drop {
     type Alloc: Allocator + Copy;
 
     ghost bits: { Self → List Bool };
 
-    /// The list itself.
+    /// Returns the list itself.
     fn list(&self) -> &RsVec<Self::Alloc>
         ensures { result.now ≡ bits self.now };
 }
@@ -88,7 +88,7 @@ pub type RsVecRefIter<'a, A> = BothEnds<Bits<&'a RsVec<A>>>;
 pub type RsVecIter<A> = BothEnds<Bits<RsVec<A>>>;
 
 impl<A: Allocator + Copy> RsVec<A> {
-    /// An iterator over the bits, as numbers.
+    /// Returns an iterator over the bits, as numbers.
     pub fn iter(&self) -> RsVecRefIter<'_, A>
         ensures { result ≡ record { left = map bit_value self.now; step = get_reads } }
     {
@@ -127,7 +127,7 @@ impl<A: Allocator + Copy> IntoIterator for RsVec<A> {
 
     ghost into_iter_gives = { λ bits items. items ≡ record { left = map bit_value bits; step = get_reads } };
 
-    /// An iterator over the bits, as numbers, which owns the list.
+    /// Returns an iterator over the bits, as numbers, which owns the list.
     fn into_iter(self) -> RsVecIter<A> {
         BothEnds::new(Bits { list: self })
     }

@@ -1,4 +1,4 @@
-//! The limb that a walk over places is reading.
+//! The limb that a walk over positions is reading.
 ghost use Rattle.std.specs.Prelude.{◌≡◌, ◌+◌, ◌*◌, ◌<◌, ◌≤◌, length};
 ghost use Rattle.vers_bits.specs.Bits.{count, select};
 ghost use Rattle.vers_tally.specs.Reads.{only_data_words, AddsAtMost};
@@ -10,10 +10,9 @@ use crate::word::{marks, place_in_word};
 use std::alloc::Allocator;
 use vers_tally::tally::Tally;
 
-// The word of a limb in which the places from number `next` on are ones, where the walk goes from
-// the front, and those below number `next`, where it goes from the back. The places from `next` up to
-// number `edge` stand in the limb's block, and from the back those from `edge` on. A reader that has
-// read nothing has no such numbers.
+// The word of a limb in which the positions from number `next` on are ones, if the walk goes from the front, or
+// those below number `next`, if it goes from the back. The positions from `next` up to number `edge` are in the
+// limb's block, and from the back those from `edge` on. A reader that has read nothing has no such numbers.
 #[derive(Clone, Copy, Drop)]
 pub(super) struct Reader {
     pub(super) word: u64,
@@ -23,7 +22,7 @@ pub(super) struct Reader {
 }
 
 impl Reader {
-    // A reader that has read nothing.
+    // Returns a reader that has read nothing.
     #[inline(always)]
     pub(super) fn new() -> Self
         ensures { result ≡ record { word = 0; limb = 0; next = 0; edge = 0 } }
@@ -36,8 +35,8 @@ impl Reader {
         }
     }
 
-    // The place of number `r`: mostly from the word at hand, else from a word of the same block, and
-    // else by a select.
+    // Returns the position of number `r`: mostly from the current word, otherwise from a word of the same
+    // block, or by a select.
     #[inline(always)]
     pub(super) fn place<A: Allocator + Copy>(
         &mut self,
@@ -61,7 +60,7 @@ impl Reader {
         LIMB * self.limb + lowest
     }
 
-    // Reads on at number `r`.
+    // Moves to number `r`.
     #[inline(always)]
     fn seek<A: Allocator + Copy>(&mut self, bit: bool, r: usize, bits: &RsVec<A>, tally: &mut Tally)
         requires reading { IsReading bit bits.now self.old }
@@ -82,7 +81,7 @@ impl Reader {
         }
     }
 
-    // Reads on at number `r` of the block at hand: limb by limb, by their ones, and then in a word.
+    // Moves to number `r` of the current block: limb by limb, by their ones, and then in a word.
     #[inline(always)]
     fn seek_in_block<A: Allocator + Copy>(
         &mut self,
@@ -116,7 +115,7 @@ impl Reader {
         }
     }
 
-    // Reads on at number `r` by a select, and by the entry of the block that comes next.
+    // Moves to number `r` by a select, and by the entry of the next block.
     #[inline(always)]
     fn seek_anew<A: Allocator + Copy>(
         &mut self,
@@ -141,7 +140,7 @@ impl Reader {
         self.edge = edge;
     }
 
-    // The place of number `r`, in a walk from the back.
+    // Returns the position of number `r`, in a walk from the back.
     #[inline(always)]
     #[tactic(auto, using(crate::proofs::ReadingBack::highests))]
     pub(super) fn place_back<A: Allocator + Copy>(
@@ -166,7 +165,7 @@ impl Reader {
         LIMB * self.limb + highest
     }
 
-    // Reads on at the last number below `end`.
+    // Moves to the last number below `end`.
     #[inline(always)]
     fn seek_back<A: Allocator + Copy>(
         &mut self,
@@ -194,8 +193,8 @@ impl Reader {
         }
     }
 
-    // Reads on at the last number below `end`, in the block at hand: limb by limb, by their ones, and
-    // then in a word.
+    // Moves to the last number below `end`, in the current block: limb by limb, by their ones, and then in a
+    // word.
     #[inline(always)]
     fn seek_back_in_block<A: Allocator + Copy>(
         &mut self,
@@ -227,7 +226,7 @@ impl Reader {
         }
     }
 
-    // Reads on at the last number below `end` by a select, and by the entry of its block.
+    // Moves to the last number below `end` by a select, and by the entry of its block.
     #[inline(always)]
     fn seek_back_anew<A: Allocator + Copy>(
         &mut self,

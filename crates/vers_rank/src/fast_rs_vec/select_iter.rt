@@ -1,4 +1,4 @@
-//! The iterators over the places of the zeros or the ones of an indexed list.
+//! Iterators over the positions of the zeros or the ones of an indexed list.
 ghost use Rattle.std.specs.Prelude.{◌≡◌, not, true, false, length};
 ghost use Rattle.vers_bits.specs.Bits.{places};
 ghost use Rattle.vers_rank.specs.Queries.{superblock_count, select_reads};
@@ -11,12 +11,12 @@ use std::marker::{Model, PhantomData};
 use vers_tally::ends::{Borrowing, BothEnds, Owning, Source};
 use vers_tally::tally::Tally;
 
-/// Marks an iterator over the zeros of a list where `ZERO` is true, and else over its ones.
+/// Marks an iterator over the zeros of a list if `ZERO` is true, otherwise over its ones.
 #[derive(Drop)]
 pub struct Kind<const ZERO: bool>;
 
-/// The places of one kind of bit of an indexed list, which iterators of type `K` read one by one.
-/// It keeps the limbs that it reads, one for each end.
+/// The positions of one kind of bit of an indexed list, which iterators of type `K` read one by one. It keeps
+/// the current limb of each end.
 #[derive(Drop)]
 pub struct Places<K, L: Indexed> {
     list: L,
@@ -38,7 +38,7 @@ impl<K, L: Indexed> Model for Places<K, L> {
 
 #[tactic(auto, using(crate::proofs::BothEnds::kinds))]
 impl<K, L: Indexed> Places<K, L> {
-    /// The places of the zeros of a list, or of its ones. Reads nothing yet.
+    /// Returns the positions of the ones of a list if `bit` is true, otherwise of its zeros. Reads nothing yet.
     pub fn new(list: L, bit: bool) -> Self
         ensures { result ≡ record { bits = L.bits list; bit = bit } }
     {
@@ -91,16 +91,16 @@ impl<K, A: Allocator + Copy> Owning for Places<K, RsVec<A>> {
     }
 }
 
-/// An iterator over the places of a list: of its zeros where `ZERO` is true, and else of its ones,
-/// ascending. Each step reads at most what one select does.
+/// An iterator over the positions of the zeros of a list if `ZERO` is true, otherwise of its ones, ascending.
+/// Each step reads at most what one select does.
 pub type SelectIter<'a, const ZERO: bool, A> = BothEnds<Places<Kind<ZERO>, &'a RsVec<A>>>;
 
-/// An iterator over the places of a list that it owns: of its zeros where `ZERO` is true, and else
-/// of its ones, ascending. Each step reads at most what one select does.
+/// An iterator over the positions of the zeros of a list that it owns if `ZERO` is true, otherwise of its ones,
+/// ascending. Each step reads at most what one select does.
 pub type SelectIntoIter<const ZERO: bool, A> = BothEnds<Places<Kind<ZERO>, RsVec<A>>>;
 
 impl<A: Allocator + Copy> RsVec<A> {
-    /// An iterator over the places of the zeros where `ZERO` is true, and else of the ones.
+    /// Returns an iterator over the positions of the zeros if `ZERO` is true, otherwise of the ones.
     pub fn select_iter<const ZERO: bool>(&self) -> SelectIter<'_, ZERO, A>
         ensures { result ≡ record {
           left = places (not ZERO) self.now;
@@ -110,7 +110,7 @@ impl<A: Allocator + Copy> RsVec<A> {
         BothEnds::new(Places::new(self, !ZERO))
     }
 
-    /// An iterator over the places of the zeros.
+    /// Returns an iterator over the positions of the zeros.
     pub fn iter0(&self) -> SelectIter<'_, true, A>
         ensures { result ≡ record {
           left = places false self.now;
@@ -120,7 +120,7 @@ impl<A: Allocator + Copy> RsVec<A> {
         self.select_iter::<true>()
     }
 
-    /// An iterator over the places of the ones.
+    /// Returns an iterator over the positions of the ones.
     pub fn iter1(&self) -> SelectIter<'_, false, A>
         ensures { result ≡ record {
           left = places true self.now;
@@ -130,8 +130,8 @@ impl<A: Allocator + Copy> RsVec<A> {
         self.select_iter::<false>()
     }
 
-    /// An iterator over the places of the zeros where `ZERO` is true, and else of the ones, which
-    /// owns the list.
+    /// Returns an iterator over the positions of the zeros if `ZERO` is true, otherwise of the ones, which owns
+    /// the list.
     pub fn into_select_iter<const ZERO: bool>(self) -> SelectIntoIter<ZERO, A>
         ensures { result ≡ record {
           left = places (not ZERO) self;
@@ -142,7 +142,7 @@ impl<A: Allocator + Copy> RsVec<A> {
         BothEnds::new(places)
     }
 
-    /// An iterator over the places of the zeros, which owns the list.
+    /// Returns an iterator over the positions of the zeros, which owns the list.
     pub fn into_iter0(self) -> SelectIntoIter<true, A>
         ensures { result ≡ record {
           left = places false self;
@@ -152,7 +152,7 @@ impl<A: Allocator + Copy> RsVec<A> {
         BothEnds::new(Places::new(self, false))
     }
 
-    /// An iterator over the places of the ones, which owns the list.
+    /// Returns an iterator over the positions of the ones, which owns the list.
     pub fn into_iter1(self) -> SelectIntoIter<false, A>
         ensures { result ≡ record {
           left = places true self;
