@@ -2,7 +2,7 @@
 //! checked with the crate.
 ghost use Rattle.vers_sorted.specs.Laws.{BelowIsAtMostAll, BelowRises, FirstMembersAreBelow, OtherMembersAreNotBelow, LeastNotBelowIsNext, GreatestNotAboveIsLast, GreatestNotAboveIsGreatest, LeastNotBelowIsLeast, NoneBelowNoneNotAbove, ClogIsLeast, HighPartsAreFew};
 
-/// No more members are below a number than there are.
+/// At most all members are below a number.
 #[tactic(auto, using(crate::proofs::Neighbours::laws))]
 pub fn below_is_at_most_all()
     ensures { BelowIsAtMostAll }
@@ -14,26 +14,26 @@ pub fn below_rises()
     ensures { BelowRises }
 {}
 
-/// Of an ascending list, the members before place `below members v` are below `v`.
+/// The members of an ascending list before position `below members v` are below `v`.
 #[tactic(auto, using(crate::proofs::Neighbours::laws))]
 pub fn first_members_are_below()
     ensures { FirstMembersAreBelow }
 {}
 
-/// Of an ascending list, the members from place `below members v` on are not below `v`.
+/// The members of an ascending list from position `below members v` on are at least `v`.
 #[tactic(auto, using(crate::proofs::Neighbours::laws))]
 pub fn other_members_are_not_below()
     ensures { OtherMembersAreNotBelow }
 {}
 
-/// The least member that is not below `v` stands at place `below members v`. There is none where
-/// the list has no such place.
+/// The least member that is at least `v` is at position `below members v`. There is none if the list has no
+/// such position.
 #[tactic(auto, using(crate::proofs::Neighbours::laws))]
 pub fn least_not_below_is_next()
     ensures { LeastNotBelowIsNext }
 {}
 
-/// The greatest member that is not above `v` is the last one below `v + 1`, where there is one.
+/// The greatest member that is at most `v` is the last one below `v + 1`, if there is one.
 #[tactic(auto, using(crate::proofs::Neighbours::laws))]
 pub fn greatest_not_above_is_last()
     ensures { GreatestNotAboveIsLast }
@@ -51,20 +51,20 @@ pub fn least_not_below_is_least()
     ensures { LeastNotBelowIsLeast }
 {}
 
-/// Where no member is below `v + 1`, there is none that is not above `v`.
+/// If no member is below `v + 1`, none is at most `v`.
 #[tactic(auto, using(crate::proofs::Neighbours::laws))]
 pub fn none_below_none_not_above()
     ensures { NoneBelowNoneNotAbove }
 {}
 
-/// `2 ^ clog n` is the least power of two that is not below `n`.
+/// `2 ^ clog n` is the least power of two that is at least `n`.
 #[tactic(auto, using(crate::proofs::Lengths::laws))]
 pub fn clog_is_least()
     ensures { ClogIsLeast }
 {}
 
-/// The high parts of `n` members have at most `2 + n + p` bits, where `p` is the least power of two
-/// that is below neither `n` nor 2.
+/// The high parts of `n` members have at most `2 + n + p` bits, where `p` is the least power of two that is at
+/// least `n` and at least 2.
 #[tactic(auto, using(crate::proofs::Lengths::laws))]
 pub fn high_parts_are_few()
     ensures { HighPartsAreFew }

@@ -12,8 +12,8 @@ use std::marker::Model;
 use vers_bits::bit_vec::BitVec;
 use vers_tally::tally::Tally;
 
-/// A list of bits that keeps only the places of its ones, as an ascending list: for bits of which
-/// few are ones. Contracts see a `SparseRSVec` as the list of its bits.
+/// A list of bits that stores only the positions of its ones, as an ascending list: for bits of which few are
+/// ones. Contracts see a `SparseRSVec` as the list of its bits.
 #[derive(Drop)]
 pub struct SparseRSVec<A: Allocator + Copy> {
     ones: EliasFanoVec<A>,
@@ -34,7 +34,7 @@ impl<A: Allocator + Copy> Model for SparseRSVec<A> {
 impl<A: Allocator + Copy> Clone for SparseRSVec<A> {
     ghost is_clone = { λ old new. new ≡ old };
 
-    /// A second list of the same bits.
+    /// Returns a copy of the list.
     fn clone(&self) -> Result<Self, AllocError> {
         let ones = self.ones.clone()?;
         Ok(SparseRSVec {
@@ -46,8 +46,8 @@ impl<A: Allocator + Copy> Clone for SparseRSVec<A> {
 
 #[tactic(auto, using(crate::proofs::SparseBits::sparse))]
 impl<A: Allocator + Copy> SparseRSVec<A> {
-    /// The list of `len` bits whose ones stand at the given places. `AllocError` only where a
-    /// request for memory was refused.
+    /// Returns the list of `len` bits with ones at the given positions. Precondition: these ascend strictly and
+    /// are below `len`. Errors: `AllocError` only if the allocator refuses a request.
     pub fn new(alloc: A, ones: &[u64], len: u64) -> Result<Self, AllocError>
         requires rising { IsStrictlyIncreasing ones.now }
         requires within { All (λ place. place < len) ones.now }
@@ -57,7 +57,8 @@ impl<A: Allocator + Copy> SparseRSVec<A> {
         Ok(SparseRSVec::from_sorted(EliasFanoVec::from_slice(alloc, ones)?, len))
     }
 
-    /// The list of `len` bits whose ones stand at the members of a list.
+    /// Returns the list of `len` bits with ones at the members of a list. Precondition: these ascend strictly
+    /// and are below `len`.
     pub fn from_sorted(ones: EliasFanoVec<A>, len: u64) -> Self
         requires rising { IsStrictlyIncreasing ones }
         requires within { All (λ place. place < len) ones }
@@ -67,23 +68,22 @@ impl<A: Allocator + Copy> SparseRSVec<A> {
         SparseRSVec { ones, len }
     }
 
-    /// The same bits as those of a list that keeps them all. `AllocError` only where a request for
-    /// memory was refused.
+    /// Returns the same bits in sparse form. Errors: `AllocError` only if the allocator refuses a request.
     pub fn from_bitvec(bits: &BitVec<A>) -> Result<Self, AllocError>
         ensures { IfOk result (λ v. v ≡ bits.now) }
     {
         SparseRSVec::from_places(bits, true)
     }
 
-    /// The bits of another list with ones and zeros exchanged. `AllocError` only where a request
-    /// for memory was refused.
+    /// Returns the bits of another list with ones and zeros exchanged. Errors: `AllocError` only if the
+    /// allocator refuses a request.
     pub fn from_bitvec_inverted(bits: &BitVec<A>) -> Result<Self, AllocError>
         ensures { IfOk result (λ v. v ≡ map not bits.now) }
     {
         SparseRSVec::from_places(bits, false)
     }
 
-    // The list with ones where another has `bit`.
+    // Returns the list with ones where another has `bit`.
     #[tactic(auto, using(crate::proofs::SparseBits::from_places))]
     fn from_places(bits: &BitVec<A>, bit: bool) -> Result<Self, AllocError>
         ensures { IfOk result (λ v. v ≡ map (is_bit bit) bits.now) }
@@ -95,7 +95,7 @@ impl<A: Allocator + Copy> SparseRSVec<A> {
         })
     }
 
-    /// How many bits the list has.
+    /// Returns the number of bits.
     #[inline]
     pub fn len(&self) -> u64
         ensures { result ≡ length self.now }
@@ -103,7 +103,7 @@ impl<A: Allocator + Copy> SparseRSVec<A> {
         self.len
     }
 
-    /// Whether the list has no bits.
+    /// Returns true if the list is empty.
     #[inline]
     pub fn is_empty(&self) -> bool
         ensures { IsTrue result ↔ (self.now ≡ []) }
@@ -111,7 +111,7 @@ impl<A: Allocator + Copy> SparseRSVec<A> {
         self.len() == 0
     }
 
-    /// The bytes that the list of the ones' places takes.
+    /// Returns the number of bytes that the list of the ones' positions takes.
     pub fn heap_size(&self) -> usize
         ensures { result ≡ heap_size_of (places true self.now) }
     {
@@ -119,7 +119,7 @@ impl<A: Allocator + Copy> SparseRSVec<A> {
         self.ones.heap_size()
     }
 
-    /// Whether the bit at a place is a one. None for a place that the list doesn't have.
+    /// Returns true if the bit at `place` is a one, or `None` if `place` is out of bounds.
     #[inline]
     pub fn is_set(&self, place: u64) -> Option<bool>
         ensures { result ≡ slice_get self.now place }
@@ -128,7 +128,7 @@ impl<A: Allocator + Copy> SparseRSVec<A> {
         self.is_set_counted(place, &mut tally)
     }
 
-    /// The same as `is_set`, by the reads of one search among the places of the ones.
+    /// Returns `is_set(place)`. Reads at most what one search among the positions of the ones does.
     #[inline(always)]
     pub fn is_set_counted(&self, place: u64, tally: &mut Tally) -> Option<bool>
         ensures value { result ≡ slice_get self.now place }
@@ -140,7 +140,7 @@ impl<A: Allocator + Copy> SparseRSVec<A> {
         Some(self.holds_one(place, tally))
     }
 
-    // Whether the bit at a place of the list is a one.
+    // Returns true if the bit at `place` is a one. Precondition: `place` is below the length.
     #[inline(always)]
     fn holds_one(&self, place: u64, tally: &mut Tally) -> bool
         requires { place < length self.now }
@@ -151,7 +151,7 @@ impl<A: Allocator + Copy> SparseRSVec<A> {
         self.ones.has_counted(place, tally)
     }
 
-    /// Whether the bit at a place of the list is a one.
+    /// Returns true if the bit at `place` is a one. Precondition: `place` is below the length.
     #[inline]
     pub fn is_set_unchecked(&self, place: u64) -> bool
         requires { place < length self.now }
@@ -161,7 +161,7 @@ impl<A: Allocator + Copy> SparseRSVec<A> {
         self.holds_one(place, &mut tally)
     }
 
-    /// The bit at a place, 1 or 0. None for a place that the list doesn't have.
+    /// Returns the bit at `place`, 1 or 0, or `None` if `place` is out of bounds.
     #[inline]
     pub fn get(&self, place: u64) -> Option<u64>
         ensures { result ≡ option_map bit_value (slice_get self.now place) }
@@ -170,7 +170,7 @@ impl<A: Allocator + Copy> SparseRSVec<A> {
         self.get_counted(place, &mut tally)
     }
 
-    /// The same as `get`, by the reads of one search among the places of the ones.
+    /// Returns `get(place)`. Reads at most what one search among the positions of the ones does.
     #[inline(always)]
     pub fn get_counted(&self, place: u64, tally: &mut Tally) -> Option<u64>
         ensures value { result ≡ option_map bit_value (slice_get self.now place) }
@@ -182,7 +182,7 @@ impl<A: Allocator + Copy> SparseRSVec<A> {
         Some(u64::from(self.holds_one(place, tally)))
     }
 
-    /// The bit at a place of the list, 1 or 0.
+    /// Returns the bit at `place`, 1 or 0. Precondition: `place` is below the length.
     #[inline]
     pub fn get_unchecked(&self, place: u64) -> u64
         requires { place < length self.now }
@@ -191,7 +191,7 @@ impl<A: Allocator + Copy> SparseRSVec<A> {
         u64::from(self.is_set_unchecked(place))
     }
 
-    /// The place of one number `r`, counted from 0, or the length where there are no more.
+    /// Returns the position of one `r` (from 0), or the length if there are fewer.
     #[inline]
     pub fn select1(&self, r: usize) -> u64
         ensures value { result ≡ select true self.now r }
@@ -201,7 +201,7 @@ impl<A: Allocator + Copy> SparseRSVec<A> {
         self.select1_counted(r, &mut tally)
     }
 
-    /// The same as `select1`, by the reads of one member of the places of the ones.
+    /// Returns `select1(r)`. Reads at most what one member of the positions of the ones does.
     #[inline(always)]
     pub fn select1_counted(&self, r: usize, tally: &mut Tally) -> u64
         ensures value { result ≡ select true self.now r }
@@ -215,7 +215,7 @@ impl<A: Allocator + Copy> SparseRSVec<A> {
         }
     }
 
-    /// How many ones stand below a place.
+    /// Returns the number of ones below `place`.
     #[inline]
     pub fn rank1(&self, place: u64) -> u64
         ensures value { result ≡ count true self.now place }
@@ -225,7 +225,7 @@ impl<A: Allocator + Copy> SparseRSVec<A> {
         self.rank1_counted(place, &mut tally)
     }
 
-    /// The same as `rank1`, by the reads of one search among the places of the ones.
+    /// Returns `rank1(place)`. Reads at most what one search among the positions of the ones does.
     #[inline(always)]
     pub fn rank1_counted(&self, place: u64, tally: &mut Tally) -> u64
         ensures value { result ≡ count true self.now place }
@@ -236,7 +236,7 @@ impl<A: Allocator + Copy> SparseRSVec<A> {
         self.ones.rank_counted(place, tally)
     }
 
-    /// How many zeros stand below a place.
+    /// Returns the number of zeros below `place`.
     #[inline]
     pub fn rank0(&self, place: u64) -> u64
         ensures value { result ≡ count false self.now place }
@@ -246,7 +246,7 @@ impl<A: Allocator + Copy> SparseRSVec<A> {
         self.rank0_counted(place, &mut tally)
     }
 
-    /// The same as `rank0`, by the reads of one search among the places of the ones.
+    /// Returns `rank0(place)`. Reads at most what one search among the positions of the ones does.
     #[inline(always)]
     #[tactic(auto, using(crate::proofs::SparseBits::zeros))]
     pub fn rank0_counted(&self, place: u64, tally: &mut Tally) -> u64
@@ -258,7 +258,7 @@ impl<A: Allocator + Copy> SparseRSVec<A> {
         place.min(self.len()) - ones
     }
 
-    /// An iterator over the places of the ones.
+    /// Returns an iterator over the positions of the ones.
     pub fn iter1(&self) -> EliasFanoRefIter<'_, A>
         ensures { result ≡ record {
           left = places true self.now;
@@ -270,7 +270,7 @@ impl<A: Allocator + Copy> SparseRSVec<A> {
     }
 }
 
-// The places of the ones or the zeros.
+// Returns the positions of the ones or the zeros.
 #[tactic(auto, using(crate::proofs::SparseBits::collecting))]
 fn places_of<A: Allocator + Copy>(bits: &BitVec<A>, bit: bool) -> Result<Vec<u64, A>, AllocError>
     ensures { IfOk result (λ v. v.items ≡ places bit bits.now) }
@@ -282,8 +282,7 @@ fn places_of<A: Allocator + Copy>(bits: &BitVec<A>, bit: bool) -> Result<Vec<u64
     Ok(found)
 }
 
-// Adds the places of the ones or the zeros of one limb to those of the limbs before it, from the
-// lowest up.
+// Appends the positions of the ones or the zeros of one limb to those of the limbs before it, ascending.
 #[tactic(auto, using(crate::proofs::SparseBits::collecting))]
 fn push_places<A: Allocator + Copy>(
     found: &mut Vec<u64, A>,
@@ -310,7 +309,7 @@ fn push_places<A: Allocator + Copy>(
     Ok(())
 }
 
-// The word in which the ones or the zeros of a limb are ones.
+// Returns the word in which the ones or the zeros of a limb are ones.
 #[tactic(auto, using(crate::proofs::Marks::limbs))]
 fn marks_of<A: Allocator + Copy>(bits: &BitVec<A>, bit: bool, k: usize) -> u64
     requires { 64 * k < length bits.now }

@@ -1,4 +1,4 @@
-//! The bits of the high parts that a walk along the members has read before it is asked for them.
+//! The bits of the high parts that a walk along the members has read ahead.
 ghost use Rattle.std.specs.Prelude.{◌≡◌, ◌+◌, ◌<◌, length, slice_index};
 ghost use Rattle.vers_tally.specs.Reads.{AddsAtMost};
 ghost use Rattle.vers_sorted.specs.inside.Ahead.{IsAhead};
@@ -9,7 +9,7 @@ use super::EliasFanoVec;
 use std::alloc::Allocator;
 use vers_tally::tally::Tally;
 
-// Bits of the high parts: `len` of them from `place` on, as a number. No ones where nothing was read.
+// Bits of the high parts: `len` of them from `place` on, as a number. No ones if nothing was read.
 #[derive(Clone, Copy, Drop)]
 pub(super) struct Ahead {
     pub(super) place: usize,
@@ -18,7 +18,7 @@ pub(super) struct Ahead {
 }
 
 impl Ahead {
-    // Nothing is read ahead.
+    // Returns an empty read-ahead.
     #[inline]
     pub(super) fn none() -> Ahead
         ensures { result.word ≡ 0 }
@@ -32,7 +32,7 @@ impl Ahead {
 }
 
 impl<A: Allocator + Copy> EliasFanoVec<A> {
-    // The place of the one of a member, which most often was read ahead with those before it.
+    // Returns the position of the one of a member, which mostly was read ahead with those before it.
     #[inline(always)]
     #[tactic(auto, using(crate::proofs::Aheads::steps))]
     pub(super) fn place_ahead(&self, i: usize, ahead: &mut Ahead, tally: &mut Tally) -> usize
@@ -61,7 +61,7 @@ impl<A: Allocator + Copy> EliasFanoVec<A> {
         place
     }
 
-    // A member, by the place of its one.
+    // Returns a member, by the position of its one.
     #[inline(always)]
     pub(super) fn member_ahead(&self, i: usize, ahead: &mut Ahead, tally: &mut Tally) -> u64
         requires within { i < length self.now }

@@ -1,4 +1,4 @@
-//! The members at many places at once.
+//! Queries for many positions or numbers at once.
 ghost use Rattle.std.specs.Prelude.{◌≡◌, ℕ, ◌+◌, ◌<◌, ◌≤◌, length, map, slice_get, slice_index, slice_index_or, unwrap_or, option_and_then, Some, None};
 ghost use Rattle.std.specs.List.Sorted.{IsNonDecreasing};
 ghost use Rattle.vers_tally.specs.Reads.{digits, only_low_parts, times, AddsAtMost};
@@ -11,11 +11,11 @@ use super::EliasFanoVec;
 use std::alloc::Allocator;
 use vers_tally::tally::Tally;
 
-/// How many members are looked for together: so many that the processor has their reads in flight at
-/// once, and so few that what they read stays near.
+/// The members that are searched together: enough that the processor has their reads in flight at once, and few
+/// enough that what they read stays in the cache.
 pub(super) const GROUP: usize = 64;
 
-// The numbers of the ones of the members at `n` places, past all ones where there is no place.
+// Returns the numbers of the ones of the members at `n` positions, past all ones for each `None`.
 #[inline(always)]
 fn ask_each(places: &[Option<u64>], from: usize, n: usize, ones: &mut [usize; GROUP])
     requires within { from + n ≤ length places.now }
@@ -29,8 +29,7 @@ fn ask_each(places: &[Option<u64>], from: usize, n: usize, ones: &mut [usize; GR
 }
 
 impl<A: Allocator + Copy> EliasFanoVec<A> {
-    /// Puts in the stead of each place the member there: the answers of `get`, None past the last.
-    /// None stays where there is no place. Takes no memory.
+    /// Replaces each `Some(i)` in `places` by `get(i)`; each `None` stays. Allocates nothing.
     pub fn get_each(&self, places: &mut [Option<u64>])
         ensures value { places.new ≡ map (option_and_then (slice_get self.now)) places.old }
         ensures ascending { IsNonDecreasing self.now }
@@ -39,7 +38,7 @@ impl<A: Allocator + Copy> EliasFanoVec<A> {
         self.get_each_counted(places, &mut tally)
     }
 
-    /// The same as `get_each`, by at most the reads of as many calls of `get`.
+    /// Does what `get_each` does. Reads at most what as many calls of `get` do.
     #[inline(always)]
     pub fn get_each_counted(&self, places: &mut [Option<u64>], tally: &mut Tally)
         ensures value { places.new ≡ map (option_and_then (slice_get self.now)) places.old }
@@ -57,7 +56,7 @@ impl<A: Allocator + Copy> EliasFanoVec<A> {
         }
     }
 
-    // Puts in the stead of each of `n` places the member there: all selects first, level by level.
+    // Replaces each of `n` positions by the member there: all selects first, level by level.
     #[inline(always)]
     fn get_group(&self, places: &mut [Option<u64>], from: usize, n: usize, tally: &mut Tally)
         requires within { from + n ≤ length places.old }
@@ -73,7 +72,7 @@ impl<A: Allocator + Copy> EliasFanoVec<A> {
         self.members_each(places, from, n, &ones, tally);
     }
 
-    // Puts in the stead of each of `n` places the member there, by the place of its one.
+    // Replaces each of `n` positions by the member there, by the position of its one.
     #[inline(always)]
     fn members_each(
         &self,
@@ -97,7 +96,7 @@ impl<A: Allocator + Copy> EliasFanoVec<A> {
         }
     }
 
-    // The member at a place, by the place of its one.
+    // Returns the member at a position, by the position of its one.
     #[inline(always)]
     #[tactic(auto, using(crate::proofs::Packed::gets))]
     fn member_at(&self, place: Option<u64>, one: usize, tally: &mut Tally) -> Option<u64>
@@ -115,8 +114,7 @@ impl<A: Allocator + Copy> EliasFanoVec<A> {
         Some(self.with_low_part((one - i - 1) as u64, i, tally))
     }
 
-    /// Puts in the stead of each number how many members are below it: the answers of `rank`. Takes
-    /// no memory.
+    /// Replaces each `v` in `numbers` by `rank(v)`. Allocates nothing.
     pub fn rank_each(&self, numbers: &mut [u64])
         ensures value { numbers.new ≡ map (below self.now) numbers.old }
         ensures ascending { IsNonDecreasing self.now }
@@ -125,7 +123,7 @@ impl<A: Allocator + Copy> EliasFanoVec<A> {
         self.rank_each_counted(numbers, &mut tally)
     }
 
-    /// The same as `rank_each`, by at most the reads of as many calls of `rank`.
+    /// Replaces each `v` in `numbers` by `rank(v)`. Reads at most what as many calls of `rank` do.
     #[inline(always)]
     pub fn rank_each_counted(&self, numbers: &mut [u64], tally: &mut Tally)
         ensures value { numbers.new ≡ map (below self.now) numbers.old }
@@ -143,7 +141,7 @@ impl<A: Allocator + Copy> EliasFanoVec<A> {
         }
     }
 
-    // Puts in the stead of each of `n` numbers how many members are below it.
+    // Replaces each of `n` numbers by the number of members below it.
     #[inline(always)]
     #[tactic(auto, using(crate::proofs::Batches::rank_reads))]
     fn rank_group(&self, numbers: &mut [u64], from: usize, n: usize, tally: &mut Tally)
@@ -165,7 +163,7 @@ impl<A: Allocator + Copy> EliasFanoVec<A> {
         self.ranks_each(numbers, from, n, &before, &after, &parts, tally);
     }
 
-    // The same by what the searches began with.
+    // Does the same, from the first results of the searches.
     #[inline(always)]
     fn ranks_each(
         &self,
@@ -197,7 +195,7 @@ impl<A: Allocator + Copy> EliasFanoVec<A> {
         }
     }
 
-    // How many members are below a number, by what the search began with.
+    // Returns the number of members below a number, from the first results of the search.
     #[inline(always)]
     fn rank_begun(&self, v: u64, before: usize, after: usize, part: u64, tally: &mut Tally) -> u64
         requires { IsInside self.now v → IsBegun self.now v before after part }

@@ -1,4 +1,4 @@
-//! The iterators over the members of an ascending list.
+//! Iterators over the members of an ascending list.
 ghost use Rattle.std.specs.Prelude.{◌≡◌, ℕ, List};
 ghost use Rattle.std.specs.List.Sorted.{IsNonDecreasing};
 ghost use Rattle.vers_sorted.specs.Layout.{member_reads};
@@ -10,13 +10,13 @@ use std::marker::Model;
 use vers_tally::ends::{Ascending, Borrowing, BothEnds, Owning, Source};
 use vers_tally::tally::Tally;
 
-/// An ascending list, which is borrowed or owned.
+/// An ascending list, borrowed or owned.
 pub trait Sorted: Drop {
     type Alloc: Allocator + Copy;
 
     ghost members: { Self → List ℕ };
 
-    /// The list itself.
+    /// Returns the list itself.
     fn list(&self) -> &EliasFanoVec<Self::Alloc>
         ensures { result.now ≡ members self.now };
 }
@@ -132,7 +132,7 @@ pub type EliasFanoRefIter<'a, A> = BothEnds<Members<&'a EliasFanoVec<A>>>;
 pub type EliasFanoIter<A> = BothEnds<Members<EliasFanoVec<A>>>;
 
 impl<A: Allocator + Copy> EliasFanoVec<A> {
-    /// An iterator over the members.
+    /// Returns an iterator over the members.
     pub fn iter(&self) -> EliasFanoRefIter<'_, A>
         ensures value { result ≡ record { left = self.now; step = member_reads self.now } }
         ensures ascending { IsNonDecreasing self.now }
@@ -172,7 +172,7 @@ impl<A: Allocator + Copy> IntoIterator for EliasFanoVec<A> {
 
     ghost into_iter_gives = { λ list items. items ≡ record { left = list; step = member_reads list } };
 
-    /// An iterator over the members, which owns the list.
+    /// Returns an iterator over the members, which owns the list.
     fn into_iter(self) -> EliasFanoIter<A> {
         BothEnds::new(Members::new(self))
     }

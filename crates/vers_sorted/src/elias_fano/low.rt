@@ -7,15 +7,15 @@ use crate::elias_fano::make::known_to_fit;
 use std::alloc::{AllocError, Allocator};
 use vers_bits::bit_vec::{BitVec, MAX_LEN};
 
-// Bits that are to follow a list: the lowest `len` digits of a word.
+// Bits still to be appended to a list: the lowest `len` digits of a word.
 #[derive(Clone, Copy, Drop)]
 pub(super) struct Gathered {
     pub(super) word: u64,
     pub(super) len: usize,
 }
 
-// The bits that are still gathered, after the `width` lowest digits of a number have followed. A word
-// that is full goes over to the list.
+// Appends the `width` lowest digits of a number, and returns the bits that are still gathered. A full word is
+// appended to the list.
 #[inline(always)]
 #[tactic(auto, using(crate::proofs::Gathers::gathers))]
 pub(super) fn add_part<A: Allocator + Copy>(

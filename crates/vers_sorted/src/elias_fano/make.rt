@@ -1,4 +1,4 @@
-//! The makers of ascending lists.
+//! Constructors of ascending lists.
 ghost use Rattle.std.specs.Prelude.{◌≡◌, ◌≢◌, ◌==◌, ◌+◌, ◌-◌, ◌/◌, ◌^◌, ◌<◌, ◌≤◌, ℕ, List, length, IfOk, if◌then◌else◌};
 ghost use Rattle.std.specs.List.Sorted.{IsNonDecreasing};
 ghost use Rattle.vers_bits.specs.Walk.{TakesFirst};
@@ -15,12 +15,12 @@ use vers_tally::tally::CountedBits;
 /// The greatest length of a list. No slice of numbers is longer.
 pub const MAX_LEN: usize = 1152921504606846975;
 
-/// Numbers that are read in turn, and from a copy once more.
+/// Numbers that are read one by one, and once more from a copy.
 pub trait Numbers: Copy {
     // The numbers that are left.
     ghost left: { Self → List ℕ };
 
-    /// The first of the numbers left, which is taken.
+    /// Takes the first of the numbers left. `None` if none is left.
     fn next(&mut self) -> Option<u64>
         ensures { TakesFirst (left self.old) result (left self.new) };
 }
@@ -44,7 +44,8 @@ impl Numbers for SliceNumbers<'_> {
 
 #[tactic(auto, using(crate::proofs::Packed::packed))]
 impl<A: Allocator + Copy> EliasFanoVec<A> {
-    /// The list of ascending numbers. `AllocError` only where a request for memory was refused.
+    /// Returns the list of the numbers. Precondition: they ascend. Errors: `AllocError` only if the allocator
+    /// refuses a request.
     pub fn from_slice(alloc: A, numbers: &[u64]) -> Result<Self, AllocError>
         requires { IsNonDecreasing numbers.now }
         ensures { IfOk result (λ v. v ≡ numbers.now) }
@@ -53,8 +54,8 @@ impl<A: Allocator + Copy> EliasFanoVec<A> {
         EliasFanoVec::from_numbers(alloc, rest, numbers.len(), last_of(numbers))
     }
 
-    /// The list of `len` ascending numbers that are read in turn, of which `last` is the last one, or 0
-    /// where there are none. `AllocError` only where a request for memory was refused.
+    /// Returns the list of `len` numbers that are read one by one; `last` is the last one, or 0 if there are
+    /// none. Precondition: they ascend. Errors: `AllocError` only if the allocator refuses a request.
     #[tactic(auto, using(crate::proofs::Makes::low_width_is, crate::proofs::Packed::packed_as))]
     pub fn from_numbers<N: Numbers>(
         alloc: A,
@@ -82,7 +83,7 @@ impl<A: Allocator + Copy> EliasFanoVec<A> {
     }
 }
 
-// The first number, or 0.
+// Returns the first number, or 0.
 #[tactic(auto, using(crate::proofs::Makes::ends))]
 fn first_of<N: Numbers>(mut numbers: N) -> u64
     requires { IsNonDecreasing (N.left numbers) }
@@ -92,7 +93,7 @@ fn first_of<N: Numbers>(mut numbers: N) -> u64
     numbers.next().unwrap_or(0)
 }
 
-// The last number, or 0.
+// Returns the last number, or 0.
 #[tactic(auto, using(crate::proofs::Makes::ends))]
 fn last_of(numbers: &[u64]) -> u64
     ensures { result ≡ last_of numbers.now }
@@ -103,7 +104,7 @@ fn last_of(numbers: &[u64]) -> u64
     numbers[numbers.len() - 1]
 }
 
-// How many bits of a number are its low part, among `n` numbers that lie `u` apart.
+// Returns the number of bits of a low part, for `n` numbers that span `u`.
 #[tactic(auto, using(crate::proofs::Widths::widths), unfolding(crate::specs::Layout::width))]
 fn width_of(n: usize, u: u64) -> usize
     ensures value { result ≡ width n u }
@@ -113,7 +114,7 @@ fn width_of(n: usize, u: u64) -> usize
     bits - clog_of(n.max(2) as u128)
 }
 
-// The least exponent of a power of two that is not below `n`.
+// Returns the least exponent of a power of two that is at least `n`.
 #[tactic(auto, using(crate::proofs::Widths::logs))]
 fn clog_of(n: u128) -> usize
     ensures { result ≡ clog n }
@@ -121,7 +122,7 @@ fn clog_of(n: u128) -> usize
     if n == 0 { 0 } else { digit_count(n - 1) }
 }
 
-// How many binary digits a number has.
+// Returns the number of binary digits of a number.
 #[tactic(auto, using(crate::proofs::Widths::logs))]
 fn digit_count(n: u128) -> usize
     ensures { result ≡ digits n }
@@ -129,7 +130,7 @@ fn digit_count(n: u128) -> usize
     (128 - n.leading_zeros()) as usize
 }
 
-// How many bits the high parts of `len` numbers take, where the last high part is `high`.
+// Returns the number of bits that the high parts of `len` numbers take, if the last high part is `high`.
 fn high_length_of(len: usize, high: u64) -> usize
     requires { 2 + len + high ≤ MOST_BITS }
     ensures { result ≡ (if len == 0 then 0 else 2 + len + high) }
@@ -140,7 +141,7 @@ fn high_length_of(len: usize, high: u64) -> usize
     2 + len + high as usize
 }
 
-// The answer of a call on a list that is known to fit: it is refused only for memory.
+// Returns the result of a call on a list that is known to fit: it fails only if the allocator refuses a request.
 pub(super) fn known_to_fit<T>(answer: Result<T, GrowError>) -> Result<T, AllocError>
     requires { answer ≢ Err GrowError.TooLong }
     ensures { IfOk result (λ value. answer ≡ Ok value) }
@@ -159,8 +160,8 @@ struct Parts<A: Allocator + Copy> {
     low: BitVec<A>,
 }
 
-// The parts of ascending numbers: a list of zeros in which the one of each number is set, and the low parts
-// one after another.
+// Returns the parts of ascending numbers: a list of zeros in which the one of each number is set, and the low
+// parts one after another.
 fn parts_of<A: Allocator + Copy, N: Numbers>(
     alloc: A,
     mut numbers: N,

@@ -1,4 +1,4 @@
-//! Steps along the high parts that read the bits beside a place before they ask for a select.
+//! Steps along the high parts that read the next bits before they use a select.
 ghost use Rattle.std.specs.Prelude.{◌≡◌, ◌+◌, ◌<◌, true, false, length};
 ghost use Rattle.vers_bits.specs.Bits.{count, select};
 ghost use Rattle.vers_tally.specs.Reads.{AddsAtMost};
@@ -8,7 +8,7 @@ use std::alloc::Allocator;
 use vers_rank::fast_rs_vec::RsVec;
 use vers_tally::tally::Tally;
 
-// The place of the zero after zero number `h`, which stands at a place.
+// Returns the position of the zero after zero `h`, from the position of zero `h`.
 #[inline(always)]
 #[tactic(auto, using(crate::proofs::Scans::scans))]
 pub(super) fn zero_after<A: Allocator + Copy>(
@@ -31,7 +31,7 @@ pub(super) fn zero_after<A: Allocator + Copy>(
     high.select0_counted(h + 1, tally)
 }
 
-// The place of one number `k`, the next one from place `from` on.
+// Returns the position of one `k`, the next one from position `from` on.
 #[inline(always)]
 #[tactic(auto, using(crate::proofs::Besides::ones_beside))]
 pub(super) fn one_from<A: Allocator + Copy>(
@@ -54,7 +54,7 @@ pub(super) fn one_from<A: Allocator + Copy>(
     high.select1_counted(k, tally)
 }
 
-// The place of one number `k`, the last one before place `to`.
+// Returns the position of one `k`, the last one before position `to`.
 #[inline(always)]
 #[tactic(auto, using(crate::proofs::Besides::ones_beside))]
 pub(super) fn one_before<A: Allocator + Copy>(

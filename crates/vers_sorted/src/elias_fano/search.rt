@@ -1,4 +1,4 @@
-//! What is asked of an ascending list.
+//! Queries of an ascending list.
 ghost use Rattle.std.specs.Prelude.{◌≡◌, ℕ, ◌+◌, ◌-◌, ◌*◌, ◌<◌, ◌≤◌, ◌==◌, List, false, length, slice_index, slice_get, IsTrue, IsFalse};
 ghost use Rattle.vers_bits.specs.Bits.{select};
 ghost use Rattle.std.specs.List.{list_any};
@@ -16,7 +16,7 @@ use crate::elias_fano::scan::{one_before, one_from};
 use std::alloc::Allocator;
 use vers_tally::tally::Tally;
 
-// The members with one high part: those from place `start` up to place `end`.
+// The members with one high part: those from position `start` up to position `end`.
 #[derive(Clone, Copy, Drop)]
 pub(super) struct Bucket {
     pub(super) high: u64,
@@ -26,7 +26,7 @@ pub(super) struct Bucket {
 
 #[tactic(auto, using(crate::proofs::Packed::packed))]
 impl<A: Allocator + Copy> EliasFanoVec<A> {
-    // The low part of a member.
+    // Returns the low part of a member.
     #[inline(always)]
     #[tactic(auto, using(crate::proofs::Packed::low_parts_read))]
     pub(super) fn low_part(&self, i: usize, tally: &mut Tally) -> u64
@@ -38,7 +38,7 @@ impl<A: Allocator + Copy> EliasFanoVec<A> {
         self.low.low_part(i * self.width, self.width, tally)
     }
 
-    // The high part of a member.
+    // Returns the high part of a member.
     #[inline(always)]
     #[tactic(auto, using(crate::proofs::Packed::high_parts_read))]
     fn high_part(&self, i: usize, tally: &mut Tally) -> u64
@@ -50,7 +50,7 @@ impl<A: Allocator + Copy> EliasFanoVec<A> {
         (self.high.select1_counted(i, tally) - i - 1) as u64
     }
 
-    // The member whose high part is known, by its low part.
+    // Returns a member from its high part and its low part.
     #[inline(always)]
     #[tactic(auto, using(crate::proofs::Packed::joined_parts))]
     pub(super) fn with_low_part(&self, high: u64, i: usize, tally: &mut Tally) -> u64
@@ -64,7 +64,7 @@ impl<A: Allocator + Copy> EliasFanoVec<A> {
         self.first + ((high << self.width) | low)
     }
 
-    // A member.
+    // Returns a member.
     #[inline(always)]
     pub(super) fn member(&self, i: usize, tally: &mut Tally) -> u64
         requires { i < length self.now }
@@ -75,7 +75,7 @@ impl<A: Allocator + Copy> EliasFanoVec<A> {
         self.with_low_part(high, i, tally)
     }
 
-    // The high part of a number that isn't below the first member.
+    // Returns the high part of a number that isn't below the first member.
     #[inline(always)]
     #[tactic(auto, using(crate::proofs::Buckets::high_is))]
     pub(super) fn high_number(&self, v: u64) -> usize
@@ -87,7 +87,7 @@ impl<A: Allocator + Copy> EliasFanoVec<A> {
         ((v - self.first) >> self.width) as usize
     }
 
-    // Its low part.
+    // Returns its low part.
     #[inline(always)]
     #[tactic(auto, using(crate::proofs::Buckets::low_is))]
     pub(super) fn low_number(&self, v: u64) -> u64
@@ -99,7 +99,7 @@ impl<A: Allocator + Copy> EliasFanoVec<A> {
         (v - self.first) & ((1 << self.width) - 1)
     }
 
-    // The members with the high part of `v`, by the places of two zeros, most often from one select.
+    // Returns the members with the high part of `v`, from the positions of two zeros, mostly by one select.
     #[inline(always)]
     #[tactic(auto, using(crate::proofs::Buckets::bucket))]
     fn bucket_of(&self, v: u64, tally: &mut Tally) -> Bucket
@@ -114,7 +114,7 @@ impl<A: Allocator + Copy> EliasFanoVec<A> {
         self.bucket_between(v, zeros.first, zeros.second)
     }
 
-    // The members with the high part of `v`, by the places of the zeros before and after them.
+    // Returns the members with the high part of `v`, from the positions of the zeros before and after them.
     #[inline(always)]
     #[tactic(auto, using(crate::proofs::Buckets::bucket))]
     pub(super) fn bucket_between(&self, v: u64, before: usize, after: usize) -> Bucket
@@ -134,7 +134,7 @@ impl<A: Allocator + Copy> EliasFanoVec<A> {
         }
     }
 
-    // How many members are below `v`, where those with its high part are known.
+    // Returns the number of members below `v`, from the members with its high part.
     #[inline(always)]
     #[tactic(auto, using(crate::proofs::Buckets::search_steps))]
     pub(super) fn below_in(&self, bucket: Bucket, v: u64, tally: &mut Tally) -> usize
@@ -160,7 +160,7 @@ impl<A: Allocator + Copy> EliasFanoVec<A> {
         from
     }
 
-    // The same where the low part of the first of those members is known too.
+    // Does the same if the low part of the first of those members is known too.
     #[inline(always)]
     #[tactic(auto, using(crate::proofs::Buckets::search_steps))]
     pub(super) fn below_from(&self, bucket: Bucket, part: u64, v: u64, tally: &mut Tally) -> usize
@@ -181,7 +181,7 @@ impl<A: Allocator + Copy> EliasFanoVec<A> {
         self.below_in(bucket, v, tally)
     }
 
-    // Whether a bucket of many members has `v` in its middle, as most of those have in which many are
+    // Returns true if a bucket of many members has `v` in its middle, as most of those do in which many are
     // equal to it. The bucket is that of another number.
     #[inline(always)]
     #[tactic(auto, using(crate::proofs::Buckets::members))]
@@ -198,7 +198,7 @@ impl<A: Allocator + Copy> EliasFanoVec<A> {
         self.with_low_part(bucket.high, bucket.start + count / 2, tally) == v
     }
 
-    // The first member past a bucket. Most often its one is among the next 64 high parts.
+    // Returns the first member past a bucket. Mostly its one is among the next 64 high parts.
     #[inline(always)]
     #[tactic(auto, using(crate::proofs::Besides::beside, crate::proofs::Packed::high_parts_read))]
     fn member_past(&self, bucket: Bucket, v: u64, tally: &mut Tally) -> u64
@@ -216,7 +216,7 @@ impl<A: Allocator + Copy> EliasFanoVec<A> {
         self.with_low_part((place - i - 1) as u64, i, tally)
     }
 
-    // The last member before a bucket. Most often its one is among the 64 high parts before.
+    // Returns the last member before a bucket. Mostly its one is among the 64 high parts before.
     #[inline(always)]
     #[tactic(auto, using(crate::proofs::Besides::beside, crate::proofs::Packed::high_parts_read))]
     fn member_before(&self, bucket: Bucket, v: u64, tally: &mut Tally) -> u64
@@ -234,8 +234,8 @@ impl<A: Allocator + Copy> EliasFanoVec<A> {
         self.with_low_part((place - i - 1) as u64, i, tally)
     }
 
-    /// The same as `has`, by at most as many low parts and queries of the high parts as the number
-    /// of members has binary digits, and 8 more.
+    /// Returns `has(v)`. Reads at most as many low parts, and queries the high parts at most as often, as the
+    /// length has binary digits, plus 8.
     #[inline(always)]
     #[tactic(auto, using(crate::proofs::Members::members, crate::proofs::Bounds::bounds))]
     pub fn has_counted(&self, v: u64, tally: &mut Tally) -> bool
@@ -260,7 +260,7 @@ impl<A: Allocator + Copy> EliasFanoVec<A> {
         self.with_low_part(bucket.high, k, tally) == v
     }
 
-    /// The same as `get`, by at most 2 low parts and 2 queries of the high parts.
+    /// Returns `get(i)`. Reads at most 2 low parts, with at most 2 queries of the high parts.
     #[inline(always)]
     #[tactic(auto, using(crate::proofs::Packed::gets, crate::proofs::Bounds::bounds))]
     pub fn get_counted(&self, i: usize, tally: &mut Tally) -> Option<u64>
@@ -274,7 +274,7 @@ impl<A: Allocator + Copy> EliasFanoVec<A> {
         Some(self.member(i, tally))
     }
 
-    /// The same as `get_counted`.
+    /// Returns `select(i)`. Reads at most what `get_counted` does.
     #[inline(always)]
     pub fn select_counted(&self, i: usize, tally: &mut Tally) -> Option<u64>
         ensures value { result ≡ slice_get self.now i }
@@ -284,7 +284,7 @@ impl<A: Allocator + Copy> EliasFanoVec<A> {
         self.get_counted(i, tally)
     }
 
-    /// The same as `delta`, by at most 2 low parts and 2 queries of the high parts.
+    /// Returns `delta(i)`. Reads at most 2 low parts, with at most 2 queries of the high parts.
     #[inline(always)]
     #[tactic(auto, using(crate::proofs::Neighbours::deltas, crate::proofs::Bounds::bounds))]
     pub fn delta_counted(&self, i: usize, tally: &mut Tally) -> Option<u64>
@@ -305,8 +305,8 @@ impl<A: Allocator + Copy> EliasFanoVec<A> {
         Some(member - before)
     }
 
-    /// The same as `rank`, by at most as many low parts and queries of the high parts as the number
-    /// of members has binary digits, and 8 more.
+    /// Returns `rank(v)`. Reads at most as many low parts, and queries the high parts at most as often, as the
+    /// length has binary digits, plus 8.
     #[inline(always)]
     #[tactic(auto, using(crate::proofs::Bounds::bounds, crate::proofs::Buckets::ends))]
     pub fn rank_counted(&self, v: u64, tally: &mut Tally) -> u64
@@ -323,7 +323,7 @@ impl<A: Allocator + Copy> EliasFanoVec<A> {
         self.below_in(bucket, v, tally) as u64
     }
 
-    // Whether a number lies above the first member and not above the last.
+    // Returns true if a number is above the first member and at most the last.
     #[inline(always)]
     #[tactic(auto, using(crate::proofs::Begins::insides))]
     pub(super) fn is_inside(&self, v: u64) -> bool
@@ -334,7 +334,7 @@ impl<A: Allocator + Copy> EliasFanoVec<A> {
         self.first() < v && v <= self.last()
     }
 
-    // How many members are below a number that doesn't lie so.
+    // Returns the number of members below a number that isn't in that range.
     #[inline(always)]
     #[tactic(auto, using(crate::proofs::Neighbours::outside))]
     pub(super) fn rank_outside(&self, v: u64) -> u64
@@ -348,8 +348,8 @@ impl<A: Allocator + Copy> EliasFanoVec<A> {
         self.len() as u64
     }
 
-    /// The same as `predecessor`, by at most as many low parts and queries of the high parts as the
-    /// number of members has binary digits, and 8 more.
+    /// Returns `predecessor(v)`. Reads at most as many low parts, and queries the high parts at most as often,
+    /// as the length has binary digits, plus 8.
     #[inline(always)]
     #[tactic(auto, using(crate::proofs::Bounds::bounds, crate::proofs::Members::neighbours))]
     pub fn predecessor_counted(&self, v: u64, tally: &mut Tally) -> Option<u64>
@@ -370,7 +370,7 @@ impl<A: Allocator + Copy> EliasFanoVec<A> {
         Some(self.last_below(bucket, v + 1, k, tally))
     }
 
-    // Whether the number after `v` lies above the first member and not above the last.
+    // Returns true if the number after `v` is above the first member and at most the last.
     #[inline(always)]
     #[tactic(auto, using(crate::proofs::Begins::insides))]
     pub(super) fn is_inside_after(&self, v: u64) -> bool
@@ -381,7 +381,7 @@ impl<A: Allocator + Copy> EliasFanoVec<A> {
         self.first() <= v && v < self.last()
     }
 
-    // The predecessor of a number where the one after it doesn't lie so.
+    // Returns the predecessor of a number if the next number isn't in that range.
     #[inline(always)]
     #[tactic(auto, using(crate::proofs::Neighbours::outside))]
     pub(super) fn predecessor_outside(&self, v: u64) -> Option<u64>
@@ -395,7 +395,7 @@ impl<A: Allocator + Copy> EliasFanoVec<A> {
         Some(self.last())
     }
 
-    // The last of the `k` members below `v`.
+    // Returns the last of the `k` members below `v`.
     #[inline(always)]
     #[tactic(auto, using(crate::proofs::Buckets::sides))]
     pub(super) fn last_below(&self, bucket: Bucket, v: u64, k: usize, tally: &mut Tally) -> u64
@@ -414,8 +414,8 @@ impl<A: Allocator + Copy> EliasFanoVec<A> {
         self.with_low_part(bucket.high, k - 1, tally)
     }
 
-    /// The same as `successor`, by at most as many low parts and queries of the high parts as the
-    /// number of members has binary digits, and 8 more.
+    /// Returns `successor(v)`. Reads at most as many low parts, and queries the high parts at most as often, as
+    /// the length has binary digits, plus 8.
     #[inline(always)]
     #[tactic(auto, using(crate::proofs::Bounds::bounds, crate::proofs::Members::neighbours))]
     pub fn successor_counted(&self, v: u64, tally: &mut Tally) -> Option<u64>
@@ -435,7 +435,7 @@ impl<A: Allocator + Copy> EliasFanoVec<A> {
         Some(self.first_from(bucket, v, k, tally))
     }
 
-    // The successor of a number that doesn't lie above the first member and not above the last.
+    // Returns the successor of a number that isn't above the first member and at most the last.
     #[inline(always)]
     #[tactic(auto, using(crate::proofs::Neighbours::outside))]
     pub(super) fn successor_outside(&self, v: u64) -> Option<u64>
@@ -449,7 +449,7 @@ impl<A: Allocator + Copy> EliasFanoVec<A> {
         Some(self.first())
     }
 
-    // The member after the `k` members below `v`.
+    // Returns the member after the `k` members below `v`.
     #[inline(always)]
     #[tactic(auto, using(crate::proofs::Buckets::sides))]
     pub(super) fn first_from(&self, bucket: Bucket, v: u64, k: usize, tally: &mut Tally) -> u64
