@@ -21,21 +21,21 @@ use std::alloc::Allocator;
 use vers_rank::fast_rs_vec::RsVec;
 use vers_tally::tally::Tally;
 
-// A query that is asked level by level, and keeps in itself where it stands and what it found so far.
+// A query that is answered level by level, and stores its current position and result.
 pub(super) trait Query: Copy {
-    // What a query of `n` places keeps to where `k` levels are left.
+    // The invariant of a query of `n` positions when `k` levels are left.
     ghost keeps: { ℕ → ℕ → Self → Type 0 };
 
-    // What of a query stays as it is.
+    // The fields of a query that don't change.
     ghost stays: { Self → ℕ × ℕ };
 
-    // What the answer will be after the levels that are left.
+    // The answer after the levels that are left.
     ghost outcome: { List (List Bool) → Self → Option ℕ };
 
-    // What a query that is asked of all levels, of `n` places, answers.
+    // The answer of a query over all levels, of `n` positions.
     ghost meaning: { List (List Bool) → ℕ → Self → Option ℕ };
 
-    // The query before the first of some levels with `len` places.
+    // Returns the query before the first of some levels with `len` positions.
     fn begin(self, levels: usize, len: usize) -> Self
         ensures stays { stays result ≡ stays self }
         ensures keeps { keeps len levels result }
@@ -44,7 +44,7 @@ pub(super) trait Query: Copy {
         ensures wide { 64 < levels → keeps len 0 result
             × ((ls ms : List (List Bool)) → outcome ls result ≡ outcome ms result) };
 
-    // The query after one level more, with `i` levels left.
+    // Returns the query after one more level, with `i` levels left.
     fn step<A: Allocator + Copy>(self, level: &RsVec<A>, i: usize, tally: &mut Tally) -> Self
         requires { keeps (length level.now) (i + 1) self }
         ensures stays { stays result ≡ stays self }
@@ -54,7 +54,7 @@ pub(super) trait Query: Copy {
         ensures adds { AddsAtMost tally.old tally.new (times 2 rank_reads) };
 }
 
-// Makes each query one before the first level.
+// Puts each query before the first level.
 #[inline(always)]
 fn begin_each<Q: Query>(queries: &mut [Q], levels: usize, len: usize)
     ensures { Become (λ q r. (Q.stays r ≡ Q.stays q) × Q.keeps len levels r
@@ -69,7 +69,7 @@ fn begin_each<Q: Query>(queries: &mut [Q], levels: usize, len: usize)
     }
 }
 
-// Leads each query through one level more, with `i` levels left.
+// Advances each query by one level, with `i` levels left.
 #[inline(always)]
 fn step_each<A: Allocator + Copy, Q: Query>(
     level: &RsVec<A>,
@@ -89,7 +89,7 @@ fn step_each<A: Allocator + Copy, Q: Query>(
     }
 }
 
-// Asks all queries, level by level. Where the symbols are no numbers of the machine, no level is read.
+// Answers all queries, level by level. If the symbols don't fit in a word, no level is read.
 #[inline(always)]
 pub(super) fn ask_each<A: Allocator + Copy, Q: Query>(
     levels: &[RsVec<A>],

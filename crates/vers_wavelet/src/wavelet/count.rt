@@ -1,4 +1,4 @@
-//! How often a symbol occurs.
+//! Rank: the number of occurrences of a symbol.
 ghost use Rattle.std.specs.Prelude.{◌≡◌, ◌%◌, ◌^◌, ◌<◌, ◌≤◌, ◌↔◌, length, IsSome, IfSome};
 ghost use Rattle.vers_bits.specs.Bits.{number};
 ghost use Rattle.vers_tally.specs.Reads.{AddsAtMost};
@@ -13,8 +13,8 @@ use vers_tally::tally::Tally;
 
 #[tactic(auto, using(crate::proofs::Digits::symbols))]
 impl<A: Allocator + Copy> WaveletMatrix<A> {
-    /// How many places of a range hold a symbol. None for a symbol of another length, and for a range
-    /// that starts at or past the end, ends past it or is reversed.
+    /// Returns the number of occurrences of a symbol in a range. `None` if the symbol has another width, or the
+    /// range starts at or past the end, ends past it or is reversed.
     pub fn rank_range(&self, range: Range<usize>, symbol: &BitVec<A>) -> Option<usize>
         ensures value { IfSome result (λ n. n
             ≡ length (occurrences self.now.items range.start range.end (number symbol.now))) }
@@ -25,8 +25,7 @@ impl<A: Allocator + Copy> WaveletMatrix<A> {
         self.rank_range_counted(range, symbol, &mut tally)
     }
 
-    /// The same as `rank_range`, by at most two ranks of each level: `2k` rank calls for symbols of `k`
-    /// bits.
+    /// Returns `rank_range(..)`. Reads at most two ranks of each level: `2k` rank calls for symbols of `k` bits.
     #[inline(always)]
     pub fn rank_range_counted(
         &self,
@@ -51,8 +50,8 @@ impl<A: Allocator + Copy> WaveletMatrix<A> {
         Some(self.count_in(range.start, range.end, symbol, tally))
     }
 
-    /// How many places of a range of the list hold a symbol. The symbol has the length of those of the
-    /// list.
+    /// Returns the number of occurrences of a symbol in a range. Precondition: the range is within the list,
+    /// and the symbol has the list's width.
     pub fn rank_range_unchecked(&self, range: Range<usize>, symbol: &BitVec<A>) -> usize
         requires order { range.start ≤ range.end }
         requires within { range.end ≤ length self.now.items }
@@ -64,8 +63,8 @@ impl<A: Allocator + Copy> WaveletMatrix<A> {
         self.count_in(range.start, range.end, symbol, &mut tally)
     }
 
-    /// How many places from `offset` on, before `end`, hold a symbol. None for a symbol of another
-    /// length, for an `offset` at or past the end of the list, and for an `end` past it or before
+    /// Returns the number of occurrences of a symbol from position `offset` on, before `end`. `None` if the
+    /// symbol has another width, `offset` is at or past the end of the list, or `end` is past it or before
     /// `offset`.
     pub fn rank_offset(&self, offset: usize, end: usize, symbol: &BitVec<A>) -> Option<usize>
         ensures value { IfSome result (λ n. n
@@ -77,8 +76,7 @@ impl<A: Allocator + Copy> WaveletMatrix<A> {
         self.rank_offset_counted(offset, end, symbol, &mut tally)
     }
 
-    /// The same as `rank_offset`, by at most two ranks of each level: `2k` rank calls for symbols of
-    /// `k` bits.
+    /// Returns `rank_offset(..)`. Reads at most two ranks of each level: `2k` rank calls for symbols of `k` bits.
     #[inline(always)]
     pub fn rank_offset_counted(
         &self,
@@ -96,8 +94,8 @@ impl<A: Allocator + Copy> WaveletMatrix<A> {
         self.rank_range_counted(offset..end, symbol, tally)
     }
 
-    /// How many places from `offset` on, before `end`, hold a symbol. The symbol has the length of
-    /// those of the list.
+    /// Returns the number of occurrences of a symbol from position `offset` on, before `end`. Precondition: the
+    /// range is within the list, and the symbol has the list's width.
     pub fn rank_offset_unchecked(&self, offset: usize, end: usize, symbol: &BitVec<A>) -> usize
         requires order { offset ≤ end }
         requires within { end ≤ length self.now.items }
@@ -107,8 +105,8 @@ impl<A: Allocator + Copy> WaveletMatrix<A> {
         self.rank_range_unchecked(offset..end, symbol)
     }
 
-    /// How many of the first `end` places hold a symbol. None for a symbol of another length, and where
-    /// there are not so many places.
+    /// Returns the number of occurrences of a symbol in the first `end` positions. `None` if the symbol has
+    /// another width, or there are fewer positions.
     pub fn rank(&self, end: usize, symbol: &BitVec<A>) -> Option<usize>
         ensures value { IfSome result (λ n. n
             ≡ length (occurrences self.now.items 0 end (number symbol.now))) }
@@ -119,7 +117,7 @@ impl<A: Allocator + Copy> WaveletMatrix<A> {
         self.rank_counted(end, symbol, &mut tally)
     }
 
-    /// The same as `rank`, by at most two ranks of each level: `2k` rank calls for symbols of `k` bits.
+    /// Returns `rank(..)`. Reads at most two ranks of each level: `2k` rank calls for symbols of `k` bits.
     #[inline(always)]
     pub fn rank_counted(&self, end: usize, symbol: &BitVec<A>, tally: &mut Tally) -> Option<usize>
         ensures value { IfSome result (λ n. n
@@ -134,8 +132,8 @@ impl<A: Allocator + Copy> WaveletMatrix<A> {
         Some(self.count_in(0, end, symbol, tally))
     }
 
-    /// How many of the first `end` places hold a symbol. The symbol has the length of those of the
-    /// list.
+    /// Returns the number of occurrences of a symbol in the first `end` positions. Precondition: `end` is at
+    /// most the length, and the symbol has the list's width.
     pub fn rank_unchecked(&self, end: usize, symbol: &BitVec<A>) -> usize
         requires within { end ≤ length self.now.items }
         requires wide { length symbol.now ≡ self.now.width }
@@ -144,9 +142,8 @@ impl<A: Allocator + Copy> WaveletMatrix<A> {
         self.rank_range_unchecked(0..end, symbol)
     }
 
-    /// How many places of a range hold a symbol, of which the low digits count. None where the symbols
-    /// have more than 64 bits, and for a range that starts at or past the end, ends past it or is
-    /// reversed.
+    /// Returns the number of occurrences of a symbol in a range. Only the low bits of `symbol` count. `None` if
+    /// the symbols have more than 64 bits, or the range starts at or past the end, ends past it or is reversed.
     pub fn rank_range_u64(&self, range: Range<usize>, symbol: u64) -> Option<usize>
         ensures value { IfSome result (λ n. n
             ≡ length (occurrences self.now.items range.start range.end
@@ -158,8 +155,8 @@ impl<A: Allocator + Copy> WaveletMatrix<A> {
         self.rank_range_u64_counted(range, symbol, &mut tally)
     }
 
-    /// The same as `rank_range_u64`, by at most two ranks of each level: `2k` rank calls for symbols of
-    /// `k` bits.
+    /// Returns `rank_range_u64(..)`. Reads at most two ranks of each level: `2k` rank calls for symbols of `k`
+    /// bits.
     #[inline(always)]
     pub fn rank_range_u64_counted(
         &self,
@@ -181,8 +178,8 @@ impl<A: Allocator + Copy> WaveletMatrix<A> {
         Some(self.count_in(range.start, range.end, &symbol, tally))
     }
 
-    /// How many places of a range of the list hold a symbol, of which the low digits count. The symbols
-    /// have at most 64 bits.
+    /// Returns the number of occurrences of a symbol in a range. Only the low bits of `symbol` count.
+    /// Precondition: the range is within the list, and the symbols have at most 64 bits.
     pub fn rank_range_u64_unchecked(&self, range: Range<usize>, symbol: u64) -> usize
         requires order { range.start ≤ range.end }
         requires within { range.end ≤ length self.now.items }
@@ -194,9 +191,9 @@ impl<A: Allocator + Copy> WaveletMatrix<A> {
         self.count_in(range.start, range.end, &symbol, &mut tally)
     }
 
-    /// How many places from `offset` on, before `end`, hold a symbol, of which the low digits count.
-    /// None where the symbols have more than 64 bits, for an `offset` at or past the end of the list,
-    /// and for an `end` past it or before `offset`.
+    /// Returns the number of occurrences of a symbol from position `offset` on, before `end`. Only the low bits
+    /// of `symbol` count. `None` if the symbols have more than 64 bits, `offset` is at or past the end of the
+    /// list, or `end` is past it or before `offset`.
     pub fn rank_offset_u64(&self, offset: usize, end: usize, symbol: u64) -> Option<usize>
         ensures value { IfSome result (λ n. n
             ≡ length (occurrences self.now.items offset end (symbol % 2 ^ self.now.width))) }
@@ -206,8 +203,8 @@ impl<A: Allocator + Copy> WaveletMatrix<A> {
         self.rank_offset_u64_counted(offset, end, symbol, &mut tally)
     }
 
-    /// The same as `rank_offset_u64`, by at most two ranks of each level: `2k` rank calls for symbols
-    /// of `k` bits.
+    /// Returns `rank_offset_u64(..)`. Reads at most two ranks of each level: `2k` rank calls for symbols of `k`
+    /// bits.
     #[inline(always)]
     pub fn rank_offset_u64_counted(
         &self,
@@ -224,8 +221,8 @@ impl<A: Allocator + Copy> WaveletMatrix<A> {
         self.rank_range_u64_counted(offset..end, symbol, tally)
     }
 
-    /// How many places from `offset` on, before `end`, hold a symbol, of which the low digits count.
-    /// The symbols have at most 64 bits.
+    /// Returns the number of occurrences of a symbol from position `offset` on, before `end`. Only the low bits
+    /// of `symbol` count. Precondition: the range is within the list, and the symbols have at most 64 bits.
     pub fn rank_offset_u64_unchecked(&self, offset: usize, end: usize, symbol: u64) -> usize
         requires order { offset ≤ end }
         requires within { end ≤ length self.now.items }
@@ -236,8 +233,8 @@ impl<A: Allocator + Copy> WaveletMatrix<A> {
         self.rank_range_u64_unchecked(offset..end, symbol)
     }
 
-    /// How many of the first `end` places hold a symbol, of which the low digits count. None where the
-    /// symbols have more than 64 bits, and where there are not so many places.
+    /// Returns the number of occurrences of a symbol in the first `end` positions. Only the low bits of
+    /// `symbol` count. `None` if the symbols have more than 64 bits, or there are fewer positions.
     pub fn rank_u64(&self, end: usize, symbol: u64) -> Option<usize>
         ensures value { IfSome result (λ n. n
             ≡ length (occurrences self.now.items 0 end (symbol % 2 ^ self.now.width))) }
@@ -247,8 +244,7 @@ impl<A: Allocator + Copy> WaveletMatrix<A> {
         self.rank_u64_counted(end, symbol, &mut tally)
     }
 
-    /// The same as `rank_u64`, by at most two ranks of each level: `2k` rank calls for symbols of `k`
-    /// bits.
+    /// Returns `rank_u64(..)`. Reads at most two ranks of each level: `2k` rank calls for symbols of `k` bits.
     #[inline(always)]
     pub fn rank_u64_counted(&self, end: usize, symbol: u64, tally: &mut Tally) -> Option<usize>
         ensures value { IfSome result (λ n. n
@@ -262,8 +258,8 @@ impl<A: Allocator + Copy> WaveletMatrix<A> {
         Some(self.count_in(0, end, &symbol, tally))
     }
 
-    /// How many of the first `end` places hold a symbol, of which the low digits count. The symbols
-    /// have at most 64 bits.
+    /// Returns the number of occurrences of a symbol in the first `end` positions. Only the low bits of
+    /// `symbol` count. Precondition: `end` is at most the length, and the symbols have at most 64 bits.
     pub fn rank_u64_unchecked(&self, end: usize, symbol: u64) -> usize
         requires within { end ≤ length self.now.items }
         requires wide { self.now.width ≤ 64 }

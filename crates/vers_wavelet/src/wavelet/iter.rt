@@ -1,4 +1,4 @@
-//! The iterators over the symbols: in their order or by size, as numbers or as lists of their bits.
+//! Iterators over the symbols: in their order or ascending, as numbers or as lists of their bits.
 ghost use Rattle.std.specs.Prelude.{◌≡◌, ◌≤◌, ◌↔◌, Bool, true, false, List, length, IsSome, IfSome};
 ghost use Rattle.vers_wavelet.specs.Symbols.{Symbols, by_size, in_bits, ordered};
 ghost use Rattle.vers_wavelet.specs.Reads.{walk_reads};
@@ -12,13 +12,13 @@ use vers_tally::ends::{Borrowing, BothEnds, Owning, Source};
 use vers_tally::made_ends::{BorrowingMaker, MadeEnds, Maker, OwningMaker};
 use vers_tally::tally::Tally;
 
-/// A wavelet matrix, which is borrowed or owned.
+/// A wavelet matrix, borrowed or owned.
 pub trait Matrix: Drop {
     type Alloc: Allocator + Copy;
 
     ghost symbols: { Self → Symbols };
 
-    /// The matrix itself.
+    /// Returns the matrix itself.
     fn matrix(&self) -> &WaveletMatrix<Self::Alloc>
         ensures { result.now ≡ symbols self.now };
 }
@@ -45,16 +45,16 @@ impl<A: Allocator + Copy> Matrix for WaveletMatrix<A> {
     }
 }
 
-/// An order in which iterators give the symbols of a matrix.
+/// The order in which iterators return the symbols of a matrix.
 pub trait Order {
     ghost by_size: { Bool };
 
-    /// Whether symbols come by size, and else as they stand.
+    /// Returns true if symbols come in ascending order, otherwise they come in their own order.
     fn is_by_size() -> bool
         ensures { result ≡ by_size };
 }
 
-/// The order in which the symbols stand.
+/// The symbols' own order.
 #[derive(Drop)]
 pub struct InOrder;
 
@@ -67,7 +67,7 @@ impl Order for InOrder {
     }
 }
 
-/// The order by size.
+/// Ascending order.
 #[derive(Drop)]
 pub struct BySize;
 
@@ -141,9 +141,9 @@ impl<A: Allocator + Copy> Owning for Numbers<WaveletMatrix<A>> {
     }
 }
 
-/// The symbols of a matrix as numbers, by size, which iterators read one by one. A symbol has at most 64
-/// bits. It keeps the symbol that was found last, with the members that are equal to it, and the way down
-/// to it, from which the next one is found.
+/// The symbols of a matrix as numbers, ascending, which iterators read one by one. A symbol has at most 64
+/// bits. It keeps the last symbol found, with the members that are equal to it, and the path down to it, from
+/// which the next one is found.
 #[derive(Drop)]
 pub struct SortedNumbers<M: Matrix> {
     matrix: M,
@@ -229,7 +229,7 @@ pub struct SymbolLists<O: Order, M: Matrix> {
 /// The symbols of a matrix as lists of their bits, in their order.
 pub type Lists<M> = SymbolLists<InOrder, M>;
 
-/// The symbols of a matrix as lists of their bits, by size.
+/// The symbols of a matrix as lists of their bits, ascending.
 pub type SortedLists<M> = SymbolLists<BySize, M>;
 
 impl<O: Order, M: Matrix> Model for SymbolLists<O, M> {
@@ -285,21 +285,20 @@ impl<O: Order, A: Allocator + Copy> OwningMaker for SymbolLists<O, WaveletMatrix
     }
 }
 
-/// An iterator over the symbols as lists of their bits. Each item takes memory, and reads at most
-/// what one query does: `2k` rank calls for symbols of `k` bits.
+/// An iterator over the symbols as lists of their bits. Each item is allocated, and reads at most what one
+/// query does: `2k` rank calls for symbols of `k` bits.
 pub type WaveletRefIter<'a, A> = MadeEnds<Lists<&'a WaveletMatrix<A>>>;
 
-/// An iterator over the symbols of a matrix that it owns, as lists of their bits. Each item takes
-/// memory, and reads at most what one query does: `2k` rank calls for symbols of `k` bits.
+/// An iterator over the symbols of a matrix that it owns, as lists of their bits. Each item is allocated, and
+/// reads at most what one query does: `2k` rank calls for symbols of `k` bits.
 pub type WaveletIter<A> = MadeEnds<Lists<WaveletMatrix<A>>>;
 
-/// An iterator over the symbols by size, as lists of their bits. Each item takes memory, and reads
-/// at most what one query does: `2k` rank calls for symbols of `k` bits.
+/// An iterator over the symbols, ascending, as lists of their bits. Each item is allocated, and reads at most
+/// what one query does: `2k` rank calls for symbols of `k` bits.
 pub type WaveletSortedRefIter<'a, A> = MadeEnds<SortedLists<&'a WaveletMatrix<A>>>;
 
-/// An iterator over the symbols of a matrix that it owns, by size, as lists of their bits. Each
-/// item takes memory, and reads at most what one query does: `2k` rank calls for symbols of `k`
-/// bits.
+/// An iterator over the symbols of a matrix that it owns, ascending, as lists of their bits. Each item is
+/// allocated, and reads at most what one query does: `2k` rank calls for symbols of `k` bits.
 pub type WaveletSortedIter<A> = MadeEnds<SortedLists<WaveletMatrix<A>>>;
 
 /// An iterator over the symbols as numbers. Each step reads at most what one query does: `2k` rank
@@ -310,16 +309,16 @@ pub type WaveletNumRefIter<'a, A> = BothEnds<Numbers<&'a WaveletMatrix<A>>>;
 /// one query does: `2k` rank calls for symbols of `k` bits.
 pub type WaveletNumIter<A> = BothEnds<Numbers<WaveletMatrix<A>>>;
 
-/// An iterator over the symbols by size, as numbers. Each step reads at most what one query does:
-/// `2k` rank calls for symbols of `k` bits.
+/// An iterator over the symbols, ascending, as numbers. Each step reads at most what one query does: `2k` rank
+/// calls for symbols of `k` bits.
 pub type WaveletSortedNumRefIter<'a, A> = BothEnds<SortedNumbers<&'a WaveletMatrix<A>>>;
 
-/// An iterator over the symbols of a matrix that it owns, by size, as numbers. Each step reads at
-/// most what one query does: `2k` rank calls for symbols of `k` bits.
+/// An iterator over the symbols of a matrix that it owns, ascending, as numbers. Each step reads at most what
+/// one query does: `2k` rank calls for symbols of `k` bits.
 pub type WaveletSortedNumIter<A> = BothEnds<SortedNumbers<WaveletMatrix<A>>>;
 
 impl<A: Allocator + Copy> WaveletMatrix<A> {
-    /// An iterator over the symbols, as lists of their bits.
+    /// Returns an iterator over the symbols, as lists of their bits.
     pub fn iter(&self) -> WaveletRefIter<'_, A>
         ensures { result ≡ record {
           left = in_bits self.now.width self.now.items;
@@ -329,7 +328,7 @@ impl<A: Allocator + Copy> WaveletMatrix<A> {
         MadeEnds::new(SymbolLists::new(self))
     }
 
-    /// An iterator over the symbols by size, as lists of their bits.
+    /// Returns an iterator over the symbols, ascending, as lists of their bits.
     pub fn iter_sorted(&self) -> WaveletSortedRefIter<'_, A>
         ensures { result ≡ record {
           left = in_bits self.now.width (by_size self.now.items);
@@ -339,7 +338,7 @@ impl<A: Allocator + Copy> WaveletMatrix<A> {
         MadeEnds::new(SymbolLists::new(self))
     }
 
-    /// An iterator over the symbols by size, as lists of their bits, which owns the matrix.
+    /// Returns an iterator over the symbols, ascending, as lists of their bits, which owns the matrix.
     pub fn into_iter_sorted(self) -> WaveletSortedIter<A>
         ensures { result ≡ record {
           left = in_bits self.width (by_size self.items);
@@ -349,7 +348,7 @@ impl<A: Allocator + Copy> WaveletMatrix<A> {
         MadeEnds::new(SymbolLists::new(self))
     }
 
-    /// An iterator over the symbols, as numbers. None where they have more than 64 bits.
+    /// Returns an iterator over the symbols, as numbers. `None` if they have more than 64 bits.
     pub fn iter_u64(&self) -> Option<WaveletNumRefIter<'_, A>>
         ensures value { IfSome result (λ walk.
             walk ≡ record { left = self.now.items; step = walk_reads self.now }) }
@@ -361,7 +360,7 @@ impl<A: Allocator + Copy> WaveletMatrix<A> {
         Some(BothEnds::new(Numbers::new(self)))
     }
 
-    /// An iterator over the symbols, as numbers, which owns the matrix. None where they have more than
+    /// Returns an iterator over the symbols, as numbers, which owns the matrix. `None` if they have more than
     /// 64 bits.
     pub fn into_iter_u64(self) -> Option<WaveletNumIter<A>>
         ensures value { IfSome result (λ walk.
@@ -374,7 +373,7 @@ impl<A: Allocator + Copy> WaveletMatrix<A> {
         Some(BothEnds::new(Numbers::new(self)))
     }
 
-    /// An iterator over the symbols by size, as numbers. None where they have more than 64 bits.
+    /// Returns an iterator over the symbols, ascending, as numbers. `None` if they have more than 64 bits.
     pub fn iter_sorted_u64(&self) -> Option<WaveletSortedNumRefIter<'_, A>>
         ensures value { IfSome result (λ walk.
             walk ≡ record { left = by_size self.now.items; step = walk_reads self.now }) }
@@ -386,7 +385,7 @@ impl<A: Allocator + Copy> WaveletMatrix<A> {
         Some(BothEnds::new(SortedNumbers::new(self)))
     }
 
-    /// An iterator over the symbols by size, as numbers, which owns the matrix. None where they have
+    /// Returns an iterator over the symbols, ascending, as numbers, which owns the matrix. `None` if they have
     /// more than 64 bits.
     pub fn into_iter_sorted_u64(self) -> Option<WaveletSortedNumIter<A>>
         ensures value { IfSome result (λ walk.
@@ -440,7 +439,7 @@ impl<A: Allocator + Copy> IntoIterator for WaveletMatrix<A> {
       step = walk_reads matrix;
     } };
 
-    /// An iterator over the symbols, as lists of their bits, which owns the matrix.
+    /// Returns an iterator over the symbols, as lists of their bits, which owns the matrix.
     fn into_iter(self) -> WaveletIter<A> {
         MadeEnds::new(SymbolLists::new(self))
     }

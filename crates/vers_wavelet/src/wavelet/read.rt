@@ -1,4 +1,4 @@
-//! The symbol at a place.
+//! Access: the symbol at a position.
 ghost use Rattle.std.specs.Prelude.{◌≡◌, ◌<◌, ◌≤◌, ◌↔◌, length, slice_get, slice_index, Some, None, Ok, IsSome, IfSome, IfOk};
 ghost use Rattle.vers_bits.specs.Bits.{number};
 ghost use Rattle.vers_tally.specs.Reads.{AddsAtMost};
@@ -11,7 +11,8 @@ use vers_tally::tally::Tally;
 
 #[tactic(auto, using(crate::proofs::Digits::symbols))]
 impl<A: Allocator + Copy> WaveletMatrix<A> {
-    /// The symbol at a place. None for a place that the list doesn't have.
+    /// Returns the symbol at `place`, or `None` if `place` is out of bounds. Errors: `AllocError` if the
+    /// allocator refuses a request.
     pub fn get_value(&self, place: usize) -> Result<Option<BitVec<A>>, AllocError>
         ensures value { IfOk result (λ o. IfSome o (λ v.
             (slice_get self.now.items place ≡ Some (number v)) × (length v ≡ self.now.width))) }
@@ -22,7 +23,7 @@ impl<A: Allocator + Copy> WaveletMatrix<A> {
         self.get_value_counted(place, &mut tally)
     }
 
-    /// The same as `get_value`, by at most two ranks of each level: `2k` rank calls for symbols of `k`
+    /// Returns `get_value(place)`. Reads at most two ranks of each level: `2k` rank calls for symbols of `k`
     /// bits.
     #[inline(always)]
     pub fn get_value_counted(
@@ -44,7 +45,8 @@ impl<A: Allocator + Copy> WaveletMatrix<A> {
         Ok(Some(answer))
     }
 
-    /// The symbol at a place of the list.
+    /// Returns the symbol at `place`. Precondition: `place` is below the length. Errors: `AllocError` if the
+    /// allocator refuses a request.
     pub fn get_value_unchecked(&self, place: usize) -> Result<BitVec<A>, AllocError>
         requires within { place < length self.now.items }
         ensures { IfOk result (λ v. (number v ≡ slice_index self.now.items place)
@@ -56,8 +58,7 @@ impl<A: Allocator + Copy> WaveletMatrix<A> {
         Ok(answer)
     }
 
-    /// The symbol at a place. None where the symbols have more than 64 bits, and for a place that the
-    /// list doesn't have.
+    /// Returns the symbol at `place`. `None` if the symbols have more than 64 bits, or `place` is out of bounds.
     pub fn get_u64(&self, place: usize) -> Option<u64>
         ensures value { IfSome result (λ x. slice_get self.now.items place ≡ Some x) }
         ensures answered { IsSome result ↔ (self.now.width ≤ 64) × (place < length self.now.items) }
@@ -66,8 +67,7 @@ impl<A: Allocator + Copy> WaveletMatrix<A> {
         self.get_u64_counted(place, &mut tally)
     }
 
-    /// The same as `get_u64`, by at most two ranks of each level: `2k` rank calls for symbols of `k`
-    /// bits.
+    /// Returns `get_u64(place)`. Reads at most two ranks of each level: `2k` rank calls for symbols of `k` bits.
     #[inline(always)]
     pub fn get_u64_counted(&self, place: usize, tally: &mut Tally) -> Option<u64>
         ensures value { IfSome result (λ x. slice_get self.now.items place ≡ Some x) }
@@ -82,7 +82,8 @@ impl<A: Allocator + Copy> WaveletMatrix<A> {
         Some(answer)
     }
 
-    /// The symbol at a place of the list. The symbols have at most 64 bits.
+    /// Returns the symbol at `place`. Precondition: `place` is below the length, and the symbols have at most
+    /// 64 bits.
     pub fn get_u64_unchecked(&self, place: usize) -> u64
         requires within { place < length self.now.items }
         requires wide { self.now.width ≤ 64 }

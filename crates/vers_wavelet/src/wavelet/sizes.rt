@@ -1,4 +1,4 @@
-//! What a wavelet matrix takes, and its clones.
+//! The size of a wavelet matrix, and its clones.
 ghost use Rattle.std.specs.Prelude.{◌≡◌, length, min};
 ghost use Rattle.std.specs.List.{range_with_len, sum_by};
 ghost use Rattle.vers_rank.specs.Queries.{index_size};
@@ -13,7 +13,7 @@ use vers_rank::fast_rs_vec::RsVec;
 impl<A: Allocator + Copy> Clone for WaveletMatrix<A> {
     ghost is_clone = { λ old new. new ≡ old };
 
-    /// A second matrix of the same symbols.
+    /// Returns a copy of the matrix.
     fn clone(&self) -> Result<Self, AllocError> {
         let levels = self.levels.clone()?;
         Ok(WaveletMatrix {
@@ -24,8 +24,8 @@ impl<A: Allocator + Copy> Clone for WaveletMatrix<A> {
 }
 
 impl<A: Allocator + Copy> WaveletMatrix<A> {
-    /// The bytes that the levels take, each a list of as many bits as there are symbols, with its
-    /// index; the greatest `usize` where they are more.
+    /// Returns the number of bytes that the levels take, each a list of as many bits as there are symbols, with
+    /// its index; the greatest `usize` if it is larger.
     pub fn heap_size(&self) -> usize
         ensures { result ≡ matrix_size self.now }
     {
@@ -33,7 +33,7 @@ impl<A: Allocator + Copy> WaveletMatrix<A> {
     }
 }
 
-// The bytes of the levels together: the level of the lowest digits comes last.
+// Returns the bytes of the levels together: the level of the lowest digits comes last.
 fn size_of_levels<A: Allocator + Copy>(levels: &[RsVec<A>], len: usize) -> usize
     requires { AreLevels levels.now len }
     ensures { result ≡ min (sum_by (λ j.

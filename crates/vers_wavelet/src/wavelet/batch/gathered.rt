@@ -1,4 +1,4 @@
-//! Where symbols are gathered, asked many times.
+//! Positions of symbols in gathered order, for many queries.
 ghost use Rattle.std.specs.Prelude.{◌≡◌, ℕ, ◌%◌, ◌^◌, ◌≤◌, ◌&&◌, List, Bool, Option, Some, None, length, map, nat_le, option_map, IfSome, if◌then◌else◌};
 ghost use Rattle.vers_tally.specs.Reads.{AddsAtMost, times};
 ghost use Rattle.vers_wavelet.specs.Levels.{values, way};
@@ -14,19 +14,19 @@ use std::alloc::Allocator;
 use vers_rank::fast_rs_vec::RsVec;
 use vers_tally::tally::Tally;
 
-/// A place and a symbol that is to be gathered from there on, and the answer.
+/// A position, a symbol to be found from there on, and the answer.
 #[derive(Clone, Copy, Drop)]
 pub struct GatheredQuery {
-    /// The place.
+    /// The position.
     pub place: usize,
-    /// The symbol, of which the low digits count.
+    /// The symbol, of which only the low bits count.
     pub symbol: u64,
-    /// Where the first such symbol from the place on goes, once the query is answered.
+    /// The gathered position of the first such symbol from the position on, once the query is answered.
     pub answer: Option<usize>,
 }
 
 impl GatheredQuery {
-    /// A query for where the first of a symbol from a place on goes.
+    /// Returns a query for the gathered position of the first of a symbol from `place` on.
     #[inline]
     pub fn new(place: usize, symbol: u64) -> Self
         ensures place { result.place ≡ place }
@@ -79,8 +79,8 @@ impl Query for GatheredQuery {
 }
 
 impl<A: Allocator + Copy> WaveletMatrix<A> {
-    /// Where the first of many symbols go, each from a place on, as `gathered_u64` answers: none takes memory, and all
-    /// are asked level by level, which is faster than one after the other where there are many.
+    /// Answers each query as `gathered_u64` does. Allocates nothing. All queries go level by level, which is
+    /// faster than one after another if there are many.
     pub fn gathered_u64_each(&self, queries: &mut [GatheredQuery])
         ensures { map (λ q. q.answer) queries.new ≡ map (λ q.
             if nat_le self.now.width 64 && nat_le q.place (length self.now.items)
@@ -91,7 +91,7 @@ impl<A: Allocator + Copy> WaveletMatrix<A> {
         self.gathered_u64_each_counted(queries, &mut tally)
     }
 
-    /// The same as `gathered_u64_each`, by at most two ranks of each level for each query.
+    /// Answers each query as `gathered_u64_each` does. Reads at most two ranks of each level for each query.
     #[inline(always)]
     pub fn gathered_u64_each_counted(&self, queries: &mut [GatheredQuery], tally: &mut Tally)
         ensures value { map (λ q. q.answer) queries.new ≡ map (λ q.

@@ -1,4 +1,4 @@
-//! The symbols at many places.
+//! The symbols at many positions.
 ghost use Rattle.std.specs.Prelude.{◌≡◌, ℕ, ◌+◌, ◌<◌, ◌≤◌, List, Bool, Option, Some, None, length, map, nat_le, slice_get, option_map, IfSome, if◌then◌else◌};
 ghost use Rattle.vers_tally.specs.Reads.{AddsAtMost, times};
 ghost use Rattle.vers_wavelet.specs.Levels.{value, values, HasRoom};
@@ -12,17 +12,17 @@ use std::alloc::Allocator;
 use vers_rank::fast_rs_vec::RsVec;
 use vers_tally::tally::Tally;
 
-/// A place to be asked for its symbol, and the answer.
+/// A position and the answer, its symbol.
 #[derive(Clone, Copy, Drop)]
 pub struct GetQuery {
-    /// The place. The call that answers works in it, and leaves a place of its own.
+    /// The position. Answering overwrites it.
     pub place: usize,
-    /// The symbol at the place, once the query is answered.
+    /// The symbol at the position, once the query is answered.
     pub answer: Option<u64>,
 }
 
 impl GetQuery {
-    /// A query for the symbol at a place.
+    /// Returns a query for the symbol at `place`.
     #[inline]
     pub fn new(place: usize) -> Self
         ensures place { result.place ≡ place }
@@ -68,8 +68,8 @@ impl Query for GetQuery {
 }
 
 impl<A: Allocator + Copy> WaveletMatrix<A> {
-    /// The symbols at many places, each as `get_u64` answers: none takes memory, and all are read level by level, which
-    /// is faster than one after the other where there are many.
+    /// Answers each query as `get_u64` does. Allocates nothing. All queries go level by level, which is faster
+    /// than one after another if there are many.
     pub fn get_u64_each(&self, queries: &mut [GetQuery])
         ensures { map (λ q. q.answer) queries.new ≡ map (λ q.
             if nat_le self.now.width 64 then slice_get self.now.items q.place else None)
@@ -79,7 +79,7 @@ impl<A: Allocator + Copy> WaveletMatrix<A> {
         self.get_u64_each_counted(queries, &mut tally)
     }
 
-    /// The same as `get_u64_each`, by the reads of `get_u64` at most for each query.
+    /// Answers each query as `get_u64_each` does. Reads at most what `get_u64` does for each query.
     #[inline(always)]
     pub fn get_u64_each_counted(&self, queries: &mut [GetQuery], tally: &mut Tally)
         ensures value { map (λ q. q.answer) queries.new ≡ map (λ q.

@@ -1,4 +1,4 @@
-//! Queries that are led one level up together: those of zeros, and those of ones.
+//! Queries that go up one level together: those of zeros, and those of ones.
 ghost use Rattle.std.specs.Prelude.{◌≡◌, ℕ, ◌+◌, ◌<◌, ◌≤◌, Bool, cond, length, slice_index, slice_index_or, IsTrue};
 ghost use Rattle.vers_bits.specs.Bits.{select};
 ghost use Rattle.vers_tally.specs.Reads.{AddsAtMost, times};
@@ -11,10 +11,10 @@ use std::alloc::Allocator;
 use vers_rank::fast_rs_vec::RsVec;
 use vers_tally::tally::Tally;
 
-/// How many queries ask a level together: so many that the processor has their reads in flight at once.
+/// The queries that search a level together: enough that the processor has their reads in flight at once.
 pub(super) const GROUP: usize = 64;
 
-// Numbers of the zeros of a level or of its ones, the first `count` of them, or their places.
+// Numbers of the zeros of a level or of its ones, the first `count` of them, or their positions.
 #[derive(Clone, Copy, Drop)]
 pub(super) struct Asked {
     pub(super) numbers: [usize; GROUP],
@@ -22,7 +22,7 @@ pub(super) struct Asked {
 }
 
 impl Asked {
-    // Appends a number where that is wanted. With no branch on that, which would be guessed wrong.
+    // Appends a number if `is_wanted`, with no branch, which would be mispredicted.
     #[inline(always)]
     fn append_if(&mut self, number: usize, is_wanted: bool)
         requires { self.old.count < 64 }
@@ -36,7 +36,7 @@ impl Asked {
         self.count += if is_wanted { 1 } else { 0 };
     }
 
-    // Puts in the stead of each number the place of that zero or one.
+    // Replaces each number by the position of that zero or one.
     #[inline(always)]
     fn find_each<A: Allocator + Copy>(&mut self, bit: bool, level: &RsVec<A>, tally: &mut Tally)
         requires { self.old.count ≤ 64 }
@@ -55,7 +55,7 @@ impl Asked {
     }
 }
 
-// What queries of a group ask of a level, and for each query which of these numbers is its own.
+// The numbers that the queries of a group search on a level, and for each query the index of its own.
 #[derive(Clone, Copy, Drop)]
 pub(super) struct Group {
     pub(super) slots: [usize; GROUP],
@@ -64,7 +64,8 @@ pub(super) struct Group {
 }
 
 impl Group {
-    // What `n` queries, from number `from` on, ask of a level, of which they have digit `i`.
+    // Returns the numbers that `n` queries, from query `from` on, search on a level, of which they have digit
+    // `i`.
     #[inline(always)]
     pub(super) fn new<A: Allocator + Copy>(
         level: &RsVec<A>,
@@ -97,7 +98,7 @@ impl Group {
         group
     }
 
-    // How many ask for ones, or for zeros.
+    // Returns the number of queries for ones, or for zeros.
     #[inline(always)]
     fn next_slot(&self, bit: bool) -> usize
         ensures { result ≡ (asked bit self.now).count }
@@ -128,7 +129,7 @@ impl Group {
         self.ones.append_if(number, bit);
     }
 
-    // Finds what is asked.
+    // Finds all positions.
     #[inline(always)]
     pub(super) fn find_all<A: Allocator + Copy>(
         &mut self,
@@ -147,7 +148,7 @@ impl Group {
         self.ones.find_each(true, level, tally);
     }
 
-    // What was found for query `j`.
+    // Returns the position found for query `j`.
     #[inline(always)]
     pub(super) fn found(&self, j: usize, bit: bool) -> usize
         requires own { j < 64 }

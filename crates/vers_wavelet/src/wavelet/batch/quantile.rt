@@ -1,4 +1,4 @@
-//! Members of many ranges by size.
+//! Quantiles of many ranges.
 ghost use Rattle.std.specs.Prelude.{◌≡◌, ℕ, ◌+◌, ◌<◌, ◌≤◌, ◌↔◌, ◌&&◌, List, Bool, Option, None, length, map, nat_le, slice_get, slice_range, option_map, IsTrue, IfSome, if◌then◌else◌};
 ghost use Rattle.vers_tally.specs.Reads.{AddsAtMost, times};
 ghost use Rattle.vers_wavelet.specs.Batches.{member};
@@ -14,22 +14,21 @@ use std::alloc::Allocator;
 use vers_rank::fast_rs_vec::RsVec;
 use vers_tally::tally::Tally;
 
-/// A range and a number of one of its members by size, to be asked for the member, and the answer.
+/// A range, the rank of one of its members by size, and the answer, that member.
 #[derive(Clone, Copy, Drop)]
 pub struct QuantileQuery {
-    /// The first place of the range. The call that answers works in it, in `end` and in `i`, and leaves
-    /// numbers of its own.
+    /// The first position of the range. Answering overwrites it, `end` and `i`.
     pub start: usize,
-    /// The place that the range ends before.
+    /// The position after the range.
     pub end: usize,
-    /// The number of the member by size, counted from 0, equal ones too.
+    /// The rank of the member by size (from 0, counting duplicates).
     pub i: usize,
     /// The member, once the query is answered.
     pub answer: Option<u64>,
 }
 
 impl QuantileQuery {
-    /// A query for member `i` by size of the places from `start` on, before `end`.
+    /// Returns a query for the `i`-th smallest symbol of the positions from `start` on, before `end`.
     #[inline]
     pub fn new(start: usize, end: usize, i: usize) -> Self
         ensures start { result.start ≡ start }
@@ -45,7 +44,7 @@ impl QuantileQuery {
         }
     }
 
-    // Whether there is such a member, and it is a number of the machine.
+    // Returns true if there is such a member, and it fits in a word.
     #[inline(always)]
     fn has_answer(self, levels: usize, len: usize) -> bool
         ensures { IsTrue result ↔ (levels ≤ 64) × (self.end ≤ len)
@@ -103,8 +102,8 @@ impl Query for QuantileQuery {
 }
 
 impl<A: Allocator + Copy> WaveletMatrix<A> {
-    /// The members of many ranges by size, each as `quantile_u64` answers: none takes memory, and all are
-    /// asked level by level, which is faster than one after the other where there are many.
+    /// Answers each query as `quantile_u64` does. Allocates nothing. All queries go level by level, which is
+    /// faster than one after another if there are many.
     pub fn quantile_u64_each(&self, queries: &mut [QuantileQuery])
         ensures { map (λ q. q.answer) queries.new ≡ map (λ q.
             if nat_le self.now.width 64 && nat_le q.end (length self.now.items)
@@ -115,7 +114,7 @@ impl<A: Allocator + Copy> WaveletMatrix<A> {
         self.quantile_u64_each_counted(queries, &mut tally)
     }
 
-    /// The same as `quantile_u64_each`, by the reads of `quantile_u64` at most for each query.
+    /// Answers each query as `quantile_u64_each` does. Reads at most what `quantile_u64` does for each query.
     #[inline(always)]
     pub fn quantile_u64_each_counted(&self, queries: &mut [QuantileQuery], tally: &mut Tally)
         ensures value { map (λ q. q.answer) queries.new ≡ map (λ q.

@@ -1,4 +1,4 @@
-//! What lists of symbols are made of.
+//! The sources of lists of symbols.
 ghost use Rattle.std.specs.Prelude.{◌≡◌, ℕ, ◌+◌, ◌-◌, ◌*◌, ◌/◌, ◌%◌, ◌^◌, ◌<◌, ◌≤◌, [], List, length, slice_get, Some};
 ghost use Rattle.std.specs.List.{range_with_len};
 ghost use Rattle.vers_bits.specs.Bits.{number, part};
@@ -8,7 +8,7 @@ ghost use Rattle.vers_wavelet.specs.Makers.{prefix};
 use std::alloc::Allocator;
 use vers_bits::bit_vec::{BitVec, MAX_LEN};
 
-// Items that stand for numbers, of which as many low digits count as the width says.
+// Items that represent numbers, of which only the `width` low digits count.
 pub(super) trait Source {
     type Item: Copy + Drop;
 
@@ -18,31 +18,31 @@ pub(super) trait Source {
 
     ghost width: { Self → ℕ };
 
-    // That an item is one of this source.
+    // The items of this source.
     ghost has: { Self → Self.Item → Type 0 };
 
-    // How many items there are.
+    // Returns the number of items.
     fn len(&self) -> usize
         ensures value { result ≡ length (items self.now) }
         ensures bounded { result ≤ MAX_LEN };
 
-    // How many digits count.
+    // Returns the number of digits that count.
     fn width(&self) -> usize
         ensures { result ≡ width self.now };
 
-    // Item `i`.
+    // Returns item `i`.
     fn item(&self, i: usize) -> Self::Item
         requires { i < length (items self.now) }
         ensures value { slice_get (items self.now) i ≡ Some result }
         ensures has { has self.now result };
 
-    // Whether digit `i` of an item's number is 1.
+    // Returns true if digit `i` of an item's number is 1.
     fn digit(&self, item: Self::Item, i: usize) -> bool
         requires has { has self.now item }
         requires within { i < width self.now }
         ensures { result ≡ digit (number self.now item) i };
 
-    // The `n` highest of the digits that count, as a number.
+    // Returns the `n` highest of the digits that count, as a number.
     fn prefix(&self, item: Self::Item, n: usize) -> usize
         requires has { has self.now item }
         requires within { n ≤ width self.now }
@@ -59,7 +59,7 @@ pub(super) struct Words<'a> {
 }
 
 impl<'a> Words<'a> {
-    // The low digits of the numbers; no items where no digits count.
+    // Returns the low digits of the numbers; no items if no digits count.
     pub(super) fn new(numbers: &'a [u64], width: usize) -> Self
         requires { width ≤ 64 }
         ensures width { result.width ≡ width }
@@ -110,7 +110,7 @@ impl<'a> Source for Words<'a> {
     }
 }
 
-// The numbers that a list of bits holds, one after another. An item is the number of its place.
+// The packed numbers of a list of bits. An item is the index of a number.
 #[derive(Drop)]
 pub(super) struct Packed<'a, A: Allocator + Copy> {
     bits: &'a BitVec<A>,
@@ -120,7 +120,7 @@ pub(super) struct Packed<'a, A: Allocator + Copy> {
 }
 
 impl<'a, A: Allocator + Copy> Packed<'a, A> {
-    // The numbers of `width` bits each.
+    // Returns the numbers of `width` bits each.
     pub(super) fn new(bits: &'a BitVec<A>, width: usize) -> Self
         requires { 0 < width }
         ensures bits { result.bits.now ≡ bits.now }
