@@ -2,14 +2,14 @@
 //! checked with the crate.
 ghost use Rattle.vers_rmq.specs.Laws.{LeastPlaceIsFirst, OneFirstLeast};
 
-/// A range has one first least place: what both types answer is the same place.
+/// A range has one first least position, so both types return the same position.
 #[tactic(auto, using(crate::proofs::Minima::same_place))]
 pub fn one_first_least()
     ensures { OneFirstLeast }
 {}
 
-/// The least place of a range is its first place of a least item: no item of the range is below the
-/// one there, and those before it are above.
+/// The least position of a range is the first position of its least item: no item of the range is below the one
+/// there, and those before it are above.
 #[tactic(auto, using(crate::proofs::Found::first_places))]
 pub fn least_place_is_first()
     ensures { LeastPlaceIsFirst }

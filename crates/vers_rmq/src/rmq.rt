@@ -1,4 +1,4 @@
-//! Range minima.
+//! Range minimum queries.
 pub mod binary_rmq;
 mod bounds;
 pub mod fast_rmq;

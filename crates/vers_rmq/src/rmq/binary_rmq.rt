@@ -1,4 +1,4 @@
-//! Range minima by two items read.
+//! Range minima from two items read.
 ghost use Rattle.std.specs.Prelude.{◌≡◌, ◌+◌, ◌-◌, ◌^◌, ◌<◌, ◌≤◌, ◌↔◌, [], length, slice_index, IsTrue, IfOk, IfErr};
 ghost use Rattle.std.specs.Iterator.{Drains, IsFinite};
 ghost use Rattle.vers_tally.specs.Reads.{only_items, AddsAtMost};
@@ -20,15 +20,15 @@ use std::ops::Bound;
 use vers_bits::bit_vec::GrowError;
 use vers_tally::tally::{CountedItems, Tally, Uncounted};
 
-/// The most items that a `BinaryRmq` holds.
+/// The greatest length of a `BinaryRmq`.
 pub const MAX_LEN: usize = 4294967295;
 
-/// A list of numbers with a table by which the place of a least item of any range is found from two
-/// items. Contracts see a `BinaryRmq` as the list of its items.
+/// A list of numbers with a table that gives the position of a least item of any range from two items.
+/// Contracts see a `BinaryRmq` as the list of its items.
 ///
-/// The table, which is the sparse table of Bender and Farach-Colton, has for each place and each power
-/// of two up to the first that is not below the number of items the place of the least of as many items
-/// from there on, in 4 bytes. A range is covered by two such ranges, which may overlap.
+/// The table, which is the sparse table of Bender and Farach-Colton, stores for each position and each power of
+/// two up to the first that is at least the number of items the position of the least of that many items from
+/// there on, in 4 bytes. Two such ranges, which may overlap, cover a range.
 #[derive(Drop)]
 pub struct BinaryRmq<A: Allocator + Copy> {
     items: CountedItems<A>,
@@ -49,7 +49,7 @@ impl<A: Allocator + Copy> Model for BinaryRmq<A> {
 impl<A: Allocator + Copy> Clone for BinaryRmq<A> {
     ghost is_clone = { λ old new. new ≡ old };
 
-    /// A second value of the same items, with a copy of the table.
+    /// Returns a copy of the items and the table.
     fn clone(&self) -> Result<Self, AllocError> {
         let alloc = *self.table.allocator();
         let items = Vec::from_slice(alloc, self.items.as_slice(Uncounted))?;
@@ -62,7 +62,8 @@ impl<A: Allocator + Copy> Clone for BinaryRmq<A> {
 }
 
 impl<A: Allocator + Copy> BinaryRmq<A> {
-    /// The items, with their table. They are dropped if it is out of memory.
+    /// Returns the items with their table. Precondition: there are at most `MAX_LEN`. Errors: `AllocError` if
+    /// the allocator refuses a request; the items are then dropped.
     pub fn from_vec(items: Vec<u64, A>) -> Result<Self, AllocError>
         requires { length items.items ≤ MAX_LEN }
         ensures { IfOk result (λ v. v ≡ items.items) }
@@ -75,8 +76,12 @@ impl<A: Allocator + Copy> BinaryRmq<A> {
         })
     }
 
-    /// The items of an iterator that ends. TooLong at the item that would pass `MAX_LEN`, which is
-    /// tested before memory is asked for. Memory where there is none for an item or for the table.
+    /// Returns the items of a finite iterator with their table.
+    ///
+    /// # Errors
+    ///
+    /// `TooLong` at the item that would exceed `MAX_LEN`, which is tested before its allocation; `Memory` if
+    /// the allocator refuses a request.
     pub fn from_iter<I: Iterator<Item = u64> + Drop>(alloc: A, items: I) -> Result<Self, GrowError>
         requires can { I.can_next items }
         requires ends { IsFinite (I.remaining items) }
@@ -87,7 +92,7 @@ impl<A: Allocator + Copy> BinaryRmq<A> {
         Ok(BinaryRmq::from_vec(list)?)
     }
 
-    /// How many items there are.
+    /// Returns the number of items.
     #[inline]
     pub fn len(&self) -> usize
         ensures value { result ≡ length self.now }
@@ -96,7 +101,7 @@ impl<A: Allocator + Copy> BinaryRmq<A> {
         self.items.len()
     }
 
-    /// Whether there are no items.
+    /// Returns true if there are no items.
     #[inline]
     pub fn is_empty(&self) -> bool
         ensures { IsTrue result ↔ (self.now ≡ []) }
@@ -104,7 +109,7 @@ impl<A: Allocator + Copy> BinaryRmq<A> {
         self.len() == 0
     }
 
-    /// The list that holds all items, for callers that ask for a vector.
+    /// Returns the vector of all items, for callers that need a vector.
     #[inline]
     pub fn items(&self, whole: Uncounted) -> &Vec<u64, A>
         ensures { result.now.items ≡ self.now }
@@ -112,7 +117,7 @@ impl<A: Allocator + Copy> BinaryRmq<A> {
         self.items.as_vec(whole)
     }
 
-    /// All items.
+    /// Returns all items.
     #[inline]
     pub fn as_slice(&self) -> &[u64]
         ensures { result.now ≡ self.now }
@@ -120,7 +125,7 @@ impl<A: Allocator + Copy> BinaryRmq<A> {
         self.items.as_slice(Uncounted)
     }
 
-    /// The bytes that the items and the table take.
+    /// Returns the number of bytes that the items and the table take.
     #[tactic(auto, using(crate::proofs::Tables::table_size))]
     pub fn heap_size(&self) -> usize
         ensures { result ≡ binary_heap_size (length self.now) }
@@ -128,7 +133,7 @@ impl<A: Allocator + Copy> BinaryRmq<A> {
         8 * self.items.len() + 4 * self.table.len()
     }
 
-    // The entry of level `k` for the range from `i` on.
+    // Returns the entry of level `k` for the range from `i` on.
     #[inline(always)]
     #[tactic(auto, using(crate::proofs::Tables::room_of))]
     fn entry(&self, k: usize, i: usize) -> usize
@@ -139,7 +144,7 @@ impl<A: Allocator + Copy> BinaryRmq<A> {
         self.table[self.items.len() * k + i] as usize
     }
 
-    /// The item at a place of the list.
+    /// Returns the item at `place`. Precondition: `place` is below the length.
     #[inline]
     pub fn item(&self, place: usize) -> u64
         requires { place < length self.now }
@@ -149,7 +154,7 @@ impl<A: Allocator + Copy> BinaryRmq<A> {
         self.item_counted(place, &mut tally)
     }
 
-    /// The same as `item`, by one item read.
+    /// Returns `item(place)`. Reads one item.
     #[inline(always)]
     pub fn item_counted(&self, place: usize, tally: &mut Tally) -> u64
         requires { place < length self.now }
@@ -159,7 +164,8 @@ impl<A: Allocator + Copy> BinaryRmq<A> {
         self.items.read(place, tally)
     }
 
-    /// The first least item from place `i` to place `j`, both included, with its place.
+    /// Returns the first least item from position `i` to position `j`, both included, with its position.
+    /// Precondition: `i` is at most `j`, which is below the length.
     #[inline]
     pub fn range_min_item(&self, i: usize, j: usize) -> PlacedItem
         requires order { i ≤ j }
@@ -172,7 +178,7 @@ impl<A: Allocator + Copy> BinaryRmq<A> {
         self.range_min_item_counted(i, j, &mut tally)
     }
 
-    /// The same as `range_min_item`, by at most 2 items read.
+    /// Returns `range_min_item(i, j)`. Reads at most 2 items.
     #[inline(always)]
     pub fn range_min_item_counted(&self, i: usize, j: usize, tally: &mut Tally) -> PlacedItem
         requires order { i ≤ j }
@@ -189,7 +195,7 @@ impl<A: Allocator + Copy> BinaryRmq<A> {
         lesser_of(left, right)
     }
 
-    /// The same as `range_min`, by at most 2 items read.
+    /// Returns `range_min(i, j)`. Reads at most 2 items.
     #[inline(always)]
     pub fn range_min_counted(&self, i: usize, j: usize, tally: &mut Tally) -> usize
         requires order { i ≤ j }
@@ -201,7 +207,8 @@ impl<A: Allocator + Copy> BinaryRmq<A> {
         self.range_min_item_counted(i, j, tally).place
     }
 
-    /// The first place of a least item from place `i` to place `j`, both included.
+    /// Returns the first position of a least item from position `i` to position `j`, both included.
+    /// Precondition: `i` is at most `j`, which is below the length.
     #[inline]
     pub fn range_min(&self, i: usize, j: usize) -> usize
         requires order { i ≤ j }
@@ -213,7 +220,7 @@ impl<A: Allocator + Copy> BinaryRmq<A> {
         self.range_min_counted(i, j, &mut tally)
     }
 
-    /// The same as `range_min_with_range`, by at most 2 items read.
+    /// Returns `range_min_with_range(start, end)`. Reads at most 2 items.
     #[inline(always)]
     pub fn range_min_with_range_counted(
         &self,
@@ -230,11 +237,11 @@ impl<A: Allocator + Copy> BinaryRmq<A> {
         self.range_min_counted(start_place(start, n), end_place(end, n), tally)
     }
 
-    /// The first place of a least item in a range of which the ends are cut to the places of the list:
-    /// an unbounded start is 0, an unbounded end the last place.
+    /// Returns the first position of a least item in a range whose ends are clamped to the positions of the
+    /// list: an unbounded start is 0, an unbounded end the last position.
     ///
-    /// There is at least one item, a start excluded is not the greatest number, an end excluded is not
-    /// 0, and the start, cut so, is not past the end.
+    /// Precondition: there is at least one item, an excluded start isn't `usize::MAX`, an excluded end isn't 0,
+    /// and the start, clamped so, is at most the end.
     #[inline]
     pub fn range_min_with_range(&self, start: Bound<usize>, end: Bound<usize>) -> usize
         requires { IsRangeOf start end (length self.now) }

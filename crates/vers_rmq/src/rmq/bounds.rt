@@ -1,11 +1,11 @@
-//! The ends of a range as places of a list.
+//! The ends of a range as positions of a list.
 ghost use Rattle.std.specs.Prelude.{◌≡◌, ◌^◌, ◌<◌};
 ghost use Rattle.std.specs.Range.Bound.{start_index, end_index};
 ghost use Rattle.vers_rmq.specs.Ranges.{start_place, end_place};
 
 use std::ops::Bound;
 
-// The first place of a range that starts at the bound, among `n` places.
+// Returns the first position of a range that starts at the bound, among `n` positions.
 #[inline(always)]
 pub(super) fn start_place(start: Bound<usize>, n: usize) -> usize
     requires some { 0 < n }
@@ -20,7 +20,7 @@ pub(super) fn start_place(start: Bound<usize>, n: usize) -> usize
     first.min(n - 1)
 }
 
-// The last place of a range that ends at the bound, among `n` places.
+// Returns the last position of a range that ends at the bound, among `n` positions.
 #[inline(always)]
 pub(super) fn end_place(end: Bound<usize>, n: usize) -> usize
     requires some { 0 < n }

@@ -1,4 +1,4 @@
-//! The items of an iterator as a vector, up to a greatest number of them.
+//! The items of an iterator as a vector, up to a greatest length.
 ghost use Rattle.std.specs.Prelude.{◌≤◌, length, IfOk, IfErr};
 ghost use Rattle.std.specs.Iterator.{Drains, IsFinite};
 ghost use Rattle.vers_rmq.specs.Makers.{Refused};
@@ -6,8 +6,7 @@ ghost use Rattle.vers_rmq.specs.Makers.{Refused};
 use std::alloc::Allocator;
 use vers_bits::bit_vec::GrowError;
 
-// The items of an iterator that ends, which are tested to be no more than `most` before memory is asked
-// for each.
+// Returns the items of a finite iterator. Tests before each allocation that they are at most `most`.
 pub(super) fn gathered<A: Allocator + Copy, I: Iterator<Item = u64> + Drop>(
     alloc: A,
     items: I,

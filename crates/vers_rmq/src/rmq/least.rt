@@ -7,16 +7,16 @@ ghost use Rattle.vers_rmq.specs.inside.Candidates.{IsLeastItem, lesser_item};
 use std::alloc::Allocator;
 use vers_tally::tally::{CountedItems, Tally};
 
-/// An item of a list, with the place where it stands.
+/// An item of a list, with its position.
 #[derive(Clone, Copy, Drop)]
 pub struct PlacedItem {
-    /// The place.
+    /// The position.
     pub place: usize,
     /// The item.
     pub value: u64,
 }
 
-// The lesser of two items, the first where they are equal.
+// Returns the lesser of two items, the first if they are equal.
 #[inline(always)]
 pub(super) fn lesser_of(first: PlacedItem, second: PlacedItem) -> PlacedItem
     ensures { result ≡ lesser_item first second }
@@ -28,7 +28,7 @@ pub(super) fn lesser_of(first: PlacedItem, second: PlacedItem) -> PlacedItem
     }
 }
 
-// The one of two places that has the lesser item, the first where they are equal.
+// Returns the one of two positions that has the lesser item, the first if they are equal.
 #[tactic(auto, using(crate::proofs::Minima::lesser_inside, crate::proofs::Minima::chosen_place))]
 pub(super) fn lesser_place(items: &[u64], m: usize, n: usize) -> usize
     requires first { m < length items.now }
@@ -47,7 +47,7 @@ pub(super) fn lesser_place(items: &[u64], m: usize, n: usize) -> usize
     lesser_of(first, second).place
 }
 
-// The item at a place, by one item read.
+// Returns the item at a position. Reads one item.
 #[inline(always)]
 pub(super) fn read_at<A: Allocator + Copy>(
     items: &CountedItems<A>,
@@ -63,7 +63,7 @@ pub(super) fn read_at<A: Allocator + Copy>(
     PlacedItem { place, value }
 }
 
-// The first least item from `i` to `j`, by reading each of them once.
+// Returns the first least item from `i` to `j`. Reads each of them once.
 #[inline(always)]
 #[tactic(auto, using(crate::proofs::Minima::scan_start, crate::proofs::Minima::scan_more, crate::proofs::Minima::scan_end))]
 pub(super) fn scan<A: Allocator + Copy>(

@@ -1,4 +1,4 @@
-//! What is kept of blocks of 128 items.
+//! The data of blocks of 128 items.
 ghost use Rattle.std.specs.Prelude.{◌+◌, ◌-◌, ◌*◌, ◌<◌, ◌≤◌, length, IfOk, slice_index_or};
 ghost use Rattle.vers_rmq.specs.Minima.{IsFirstLeast};
 ghost use Rattle.vers_rmq.specs.inside.Masks.{AreMasks};
@@ -8,14 +8,14 @@ use crate::rmq::fast_rmq::mask::{Masks, prefix_masks, suffix_masks};
 use crate::rmq::fast_rmq::{BLOCK, MAX_LEN, PART};
 use std::alloc::{AllocError, Allocator};
 
-// The masks of a block, which take 64 bytes: those of all of it, and those of its parts of 16 items.
+// The masks of a block, which take 64 bytes: those of the whole block, and those of its parts of 16 items.
 #[derive(Clone, Copy)]
 pub(super) struct BlockMasks {
     pub(super) whole: Masks,
     pub(super) parts: Masks,
 }
 
-// Of each block the least item, how far its first place is from the block's start, and the masks.
+// For each block the least item, the distance of its first position to the block's start, and the masks.
 #[derive(Drop)]
 pub(super) struct Blocks<A: Allocator + Copy> {
     pub(super) minima: Vec<u64, A>,
@@ -23,7 +23,7 @@ pub(super) struct Blocks<A: Allocator + Copy> {
     pub(super) masks: Vec<BlockMasks, A>,
 }
 
-// The masks of the block from `start` to before `end`, and the first place of its least item.
+// Returns the masks of the block from `start` to before `end`, and the first position of its least item.
 fn block_masks(items: &[u64], start: usize, end: usize) -> (BlockMasks, usize)
     requires some { start < end }
     requires few { end ≤ start + BLOCK }
@@ -44,7 +44,7 @@ fn block_masks(items: &[u64], start: usize, end: usize) -> (BlockMasks, usize)
     (masks, least)
 }
 
-// Adds what is kept of block `b`.
+// Appends the data of block `b`.
 fn add_block<A: Allocator + Copy>(
     items: &[u64],
     blocks: &mut Blocks<A>,
@@ -66,7 +66,7 @@ fn add_block<A: Allocator + Copy>(
     Ok(())
 }
 
-// What is kept of all blocks, with room asked for once.
+// Returns the data of all blocks. Allocates each vector once.
 #[tactic(auto, using(crate::proofs::Blocks::no_blocks, crate::proofs::Blocks::all_blocks))]
 pub(super) fn all_blocks<A: Allocator + Copy>(
     items: &[u64],
