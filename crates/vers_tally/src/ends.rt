@@ -1,4 +1,4 @@
-//! One body for all iterators that take items from both ends and count what they read.
+//! One implementation of all double-ended iterators that count their reads.
 ghost use Rattle.std.specs.Prelude.{◌≡◌, ◌<◌, ◌≤◌, ◌↔◌, ℕ, [], List, All, IsNone, IfSome, IfOk, Some, None, length, slice_get};
 ghost use Rattle.std.specs.Iterator.{item_count, YieldsFirst, YieldsLast};
 ghost use Rattle.std.specs.List.{Contains, last_or};
@@ -12,25 +12,26 @@ use std::alloc::AllocError;
 use std::marker::Model;
 use vers_bits::walk::Span;
 
-/// A list of items, each of which is read at its place, by a counter. A source may keep what it
-/// has read, so as to read the next item faster.
+/// A list of items, each of which is read at its position, with a counter. A source may keep what it has read,
+/// to read the next item faster.
 pub trait Source: Drop {
     type Item;
 
     ghost items: { Self → List Self.Item };
 
-    // What reading one item adds at most.
+    // The bound on the reads of one item.
     ghost step: { Self → Reads };
 
-    // What holds of the items from any place to another, such as that they ascend.
+    // A property of the items of any range, such as that they ascend.
     ghost in_order: { List Self.Item → Type 0 } = { λ _. Unit {0} };
 
-    /// How many items there are.
+    /// Returns the number of items.
     fn count_items(&self) -> usize
         ensures value { result ≡ length (items self.now) }
         ensures in_order { (span : Span) → in_order (items_in (items self.now) span) };
 
-    /// The item at a place. A walk from the front asks for the places in turn.
+    /// Returns the item at position `i`. A walk from the front passes the positions in turn. Precondition: `i`
+    /// is below the number of items.
     fn item_at(&mut self, i: usize, tally: &mut Tally) -> Self::Item
         requires { i < length (items self.old) }
         ensures value { slice_get (items self.old) i ≡ Some result }
@@ -38,7 +39,8 @@ pub trait Source: Drop {
         ensures same_step { step self.new ≡ step self.old }
         ensures adds { AddsAtMost tally.old tally.new (step self.old) };
 
-    /// The item at a place. A walk from the back asks for the places in turn.
+    /// Returns the item at position `i`. A walk from the back passes the positions in turn. Precondition: `i`
+    /// is below the number of items.
     #[inline]
     fn item_at_back(&mut self, i: usize, tally: &mut Tally) -> Self::Item
         requires { i < length (items self.old) }
@@ -51,27 +53,27 @@ pub trait Source: Drop {
     }
 }
 
-/// A source of which a second takes no memory.
+/// A source that is copied without allocating.
 pub trait Borrowing: Source {
-    /// A second source of the same items.
+    /// Returns a copy of the source.
     fn second(&self) -> Self
         ensures { result ≡ self.now };
 }
 
-/// A source of which a second takes memory.
+/// A source whose copy allocates.
 pub trait Owning: Source {
-    /// A second source of the same items.
+    /// Returns a copy of the source.
     fn second(&self) -> Result<Self, AllocError>
         ensures { IfOk result (λ s. s ≡ self.now) };
 }
 
-/// A source of numbers that ascend.
+/// A source of ascending numbers.
 pub trait Ascending: Source<Item = u64> {
     ghost ascends: { (numbers : List ℕ) → Self.in_order numbers → IsNonDecreasing numbers };
 }
 
-/// An iterator over the items of a source, from both ends. Contracts see it as the items `left`,
-/// which are still to come, and the reads of a `step`, which reading one of them adds at most.
+/// A double-ended iterator over the items of a source. Contracts see it as the items `left`, and the reads of a
+/// `step`, the bound on reading one of them.
 #[derive(Drop)]
 pub struct BothEnds<S: Source> {
     source: S,
@@ -94,7 +96,7 @@ impl<S: Source> Model for BothEnds<S> {
 
 #[tactic(auto, using(crate::proofs::Steps::lists))]
 impl<S: Source> BothEnds<S> {
-    /// An iterator over all items of a source.
+    /// Returns an iterator over all items of a source.
     pub fn new(source: S) -> Self
         ensures value { result ≡ record { left = S.items source; step = S.step source } }
         ensures in_order { S.in_order (S.items source) }
@@ -103,7 +105,7 @@ impl<S: Source> BothEnds<S> {
         BothEnds { source, span }
     }
 
-    /// How many items are left.
+    /// Returns the number of items left.
     #[inline]
     pub fn len(&self) -> usize
         ensures value { result ≡ length self.now.left }
@@ -112,7 +114,7 @@ impl<S: Source> BothEnds<S> {
         self.span.len()
     }
 
-    /// How many items are left, at least and at most, which are the same.
+    /// Returns the number of items left as both the lower and the upper bound.
     pub fn size_hint(&self) -> (usize, Option<usize>)
         ensures { result ≡ (length self.now.left, Some (length self.now.left)) }
     {
@@ -120,15 +122,14 @@ impl<S: Source> BothEnds<S> {
         (len, Some(len))
     }
 
-    /// How many items are left.
+    /// Returns the number of items left.
     pub fn count(self) -> usize
         ensures { result ≡ length self.left }
     {
         self.len()
     }
 
-    /// Drops `n` items and takes the next. Where no more than `n` are left, none is taken and the
-    /// iterator has ended.
+    /// Skips `n` items and takes the next. If at most `n` are left, returns `None` and the iterator has ended.
     #[inline(always)]
     pub fn nth(&mut self, n: usize) -> Option<S::Item>
         ensures steps { TakesNth n self.old.left result self.new.left }
@@ -138,8 +139,8 @@ impl<S: Source> BothEnds<S> {
         self.nth_counted(n, &mut tally)
     }
 
-    /// Drops `n` items from the back and takes the next. Where no more than `n` are left, none is
-    /// taken and the iterator has ended.
+    /// Skips `n` items from the back and takes the next. If at most `n` are left, returns `None` and the
+    /// iterator has ended.
     #[inline(always)]
     pub fn nth_back(&mut self, n: usize) -> Option<S::Item>
         ensures steps { TakesNthBack n self.old.left result self.new.left }
@@ -149,7 +150,7 @@ impl<S: Source> BothEnds<S> {
         self.nth_back_counted(n, &mut tally)
     }
 
-    /// The first of the items left, which is taken.
+    /// Takes the first of the items left. `None` if none is left.
     #[inline(always)]
     pub fn next(&mut self) -> Option<S::Item>
         ensures steps { TakesFirst self.old.left result self.new.left }
@@ -159,7 +160,7 @@ impl<S: Source> BothEnds<S> {
         self.next_counted(&mut tally)
     }
 
-    /// The last of the items left, which is taken.
+    /// Takes the last of the items left. `None` if none is left.
     #[inline(always)]
     pub fn next_back(&mut self) -> Option<S::Item>
         ensures steps { TakesLast self.old.left result self.new.left }
@@ -169,7 +170,7 @@ impl<S: Source> BothEnds<S> {
         self.next_back_counted(&mut tally)
     }
 
-    /// The same as `next`, by the reads of one item.
+    /// Does what `next` does. Reads at most one item.
     #[inline(always)]
     pub fn next_counted(&mut self, tally: &mut Tally) -> Option<S::Item>
         ensures steps { TakesFirst self.old.left result self.new.left }
@@ -179,7 +180,7 @@ impl<S: Source> BothEnds<S> {
         self.nth_counted(0, tally)
     }
 
-    /// The same as `next_back`, by the reads of one item.
+    /// Does what `next_back` does. Reads at most one item.
     #[inline(always)]
     pub fn next_back_counted(&mut self, tally: &mut Tally) -> Option<S::Item>
         ensures steps { TakesLast self.old.left result self.new.left }
@@ -189,7 +190,7 @@ impl<S: Source> BothEnds<S> {
         self.nth_back_counted(0, tally)
     }
 
-    /// The same as `nth`, by the reads of one item.
+    /// Does what `nth` does. Reads at most one item.
     #[inline(always)]
     pub fn nth_counted(&mut self, n: usize, tally: &mut Tally) -> Option<S::Item>
         ensures steps { TakesNth n self.old.left result self.new.left }
@@ -200,7 +201,7 @@ impl<S: Source> BothEnds<S> {
         Some(self.source.item_at(i, tally))
     }
 
-    /// The same as `nth_back`, by the reads of one item.
+    /// Does what `nth_back` does. Reads at most one item.
     #[inline(always)]
     pub fn nth_back_counted(&mut self, n: usize, tally: &mut Tally) -> Option<S::Item>
         ensures steps { TakesNthBack n self.old.left result self.new.left }
@@ -211,7 +212,7 @@ impl<S: Source> BothEnds<S> {
         Some(self.source.item_at_back(i, tally))
     }
 
-    /// The last item.
+    /// Returns the last item, or `None` if no item is left.
     pub fn last(mut self) -> Option<S::Item>
         ensures { result ≡ last_or None self.left }
     {
@@ -221,7 +222,7 @@ impl<S: Source> BothEnds<S> {
 }
 
 impl<S: Borrowing> BothEnds<S> {
-    /// A second iterator over what is left. Takes no memory.
+    /// Returns a second iterator over the items left. Allocates nothing.
     pub fn clone(&self) -> Self
         ensures { result ≡ self.now }
     {
@@ -236,7 +237,7 @@ impl<S: Borrowing> BothEnds<S> {
 impl<S: Owning> Clone for BothEnds<S> {
     ghost is_clone = { λ old new. new ≡ old };
 
-    /// A second iterator over what is left, with a source of its own.
+    /// Returns a second iterator over the items left, with a source of its own.
     fn clone(&self) -> Result<Self, AllocError> {
         let source = self.source.second()?;
         Ok(BothEnds {
@@ -247,7 +248,7 @@ impl<S: Owning> Clone for BothEnds<S> {
 }
 
 impl<S: Ascending> BothEnds<S> {
-    /// The least of the numbers left.
+    /// Returns the least of the numbers left, or `None` if none is left.
     #[tactic(auto, using(crate::proofs::Steps::least))]
     pub fn min(mut self) -> Option<u64>
         ensures none { IsNone result ↔ (self.left ≡ []) }
@@ -258,7 +259,7 @@ impl<S: Ascending> BothEnds<S> {
         self.nth(0)
     }
 
-    /// The greatest of the numbers left.
+    /// Returns the greatest of the numbers left, or `None` if none is left.
     #[tactic(auto, using(crate::proofs::Steps::greatest))]
     pub fn max(mut self) -> Option<u64>
         ensures none { IsNone result ↔ (self.left ≡ []) }

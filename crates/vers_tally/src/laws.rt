@@ -2,13 +2,13 @@
 //! checked with the crate.
 ghost use Rattle.vers_tally.specs.Laws.{ReadingNothingAddsNothing, BoundsAdd, GreaterBoundsHold, HalvingTakesADigit};
 
-/// What reads nothing adds nothing.
+/// Reading nothing adds nothing.
 #[tactic(auto, using(crate::proofs::Adding::bounds))]
 pub fn reading_nothing_adds_nothing()
     ensures { ReadingNothingAddsNothing }
 {}
 
-/// Two stretches of reads, one after the other, add at most both bounds.
+/// Two sequences of reads, one after the other, add at most the sum of both bounds.
 #[tactic(auto, using(crate::proofs::Adding::bounds))]
 pub fn bounds_add()
     ensures { BoundsAdd }
@@ -20,7 +20,7 @@ pub fn greater_bounds_hold()
     ensures { GreaterBoundsHold }
 {}
 
-/// Half a number has a binary digit less.
+/// Half a number has one binary digit less.
 #[tactic(auto, using(crate::proofs::Halves::digits_half))]
 pub fn halving_takes_a_digit()
     ensures { HalvingTakesADigit }
