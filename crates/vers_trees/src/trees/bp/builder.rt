@@ -13,10 +13,9 @@ use vers_bits::bit_vec::{BitVec, GrowError};
 /// Why a tree was not built.
 #[derive(Clone, Copy, PartialEq, Eq, Debug, Drop)]
 pub enum BuildError {
-    /// The nodes entered are not as many as those left: how many more they are, or below 0 how many
-    /// fewer.
+    /// The number of nodes entered minus the number of nodes left, if these differ.
     Excess(i64),
-    /// The allocator has no memory.
+    /// The allocator refused a request.
     Memory,
 }
 
@@ -49,9 +48,9 @@ impl<const BLOCK_SIZE: usize, A: Allocator + Copy> Model for BpBuilder<BLOCK_SIZ
 
 #[tactic(auto, using(crate::proofs::layout::Building::nothing_built, crate::proofs::layout::Building::built_fits))]
 impl<const BLOCK_SIZE: usize, A: Allocator + Copy> BpBuilder<BLOCK_SIZE, A> {
-    /// A list of no parentheses. Takes no memory.
+    /// Returns an empty list of parentheses. Allocates nothing.
     ///
-    /// The block size is from 1 to `MAX_BLOCK_SIZE`.
+    /// Precondition: `BLOCK_SIZE` is from 1 to `MAX_BLOCK_SIZE`.
     pub fn new(alloc: A) -> Self
         requires some { 0 < BLOCK_SIZE }
         requires bounded { BLOCK_SIZE ≤ MAX_BLOCK_SIZE }
@@ -63,10 +62,14 @@ impl<const BLOCK_SIZE: usize, A: Allocator + Copy> BpBuilder<BLOCK_SIZE, A> {
         }
     }
 
-    /// A list of no parentheses, with room for those of `nodes` nodes. TooLong where twice the number
-    /// is above the most bits that a tree has.
+    /// Returns an empty list of parentheses, with room for those of `nodes` nodes.
     ///
-    /// The block size is from 1 to `MAX_BLOCK_SIZE`.
+    /// Precondition: `BLOCK_SIZE` is from 1 to `MAX_BLOCK_SIZE`.
+    ///
+    /// # Errors
+    ///
+    /// `TooLong` if twice the number is above the greatest number of bits of a tree; `Memory` if the allocator
+    /// refuses a request.
     pub fn with_capacity(alloc: A, nodes: u64) -> Result<Self, GrowError>
         requires some { 0 < BLOCK_SIZE }
         requires bounded { BLOCK_SIZE ≤ MAX_BLOCK_SIZE }
@@ -95,7 +98,12 @@ impl<const BLOCK_SIZE: usize, A: Allocator + Copy> BpBuilder<BLOCK_SIZE, A> {
         Ok(())
     }
 
-    /// Enters a node: appends a one. TooLong where the list has as many bits as a tree may have.
+    /// Enters a node: appends a one.
+    ///
+    /// # Errors
+    ///
+    /// `TooLong` if the list has the greatest number of bits of a tree; `Memory` if the allocator refuses a
+    /// request.
     pub fn enter_node(&mut self) -> Result<(), GrowError>
         ensures grown { OnOk result (self.new ≡ self.old ++ true ∷ []) }
         ensures kept { OnErr result (self.new ≡ self.old) }
@@ -105,7 +113,12 @@ impl<const BLOCK_SIZE: usize, A: Allocator + Copy> BpBuilder<BLOCK_SIZE, A> {
         self.append(true)
     }
 
-    /// Leaves a node: appends a zero. TooLong where the list has as many bits as a tree may have.
+    /// Leaves a node: appends a zero.
+    ///
+    /// # Errors
+    ///
+    /// `TooLong` if the list has the greatest number of bits of a tree; `Memory` if the allocator refuses a
+    /// request.
     pub fn leave_node(&mut self) -> Result<(), GrowError>
         ensures grown { OnOk result (self.new ≡ self.old ++ false ∷ []) }
         ensures kept { OnErr result (self.new ≡ self.old) }
@@ -115,9 +128,13 @@ impl<const BLOCK_SIZE: usize, A: Allocator + Copy> BpBuilder<BLOCK_SIZE, A> {
         self.append(false)
     }
 
-    /// The tree of the list, whose ones and zeros are as many; that it is balanced is not asked. Where
-    /// they are not as many it is refused with their excess, which is tested before memory is asked
-    /// for. The list is dropped where the tree is refused.
+    /// Returns the tree of the list if it has as many ones as zeros, balanced or not. The list is dropped on
+    /// error.
+    ///
+    /// # Errors
+    ///
+    /// `Excess` with the excess of the list if it isn't 0, which is tested before any allocation; `Memory` if
+    /// the allocator refuses a request.
     pub fn build(self) -> Result<BpTree<BLOCK_SIZE, A>, BuildError>
         ensures made { IfOk result (λ t. t ≡ self) }
         ensures uneven { excess self (length self) ≢ pos 0

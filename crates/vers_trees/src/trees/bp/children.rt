@@ -1,4 +1,4 @@
-//! The iterators over the children of a node.
+//! Iterators over the children of a node.
 ghost use Rattle.std.specs.Prelude.{◌≡◌, length, reverse};
 ghost use Rattle.std.specs.Iterator.{item_count, YieldsFirst};
 ghost use Rattle.vers_bits.specs.Walk.{TakesFirst};
@@ -15,13 +15,13 @@ use std::alloc::Allocator;
 use std::marker::{Model, PhantomData};
 use vers_tally::tally::Tally;
 
-/// Marks an iterator that goes forwards where `FORWARD` is true, and else backwards.
+/// Marks an iterator that goes forwards if `FORWARD` is true, otherwise backwards.
 #[derive(Drop)]
 pub struct Direction<const FORWARD: bool>;
 
-/// A walk from tree to tree among siblings, forwards or backwards from a place between them, in the
-/// direction that `D` names. Contracts see it as the nodes `left`, which are still to come, and what
-/// a `step` reads at most. A walk that has ended stays ended.
+/// A walk from tree to tree among siblings, forwards or backwards from a position between them, in the
+/// direction that `D` names. Contracts see it as the nodes `left`, and the bound on the reads of a `step`. A
+/// walk that has ended stays ended.
 #[derive(Drop)]
 pub struct Siblings<'a, const BLOCK_SIZE: usize, D, A: Allocator + Copy> {
     searched: Searched<'a, BLOCK_SIZE, A>,
@@ -49,8 +49,7 @@ impl<'a, const BLOCK_SIZE: usize, D, A: Allocator + Copy> Model for Siblings<'a,
         × IsWalkOfSiblings s.searched.bits.now s.forward s.place };
 }
 
-/// An iterator over the children of a node: in order where `FORWARD` is true, and else the last one
-/// first.
+/// An iterator over the children of a node: in order if `FORWARD` is true, otherwise in reverse.
 pub type ChildrenIter<'a, const BLOCK_SIZE: usize, const FORWARD: bool, A> = Siblings<
     'a,
     BLOCK_SIZE,
@@ -76,7 +75,7 @@ impl<'a, const BLOCK_SIZE: usize, D, A: Allocator + Copy> Siblings<'a, BLOCK_SIZ
         }
     }
 
-    /// The first of the nodes left, which is taken.
+    /// Takes the first of the nodes left. `None` if none is left.
     #[inline]
     pub fn next(&mut self) -> Option<usize>
         ensures steps { TakesFirst self.old.left result self.new.left }
@@ -86,7 +85,7 @@ impl<'a, const BLOCK_SIZE: usize, D, A: Allocator + Copy> Siblings<'a, BLOCK_SIZ
         self.next_counted(&mut tally)
     }
 
-    /// The same as `next`, by one bit read and the reads of one search.
+    /// Takes the first of the nodes left. `None` if none is left. Reads at most one bit and what one search does.
     #[inline(always)]
     pub fn next_counted(&mut self, tally: &mut Tally) -> Option<usize>
         ensures steps { TakesFirst self.old.left result self.new.left }
@@ -114,7 +113,7 @@ impl<'a, const BLOCK_SIZE: usize, D, A: Allocator + Copy> Iterator
 }
 
 impl<'a, const BLOCK_SIZE: usize, A: Allocator + Copy> Searched<'a, BLOCK_SIZE, A> {
-    // The next tree forwards or backwards from a place, and the place on its other side.
+    // Returns the next tree forwards or backwards from a position, and the position on its other side.
     #[inline(always)]
     fn tree_beside(self, forward: bool, place: usize, tally: &mut Tally) -> Option<(usize, usize)>
         requires { IsIndexed self.bits.now BLOCK_SIZE self.tree.now.first self.tree.now.nodes }
@@ -128,7 +127,7 @@ impl<'a, const BLOCK_SIZE: usize, A: Allocator + Copy> Searched<'a, BLOCK_SIZE, 
         }
     }
 
-    // The tree that opens at a place, and the place past it.
+    // Returns the tree that opens at a position, and the position past it.
     #[inline(always)]
     fn tree_from(self, place: usize, tally: &mut Tally) -> Option<(usize, usize)>
         requires { IsIndexed self.bits.now BLOCK_SIZE self.tree.now.first self.tree.now.nodes }
@@ -145,7 +144,7 @@ impl<'a, const BLOCK_SIZE: usize, A: Allocator + Copy> Searched<'a, BLOCK_SIZE, 
         Some((place, close + 1))
     }
 
-    // The tree that closes right before a place, and the place where it opens.
+    // Returns the tree that closes right before a position, and the position where it opens.
     #[inline(always)]
     fn tree_before(self, place: usize, tally: &mut Tally) -> Option<(usize, usize)>
         requires { IsIndexed self.bits.now BLOCK_SIZE self.tree.now.first self.tree.now.nodes }
@@ -164,7 +163,8 @@ impl<'a, const BLOCK_SIZE: usize, A: Allocator + Copy> Searched<'a, BLOCK_SIZE, 
 }
 
 impl<const BLOCK_SIZE: usize, A: Allocator + Copy> BpTree<BLOCK_SIZE, A> {
-    /// An iterator over the children of a node, in order. The parentheses are balanced.
+    /// Returns an iterator over the children of a node, in order. Precondition: the parentheses are balanced,
+    /// and a node opens at `node`.
     pub fn children(&self, node: usize) -> ChildrenIter<'_, BLOCK_SIZE, true, A>
         requires balanced { IsBalanced self.now }
         requires is_node { IsNode (forest_of self.now) node }
@@ -176,7 +176,8 @@ impl<const BLOCK_SIZE: usize, A: Allocator + Copy> BpTree<BLOCK_SIZE, A> {
         Siblings::new(self.searched(), true, node + 1)
     }
 
-    /// An iterator over the children of a node, the last one first. The parentheses are balanced.
+    /// Returns an iterator over the children of a node, in reverse. Precondition: the parentheses are balanced,
+    /// and a node opens at `node`.
     pub fn rev_children(&self, node: usize) -> ChildrenIter<'_, BLOCK_SIZE, false, A>
         requires balanced { IsBalanced self.now }
         requires is_node { IsNode (forest_of self.now) node }

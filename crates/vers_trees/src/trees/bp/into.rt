@@ -1,4 +1,4 @@
-//! What a tree is turned into.
+//! Conversions of a tree.
 ghost use Rattle.std.specs.Prelude.{◌≡◌, true, length};
 ghost use Rattle.vers_bits.specs.Bits.{places};
 ghost use Rattle.vers_rank.specs.Queries.{superblock_count, select_reads};
@@ -9,7 +9,7 @@ use vers_bits::bit_vec::BitVec;
 use vers_rank::fast_rs_vec::{RsVec, SelectIntoIter};
 
 impl<const BLOCK_SIZE: usize, A: Allocator + Copy> BpTree<BLOCK_SIZE, A> {
-    /// The parentheses alone, with ranks and selects. Takes no memory.
+    /// Returns the parentheses without the tree, with rank and select. Allocates nothing.
     pub fn into_parentheses_vec(self) -> RsVec<A>
         ensures { result ≡ self }
     {
@@ -21,7 +21,7 @@ impl<const BLOCK_SIZE: usize, A: Allocator + Copy> BpTree<BLOCK_SIZE, A> {
 impl<const BLOCK_SIZE: usize, A: Allocator + Copy> From<BpTree<BLOCK_SIZE, A>> for RsVec<A> {
     ghost from_gives = { λ t v. v ≡ t };
 
-    /// The parentheses alone, with ranks and selects. Takes no memory.
+    /// Returns the parentheses without the tree, with rank and select. Allocates nothing.
     fn from(tree: BpTree<BLOCK_SIZE, A>) -> Self {
         tree.into_parentheses_vec()
     }
@@ -30,7 +30,7 @@ impl<const BLOCK_SIZE: usize, A: Allocator + Copy> From<BpTree<BLOCK_SIZE, A>> f
 impl<const BLOCK_SIZE: usize, A: Allocator + Copy> From<BpTree<BLOCK_SIZE, A>> for BitVec<A> {
     ghost from_gives = { λ t v. v ≡ t };
 
-    /// The parentheses alone. Takes no memory.
+    /// Returns the parentheses without any index. Allocates nothing.
     fn from(tree: BpTree<BLOCK_SIZE, A>) -> Self {
         tree.into_parentheses_vec().into_bit_vec()
     }
@@ -46,7 +46,7 @@ impl<const BLOCK_SIZE: usize, A: Allocator + Copy> IntoIterator for BpTree<BLOCK
       step = select_reads (superblock_count (length t));
     } };
 
-    /// An iterator over the places of the ones, ascending, which owns the list. Takes no memory.
+    /// Returns an iterator over the positions of the ones, ascending, which owns the list. Allocates nothing.
     fn into_iter(self) -> SelectIntoIter<false, A> {
         self.into_parentheses_vec().into_iter1()
     }

@@ -1,4 +1,4 @@
-//! Up from a node of balanced parentheses by so many levels, and along the nodes of one depth.
+//! Ancestors by level, and walks along the nodes of one depth.
 ghost use Rattle.std.specs.Prelude.{◌≡◌, length};
 ghost use Rattle.vers_tally.specs.Reads.{AddsAtMost};
 ghost use Rattle.vers_trees.specs.Forest.{IsBalanced, forest_of};
@@ -10,9 +10,9 @@ use std::alloc::Allocator;
 use vers_tally::tally::Tally;
 
 impl<const BLOCK_SIZE: usize, A: Allocator + Copy> BpTree<BLOCK_SIZE, A> {
-    /// The ancestor of a node that is so many levels up, itself at 0. None where there is none.
+    /// Returns the ancestor of a node `levels` levels up, itself at 0. `None` if there is none.
     ///
-    /// The parentheses are balanced, and a node opens at the place.
+    /// Precondition: the parentheses are balanced, and a node opens at `node`.
     #[inline]
     pub fn level_ancestor(&self, node: usize, levels: u64) -> Option<usize>
         requires balanced { IsBalanced self.now }
@@ -23,7 +23,7 @@ impl<const BLOCK_SIZE: usize, A: Allocator + Copy> BpTree<BLOCK_SIZE, A> {
         self.level_ancestor_counted(node, levels, &mut tally)
     }
 
-    /// The same as `level_ancestor`, by the reads of one search.
+    /// Returns `level_ancestor(node, levels)`. Reads at most what one search does.
     #[inline(always)]
     pub fn level_ancestor_counted(
         &self,
@@ -45,9 +45,9 @@ impl<const BLOCK_SIZE: usize, A: Allocator + Copy> BpTree<BLOCK_SIZE, A> {
         self.bwd_search_counted(node, -(levels as i64), tally)
     }
 
-    /// The next node of the same depth. None where there is none.
+    /// Returns the next node of the same depth, or `None` if there is none.
     ///
-    /// The parentheses are balanced, and a node opens at the place.
+    /// Precondition: the parentheses are balanced, and a node opens at `node`.
     #[inline]
     pub fn level_next(&self, node: usize) -> Option<usize>
         requires balanced { IsBalanced self.now }
@@ -59,7 +59,7 @@ impl<const BLOCK_SIZE: usize, A: Allocator + Copy> BpTree<BLOCK_SIZE, A> {
         self.level_next_counted(node, &mut tally)
     }
 
-    /// The same as `level_next`, by the reads of two searches.
+    /// Returns `level_next(node)`. Reads at most what two searches do.
     #[inline(always)]
     pub fn level_next_counted(&self, node: usize, tally: &mut Tally) -> Option<usize>
         requires balanced { IsBalanced self.now }
@@ -73,9 +73,9 @@ impl<const BLOCK_SIZE: usize, A: Allocator + Copy> BpTree<BLOCK_SIZE, A> {
         self.fwd_search_counted(close, 1, tally)
     }
 
-    /// The node of the same depth before. None where there is none.
+    /// Returns the previous node of the same depth, or `None` if there is none.
     ///
-    /// The parentheses are balanced, and a node opens at the place.
+    /// Precondition: the parentheses are balanced, and a node opens at `node`.
     #[inline]
     pub fn level_prev(&self, node: usize) -> Option<usize>
         requires balanced { IsBalanced self.now }
@@ -87,7 +87,7 @@ impl<const BLOCK_SIZE: usize, A: Allocator + Copy> BpTree<BLOCK_SIZE, A> {
         self.level_prev_counted(node, &mut tally)
     }
 
-    /// The same as `level_prev`, by the reads of two searches.
+    /// Returns `level_prev(node)`. Reads at most what two searches do.
     #[inline(always)]
     pub fn level_prev_counted(&self, node: usize, tally: &mut Tally) -> Option<usize>
         requires balanced { IsBalanced self.now }
@@ -101,9 +101,9 @@ impl<const BLOCK_SIZE: usize, A: Allocator + Copy> BpTree<BLOCK_SIZE, A> {
         self.open_counted(close, tally)
     }
 
-    /// The first node of a depth, where roots have depth 0. None where no node is so deep.
+    /// Returns the first node of a depth; roots have depth 0. `None` if no node has that depth.
     ///
-    /// The parentheses are balanced.
+    /// Precondition: the parentheses are balanced.
     #[inline]
     pub fn level_leftmost(&self, depth: u64) -> Option<usize>
         requires balanced { IsBalanced self.now }
@@ -113,7 +113,7 @@ impl<const BLOCK_SIZE: usize, A: Allocator + Copy> BpTree<BLOCK_SIZE, A> {
         self.level_leftmost_counted(depth, &mut tally)
     }
 
-    /// The same as `level_leftmost`, by the reads of one search.
+    /// Returns `level_leftmost(depth)`. Reads at most what one search does.
     #[inline(always)]
     pub fn level_leftmost_counted(&self, depth: u64, tally: &mut Tally) -> Option<usize>
         requires balanced { IsBalanced self.now }
@@ -129,9 +129,9 @@ impl<const BLOCK_SIZE: usize, A: Allocator + Copy> BpTree<BLOCK_SIZE, A> {
         self.fwd_search_counted(0, depth as i64, tally)
     }
 
-    /// The last node of a depth, where roots have depth 0. None where no node is so deep.
+    /// Returns the last node of a depth; roots have depth 0. `None` if no node has that depth.
     ///
-    /// The parentheses are balanced.
+    /// Precondition: the parentheses are balanced.
     #[inline]
     pub fn level_rightmost(&self, depth: u64) -> Option<usize>
         requires balanced { IsBalanced self.now }
@@ -141,7 +141,7 @@ impl<const BLOCK_SIZE: usize, A: Allocator + Copy> BpTree<BLOCK_SIZE, A> {
         self.level_rightmost_counted(depth, &mut tally)
     }
 
-    /// The same as `level_rightmost`, by the reads of two searches.
+    /// Returns `level_rightmost(depth)`. Reads at most what two searches do.
     #[inline(always)]
     pub fn level_rightmost_counted(&self, depth: u64, tally: &mut Tally) -> Option<usize>
         requires balanced { IsBalanced self.now }

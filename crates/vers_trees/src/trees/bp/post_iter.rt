@@ -1,4 +1,4 @@
-//! The iterators over nodes in postorder.
+//! Iterators over nodes in postorder.
 ghost use Rattle.std.specs.Prelude.{◌≡◌, ◌+◌, ◌≤◌, false, length};
 ghost use Rattle.vers_bits.specs.Bits.{places};
 ghost use Rattle.vers_trees.specs.Forest.{IsBalanced, forest_of};
@@ -15,8 +15,8 @@ use vers_rank::fast_rs_vec::{Places, RsVec};
 use vers_tally::ends::{Borrowing, BothEnds, Source};
 use vers_tally::tally::Tally;
 
-/// The nodes that `count` zeros of a list close, from zero number `first` on, which iterators find
-/// one by one: the place of a zero, and then by a search where it opens.
+/// The nodes that `count` zeros of a list close, from zero `first` on, which iterators find one by one: the
+/// position of a zero, then by a search where it opens.
 #[derive(Drop)]
 pub struct ClosedNodes<'a, const BLOCK_SIZE: usize, A: Allocator + Copy> {
     searched: Searched<'a, BLOCK_SIZE, A>,
@@ -77,16 +77,15 @@ impl<'a, const BLOCK_SIZE: usize, A: Allocator + Copy> Borrowing
     }
 }
 
-/// An iterator over all nodes, each after those below it. Each step reads at most what one select
-/// and one search do.
+/// An iterator over all nodes in postorder. Each step reads at most what one select and one search do.
 pub type PostIter<'a, const BLOCK_SIZE: usize, A> = BothEnds<ClosedNodes<'a, BLOCK_SIZE, A>>;
 
-/// An iterator over a node and all below it, each after those below it. Each step reads at most what
-/// one select and one search do.
+/// An iterator over the subtree of a node in postorder. Each step reads at most what one select and one search
+/// do.
 pub type SubtreePostIter<'a, const BLOCK_SIZE: usize, A> = BothEnds<ClosedNodes<'a, BLOCK_SIZE, A>>;
 
 impl<const BLOCK_SIZE: usize, A: Allocator + Copy> BpTree<BLOCK_SIZE, A> {
-    /// An iterator over all nodes, each after those below it. The parentheses are balanced.
+    /// Returns an iterator over all nodes in postorder. Precondition: the parentheses are balanced.
     pub fn dfs_post_iter(&self) -> PostIter<'_, BLOCK_SIZE, A>
         requires balanced { IsBalanced self.now }
         ensures { result ≡ record {
@@ -97,8 +96,8 @@ impl<const BLOCK_SIZE: usize, A: Allocator + Copy> BpTree<BLOCK_SIZE, A> {
         self.closed_by(0, self.bits.zeros())
     }
 
-    /// An iterator over a node and all below it, each after those below it. The parentheses are
-    /// balanced.
+    /// Returns an iterator over the subtree of a node in postorder. Precondition: the parentheses are balanced,
+    /// and a node opens at `node`.
     pub fn subtree_post_iter(&self, node: usize) -> SubtreePostIter<'_, BLOCK_SIZE, A>
         requires balanced { IsBalanced self.now }
         requires is_node { IsNode (forest_of self.now) node }
@@ -112,7 +111,7 @@ impl<const BLOCK_SIZE: usize, A: Allocator + Copy> BpTree<BLOCK_SIZE, A> {
         self.closed_by(first, count)
     }
 
-    // The nodes that `count` zeros close, from zero number `first` on.
+    // Returns an iterator over the nodes that `count` zeros close, from zero `first` on.
     fn closed_by(&self, first: usize, count: usize) -> PostIter<'_, BLOCK_SIZE, A>
         requires { first + count ≤ length (places false self.now) }
         ensures { result ≡ record {

@@ -1,4 +1,4 @@
-//! The iterator over a node and all below it.
+//! The iterator over the subtree of a node.
 ghost use Rattle.std.specs.Prelude.{◌≡◌, ◌+◌, ◌≤◌, length, take, drop};
 ghost use Rattle.vers_rank.specs.Queries.{superblock_count, select_reads};
 ghost use Rattle.vers_trees.specs.Forest.{IsBalanced, forest_of};
@@ -9,11 +9,10 @@ use std::alloc::Allocator;
 use vers_rank::fast_rs_vec::SelectIter;
 use vers_tally::ends::{BothEnds, Source};
 
-/// An iterator over a node and all below it, each before those below it. Each step reads at most
-/// what one select does.
+/// An iterator over the subtree of a node in preorder. Each step reads at most what one select does.
 pub type SubtreeIter<'a, A> = SelectIter<'a, false, A>;
 
-// The `count` items from number `first` on.
+// Returns the `count` items from item `first` on.
 fn part_of<S: Source<Item = usize>>(
     mut items: BothEnds<S>,
     first: usize,
@@ -33,8 +32,8 @@ fn part_of<S: Source<Item = usize>>(
 }
 
 impl<const BLOCK_SIZE: usize, A: Allocator + Copy> BpTree<BLOCK_SIZE, A> {
-    /// An iterator over a node and all below it, each before those below it. The parentheses are
-    /// balanced.
+    /// Returns an iterator over the subtree of a node in preorder. Precondition: the parentheses are balanced,
+    /// and a node opens at `node`.
     pub fn subtree_iter(&self, node: usize) -> SubtreeIter<'_, A>
         requires balanced { IsBalanced self.now }
         requires is_node { IsNode (forest_of self.now) node }
@@ -48,7 +47,7 @@ impl<const BLOCK_SIZE: usize, A: Allocator + Copy> BpTree<BLOCK_SIZE, A> {
         part_of(self.bits.iter1(), first, count)
     }
 
-    // How many nodes stand below a node, itself among them.
+    // Returns the number of nodes in the subtree of a node, including itself.
     pub(super) fn nodes_within(&self, node: usize) -> usize
         requires balanced { IsBalanced self.now }
         requires is_node { IsNode (forest_of self.now) node }

@@ -1,4 +1,4 @@
-//! Building the tree of excesses of a list, from its blocks up to the root.
+//! Construction of the tree of excesses of a list, from its blocks up to the root.
 ghost use Rattle.std.specs.Prelude.{◌≡◌, ℕ, Bool, List, ◌+◌, ◌*◌, ◌<◌, ◌≤◌, ◌≤ℤ◌, ◌<ℤ◌, ◌^◌, length, slice_index_or, vec_len, IfOk, OnOk};
 ghost use Rattle.vers_trees.specs.inside.Index.{CanBeIndexed, IsTreeOf, IsWidth, AreFirstBlocks};
 ghost use Rattle.vers_trees.specs.Layout.{block_count, node_count};
@@ -9,7 +9,7 @@ use crate::trees::bp::scan::node_of;
 use std::alloc::{AllocError, Allocator};
 use vers_bits::bit_vec::BitVec;
 
-// The least power of two, from 2, that is not below the number.
+// Returns the least power of two, from 2, that is at least the number.
 #[tactic(auto, using(crate::proofs::layout::Widths::grow_start, crate::proofs::layout::Widths::grow_more))]
 pub(super) fn width(leaves: usize) -> usize
     requires { leaves < 2 ^ 63 }
@@ -22,7 +22,7 @@ pub(super) fn width(leaves: usize) -> usize
     width
 }
 
-// The nodes of the blocks of `size` bits, after `first` nodes that are still to be filled.
+// Returns the nodes of the blocks of `size` bits, after `first` nodes that are still to be filled.
 fn leaves_of<A: Allocator + Copy>(
     bits: &BitVec<A>,
     size: usize,
@@ -61,7 +61,7 @@ fn push_blocks<A: Allocator + Copy>(
     Ok(())
 }
 
-// The nodes of the tree over the blocks of `size` bits of a list that has some bits.
+// Returns the nodes of the tree over the blocks of `size` bits of a nonempty list.
 pub(super) fn nodes_over<A: Allocator + Copy>(
     bits: &BitVec<A>,
     size: usize,
@@ -78,7 +78,7 @@ pub(super) fn nodes_over<A: Allocator + Copy>(
     Ok(nodes)
 }
 
-// The node over two neighbouring parts.
+// Returns the node over two adjacent parts.
 fn joined(left: Node, right: Node) -> Node
     requires { JoinFits left right }
     ensures both { right.least ≤ℤ right.greatest → result ≡ combined left right }
@@ -94,7 +94,7 @@ fn joined(left: Node, right: Node) -> Node
     }
 }
 
-// Node i of nodes that are not yet counted, or one over no block past the end.
+// Returns node `i`, not counted, or one over no block past the end.
 fn node_or_empty(nodes: &[Node], i: usize) -> Node
     ensures { result ≡ slice_index_or nodes.now i empty_node }
 {
