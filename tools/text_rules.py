@@ -156,7 +156,7 @@ def faults(texts):
 
 
 TALLY, RANK, MINIMA = "crates/vers_tally/src/tally.rt", "crates/vers_rank/", "crates/vers_rmq/proofs/Blocks.antt"
-CHUNKS = "    /// How many chunks of bits were loaded.\n"
+CHUNKS = "    /// Returns the number of chunks of bits loaded.\n"
 # what is wanted to be said, and the change that asks for it
 BREAKS = {
     "has no doc comment": (TALLY, CHUNKS, ""),
