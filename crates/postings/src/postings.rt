@@ -1,4 +1,4 @@
-//! The list of documents and its maker.
+//! The list of documents and its constructor.
 ghost use Rattle.std.specs.Prelude.{◌≡◌, ◌≤◌, ◌↔◌, [], length, OnOk, IfOk, IfErr, IsTrue};
 ghost use Rattle.std.specs.List.Sorted.{IsStrictlyIncreasing};
 ghost use Rattle.postings.specs.Posted.{ArePaired};
@@ -11,10 +11,10 @@ use vers_rmq::rmq::fast_rmq::{FastRmq, MAX_LEN};
 use vers_sorted::elias_fano::EliasFanoVec;
 use vers_sorted::order::is_strictly_ascending;
 
-/// Documents, each a number, and a cost of each. Contracts see a `Postings` as the list of its
-/// documents, which ascend and differ, and the list of their costs.
+/// Documents, each a number, with a cost each. Contracts see a `Postings` as the list of its documents, which
+/// ascend strictly, and the list of their costs.
 ///
-/// The documents are kept in high and low parts, and the costs with what finds the least of a range.
+/// It stores the documents in high and low parts, and the costs with an index for range minimum queries.
 #[derive(Drop)]
 pub struct Postings<A: Allocator + Copy> {
     pub(crate) documents: EliasFanoVec<A>,
@@ -34,7 +34,7 @@ impl<A: Allocator + Copy> Model for Postings<A> {
 impl<A: Allocator + Copy> Clone for Postings<A> {
     ghost is_clone = { λ old new. new ≡ old };
 
-    /// A second value of the same documents and costs.
+    /// Returns a copy of the documents and costs.
     fn clone(&self) -> Result<Self, AllocError> {
         let costs = self.costs.clone()?;
         let (documents, costs) = second_beside(&self.documents, costs)?;
@@ -43,8 +43,8 @@ impl<A: Allocator + Copy> Clone for Postings<A> {
 }
 
 impl<A: Allocator + Copy> Postings<A> {
-    /// The documents with their costs. Faults are tested in the order of `PostingsError`, and before
-    /// memory is asked for. The costs are dropped on a fault.
+    /// Returns the documents with their costs. Errors: tested in the order of `PostingsError`, and before any
+    /// allocation, but for `Memory`. The costs are dropped on error.
     pub fn from_sorted(documents: &[u64], costs: Vec<u64, A>) -> Result<Self, PostingsError>
         ensures made { IfOk result (λ p. p ≡ record {
           documents = documents.now;
@@ -61,7 +61,7 @@ impl<A: Allocator + Copy> Postings<A> {
         Ok(Postings { documents, costs })
     }
 
-    /// The documents, as the ascending list that keeps them.
+    /// Returns the documents, as the ascending list that stores them.
     #[inline]
     pub fn documents(&self) -> &EliasFanoVec<A>
         ensures { result.now ≡ self.now.documents }
@@ -69,7 +69,7 @@ impl<A: Allocator + Copy> Postings<A> {
         &self.documents
     }
 
-    /// The cost of each document, at the document's place.
+    /// Returns the cost of each document, at the document's position.
     #[inline]
     pub fn costs(&self) -> &[u64]
         ensures { result.now ≡ self.now.costs }
@@ -77,7 +77,7 @@ impl<A: Allocator + Copy> Postings<A> {
         self.costs.as_slice()
     }
 
-    /// How many documents there are.
+    /// Returns the number of documents.
     #[inline]
     pub fn len(&self) -> usize
         ensures value { result ≡ length self.now.documents }
@@ -86,7 +86,7 @@ impl<A: Allocator + Copy> Postings<A> {
         self.documents.len()
     }
 
-    /// Whether there are no documents.
+    /// Returns true if there are no documents.
     #[inline]
     pub fn is_empty(&self) -> bool
         ensures { IsTrue result ↔ (self.now.documents ≡ []) }
@@ -95,7 +95,7 @@ impl<A: Allocator + Copy> Postings<A> {
     }
 }
 
-// Tests whether documents and costs can be kept, in the order of `PostingsError`.
+// Tests whether the list can be made, in the order of `PostingsError`.
 fn check(documents: &[u64], costs: &[u64]) -> Result<(), PostingsError>
     ensures ascending { OnOk result (IsStrictlyIncreasing documents.now) }
     ensures paired { OnOk result (length documents.now ≡ length costs.now) }
@@ -114,7 +114,7 @@ fn check(documents: &[u64], costs: &[u64]) -> Result<(), PostingsError>
     Ok(())
 }
 
-// A list of documents beside what else is made, which is dropped where memory is refused.
+// Returns a list of documents together with another part, which is dropped on error.
 fn documents_beside<A: Allocator + Copy, C: Drop>(
     alloc: A,
     documents: &[u64],
@@ -126,7 +126,7 @@ fn documents_beside<A: Allocator + Copy, C: Drop>(
     Ok((EliasFanoVec::from_slice(alloc, documents)?, costs))
 }
 
-// A second list of documents beside what else is made, which is dropped where memory is refused.
+// Returns a copy of a list of documents together with another part, which is dropped on error.
 fn second_beside<A: Allocator + Copy, C: Drop>(
     documents: &EliasFanoVec<A>,
     costs: C,

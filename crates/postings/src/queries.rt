@@ -1,4 +1,4 @@
-//! What is asked of a list of documents.
+//! Queries of a list of documents.
 ghost use Rattle.std.specs.Prelude.{◌≡◌, ◌+◌, ◌≤◌, All, length, nat_le, if◌then◌else◌, IfOk};
 ghost use Rattle.vers_tally.specs.Reads.{AddsAtMost};
 ghost use Rattle.vers_sorted.specs.Sorted.{below, least_not_below};
@@ -11,7 +11,7 @@ use vers_sorted::elias_fano::EliasFanoVec;
 use vers_tally::tally::Tally;
 
 impl<A: Allocator + Copy> Postings<A> {
-    /// Whether a document is in the list.
+    /// Returns true if a document is in the list.
     #[inline]
     pub fn contains(&self, document: u64) -> bool
         ensures { result ≡ is_among self.now.documents document }
@@ -19,7 +19,7 @@ impl<A: Allocator + Copy> Postings<A> {
         self.documents.has(document)
     }
 
-    /// The same as `contains`, by one search among the documents.
+    /// Returns `contains(document)`. Reads at most what one search among the documents does.
     #[inline(always)]
     pub fn contains_counted(&self, document: u64, tally: &mut Tally) -> bool
         ensures value { result ≡ is_among self.now.documents document }
@@ -28,7 +28,7 @@ impl<A: Allocator + Copy> Postings<A> {
         self.documents.has_counted(document, tally)
     }
 
-    /// How many documents are below a number.
+    /// Returns the number of documents below a number.
     #[inline]
     pub fn rank(&self, document: u64) -> u64
         ensures value { result ≡ below self.now.documents document }
@@ -37,7 +37,7 @@ impl<A: Allocator + Copy> Postings<A> {
         self.documents.rank(document)
     }
 
-    /// The same as `rank`, by one search among the documents.
+    /// Returns `rank(document)`. Reads at most what one search among the documents does.
     #[inline(always)]
     pub fn rank_counted(&self, document: u64, tally: &mut Tally) -> u64
         ensures value { result ≡ below self.now.documents document }
@@ -47,7 +47,7 @@ impl<A: Allocator + Copy> Postings<A> {
         self.documents.rank_counted(document, tally)
     }
 
-    /// The first document that is not below a number. None where there is none.
+    /// Returns the first document that is at least a number, or `None` if there is none.
     #[inline]
     pub fn next_at_least(&self, document: u64) -> Option<u64>
         ensures { result ≡ least_not_below self.now.documents document }
@@ -55,7 +55,7 @@ impl<A: Allocator + Copy> Postings<A> {
         self.documents.successor(document)
     }
 
-    /// The same as `next_at_least`, by one search among the documents.
+    /// Returns `next_at_least(document)`. Reads at most what one search among the documents does.
     #[inline(always)]
     pub fn next_at_least_counted(&self, document: u64, tally: &mut Tally) -> Option<u64>
         ensures value { result ≡ least_not_below self.now.documents document }
@@ -64,8 +64,8 @@ impl<A: Allocator + Copy> Postings<A> {
         self.documents.successor_counted(document, tally)
     }
 
-    /// The first document of least cost among those from one number to another, both included. None
-    /// where there is none.
+    /// Returns the first document of least cost among those from `from` to `to`, both included. `None` if there
+    /// is none.
     #[inline]
     pub fn cheapest(&self, from: u64, to: u64) -> Option<u64>
         ensures { result ≡ cheapest self.now from to }
@@ -74,7 +74,7 @@ impl<A: Allocator + Copy> Postings<A> {
         self.cheapest_counted(from, to, &mut tally)
     }
 
-    /// The same as `cheapest`, by two searches among the documents, at most 18 costs and one
+    /// Returns `cheapest(from, to)`. Reads at most what two searches among the documents do, 18 costs and one
     /// document.
     #[inline(always)]
     pub fn cheapest_counted(&self, from: u64, to: u64, tally: &mut Tally) -> Option<u64>
@@ -90,7 +90,8 @@ impl<A: Allocator + Copy> Postings<A> {
         self.documents.get_counted(place, tally)
     }
 
-    /// The documents that another list has too, ascending. Memory is that of this list.
+    /// Returns the documents that are in both lists, ascending, in this list's allocator. Errors: `AllocError`
+    /// if the allocator refuses a request.
     pub fn intersect(&self, other: &Postings<A>) -> Result<Vec<u64, A>, AllocError>
         ensures { IfOk result (λ found.
             found.items ≡ common self.now.documents other.now.documents) }
@@ -99,7 +100,8 @@ impl<A: Allocator + Copy> Postings<A> {
         self.intersect_counted(other, &mut tally)
     }
 
-    /// The same as `intersect`, by one search in the longer list for each document of the shorter.
+    /// Returns `intersect(other)`. Reads at most what one search in the longer list does for each document of
+    /// the shorter.
     pub fn intersect_counted(
         &self,
         other: &Postings<A>,
@@ -115,7 +117,7 @@ impl<A: Allocator + Copy> Postings<A> {
     }
 }
 
-// Two lists, the shorter first.
+// Returns two lists, the shorter first.
 #[inline(always)]
 fn by_length<'a, A: Allocator + Copy>(
     one: &'a EliasFanoVec<A>,
@@ -133,7 +135,7 @@ fn by_length<'a, A: Allocator + Copy>(
     }
 }
 
-// How many documents are not above a number, by one search.
+// Returns the number of documents that are at most a number, by one search.
 #[inline(always)]
 fn up_to<A: Allocator + Copy>(documents: &EliasFanoVec<A>, to: u64, tally: &mut Tally) -> usize
     requires { All (λ d. d ≤ 18446744073709551615) documents.now }
@@ -146,7 +148,7 @@ fn up_to<A: Allocator + Copy>(documents: &EliasFanoVec<A>, to: u64, tally: &mut 
     }
 }
 
-// The documents of the shorter list that the longer has too, in one walk along the shorter.
+// Returns the documents of the shorter list that are in the longer one too, in one walk along the shorter.
 #[inline(always)]
 fn common_documents<A: Allocator + Copy>(
     alloc: A,
