@@ -1,4 +1,4 @@
-//! The library under the paths of the crate vers-vecs: names alone, no bodies.
+//! The library under the paths of the crate vers-vecs: only names, no bodies.
 #![tactic(auto)]
 
 /// Lists of bits.
@@ -8,7 +8,7 @@ pub mod bit_vec {
         OutOfRange, SplitCause, SplitError,
     };
 
-    /// Lists of bits with ranks and selects.
+    /// Lists of bits with rank and select.
     pub mod fast_rs_vec {
         pub use vers_rank::fast_rs_vec::{
             BitSetIter, PlacePair, RankedBit, RsVec, RsVecIter, RsVecRefIter, SelectIntoIter,
@@ -16,7 +16,7 @@ pub mod bit_vec {
         };
     }
 
-    /// Lists of bits that keep the places of their ones alone.
+    /// Lists of bits that store only the positions of their ones.
     pub mod sparse {
         pub use vers_sorted::order::{are_below, is_strictly_ascending};
         pub use vers_sorted::sparse::SparseRSVec;
@@ -36,9 +36,9 @@ pub mod elias_fano {
     pub use vers_sorted::order::is_ascending;
 }
 
-/// Range minima.
+/// Range minimum queries.
 pub mod rmq {
-    /// Range minima by two items read.
+    /// Range minima from two items read.
     pub mod binary_rmq {
         pub use vers_rmq::rmq::binary_rmq::{BinaryRmq, MAX_LEN, PlacedItem};
     }
@@ -49,7 +49,7 @@ pub mod rmq {
     }
 }
 
-/// Lists of symbols of one width.
+/// Lists of symbols of the same width.
 pub mod wavelet {
     pub use vers_wavelet::wavelet::{
         Gathered, GatheredQuery, GetQuery, QuantileQuery, RankQuery, SelectQuery, WaveletIter,
@@ -62,7 +62,7 @@ pub mod wavelet {
 pub mod trees {
     pub use vers_trees::trees::{IsAncestor, LevelTree, SubtreeSize, Tree, TreeBuilder};
 
-    /// Trees of parentheses with searches by a tree of excesses, and their builder.
+    /// Trees of parentheses with searches by a min-max tree of excesses, and their builder.
     pub mod bp {
         pub use vers_trees::trees::bp::{
             BpBuilder, BpTree, BuildError, ChildrenIter, DfsIter, LevelEnd, MAX_BLOCK_SIZE,
@@ -76,8 +76,8 @@ pub mod tally {
     pub use vers_tally::tally::Tally;
 }
 
-/// Laws over the definitions, in a module for each kind of list. Each function does nothing: a body that
-/// calls it may use the law that stands in its contract.
+/// Laws over the definitions, in a module for each kind of list. Each function does nothing: a body that calls
+/// it may use the law in its contract.
 pub mod laws {
     pub use vers_bits::laws as bits;
     pub use vers_rank::laws as rank;
