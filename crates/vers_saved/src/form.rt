@@ -1,4 +1,4 @@
-//! The saved form of any list: a head, words and a sum.
+//! The saved form of any list: a head, words and a checksum.
 ghost use Rattle.std.specs.Prelude.{◌≡◌, ℕ, List, ◌+◌, ◌*◌, ◌<◌, ◌≤◌, ◌++◌, ◌⊎◌, length, take, drop, fold, map, slice_index, vec_len, vec_capacity, OnOk, OnErr, IfOk, IfErr, MatchResult, Some, None};
 ghost use Rattle.vers_saved.specs.Format.{word_bytes, bytes_of, bytes_word, check_sum, mix, head, words_of, saved, saved_size};
 ghost use Rattle.vers_bits.specs.Bits.{limb_count, limbs, pack};
@@ -14,17 +14,17 @@ use crate::{MAGIC, START, VERSION};
 use std::alloc::{AllocError, Allocator};
 use vers_bits::bit_vec::{BitVec, MAX_LEN};
 
-/// How many words a head has.
+/// The number of words in a head.
 pub(crate) const HEAD: usize = 5;
 
-/// What a list is, beside its words: of what kind, how many items it has, and of what width.
+/// The shape of a list: its kind, its number of items and their width.
 #[derive(Clone, Copy, Drop)]
 pub struct Shape {
     /// The number of its kind.
     pub kind: u64,
-    /// How many items it has.
+    /// The number of its items.
     pub count: usize,
-    /// The width of its items, or the size of a tree's blocks.
+    /// The width of its items, or the block size of a tree.
     pub width: usize,
 }
 
@@ -73,14 +73,14 @@ pub(crate) fn put_head<B: Allocator>(out: &mut Vec<u8, B>, shape: Shape) -> u64
     put_summed(out, sum, shape.count as u64)
 }
 
-/// What the head of a form says: the shape of the list, and how many bits its items have.
+/// The contents of a head: the shape of the list, and the number of bits of its items.
 #[derive(Clone, Copy, Drop)]
 pub(crate) struct Head {
     pub(crate) shape: Shape,
     pub(crate) bits: usize,
 }
 
-// What the head of words says, where they are the saved form of a list of that kind.
+// Returns the head of words, if they are the saved form of a list of that kind.
 pub(crate) fn head_of<W: Words>(kind: &Kind, words: &W) -> Result<Head, LoadError>
     requires { 6 ≤ length (W.words words.now) }
     ensures none { OnOk result (first_failing (head_tests kind.now (W.words words.now)) ≡ None) }
@@ -121,8 +121,8 @@ pub(crate) fn head_of<W: Words>(kind: &Kind, words: &W) -> Result<Head, LoadErro
     Ok(Head { shape, bits })
 }
 
-// The tests of what comes after a head that says `n` bits, of as many words as they fill, where those before the
-// last one have this sum.
+// Tests the part after a head that says `n` bits, of as many words as they fill, if `sum` is the sum of the
+// words before the last one.
 #[tactic(auto, unfolding(crate::specs::Faults::is_summed))]
 fn test_summed<W: Words>(order: Order, n: usize, sum: u64, words: &W) -> Result<(), LoadError>
     requires long { length (W.words words.now) ≡ limb_count n + FRAME }
@@ -142,7 +142,7 @@ fn test_summed<W: Words>(order: Order, n: usize, sum: u64, words: &W) -> Result<
     Ok(())
 }
 
-// The same tests, with the sum.
+// Makes the same tests, and computes the sum.
 pub(crate) fn test_body<W: Words>(order: Order, n: usize, words: &W) -> Result<(), LoadError>
     requires { length (W.words words.now) ≡ limb_count n + FRAME }
     ensures none { OnOk result (first_failing (body_tests order n (W.words words.now)) ≡ None) }
@@ -152,8 +152,8 @@ pub(crate) fn test_body<W: Words>(order: Order, n: usize, words: &W) -> Result<(
     test_summed(order, n, sum, words)
 }
 
-// The words that hold `n` bits, of words that pass these tests. They are copied in the same pass in which they are
-// summed; where there is no memory for them, they are tested all the same.
+// Returns the words of `n` bits, if they pass these tests. One pass copies and sums them; if the allocator
+// refuses memory for the copy, it still tests them.
 fn tested_words<W: Words, A: Allocator>(
     alloc: A,
     order: Order,
@@ -175,7 +175,7 @@ fn tested_words<W: Words, A: Allocator>(
     Ok(kept)
 }
 
-// What the head of bytes says, where they are as many as it says. Their faults are then those of what comes after it.
+// Returns the head of bytes, if there are as many as it says. Their errors are then those of the part after it.
 #[tactic(auto, using(crate::proofs::Tests::whole))]
 fn test_bytes(kind: &Kind, bytes: &[u8]) -> Result<Head, LoadError>
     ensures body { IfOk result (λ h. fault_of kind.now bytes.now
@@ -203,14 +203,14 @@ fn test_bytes(kind: &Kind, bytes: &[u8]) -> Result<Head, LoadError>
     Ok(head)
 }
 
-/// A shape, and the words that hold its items.
+/// A shape, and the words of its items.
 #[derive(Drop)]
 pub(crate) struct Form<A: Allocator> {
     pub(crate) shape: Shape,
     pub(crate) words: Vec<u64, A>,
 }
 
-// The shape and the words that the bytes are the saved form of, of a list of that kind.
+// Returns the shape and the words of the saved form in `bytes`, of a list of that kind.
 pub(crate) fn form_of<A: Allocator>(
     alloc: A,
     kind: Kind,
@@ -235,7 +235,7 @@ pub(crate) fn form_of<A: Allocator>(
     })
 }
 
-// The words, taken out of a vector.
+// Takes the words out of a vector.
 pub(crate) fn taken<A: Allocator + Copy>(held: &mut Vec<u64, A>) -> Vec<u64, A>
     ensures { result.items ≡ held.old.items }
 {
@@ -243,7 +243,7 @@ pub(crate) fn taken<A: Allocator + Copy>(held: &mut Vec<u64, A>) -> Vec<u64, A>
     std::mem::replace(held, Vec::new(alloc))
 }
 
-// The first `len` bits that words hold, which are no more than so many need.
+// Returns the first `len` bits of words, of which there are no more than these bits need.
 #[tactic(auto, using(crate::proofs::BitLists::cuts))]
 fn first_bits<A: Allocator + Copy>(len: usize, words: Vec<u64, A>) -> BitVec<A>
     requires small { len ≤ MAX_LEN }
@@ -257,7 +257,7 @@ fn first_bits<A: Allocator + Copy>(len: usize, words: Vec<u64, A>) -> BitVec<A>
     bits
 }
 
-// The bits of the items that words hold, of a list of that kind and shape.
+// Returns the bits of the items in words, of a list of that kind and shape.
 #[tactic(auto, using(crate::proofs::RoundTrips::counts))]
 pub(crate) fn bits_of<A: Allocator + Copy>(kind: &Kind, of: Shape, words: Vec<u64, A>) -> BitVec<A>
     requires { IsWhole kind.now of.count of.width words.items }

@@ -2,13 +2,13 @@
 //! checked with the crate.
 ghost use Rattle.vers_saved.specs.Laws.{SumTellsOneWord, BitsGoRound, SortedGoRound, SymbolsGoRound, SparseGoRound, TableValuesGoRound, BlockValuesGoRound, ParenthesesGoRound, PostingsGoRound};
 
-/// Where two lists of words differ in one word alone, their sums differ.
+/// If two lists of words differ in exactly one word, their sums differ.
 #[tactic(auto, using(crate::proofs::SumTells::sum_tells_one_word))]
 pub fn sum_tells_one_word()
     ensures { SumTellsOneWord }
 {}
 
-/// The form of each list that may be saved has no fault, and no other list has that form.
+/// The form of each list that may be saved has no error, and no other list has that form.
 pub fn forms_go_round()
     ensures bits { BitsGoRound }
     ensures sorted { SortedGoRound }

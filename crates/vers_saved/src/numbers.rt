@@ -1,4 +1,4 @@
-//! Lists of numbers, saved as they are, each as a word.
+//! Lists of numbers, saved unchanged, each as a word.
 ghost use Rattle.std.specs.Prelude.{◌≡◌, ◌<◌, ◌≤◌, ◌+◌, ◌-◌, ◌++◌, ◌^◌, ⊤, ℕ, None, drop, length, slice_index, unwrap_or};
 ghost use Rattle.vers_saved.specs.declared.kind.TheConstants.{SORTED_LISTS, TABLE_VALUES, BLOCK_VALUES};
 
@@ -10,7 +10,7 @@ use vers_rmq::rmq::binary_rmq::BinaryRmq;
 use vers_rmq::rmq::fast_rmq::FastRmq;
 use vers_sorted::elias_fano::{EliasFanoRefIter, EliasFanoVec};
 
-// The shape of so many words of a kind, one for each item.
+// Returns the shape of `count` words of a kind, one for each item.
 pub(crate) fn words_shape(kind: u64, count: usize) -> Shape
     ensures kind { result.kind ≡ kind }
     ensures count { result.count ≡ count }
@@ -23,12 +23,12 @@ pub(crate) fn words_shape(kind: u64, count: usize) -> Shape
     }
 }
 
-// All items of a slice are words.
+// Shows that all items of a slice are words.
 pub(crate) fn are_words(items: &[u64])
     ensures { (k : ℕ) → slice_index items.now k < 2 ^ 64 }
 {}
 
-// All members of a list are words, since the last one is.
+// Shows that all members of a list are words, since the last one is.
 #[tactic(auto, using(crate::proofs::WordLists::numbers))]
 fn read_last<A: Allocator + Copy>(list: &EliasFanoVec<A>)
     ensures { (k : ℕ) → slice_index list.now k < 2 ^ 64 }
@@ -40,7 +40,7 @@ fn read_last<A: Allocator + Copy>(list: &EliasFanoVec<A>)
     let _last = list.get_unchecked(count - 1);
 }
 
-// Drops the first members that a walk has left, so many of them.
+// Skips the first `n` members that a walk has left.
 #[inline(always)]
 fn drop_first<A: Allocator + Copy>(members: &mut EliasFanoRefIter<'_, A>, n: usize)
     ensures { members.new.left ≡ drop n members.old.left }
@@ -50,7 +50,8 @@ fn drop_first<A: Allocator + Copy>(members: &mut EliasFanoRefIter<'_, A>, n: usi
     }
 }
 
-// The number that a walk gave, or where it gave none, that at a place of the others, which come after `count`.
+// Returns the number that a walk returned, or if it returned none, that at a position of the others, which come
+// after `count`.
 #[inline(always)]
 fn given_or(given: Option<u64>, others: &[u64], place: usize, count: usize) -> u64
     requires some { given ≡ None → count ≤ place }
@@ -63,7 +64,7 @@ fn given_or(given: Option<u64>, others: &[u64], place: usize, count: usize) -> u
     }
 }
 
-// Copies the members that a walk has left, and then other numbers, from a place on.
+// Copies the members that a walk has left, and then other numbers, from a position on.
 pub(crate) fn copy_members<A: Allocator + Copy>(
     mut members: EliasFanoRefIter<'_, A>,
     others: &[u64],

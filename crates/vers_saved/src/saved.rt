@@ -1,4 +1,4 @@
-//! What has a saved form: lists that are saved to bytes and loaded from them.
+//! `Saved`: lists that are saved to bytes and loaded from them.
 ghost use Rattle.std.specs.Prelude.{◌≡◌, ◌<◌, ◌≤◌, ◌+◌, ◌*◌, ℕ, List, ◌++◌, ◌⊎◌, length, take, drop, fold, slice_index, vec_len, vec_capacity, OnOk, OnErr, IfOk, IfErr, IfSome, MatchResult, Some, None, false};
 ghost use Rattle.vers_saved.specs.declared.kind.Kind.{Kind};
 ghost use Rattle.vers_saved.specs.Format.{bytes_of, mix, saved};
@@ -11,28 +11,28 @@ use crate::kind::Kind;
 use crate::words::{FRAME, put_word};
 use std::alloc::{AllocError, Allocator};
 
-/// A list that has a saved form, by its words. A list of which `IsWhole` and `Fits` hold is loaded
-/// as it was saved.
+/// A list that has a saved form, by its words. A list that satisfies `IsWhole` and `Fits` is loaded as it was
+/// saved.
 pub trait Saved {
     // The kind of such lists.
     ghost kind: { Kind };
 
-    // How many items a list has, and their width.
+    // The number of items of a list, and their width.
     ghost count: { Self → ℕ };
 
     ghost width: { Self → ℕ };
 
-    // The words that hold the items.
+    // The words of the items.
     ghost words: { Self → List ℕ };
 
-    // What holds of a list beside what its words show.
+    // A property of a list that its words don't show.
     ghost Fits: { Self → Type 0 };
 
-    /// The kind of such lists.
+    /// Returns the kind of such lists.
     fn kind() -> Kind
         ensures { result ≡ kind };
 
-    /// The shape of the list. None where a list of this kind may not have it.
+    /// Returns the shape of the list, or `None` if a list of this kind may not have it.
     fn shape(&self) -> Option<Shape>
         ensures kind { IfSome result (λ s. s.kind ≡ kind.number) }
         ensures count { IfSome result (λ s. s.count ≡ count self.now) }
@@ -42,13 +42,14 @@ pub trait Saved {
         ensures fits { IfSome result (λ _. Fits self.now) }
         ensures none { result ≡ None → may_be_saved kind (count self.now) (width self.now) ≡ false };
 
-    /// The word at a place, of a list that has a saved form.
+    /// Returns word `k`. Precondition: the list has a saved form, and `k` is below the number of words.
     fn word(&self, k: usize) -> u64
         requires whole { IsWhole kind (count self.now) (width self.now) (words self.now) }
         requires within { k < length (words self.now) }
         ensures { result ≡ slice_index (words self.now) k };
 
-    /// Copies the words from a place on, as many as the slice has, of a list that has a saved form.
+    /// Copies the words from word `from` on, as many as the slice has. Precondition: the list has a saved form,
+    /// and has these words.
     fn copy_words(&self, from: usize, out: &mut [u64])
         requires whole { IsWhole kind (count self.now) (width self.now) (words self.now) }
         requires within { from + length out.old ≤ length (words self.now) }
@@ -63,18 +64,19 @@ pub trait Saved {
 
 /// A list that is made of the words that it was saved by, in memory of an allocator `A`.
 pub trait Loaded<A: Allocator>: Saved + Sized {
-    /// The list of items that these words hold. The words are taken out of the vector.
+    /// Returns the list of the items in these words, which are taken out of the vector. Precondition: the words
+    /// are those of a list of that shape. Errors: `AllocError` if the allocator refuses a request.
     fn make(of: Shape, held: &mut Vec<u64, A>) -> Result<Self, AllocError>
         requires { IsWhole Self.kind of.count of.width held.old.items }
         ensures { IfOk result (λ v. (Self.count v ≡ of.count) × (Self.width v ≡ of.width)
             × (Self.words v ≡ held.old.items) × Self.Fits v) };
 
-    // Two lists with one shape and the same words are one list.
+    // Two lists with the same shape and the same words are equal.
     ghost tells: { (x y : Self) → Self.Fits x → Self.Fits y → Self.count x ≡ Self.count y
         → Self.width x ≡ Self.width y → Self.words x ≡ Self.words y → x ≡ y };
 }
 
-// How many words a list of that shape has.
+// Returns the number of words of a list of that shape.
 #[tactic(auto, using(crate::proofs::RoundTrips::counts))]
 pub(crate) fn count_words<S: Saved>(list: &S, shape: Shape) -> usize
     requires count { shape.count ≡ S.count list.now }
@@ -86,7 +88,7 @@ pub(crate) fn count_words<S: Saved>(list: &S, shape: Shape) -> usize
     (shape.count * S::kind().bits_of_item(shape.width)).div_ceil(64)
 }
 
-/// How many bytes the saved form of a list has. None where the list has none.
+/// Returns the number of bytes of the saved form of a list, or `None` if it has none.
 #[tactic(auto, using(crate::proofs::RoundTrips::sizes))]
 pub fn saved_size<S: Saved>(list: &S) -> Option<usize>
     ensures some { IfSome result (λ size. size
@@ -98,10 +100,10 @@ pub fn saved_size<S: Saved>(list: &S) -> Option<usize>
     Some(8 * (count_words(list, shape) + FRAME))
 }
 
-// How many words are copied out of a list at once.
+// The number of words copied out of a list at once.
 pub(crate) const GROUP: usize = 512;
 
-// Appends `n` words of a list from a place on, for which there is room. Returns the sum with them mixed in.
+// Appends `n` words of a list from a position on, for which there is room. Returns the sum with them mixed in.
 pub(crate) fn put_group<S: Saved, B: Allocator>(
     out: &mut Vec<u8, B>,
     sum: u64,
@@ -124,7 +126,7 @@ pub(crate) fn put_group<S: Saved, B: Allocator>(
     put_words(out, sum, words)
 }
 
-// Appends the saved form of a list with that shape. Out of memory leaves the bytes as they were.
+// Appends the saved form of a list with that shape. On error the bytes are unchanged.
 fn append_saved<S: Saved, B: Allocator>(
     list: &S,
     shape: Shape,
@@ -150,7 +152,11 @@ fn append_saved<S: Saved, B: Allocator>(
     Ok(())
 }
 
-/// Appends the saved form of a list. A refusal leaves the bytes as they were.
+/// Appends the saved form of a list. On error the bytes are unchanged.
+///
+/// # Errors
+///
+/// `NoForm` if the list has no saved form; `Memory` if the allocator refuses a request.
 pub fn save_to_vec<S: Saved, B: Allocator>(list: &S, out: &mut Vec<u8, B>) -> Result<(), SaveError>
     ensures saved { OnOk result (out.new.items ≡ out.old.items
         ++ saved S.kind.number (S.count list.now) (S.width list.now) (S.words list.now)) }
@@ -167,8 +173,11 @@ pub fn save_to_vec<S: Saved, B: Allocator>(list: &S, out: &mut Vec<u8, B>) -> Re
     Ok(())
 }
 
-/// The list that the bytes are the saved form of. A fault is that of the first test that fails, and
-/// Memory comes only where all of them hold.
+/// Returns the list whose saved form the bytes are.
+///
+/// # Errors
+///
+/// That of the first test that fails; `Memory` only if the bytes pass all tests.
 pub fn load_from_slice<S: Loaded<A>, A: Allocator>(alloc: A, bytes: &[u8]) -> Result<S, LoadError>
     ensures loaded { IfOk result (λ v. bytes.now ≡ saved S.kind.number (S.count v) (S.width v) (S.words v)) }
     ensures whole { IfOk result (λ v. IsWhole S.kind (S.count v) (S.width v) (S.words v) × S.Fits v) }

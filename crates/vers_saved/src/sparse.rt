@@ -1,4 +1,4 @@
-//! Lists of bits with few ones, saved by the places of the ones and the length.
+//! Lists of bits with few ones, saved by the positions of the ones and the length.
 ghost use Rattle.std.specs.Prelude.{◌≡◌, ◌<◌, ◌≤◌, ◌^◌, ⊤, length, slice_index};
 ghost use Rattle.vers_saved.specs.Format.{sparse_words};
 ghost use Rattle.vers_saved.specs.declared.kind.TheConstants.{SPARSE_LISTS};
