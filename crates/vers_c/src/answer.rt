@@ -1,22 +1,22 @@
-//! What a query answers.
+//! The results of queries.
 ghost use Rattle.std.specs.Prelude.{◌≡◌, option_map};
 ghost use Rattle.vers_bits.specs.Bits.{bit_value};
 ghost use Rattle.vers_c.specs.Answers.{absent, decided, found, found_or_absent, refused, unknown, vacant, value_or};
 
 use crate::status::{ABSENT, DONE, REFUSED, UNKNOWN, VACANT};
 
-/// A status, and a number where the status is `DONE`. Where it isn't, the number is 0.
+/// A status, and a number if the status is `DONE`. Otherwise the number is 0.
 #[repr(C)]
 #[derive(Clone, Copy, Drop)]
 pub struct Answer {
-    /// How it went.
+    /// The status.
     pub status: u32,
-    /// What was found.
+    /// The number.
     pub value: u64,
 }
 
 impl Answer {
-    /// A number was found.
+    /// Returns an answer with a number.
     #[inline(always)]
     pub fn found(value: u64) -> Answer
         ensures { result ≡ found value }
@@ -27,7 +27,7 @@ impl Answer {
         }
     }
 
-    // A status alone.
+    // Returns an answer with a status only.
     #[inline(always)]
     fn none(status: u32) -> Answer
         ensures { result ≡ record { status = status; value = 0 } }
@@ -35,7 +35,7 @@ impl Answer {
         Answer { status, value: 0 }
     }
 
-    /// There is no such thing.
+    /// Returns the answer `ABSENT`: there is no such thing.
     #[inline(always)]
     pub fn absent() -> Answer
         ensures { result ≡ absent }
@@ -43,7 +43,7 @@ impl Answer {
         Answer::none(ABSENT)
     }
 
-    /// The structure has no such query.
+    /// Returns the answer that the structure has no such query.
     #[inline(always)]
     pub fn unknown() -> Answer
         ensures { result ≡ unknown }
@@ -51,7 +51,7 @@ impl Answer {
         Answer::none(UNKNOWN)
     }
 
-    /// The handle holds nothing.
+    /// Returns the answer that the handle is empty.
     #[inline(always)]
     pub fn vacant() -> Answer
         ensures { result ≡ vacant }
@@ -59,7 +59,7 @@ impl Answer {
         Answer::none(VACANT)
     }
 
-    /// The arguments are refused.
+    /// Returns the answer that the arguments are refused.
     #[inline(always)]
     pub fn refused() -> Answer
         ensures { result ≡ refused }
@@ -67,7 +67,7 @@ impl Answer {
         Answer::none(REFUSED)
     }
 
-    /// A place was found.
+    /// Returns an answer with a position.
     #[inline(always)]
     pub fn place(place: usize) -> Answer
         ensures { result ≡ found place }
@@ -75,7 +75,7 @@ impl Answer {
         Answer::found(place as u64)
     }
 
-    /// Whether something is so, as 1 or 0.
+    /// Returns an answer with a boolean, as 1 or 0.
     #[inline(always)]
     pub fn truth(b: bool) -> Answer
         ensures { result ≡ decided b }
@@ -83,7 +83,7 @@ impl Answer {
         Answer::found(u64::from(b))
     }
 
-    /// A number, or that there is none.
+    /// Returns an answer with the number, or that there is none.
     #[inline(always)]
     pub fn number_or_absent(number: Option<u64>) -> Answer
         ensures { result ≡ found_or_absent number }
@@ -94,7 +94,7 @@ impl Answer {
         }
     }
 
-    /// A place, or that there is none.
+    /// Returns an answer with the position, or that there is none.
     #[inline(always)]
     pub fn place_or_absent(place: Option<usize>) -> Answer
         ensures { result ≡ found_or_absent place }
@@ -105,7 +105,7 @@ impl Answer {
         }
     }
 
-    /// A bit, or that there is none.
+    /// Returns an answer with the bit, or that there is none.
     #[inline(always)]
     pub fn bit_or_absent(bit: Option<bool>) -> Answer
         ensures { result ≡ found_or_absent (option_map bit_value bit) }
@@ -116,7 +116,7 @@ impl Answer {
         }
     }
 
-    /// The number, or another one where nothing was found.
+    /// Returns the number, or `other` if there is none.
     #[inline(always)]
     pub fn value_or(self, other: u64) -> u64
         ensures { result ≡ value_or other self }

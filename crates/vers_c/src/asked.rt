@@ -1,28 +1,28 @@
-//! Structures that can be asked, once or many times.
+//! Structures that can be queried, once or many times.
 ghost use Rattle.std.specs.Prelude.{◌≡◌, ℕ, map};
 ghost use Rattle.vers_c.specs.Batches.{told_row};
 
 use crate::answer::Answer;
 use crate::query::Query;
 
-/// A structure that can be asked.
+/// A structure that can be queried.
 pub trait Asked {
     ghost use Rattle.vers_c.specs.declared.answer.Answer.{Answer};
     ghost use Rattle.vers_c.specs.declared.query.Query.{Query};
 
-    // What it answers to a query with three numbers.
+    // The answer to a query with three numbers.
     ghost answers: { Self → Query → ℕ → ℕ → ℕ → Answer };
 
-    /// What it answers to a query with three numbers.
+    /// Returns the answer to a query with three numbers.
     fn answer(&self, query: Query, a: u64, b: u64, c: u64) -> Answer
         ensures { result ≡ answers self.now query a b c };
 }
 
-/// The three numbers of a query. The first is its answer afterwards.
+/// The three numbers of a query. The first is replaced by the answer.
 #[repr(C)]
 #[derive(Clone, Copy, Drop)]
 pub struct Ask {
-    /// The first number, and the answer.
+    /// The first number, then the answer.
     pub a: u64,
     /// The second number.
     pub b: u64,
@@ -30,7 +30,7 @@ pub struct Ask {
     pub c: u64,
 }
 
-/// The numbers of a query among many, and its answer afterwards.
+/// The numbers of one query among many, then its answer.
 pub trait Row: Copy {
     ghost use Rattle.vers_c.specs.declared.asked.Ask.{Ask};
 
@@ -40,11 +40,11 @@ pub trait Row: Copy {
     // The row with its answer.
     ghost told: { Self → ℕ → Self };
 
-    /// Its three numbers; `b` and `c` are those that a row of one number lacks.
+    /// Returns its three numbers; `b` and `c` are those that a row of one number lacks.
     fn ask(self, b: u64, c: u64) -> Ask
         ensures { result ≡ ask b c self };
 
-    /// The row with its answer.
+    /// Returns the row with its answer.
     fn told(self, answer: u64) -> Self
         ensures { result ≡ told self answer };
 }
@@ -89,7 +89,8 @@ impl Row for Ask {
     }
 }
 
-/// What a structure answers, in a function of its own, which saves no registers that only others need.
+/// Returns the answer of a structure. It is a function of its own, so that it saves no registers that only
+/// other paths need.
 #[inline(never)]
 pub fn answer_once<S: Asked>(structure: &S, query: Query, a: u64, b: u64, c: u64) -> Answer
     ensures { result ≡ S.answers structure.now query a b c }
@@ -97,7 +98,7 @@ pub fn answer_once<S: Asked>(structure: &S, query: Query, a: u64, b: u64, c: u64
     structure.answer(query, a, b, c)
 }
 
-/// Puts into each row what is answered to its numbers, and `other` where there is no answer.
+/// Replaces each row by the answer to its numbers, or by `other` if there is none.
 #[inline(always)]
 pub fn answer_each<S: Asked, R: Row>(
     structure: &S,

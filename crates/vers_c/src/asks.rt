@@ -1,4 +1,4 @@
-//! Exports that ask and change what a handle holds.
+//! Exports that query and change the structure of a handle.
 ghost use Rattle.std.specs.Prelude.{◌≡◌, ◌≢◌, ◌⊎◌, ◌-◌, ◌^◌, IsSome, map};
 ghost use Rattle.vers_c.specs.Answers.{IsToldAs, value_or};
 ghost use Rattle.vers_c.specs.Batches.{answered, row_answered};
@@ -13,7 +13,7 @@ use crate::owners::{changed, put, taken};
 use crate::status::{DONE, SHARED, VACANT};
 use std::alloc::Global;
 
-/// Asks what is held.
+/// Returns the answer of the handle's structure to the query of a code.
 #[unsafe(no_mangle)]
 pub extern "C" fn vers_ask(
     alloc: Global,
@@ -35,7 +35,7 @@ pub extern "C" fn vers_ask(
     answer
 }
 
-/// The number that a query of one number finds, or `u64::MAX` where it finds none.
+/// Returns the number that a query of one number finds, or `u64::MAX` if it finds none.
 #[unsafe(no_mangle)]
 pub extern "C" fn vers_value(alloc: Global, handle: &mut VersHandle, code: u32, a: u64) -> u64
     ensures value { result ≡ value_or (2 ^ 64 - 1) (contents_answer (contents handle.old) code a 0 0) }
@@ -44,7 +44,7 @@ pub extern "C" fn vers_value(alloc: Global, handle: &mut VersHandle, code: u32, 
     vers_ask(alloc, handle, code, a, 0, 0).value_or(u64::MAX)
 }
 
-/// Puts in the stead of each number what is answered to it and two more numbers, and `other` where there is no answer.
+/// Replaces each number by the answer to it and two more numbers, or by `other` if there is none.
 #[unsafe(no_mangle)]
 pub extern "C" fn vers_ask_each(
     alloc: Global,
@@ -70,7 +70,7 @@ pub extern "C" fn vers_ask_each(
     status
 }
 
-/// Puts in the first place of each ask what is answered to it, and `other` where there is no answer.
+/// Replaces the first number of each ask by its answer, or by `other` if there is none.
 #[unsafe(no_mangle)]
 pub extern "C" fn vers_ask_rows(
     alloc: Global,
@@ -94,7 +94,7 @@ pub extern "C" fn vers_ask_rows(
     status
 }
 
-/// Changes what is held, where it has no other owner.
+/// Changes the handle's structure if it has no other owner. Returns a status.
 #[unsafe(no_mangle)]
 pub extern "C" fn vers_change(
     alloc: Global,

@@ -1,4 +1,4 @@
-//! Many queries at once, by the calls of the library that answer many.
+//! Many queries at once, by the library's batch functions.
 ghost use Rattle.std.specs.Prelude.{◌≡◌, ℕ, ◌<◌, length, map};
 ghost use Rattle.vers_c.specs.Answers.{value_or};
 ghost use Rattle.vers_c.specs.Batches.{asked, told_row};
@@ -15,26 +15,26 @@ pub use members::each_of_members;
 use std::alloc::Global;
 pub use symbols::each_of_symbols;
 
-/// How many queries are handed to the library together.
+/// The number of queries passed to the library together.
 const GROUP: usize = 64;
 
-/// How many queries at most are handed to it together where memory is asked for.
+/// The greatest number of queries passed to it together, if their memory can be allocated.
 const MOST: usize = 65_536;
 
-/// A query of a structure `S` that the library answers many times at once, each in a `Q` of its own.
+/// A query of a structure `S` that the library answers in batches, each in a `Q` of its own.
 trait Batch<S, Q: Copy>: Copy {
     ghost use Rattle.vers_c.specs.declared.answer.Answer.{Answer};
 
-    // What the structure answers to three numbers.
+    // The structure's answer to three numbers.
     ghost answers: { Self → S → ℕ → ℕ → ℕ → Answer };
 
-    // What the structure answers to what was made of three numbers.
+    // The structure's answer to a `Q`.
     ghost wants: { Self → S → Q → Answer };
 
-    // The answer that stands in one afterwards.
+    // The answer in a `Q` afterwards.
     ghost says: { Self → Q → Answer };
 
-    /// What is made of three numbers.
+    /// Returns the `Q` of three numbers.
     fn of(self, ask: Ask) -> Q
         ensures { (structure : S) → wants self structure result
             ≡ answers self structure ask.a ask.b ask.c };
@@ -43,13 +43,13 @@ trait Batch<S, Q: Copy>: Copy {
     fn ask_all(self, structure: &S, queries: &mut [Q])
         ensures { map (says self) queries.new ≡ map (wants self structure.now) queries.old };
 
-    /// The answer that stands in one afterwards.
+    /// Returns the answer in a `Q` afterwards.
     fn answer(self, query: Q) -> Answer
         ensures { result ≡ says self query };
 }
 
-/// Puts into each row what is answered to its numbers, and `other` where there is no answer: as many at once as there
-/// are queries to work in.
+/// Replaces each row by the answer to its numbers, or by `other` if there is none, in groups as long as
+/// `queries`, the work area.
 #[inline(always)]
 fn in_groups<S, Q: Copy, B: Batch<S, Q>, R: Row>(
     batch: B,
@@ -80,8 +80,8 @@ fn in_groups<S, Q: Copy, B: Batch<S, Q>, R: Row>(
     }
 }
 
-// The same in memory for up to `MOST` queries, where there is any, and else with those to work in. A level that many
-// queries read in turn stays near.
+// Does the same with an allocated work area for up to `MOST` queries, or with `queries` if that fails. A level
+// that many queries read in turn stays in the cache.
 fn in_wide_groups<S, Q: Copy + Drop, B: Batch<S, Q>, R: Row>(
     alloc: Global,
     batch: B,
@@ -105,7 +105,7 @@ fn in_wide_groups<S, Q: Copy + Drop, B: Batch<S, Q>, R: Row>(
     in_groups(batch, structure, few, rows, b, c, other)
 }
 
-// The same of as many rows as there are queries to work in.
+// Does the same for one group, at most as long as the work area.
 #[inline(always)]
 fn ask_group<S, Q: Copy, B: Batch<S, Q>, R: Row>(
     batch: B,
@@ -142,7 +142,7 @@ fn make_each<S, Q: Copy, B: Batch<S, Q>, R: Row>(
     }
 }
 
-// Puts the answers of queries into rows.
+// Copies the answers of queries into rows.
 #[inline(always)]
 fn tell_each<S, Q: Copy, B: Batch<S, Q>, R: Row>(
     batch: B,

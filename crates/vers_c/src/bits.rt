@@ -10,7 +10,11 @@ use std::alloc::Global;
 use vers_bits::bit_vec::{BitVec, GrowError, MAX_LEN};
 use vers_rank::fast_rs_vec::RsVec;
 
-/// The first `len` bits of words, or all where there are not so many.
+/// Returns the first `len` bits of words, or all if there are fewer.
+///
+/// # Errors
+///
+/// `TooLong` if the words exceed `MAX_LEN` bits; `Memory` if the allocator refuses a request.
 pub fn growing(alloc: Global, words: &[u64], len: usize) -> Result<BitVec<Global>, GrowError>
     ensures made { IfOk result (λ bits. bits ≡ take len (pack words.now 64)) }
     ensures too_long { (result ≡ Err GrowError.TooLong) ↔ (MAX_LEN < 64 * length words.now) }
@@ -20,7 +24,11 @@ pub fn growing(alloc: Global, words: &[u64], len: usize) -> Result<BitVec<Global
     Ok(bits)
 }
 
-/// The first `len` bits of words, or all where there are not so many, with ranks and selects.
+/// Returns the first `len` bits of words, or all if there are fewer, with rank and select.
+///
+/// # Errors
+///
+/// `TooLong` if the words exceed `MAX_LEN` bits; `Memory` if the allocator refuses a request.
 pub fn bits(alloc: Global, words: &[u64], len: usize) -> Result<RsVec<Global>, GrowError>
     ensures made { IfOk result (λ bits. bits ≡ take len (pack words.now 64)) }
     ensures too_long { (result ≡ Err GrowError.TooLong) ↔ (MAX_LEN < 64 * length words.now) }

@@ -1,4 +1,4 @@
-//! Exports that build a structure into a handle which holds nothing.
+//! Exports that build a structure into an empty handle. Each returns a status.
 ghost use Rattle.std.specs.Prelude.{◌≡◌, Some, take};
 ghost use Rattle.vers_bits.specs.Bits.{pack};
 ghost use Rattle.vers_c.specs.Makes.{IsMade, posted_made, sorted_made, sparse_made, symbols_made};
@@ -36,7 +36,7 @@ pub extern "C" fn vers_growing_build(
     }
 }
 
-/// Builds a list of bits with ranks and selects: the first `len` bits of words.
+/// Builds a list of bits with rank and select: the first `len` bits of words.
 #[unsafe(no_mangle)]
 pub extern "C" fn vers_bits_build(
     alloc: Global,
@@ -56,8 +56,8 @@ pub extern "C" fn vers_bits_build(
     }
 }
 
-/// Builds a list of `len` bits by the places of its ones. Places that don't ascend strictly, and places past the
-/// length, are refused.
+/// Builds a list of `len` bits from the positions of its ones. Refuses positions that don't ascend strictly, or
+/// are past the length.
 #[unsafe(no_mangle)]
 pub extern "C" fn vers_sparse_build(
     alloc: Global,
@@ -79,7 +79,7 @@ pub extern "C" fn vers_sparse_build(
     }
 }
 
-/// Builds an ascending list. Numbers that don't ascend are refused.
+/// Builds an ascending list. Refuses numbers that don't ascend.
 #[unsafe(no_mangle)]
 pub extern "C" fn vers_sorted_build(alloc: Global, numbers: &[u64], handle: &mut VersHandle) -> u32
     ensures { IsMade (sorted_made numbers.now) (contents handle.old) (contents handle.new) result }
@@ -96,7 +96,7 @@ pub extern "C" fn vers_sorted_build(alloc: Global, numbers: &[u64], handle: &mut
     }
 }
 
-/// Builds a list of symbols: the `width` low bits of numbers. A width above 64 is refused.
+/// Builds a list of symbols: the `width` low bits of numbers. Refuses a width above 64.
 #[unsafe(no_mangle)]
 pub extern "C" fn vers_symbols_build(
     alloc: Global,
@@ -118,7 +118,7 @@ pub extern "C" fn vers_symbols_build(
     }
 }
 
-/// Builds a list of parentheses, a one of which opens: the first `len` bits of words.
+/// Builds a list of parentheses, of which a one opens: the first `len` bits of words.
 #[unsafe(no_mangle)]
 pub extern "C" fn vers_tree_build(
     alloc: Global,
@@ -138,7 +138,7 @@ pub extern "C" fn vers_tree_build(
     }
 }
 
-/// Builds a list of values that finds the least of a range by blocks.
+/// Builds a list of values with range minima from blocks.
 #[unsafe(no_mangle)]
 pub extern "C" fn vers_fast_rmq_build(alloc: Global, values: &[u64], handle: &mut VersHandle) -> u32
     ensures { IsMade (Some (BlockValues values.now)) (contents handle.old) (contents handle.new) result }
@@ -152,7 +152,7 @@ pub extern "C" fn vers_fast_rmq_build(alloc: Global, values: &[u64], handle: &mu
     }
 }
 
-/// Builds a list of values that finds the least of a range by a sparse table.
+/// Builds a list of values with range minima from a sparse table.
 #[unsafe(no_mangle)]
 pub extern "C" fn vers_binary_rmq_build(
     alloc: Global,
@@ -170,7 +170,7 @@ pub extern "C" fn vers_binary_rmq_build(
     }
 }
 
-/// Builds documents with costs. Documents that don't ascend strictly, and another number of costs, are refused.
+/// Builds documents with costs. Refuses documents that don't ascend strictly, or another number of costs.
 #[unsafe(no_mangle)]
 pub extern "C" fn vers_postings_build(
     alloc: Global,

@@ -7,31 +7,31 @@ use crate::status::{DONE, NO_MEMORY, REFUSED};
 use std::alloc::Global;
 use vers_bits::bit_vec::BitVec;
 
-/// What a list of bits can be changed by.
+/// A change of a list of bits.
 #[derive(Clone, Copy, Drop)]
 pub enum Change {
     /// Appends the lowest bit of `a`.
     Push,
     /// Appends the low `b` bits of `a`.
     Append,
-    /// Makes the bit at place `a` the lowest bit of `b`.
+    /// Sets the bit at position `a` to the lowest bit of `b`.
     Set,
-    /// Drops the last `a` bits, or all where there are not so many.
+    /// Drops the last `a` bits, or all if there are fewer.
     DropLast,
 }
 
-/// The change of each code, which is its place here.
+/// The change of each code, which is its index here.
 pub const CHANGES: [Change; 4] = [Change::Push, Change::Append, Change::Set, Change::DropLast];
 
 impl Change {
-    /// The change of a code. None where there is none.
+    /// Returns the change of a code, or `None` if there is none.
     pub fn of(code: u32) -> Option<Change>
         ensures { result ≡ slice_get CHANGES code }
     {
         CHANGES.get(code as usize).copied()
     }
 
-    /// Changes a list.
+    /// Changes a list. Returns a status.
     pub fn make(self, bits: &mut BitVec<Global>, a: u64, b: u64) -> u32
         ensures changed { IsChanged (bits_changed bits.old self a b) bits.old bits.new result }
         ensures told { IsToldAs (numbers_status (bits_changed bits.old self a b)) result }

@@ -1,12 +1,12 @@
-//! The handle that C holds.
+//! The handle that C has.
 ghost use Rattle.std.specs.Prelude.{◌≡◌};
 
 use crate::held::Held;
 
-/// What C holds: all zeros for nothing, or an owner of a structure.
+/// A handle: all zeros if it is empty, or an owner of a structure.
 #[repr(C)]
 pub struct VersHandle {
-    /// Whether it holds an owner.
+    /// True if the handle has an owner.
     pub is_built: bool,
     /// The owner.
     pub held: Held,

@@ -1,4 +1,4 @@
-//! The pointer to an owner of a structure that C holds.
+//! The pointer to an owner of a structure, in a handle.
 ghost use Rattle.std.specs.Prelude.{◌≡◌, Bool, true, false};
 ghost use Rattle.vers_c.specs.Handle.{Owner as OwnerValue, held_owns};
 
@@ -7,7 +7,7 @@ use crate::loose::Loose;
 use std::alloc::Global;
 use std::marker::Model;
 
-/// A pointer to an owner of a structure, or to nothing. It is not `Drop`, so that no call can lose an owner.
+/// A pointer to an owner of a structure, or to nothing. It is not `Drop`, so that no call can leak an owner.
 #[repr(C)]
 pub struct Held {
     at: *mut u8,
@@ -21,7 +21,7 @@ impl Model for Held {
 }
 
 impl Held {
-    /// A pointer to nothing.
+    /// Returns a pointer to nothing.
     pub fn vacant(alloc: Global) -> Held
         ensures { result.is_owner ≡ false }
     {
@@ -31,7 +31,7 @@ impl Held {
         }
     }
 
-    /// The pointer to an owner.
+    /// Returns the pointer to an owner.
     pub fn of(owner: Loose<Owner, Global>) -> Held
         ensures { (result.is_owner ≡ true) × (result.value ≡ owner.value) }
     {
@@ -42,7 +42,7 @@ impl Held {
         }
     }
 
-    /// The owner again.
+    /// Returns the owner. Precondition: there is one.
     pub fn into_owner(self) -> Loose<Owner, Global>
         requires { self.is_owner ≡ true }
         ensures { result.value ≡ self.value }
@@ -54,7 +54,7 @@ impl Held {
         }
     }
 
-    /// Lets go of nothing.
+    /// Drops a pointer to nothing. Precondition: there is no owner.
     pub fn discard(self)
         requires { self.is_owner ≡ false }
     {

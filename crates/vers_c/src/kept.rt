@@ -1,4 +1,4 @@
-//! The structures that a handle holds.
+//! The structures of handles.
 ghost use Rattle.std.specs.Prelude.{◌≡◌, ◌≢◌, map, Some, None, IfOk, IfSome, IsErr, IsSome, option_map};
 ghost use Rattle.vers_c.specs.Batches.{told_row};
 ghost use Rattle.vers_c.specs.Answers.{IsToldAs};
@@ -30,7 +30,7 @@ use vers_sorted::elias_fano::EliasFanoVec;
 use vers_sorted::sparse::SparseRSVec;
 use vers_wavelet::wavelet::WaveletMatrix;
 
-/// An owner of a structure, which may have others in other threads.
+/// An owner of a structure, which may have other owners in other threads.
 pub type Owner = Arc<Kept, Global>;
 
 /// A structure.
@@ -38,7 +38,7 @@ pub type Owner = Arc<Kept, Global>;
 pub enum Kept {
     /// Bits that can change.
     Growing(BitVec<Global>),
-    /// Bits with ranks and selects.
+    /// Bits with rank and select.
     Bits(RsVec<Global>),
     /// Bits with few ones.
     Sparse(SparseRSVec<Global>),
@@ -46,22 +46,22 @@ pub enum Kept {
     Sorted(EliasFanoVec<Global>),
     /// A list of symbols.
     Symbols(WaveletMatrix<Global>),
-    /// Parentheses. They are in a box, since the tables of bytes inside make a tree large.
+    /// Parentheses. They are boxed, since the lookup tables for bytes make a tree large.
     Tree(Box<Parentheses, Global>),
-    /// Values, by blocks.
+    /// Values, with range minima from blocks.
     Fast(FastRmq<Global>),
-    /// Values, by a table.
+    /// Values, with range minima from a sparse table.
     Binary(BinaryRmq<Global>),
     /// Documents with costs.
     Posted(Postings<Global>),
-    /// A text, in which patterns are found.
+    /// A text index.
     Text(TextIndex<Global>),
-    /// Plain numbers, which some calls answer.
+    /// Plain numbers, the result of some calls.
     Numbers(Vec<u64, Global>),
 }
 
 impl Kept {
-    /// What the structure answers.
+    /// Returns the structure's answer to a query.
     pub fn answer(&self, query: Query, a: u64, b: u64, c: u64) -> Answer
         ensures { result ≡ structure_answer (structure_of self.now) query a b c }
     {
@@ -80,7 +80,7 @@ impl Kept {
         }
     }
 
-    /// The same as `answer`, at the least cost where the structure is of a kind.
+    /// Returns the structure's answer to a query, fastest if the structure is of a given kind.
     #[inline(always)]
     pub fn answer_as(&self, kind: Kind, query: Query, a: u64, b: u64, c: u64) -> Answer
         ensures { result ≡ structure_answer (structure_of self.now) query a b c }
@@ -110,7 +110,7 @@ impl Kept {
         }
     }
 
-    /// What the structure answers to the query of a code.
+    /// Returns the structure's answer to the query of a code.
     pub fn answer_coded(&self, code: u32, a: u64, b: u64, c: u64) -> Answer
         ensures { result ≡ coded_answer (structure_of self.now) code a b c }
     {
@@ -120,7 +120,7 @@ impl Kept {
         }
     }
 
-    /// Puts into each row what is answered to its numbers, by a loop for each structure.
+    /// Replaces each row by the answer to its numbers, with a loop for each structure.
     pub fn answer_each<R: Row>(
         &self,
         alloc: Global,
@@ -148,7 +148,7 @@ impl Kept {
         }
     }
 
-    /// The query of a code, if the structure has it.
+    /// Returns the query of a code, or `None` if the structure doesn't have it.
     pub fn query_of(&self, code: u32) -> Option<Query>
         ensures known { IfSome result (λ query. (query_of code ≡ Some query)
             × (batch_status (structure_of self.now) code ≡ DONE)) }
@@ -167,7 +167,7 @@ impl Kept {
         }
     }
 
-    /// The same as `answer_each` by the code of the query.
+    /// Does what `answer_each` does for the query of a code. Returns a status.
     pub fn answer_each_coded<R: Row>(
         &self,
         alloc: Global,
@@ -191,7 +191,7 @@ impl Kept {
         }
     }
 
-    /// Changes the structure by the change of a code.
+    /// Changes the structure by the change of a code. Returns a status.
     pub fn change(&mut self, code: u32, a: u64, b: u64) -> u32
         ensures changed { IsChanged (changed_by_code (structure_of self.old) code a b) (structure_of self.old)
             (structure_of self.new) result }
@@ -206,7 +206,8 @@ impl Kept {
         }
     }
 
-    /// The documents that two lists share, as plain numbers. None where one is no such list.
+    /// Returns the documents common to two lists, as plain numbers. `None` if one is no such list. Errors:
+    /// `AllocError` if the allocator refuses a request.
     pub fn common(&self, other: &Kept) -> Result<Option<Kept>, AllocError>
         ensures common { IfOk result (λ made. option_map structure_of made
             ≡ common_of (structure_of self.now) (structure_of other.now)) }
@@ -221,7 +222,7 @@ impl Kept {
         }
     }
 
-    /// How many places a pattern has in a text.
+    /// Returns the number of occurrences of a pattern in a text.
     pub fn count(&self, pattern: &[u64]) -> Answer
         ensures { result ≡ pattern_count (structure_of self.now) pattern.now }
     {
@@ -231,7 +232,8 @@ impl Kept {
         }
     }
 
-    /// The places of a pattern in a text, ascending, as plain numbers. None where this is no text.
+    /// Returns the positions of a pattern in a text, ascending, as plain numbers. `None` if this is no text.
+    /// Errors: `AllocError` if the allocator refuses a request.
     pub fn places(&self, alloc: Global, pattern: &[u64]) -> Result<Option<Kept>, AllocError>
         ensures places { IfOk result (λ made. option_map structure_of made
             ≡ pattern_places (structure_of self.now) pattern.now) }
@@ -246,8 +248,8 @@ impl Kept {
         }
     }
 
-    /// The symbols of a text from one place up to another, as plain numbers. None where this is no text with such
-    /// places.
+    /// Returns the symbols of a text from one position up to another, as plain numbers. `None` if this is no
+    /// text with such positions. Errors: `AllocError` if the allocator refuses a request.
     pub fn extract(&self, from: usize, to: usize) -> Result<Option<Kept>, AllocError>
         ensures piece { IfOk result (λ made. option_map structure_of made
             ≡ piece (structure_of self.now) from to) }

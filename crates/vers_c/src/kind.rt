@@ -1,12 +1,12 @@
 //! Kinds of structures and their codes.
 ghost use Rattle.std.specs.Prelude.{◌≡◌, slice_get};
 
-/// Which structure the bytes of a saved form are loaded as.
+/// The structure as which a saved form is loaded.
 #[derive(Clone, Copy, Drop)]
 pub enum Kind {
     /// Bits that can change.
     Growing,
-    /// Bits with ranks and selects.
+    /// Bits with rank and select.
     Bits,
     /// Bits with few ones.
     Sparse,
@@ -16,15 +16,15 @@ pub enum Kind {
     Symbols,
     /// Parentheses.
     Tree,
-    /// Values, by blocks.
+    /// Values, with range minima from blocks.
     Fast,
-    /// Values, by a table.
+    /// Values, with range minima from a sparse table.
     Binary,
     /// Documents with costs.
     Postings,
 }
 
-/// The kind of each code, which is its place here.
+/// The kind of each code, which is its index here.
 pub const KINDS: [Kind; 9] = [
     Kind::Growing,
     Kind::Bits,
@@ -38,14 +38,14 @@ pub const KINDS: [Kind; 9] = [
 ];
 
 impl Kind {
-    // The kind at a place of a table.
+    // Returns the kind at a position of a table.
     fn at(table: &[Kind], place: usize) -> Option<Kind>
         ensures { result ≡ slice_get table.now place }
     {
         table.get(place).copied()
     }
 
-    /// The kind of a code. None where there is none.
+    /// Returns the kind of a code, or `None` if there is none.
     pub fn of(code: u32) -> Option<Kind>
         ensures { result ≡ slice_get KINDS code }
     {

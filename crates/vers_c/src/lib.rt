@@ -1,8 +1,8 @@
 //! The structures of the library, for C.
 //!
-//! A handle holds nothing, or an owner of one structure. Exports build a structure into a handle, ask it, change
-//! it, save it, make another owner of it for another thread, and let go of it. Every condition is tested here: a
-//! call that can't be answered says so by a status, and leaves all as it was.
+//! A handle is empty, or an owner of one structure. Exports build a structure into a handle, query, change and
+//! save it, make another owner of it for another thread, and drop an owner. Every precondition is tested here:
+//! a call that fails returns a status and leaves everything unchanged.
 #![tactic(auto)]
 
 mod answer;

@@ -1,4 +1,4 @@
-//! Lists of values for the least of ranges, and plain numbers.
+//! Lists of values with range minima, and plain numbers.
 ghost use Rattle.std.specs.Prelude.{◌≡◌, ◌<◌, ◌↔◌, Err, length, map, IfOk};
 ghost use Rattle.vers_rmq.specs.Minima.{first_least};
 ghost use Rattle.vers_rmq.specs.declared.rmq.binary_rmq.TheConstants as table;
@@ -15,7 +15,11 @@ use vers_rmq::rmq::binary_rmq::BinaryRmq;
 use vers_rmq::rmq::fast_rmq::FastRmq;
 use vers_rmq::rmq::{binary_rmq, fast_rmq};
 
-/// The values, as a `FastRmq`.
+/// Returns the values as a `FastRmq`.
+///
+/// # Errors
+///
+/// `TooLong` if there are too many; `Memory` if the allocator refuses a request.
 pub fn fast(alloc: Global, values: &[u64]) -> Result<FastRmq<Global>, GrowError>
     ensures made { IfOk result (λ list. list ≡ values.now) }
     ensures too_long { (result ≡ Err GrowError.TooLong) ↔ (blocks.MAX_LEN < length values.now) }
@@ -26,7 +30,11 @@ pub fn fast(alloc: Global, values: &[u64]) -> Result<FastRmq<Global>, GrowError>
     Ok(FastRmq::from_vec(Vec::from_slice(alloc, values)?)?)
 }
 
-/// The values, as a `BinaryRmq`.
+/// Returns the values as a `BinaryRmq`.
+///
+/// # Errors
+///
+/// `TooLong` if there are too many; `Memory` if the allocator refuses a request.
 pub fn binary(alloc: Global, values: &[u64]) -> Result<BinaryRmq<Global>, GrowError>
     ensures made { IfOk result (λ list. list ≡ values.now) }
     ensures too_long { (result ≡ Err GrowError.TooLong) ↔ (table.MAX_LEN < length values.now) }
@@ -52,7 +60,7 @@ impl Asked for FastRmq<Global> {
     }
 }
 
-// The first place of a least value from place `i` to place `j`, both included.
+// Returns the first position of a least value from position `i` to position `j`, both included.
 #[inline(always)]
 fn fast_least(values: &FastRmq<Global>, i: usize, j: usize) -> Option<usize>
     ensures { result ≡ first_least values.now i j }
@@ -79,7 +87,7 @@ impl Asked for BinaryRmq<Global> {
     }
 }
 
-// The first place of a least value from place `i` to place `j`, both included.
+// Returns the first position of a least value from position `i` to position `j`, both included.
 #[inline(always)]
 fn binary_least(values: &BinaryRmq<Global>, i: usize, j: usize) -> Option<usize>
     ensures { result ≡ first_least values.now i j }
@@ -104,8 +112,8 @@ impl Asked for Vec<u64, Global> {
     }
 }
 
-/// Puts into each row what values by blocks answer to its numbers, by a loop of its own for each query that is asked
-/// often.
+/// Replaces each row by the answer of values with blocks to its numbers, with a loop of its own for each
+/// frequent query.
 pub fn each_of_values<R: Row>(
     values: &FastRmq<Global>,
     query: Query,

@@ -14,7 +14,7 @@ use std::alloc::{AllocError, Global};
 use std::mem;
 use std::sync::Arc;
 
-/// Takes the owner out of a handle.
+/// Takes the owner out of a handle. Precondition: there is one.
 #[inline(always)]
 pub fn taken(alloc: Global, handle: &mut VersHandle) -> Box<Owner, Global>
     requires { handle.old.is_built ≡ true }
@@ -27,7 +27,7 @@ pub fn taken(alloc: Global, handle: &mut VersHandle) -> Box<Owner, Global>
         .into_box()
 }
 
-/// Puts an owner into a handle that holds nothing.
+/// Puts an owner into a handle. Precondition: the handle is empty.
 #[inline(always)]
 pub fn put(handle: &mut VersHandle, owner: Box<Owner, Global>)
     requires { handle.old.is_built ≡ false }
@@ -37,7 +37,7 @@ pub fn put(handle: &mut VersHandle, owner: Box<Owner, Global>)
     mem::replace(&mut handle.held, Held::of(Loose::of(owner))).discard();
 }
 
-// The first owner of a structure.
+// Returns the first owner of a structure.
 fn owner_of(alloc: Global, kept: Kept) -> Result<Box<Owner, Global>, AllocError>
     ensures { IfOk result (λ owner. owner.value.value ≡ kept) }
 {
@@ -45,7 +45,7 @@ fn owner_of(alloc: Global, kept: Kept) -> Result<Box<Owner, Global>, AllocError>
     Ok(Box::new(alloc, owner)?)
 }
 
-/// One owner more of the same structure.
+/// Returns another owner of the same structure. Errors: `AllocError` if the allocator refuses a request.
 pub fn other_owner(alloc: Global, owner: &Owner) -> Result<Box<Owner, Global>, AllocError>
     ensures { IfOk result (λ other. other.value.value ≡ owner.now.value) }
 {
@@ -53,7 +53,7 @@ pub fn other_owner(alloc: Global, owner: &Owner) -> Result<Box<Owner, Global>, A
     Ok(Box::new(alloc, other)?)
 }
 
-/// Changes a structure that has no other owner.
+/// Changes a structure if it has no other owner. Returns a status.
 pub fn changed(owner: &mut Owner, code: u32, a: u64, b: u64) -> u32
     ensures changed { IsChanged (changed_by_code (structure_of owner.old.value) code a b)
         (structure_of owner.old.value) (structure_of owner.new.value) result }
@@ -66,7 +66,7 @@ pub fn changed(owner: &mut Owner, code: u32, a: u64, b: u64) -> u32
     }
 }
 
-/// Puts a structure into a handle that holds nothing.
+/// Puts a structure into a handle, and returns a status. Precondition: the handle is empty.
 pub fn fill(alloc: Global, handle: &mut VersHandle, kept: Kept) -> u32
     requires { handle.old.is_built ≡ false }
     ensures { IsMade (Some (structure_of kept)) (contents handle.old) (contents handle.new) result }
@@ -80,7 +80,8 @@ pub fn fill(alloc: Global, handle: &mut VersHandle, kept: Kept) -> u32
     }
 }
 
-/// Puts a structure into a handle that holds nothing, if there is one and there was memory for it.
+/// Puts a structure into a handle, if there is one and its allocation succeeded, and returns a status.
+/// Precondition: the handle is empty.
 pub fn fill_made(
     alloc: Global,
     handle: &mut VersHandle,
@@ -98,10 +99,10 @@ pub fn fill_made(
     }
 }
 
-// An owner may go to another thread.
+// An owner may cross to another thread.
 fn crosses<T: Send>() {}
 
-/// That an owner may go to another thread, which the check shows.
+/// Shows that an owner may cross to another thread, which the compiler checks.
 pub fn owners_cross() {
     crosses::<Owner>();
 }

@@ -12,7 +12,8 @@ use postings::Postings;
 use std::alloc::{AllocError, Global};
 use vers_sorted::order::is_strictly_ascending;
 
-/// The documents with their costs. None where they don't ascend strictly, or the costs are of another number.
+/// Returns the documents with their costs. `None` if they don't ascend strictly, or the number of costs
+/// differs. Errors: `AllocError` if the allocator refuses a request.
 pub fn posted(alloc: Global, documents: &[u64], costs: &[u64]) -> Result<Option<Kept>, AllocError>
     ensures made { IfOk result (λ made. option_map structure_of made
         ≡ posted_made documents.now costs.now) }

@@ -4,112 +4,112 @@ ghost use Rattle.vers_c.specs.Queries.{query_of};
 
 use vers_trees::trees::bp::{LevelEnd, Measure, Relative};
 
-/// What a structure can be asked.
+/// A query of a structure.
 #[derive(Clone, Copy, Drop)]
 pub enum Query {
-    /// How many items the list has.
+    /// The number of items.
     Len,
-    /// The item at a place.
+    /// The item at position `a`.
     Get,
-    /// The number of `b` bits from place `a` on.
+    /// The `b` bits from position `a` on, as a number.
     GetBits,
-    /// How many bytes of the heap the structure takes.
+    /// The number of bytes of the heap that the structure takes.
     HeapSize,
-    /// How many zeros stand before a place.
+    /// The number of zeros below a position.
     Rank0,
-    /// How many ones stand before a place.
+    /// The number of ones below a position.
     Rank1,
-    /// The place of a zero by its number.
+    /// The position of a zero by its number.
     Select0,
-    /// The place of a one by its number.
+    /// The position of a one by its number.
     Select1,
-    /// How many members are below a number.
+    /// The number of members below a number.
     Rank,
-    /// Whether a number is a member.
+    /// Membership: true if a number is a member.
     Has,
-    /// The greatest member that is not above a number.
+    /// The greatest member that is at most a number.
     Predecessor,
-    /// The least member that is not below a number.
+    /// The least member that is at least a number.
     Successor,
-    /// How far a member lies above the one before it.
+    /// The difference between a member and the previous one.
     Delta,
-    /// How many bits a symbol has.
+    /// The number of bits of a symbol.
     Width,
-    /// Of symbols at a place, or of a symbol in the list.
+    /// A query of symbols at positions, or of a symbol in the list.
     Symbols(SymbolsQuery),
-    /// Of any parentheses.
+    /// A query of any parentheses.
     Tree(TreeQuery),
-    /// Of a node of balanced parentheses: another node.
+    /// A relative of a node of balanced parentheses.
     Node(Relative),
     /// The ancestor of a node of balanced parentheses `b` levels up.
     LevelAncestor,
-    /// Of a node of balanced parentheses: a number.
+    /// A number of a node of balanced parentheses.
     Measure(Measure),
-    /// Of a depth of balanced parentheses: a node.
+    /// An end of a level of balanced parentheses.
     Level(LevelEnd),
-    /// Whether a node is an ancestor of another.
+    /// True if a node is an ancestor of another.
     IsAncestor,
-    /// The first place of a least value from place `a` to place `b`, both included.
+    /// The first position of a least value from position `a` to position `b`, both included.
     RangeMin,
     /// The first document of least cost from document `a` to document `b`, both included.
     Cheapest,
-    /// The cost of the document at a place.
+    /// The cost of the document at a position.
     Cost,
-    /// Whether parentheses are balanced and a node opens at a place.
+    /// True if parentheses are balanced and a node opens at a position.
     HasNode,
-    /// Of how many places of a text one is kept.
+    /// The step of the samples of a text.
     Step,
 }
 
-/// What a list of symbols can be asked.
+/// A query of a list of symbols.
 #[derive(Clone, Copy, Drop)]
 pub enum SymbolsQuery {
-    /// How many of the first `a` places hold symbol `b`.
+    /// The number of occurrences of symbol `b` in the first `a` positions.
     RankOf,
-    /// The place of occurrence `a` of symbol `b`.
+    /// The position of occurrence `a` of symbol `b`.
     SelectOf,
-    /// How many of the places from `a` up to `b` hold symbol `c`.
+    /// The number of occurrences of symbol `c` in the positions from `a` up to `b`.
     RankRange,
-    /// The place of occurrence `b` of symbol `c` from place `a` on.
+    /// The position of occurrence `b` of symbol `c` from position `a` on.
     SelectFrom,
-    /// Member `c` by size of the symbols at the places from `a` up to `b`.
+    /// The `c`-th smallest symbol of the positions from `a` up to `b`.
     Quantile,
-    /// The least symbol at the places from `a` up to `b`.
+    /// The least symbol of the positions from `a` up to `b`.
     Least,
-    /// The greatest symbol at the places from `a` up to `b`.
+    /// The greatest symbol of the positions from `a` up to `b`.
     Greatest,
-    /// The middle symbol by size at the places from `a` up to `b`, of two the lower one.
+    /// The median symbol of the positions from `a` up to `b`, the lower one of two.
     Median,
-    /// The greatest symbol not above `c` at the places from `a` up to `b`.
+    /// The greatest symbol that is at most `c` in the positions from `a` up to `b`.
     Predecessor,
-    /// The least symbol not below `c` at the places from `a` up to `b`.
+    /// The least symbol that is at least `c` in the positions from `a` up to `b`.
     Successor,
 }
 
-/// What any parentheses can be asked.
+/// A query of any parentheses.
 #[derive(Clone, Copy, Drop)]
 pub enum TreeQuery {
-    /// How many ones there are.
+    /// The number of ones.
     Size,
-    /// Whether the parentheses are balanced.
+    /// True if the parentheses are balanced.
     IsBalanced,
-    /// The ones less the zeros up to a place, itself among them, as a signed number.
+    /// The ones minus the zeros up to a position, included, as a signed number.
     Excess,
-    /// Where the one at a place is closed.
+    /// The zero that closes the one at a position.
     Close,
-    /// Where what the zero at a place closes is opened.
+    /// The one that the zero at a position closes.
     Open,
-    /// Where the nearest pair around that of a place opens.
+    /// Where the nearest pair opens that encloses that of a position.
     Enclose,
-    /// The place of a one by its number.
+    /// The position of a one by its number.
     NodeHandle,
-    /// The first place after `a` past which the excess is `b` more, a signed number.
+    /// The first position after `a` past which the excess is `b` more, a signed number.
     FwdSearch,
-    /// The last place before `a` before which the excess is `b` more, a signed number.
+    /// The last position before `a` before which the excess is `b` more, a signed number.
     BwdSearch,
 }
 
-/// The query of each code, which is its place here.
+/// The query of each code, which is its index here.
 pub const QUERIES: [Query; 53] = [
     Query::Len,
     Query::Get,
@@ -167,14 +167,14 @@ pub const QUERIES: [Query; 53] = [
 ];
 
 impl Query {
-    // The query at a place of a table.
+    // Returns the query at a position of a table.
     fn at(table: &[Query], place: usize) -> Option<Query>
         ensures { result ≡ slice_get table.now place }
     {
         table.get(place).copied()
     }
 
-    /// The query of a code. None where there is none.
+    /// Returns the query of a code, or `None` if there is none.
     pub fn of(code: u32) -> Option<Query>
         ensures { result ≡ query_of code }
     {

@@ -1,4 +1,4 @@
-//! Exports that ask one query each: of any structure what `vers_ask` answers, at the least cost of one kind.
+//! Exports of one query each: they return what `vers_ask` does for any structure, fastest for one kind.
 ghost use Rattle.std.specs.Prelude.{◌≡◌};
 ghost use Rattle.vers_c.specs.Queries.{contents_asked};
 ghost use Rattle.vers_c.specs.Structures.{contents};
@@ -16,7 +16,7 @@ use crate::query::{Query, SymbolsQuery, TreeQuery};
 use std::alloc::Global;
 use vers_trees::trees::bp::{Measure, Relative};
 
-// Asks what is held, at the least cost where it is of a kind.
+// Returns the answer of the handle's structure, fastest if it is of a given kind.
 #[inline(always)]
 fn ask_as(
     alloc: Global,
@@ -39,7 +39,7 @@ fn ask_as(
     answer
 }
 
-/// The bit at a place, at the least cost of bits with ranks.
+/// Returns the bit at a position, fastest for bits with rank and select.
 #[unsafe(no_mangle)]
 pub extern "C" fn vers_quick_bits_get(alloc: Global, handle: &mut VersHandle, place: u64) -> Answer
     ensures value { result ≡ contents_asked (contents handle.old) query.Get place 0 0 }
@@ -48,7 +48,7 @@ pub extern "C" fn vers_quick_bits_get(alloc: Global, handle: &mut VersHandle, pl
     ask_as(alloc, handle, Kind::Bits, Query::Get, place, 0, 0)
 }
 
-/// How many zeros stand before a place, at the least cost of bits with ranks.
+/// Returns the number of zeros below a position, fastest for bits with rank and select.
 #[unsafe(no_mangle)]
 pub extern "C" fn vers_quick_bits_rank0(
     alloc: Global,
@@ -61,7 +61,7 @@ pub extern "C" fn vers_quick_bits_rank0(
     ask_as(alloc, handle, Kind::Bits, Query::Rank0, place, 0, 0)
 }
 
-/// How many ones stand before a place, at the least cost of bits with ranks.
+/// Returns the number of ones below a position, fastest for bits with rank and select.
 #[unsafe(no_mangle)]
 pub extern "C" fn vers_quick_bits_rank1(
     alloc: Global,
@@ -74,7 +74,7 @@ pub extern "C" fn vers_quick_bits_rank1(
     ask_as(alloc, handle, Kind::Bits, Query::Rank1, place, 0, 0)
 }
 
-/// The place of a zero by its number, at the least cost of bits with ranks.
+/// Returns the position of a zero by its number, fastest for bits with rank and select.
 #[unsafe(no_mangle)]
 pub extern "C" fn vers_quick_bits_select0(
     alloc: Global,
@@ -87,7 +87,7 @@ pub extern "C" fn vers_quick_bits_select0(
     ask_as(alloc, handle, Kind::Bits, Query::Select0, number, 0, 0)
 }
 
-/// The place of a one by its number, at the least cost of bits with ranks.
+/// Returns the position of a one by its number, fastest for bits with rank and select.
 #[unsafe(no_mangle)]
 pub extern "C" fn vers_quick_bits_select1(
     alloc: Global,
@@ -100,7 +100,7 @@ pub extern "C" fn vers_quick_bits_select1(
     ask_as(alloc, handle, Kind::Bits, Query::Select1, number, 0, 0)
 }
 
-/// The member at a place, at the least cost of ascending lists.
+/// Returns the member at a position, fastest for ascending lists.
 #[unsafe(no_mangle)]
 pub extern "C" fn vers_quick_sorted_get(
     alloc: Global,
@@ -113,7 +113,7 @@ pub extern "C" fn vers_quick_sorted_get(
     ask_as(alloc, handle, Kind::Sorted, Query::Get, place, 0, 0)
 }
 
-/// How many members are below a number, at the least cost of ascending lists.
+/// Returns the number of members below a number, fastest for ascending lists.
 #[unsafe(no_mangle)]
 pub extern "C" fn vers_quick_sorted_rank(
     alloc: Global,
@@ -126,7 +126,7 @@ pub extern "C" fn vers_quick_sorted_rank(
     ask_as(alloc, handle, Kind::Sorted, Query::Rank, number, 0, 0)
 }
 
-/// The greatest member that is not above a number, at the least cost of ascending lists.
+/// Returns the greatest member that is at most a number, fastest for ascending lists.
 #[unsafe(no_mangle)]
 pub extern "C" fn vers_quick_sorted_predecessor(
     alloc: Global,
@@ -147,7 +147,7 @@ pub extern "C" fn vers_quick_sorted_predecessor(
     )
 }
 
-/// The least member that is not below a number, at the least cost of ascending lists.
+/// Returns the least member that is at least a number, fastest for ascending lists.
 #[unsafe(no_mangle)]
 pub extern "C" fn vers_quick_sorted_successor(
     alloc: Global,
@@ -160,7 +160,7 @@ pub extern "C" fn vers_quick_sorted_successor(
     ask_as(alloc, handle, Kind::Sorted, Query::Successor, number, 0, 0)
 }
 
-/// The symbol at a place, at the least cost of lists of symbols.
+/// Returns the symbol at a position, fastest for lists of symbols.
 #[unsafe(no_mangle)]
 pub extern "C" fn vers_quick_symbols_get(
     alloc: Global,
@@ -173,7 +173,7 @@ pub extern "C" fn vers_quick_symbols_get(
     ask_as(alloc, handle, Kind::Symbols, Query::Get, place, 0, 0)
 }
 
-/// Whether a parenthesis opens, as 1 or 0, at the least cost of parentheses.
+/// Returns 1 if a parenthesis opens, otherwise 0, fastest for parentheses.
 #[unsafe(no_mangle)]
 pub extern "C" fn vers_quick_tree_get(alloc: Global, handle: &mut VersHandle, place: u64) -> Answer
     ensures value { result ≡ contents_asked (contents handle.old) query.Get place 0 0 }
@@ -182,7 +182,7 @@ pub extern "C" fn vers_quick_tree_get(alloc: Global, handle: &mut VersHandle, pl
     ask_as(alloc, handle, Kind::Tree, Query::Get, place, 0, 0)
 }
 
-/// The value at a place, at the least cost of values by blocks.
+/// Returns the value at a position, fastest for values with blocks.
 #[unsafe(no_mangle)]
 pub extern "C" fn vers_quick_values_get(
     alloc: Global,
@@ -195,7 +195,8 @@ pub extern "C" fn vers_quick_values_get(
     ask_as(alloc, handle, Kind::Fast, Query::Get, place, 0, 0)
 }
 
-/// The first place of a least value from one place to another, both included, at the least cost of values by blocks.
+/// Returns the first position of a least value from one position to another, both included, fastest for values
+/// with blocks.
 #[unsafe(no_mangle)]
 pub extern "C" fn vers_quick_values_range_min(
     alloc: Global,
@@ -209,7 +210,7 @@ pub extern "C" fn vers_quick_values_range_min(
     ask_as(alloc, handle, Kind::Fast, Query::RangeMin, from, to, 0)
 }
 
-/// How many of the first places hold a symbol, at the least cost of symbols.
+/// Returns the number of occurrences of a symbol in the first positions, fastest for symbols.
 #[unsafe(no_mangle)]
 pub extern "C" fn vers_quick_symbols_rank(
     alloc: Global,
@@ -231,7 +232,7 @@ pub extern "C" fn vers_quick_symbols_rank(
     )
 }
 
-/// A symbol of a range of places by its number in ascending order, at the least cost of symbols.
+/// Returns a symbol of a range of positions by its number in ascending order, fastest for symbols.
 #[unsafe(no_mangle)]
 pub extern "C" fn vers_quick_symbols_quantile(
     alloc: Global,
@@ -254,7 +255,7 @@ pub extern "C" fn vers_quick_symbols_quantile(
     )
 }
 
-/// Where what opens at a place is closed, at the least cost of trees.
+/// Returns the zero that closes the one at a position, fastest for trees.
 #[unsafe(no_mangle)]
 pub extern "C" fn vers_quick_tree_close(
     alloc: Global,
@@ -275,7 +276,7 @@ pub extern "C" fn vers_quick_tree_close(
     )
 }
 
-/// The parent of a node, at the least cost of trees.
+/// Returns the parent of a node, fastest for trees.
 #[unsafe(no_mangle)]
 pub extern "C" fn vers_quick_tree_parent(
     alloc: Global,
@@ -296,7 +297,7 @@ pub extern "C" fn vers_quick_tree_parent(
     )
 }
 
-/// The first child of a node, at the least cost of trees.
+/// Returns the first child of a node, fastest for trees.
 #[unsafe(no_mangle)]
 pub extern "C" fn vers_quick_tree_first_child(
     alloc: Global,
@@ -317,7 +318,7 @@ pub extern "C" fn vers_quick_tree_first_child(
     )
 }
 
-/// The sibling behind a node, at the least cost of trees.
+/// Returns the next sibling of a node, fastest for trees.
 #[unsafe(no_mangle)]
 pub extern "C" fn vers_quick_tree_next_sibling(
     alloc: Global,
@@ -338,7 +339,7 @@ pub extern "C" fn vers_quick_tree_next_sibling(
     )
 }
 
-/// How many ancestors a node has, at the least cost of trees.
+/// Returns the depth of a node, fastest for trees.
 #[unsafe(no_mangle)]
 pub extern "C" fn vers_quick_tree_depth(alloc: Global, handle: &mut VersHandle, node: u64) -> Answer
     ensures value { result ≡ contents_asked (contents handle.old) (query.Measure of_measure.Depth) node 0 0 }

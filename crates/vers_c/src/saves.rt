@@ -1,4 +1,4 @@
-//! Saved forms of what a handle holds.
+//! Saved forms of the structures of handles.
 ghost use Rattle.std.specs.Prelude.{◌≡◌, ◌≢◌, ◌↔◌, ◌⊎◌, Some, None, IfOk, IfErr, IfSome, OnOk, IsSome, length, option_map};
 ghost use Rattle.vers_saved.specs.Faults.{fault_of};
 ghost use Rattle.vers_saved.specs.Format.{saved};
@@ -21,7 +21,7 @@ use std::alloc::Global;
 use vers_saved::fault::{LoadError, SaveError};
 use vers_saved::saved::{Loaded, Saved, load_from_slice, save_to_vec, saved_size};
 
-// The saved form of a list.
+// Returns the saved form of a list.
 fn saved_of<S: Saved>(alloc: Global, list: &S) -> Result<Vec<u8, Global>, SaveError>
     ensures saved { IfOk result (λ out. out.items
         ≡ saved S.kind.number (S.count list.now) (S.width list.now) (S.words list.now)) }
@@ -35,7 +35,7 @@ fn saved_of<S: Saved>(alloc: Global, list: &S) -> Result<Vec<u8, Global>, SaveEr
 }
 
 impl Kept {
-    /// How many bytes the saved form has. None where there is none.
+    /// Returns the number of bytes of the saved form, or `None` if there is none.
     pub fn saved_size(&self) -> Option<usize>
         ensures size { IsSome result → result ≡ option_map length (form_of (structure_of self.now)) }
         ensures some { IsSome result → HasForm (structure_of self.now) }
@@ -55,7 +55,11 @@ impl Kept {
         }
     }
 
-    /// The saved form.
+    /// Returns the saved form.
+    ///
+    /// # Errors
+    ///
+    /// `NoForm` if there is none; `Memory` if the allocator refuses a request.
     pub fn save(&self, alloc: Global) -> Result<Vec<u8, Global>, SaveError>
         ensures saved { IfOk result (λ out. form_of (structure_of self.now) ≡ Some out.items) }
         ensures whole { OnOk result (HasForm (structure_of self.now)) }
@@ -77,7 +81,7 @@ impl Kept {
     }
 }
 
-/// How many bytes the saved form of what is held has.
+/// Returns the number of bytes of the saved form of the handle's structure.
 #[unsafe(no_mangle)]
 pub extern "C" fn vers_saved_size(alloc: Global, handle: &mut VersHandle) -> Answer
     ensures value { result.status ≡ DONE
@@ -100,7 +104,8 @@ pub extern "C" fn vers_saved_size(alloc: Global, handle: &mut VersHandle) -> Ans
     }
 }
 
-/// Writes the saved form of what is held over bytes, which are as many. Bytes of another number are refused.
+/// Writes the saved form of the handle's structure over bytes, of which there are exactly as many; otherwise
+/// refuses them.
 #[unsafe(no_mangle)]
 pub extern "C" fn vers_save(alloc: Global, handle: &mut VersHandle, bytes: &mut [u8]) -> u32
     ensures saved { IsSaved (contents handle.old) bytes.old bytes.new result }
@@ -119,7 +124,7 @@ pub extern "C" fn vers_save(alloc: Global, handle: &mut VersHandle, bytes: &mut 
     }
 }
 
-// Writes bytes over others, which are as many.
+// Writes bytes over others, of which there are as many.
 fn written(from: &[u8], to: &mut [u8]) -> u32
     ensures done { result ≡ DONE → to.new ≡ from.now }
     ensures left { result ≢ DONE → to.new ≡ to.old }
@@ -133,7 +138,7 @@ fn written(from: &[u8], to: &mut [u8]) -> u32
     DONE
 }
 
-// A loaded list as what is kept.
+// Returns a loaded list as a structure.
 macro_rules! loaded_as {
     ($loaded:expr, $kept:path) => {
         match $loaded {
@@ -144,7 +149,8 @@ macro_rules! loaded_as {
 }
 
 impl Kept {
-    /// The structure of a kind that bytes are the saved form of. A fault is that of the first test that fails.
+    /// Returns the structure of a kind whose saved form the bytes are. Errors: that of the first test that
+    /// fails; `Memory` if the allocator refuses a request.
     pub fn load(alloc: Global, kind: Kind, bytes: &[u8]) -> Result<Kept, LoadError>
         ensures kind { IfOk result (λ kept. kind_of (structure_of kept) ≡ Some kind) }
         ensures form { IfOk result (λ kept. form_of (structure_of kept) ≡ Some bytes.now) }
@@ -166,8 +172,8 @@ impl Kept {
     }
 }
 
-/// Builds the structure of a kind that bytes are the saved form of. Other bytes are refused, by the first test of
-/// them that fails.
+/// Builds the structure of a kind whose saved form the bytes are. Refuses other bytes, with the status of the
+/// first test that fails.
 #[unsafe(no_mangle)]
 pub extern "C" fn vers_load(alloc: Global, code: u32, bytes: &[u8], handle: &mut VersHandle) -> u32
     ensures { IsLoaded code bytes.now (contents handle.old) (contents handle.new) result }
@@ -184,7 +190,7 @@ pub extern "C" fn vers_load(alloc: Global, code: u32, bytes: &[u8], handle: &mut
     }
 }
 
-// What a fault of loading is told as.
+// Returns the status of an error of loading.
 fn fault(error: LoadError) -> u32
     ensures { result ≡ fault_as error }
 {
@@ -198,7 +204,7 @@ fn fault(error: LoadError) -> u32
         LoadError::BadSum => BAD_SUM,
         LoadError::BadPadding => BAD_PADDING,
         LoadError::NotAscending => NOT_ASCENDING,
-        // It never comes, since bytes are read.
+        // Not possible: the bytes are in memory.
         LoadError::Read => REFUSED,
     }
 }

@@ -1,4 +1,4 @@
-//! Exports on owners: one more, one less, and what two structures share.
+//! Exports on owners: another owner, one owner fewer, and what two structures have in common.
 ghost use Rattle.std.specs.Prelude.{◌≡◌, ◌≢◌, ◌↔◌, None, option_map};
 ghost use Rattle.vers_c.specs.Lists.{contents_common};
 ghost use Rattle.vers_c.specs.Makes.{IsMade, IsShared};
@@ -9,7 +9,7 @@ use crate::owners::{fill_made, other_owner, put, taken};
 use crate::status::{DONE, NO_MEMORY, OCCUPIED, REFUSED, VACANT};
 use std::alloc::Global;
 
-/// Lets go of what is held, if anything is: the handle can be built again. The last owner frees the structure.
+/// Drops the handle's owner, if it has one: the handle is empty afterwards. The last owner frees the structure.
 #[unsafe(no_mangle)]
 pub extern "C" fn vers_free(alloc: Global, handle: &mut VersHandle)
     ensures { contents handle.new ≡ None }
@@ -19,7 +19,7 @@ pub extern "C" fn vers_free(alloc: Global, handle: &mut VersHandle)
     }
 }
 
-/// Makes another handle an owner of what this one holds, for another thread. The handles are two.
+/// Makes another handle an owner of this one's structure, for another thread. The handles are distinct.
 #[unsafe(no_mangle)]
 pub extern "C" fn vers_clone(alloc: Global, handle: &mut VersHandle, other: &mut VersHandle) -> u32
     ensures shared { IsShared (contents handle.old) (contents other.old) (contents other.new) result }
@@ -43,7 +43,7 @@ pub extern "C" fn vers_clone(alloc: Global, handle: &mut VersHandle, other: &mut
     status
 }
 
-/// Puts the documents that two lists share into a third handle, as plain numbers. The handles are three.
+/// Puts the documents common to two lists into a third handle, as plain numbers. The handles are distinct.
 #[unsafe(no_mangle)]
 pub extern "C" fn vers_intersect(
     alloc: Global,

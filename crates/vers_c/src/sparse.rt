@@ -10,7 +10,8 @@ use crate::query::Query;
 use std::alloc::{AllocError, Global};
 use vers_sorted::sparse::SparseRSVec;
 
-/// The list of `len` bits whose ones stand at the given places.
+/// Returns the list of `len` bits with ones at the given positions. Precondition: these ascend strictly and are
+/// below `len`. Errors: `AllocError` if the allocator refuses a request.
 pub fn sparse(alloc: Global, ones: &[u64], len: u64) -> Result<SparseRSVec<Global>, AllocError>
     requires rising { IsStrictlyIncreasing ones.now }
     requires within { All (λ place. place < len) ones.now }

@@ -25,7 +25,7 @@ impl Asked for WaveletMatrix<Global> {
     }
 }
 
-// What symbols at places, and places of symbols, are answered.
+// Returns the answer to a query of symbols at positions, or of the positions of symbols.
 #[tactic(auto, unfolding(vers_wavelet::specs::Symbols::as_word))]
 #[inline(always)]
 fn answer_of(

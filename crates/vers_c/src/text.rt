@@ -1,4 +1,4 @@
-//! Texts, in which patterns are found.
+//! Text indexes, in which patterns are found.
 ghost use Rattle.std.specs.Prelude.{◌≡◌, ◌^◌, ◌≤◌, IfOk};
 ghost use Rattle.text_index.specs.Makers.{is_text as are_text};
 ghost use Rattle.vers_c.specs.TextAnswers.{text_answer};
@@ -10,7 +10,7 @@ use std::alloc::{AllocError, Global};
 use text_index::{MAX_LEN, TextIndex};
 use vers_sorted::order::are_below;
 
-// The least number that is no symbol of so many bits.
+// Returns the least number that exceeds `width` bits.
 fn symbol_limit(width: u32) -> u64
     requires { width ≤ 16 }
     ensures { result ≡ 2 ^ width }
@@ -18,14 +18,15 @@ fn symbol_limit(width: u32) -> u64
     1 << width
 }
 
-/// Whether these are a text whose symbols have so many bits: from 1 to 16, and they are not too many.
+/// Returns true if the symbols and their width make a text: the width is from 1 to 16, each symbol fits in it,
+/// and there are not too many symbols.
 pub fn is_text(width: u32, symbols: &[u64]) -> bool
     ensures { result ≡ are_text width symbols.now }
 {
     1 <= width && width <= 16 && symbols.len() <= MAX_LEN && are_below(symbols, symbol_limit(width))
 }
 
-/// Places as plain numbers.
+/// Returns positions as plain numbers.
 pub fn as_numbers(alloc: Global, places: &[usize]) -> Result<Vec<u64, Global>, AllocError>
     ensures { IfOk result (λ numbers. numbers.items ≡ places.now) }
 {

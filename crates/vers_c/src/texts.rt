@@ -1,4 +1,4 @@
-//! Exports on texts: how many places a pattern has, which, and pieces of the text.
+//! Exports on texts: count and locate the occurrences of a pattern, and extract pieces of the text.
 ghost use Rattle.std.specs.Prelude.{◌≡◌};
 ghost use Rattle.std.specs.Option.{option_and_then};
 ghost use Rattle.vers_c.specs.Makes.{IsMade};
@@ -14,8 +14,8 @@ use crate::text::is_text;
 use std::alloc::Global;
 use text_index::TextIndex;
 
-/// Builds a text in which patterns are found: of symbols of `width` bits, with one place kept for each `step`. Symbols
-/// of no bits, of more than 16 or of more than told, more of them than 2^32 - 2, and a step of 0 are refused.
+/// Builds a text index of symbols of `width` bits, with a sample every `step` positions. Refuses a width of 0
+/// or above 16, a symbol that exceeds the width, more than 2^32 - 2 symbols, and a step of 0.
 #[unsafe(no_mangle)]
 pub extern "C" fn vers_text_build(
     alloc: Global,
@@ -38,7 +38,8 @@ pub extern "C" fn vers_text_build(
     }
 }
 
-/// How many places a pattern has in a text. The pattern without symbols has each place, and the end.
+/// Returns the number of occurrences of a pattern in a text. The empty pattern occurs at each position, and at
+/// the end.
 #[unsafe(no_mangle)]
 pub extern "C" fn vers_count(alloc: Global, handle: &mut VersHandle, pattern: &[u64]) -> Answer
     ensures value { result ≡ contents_count (contents handle.old) pattern.now }
@@ -53,7 +54,8 @@ pub extern "C" fn vers_count(alloc: Global, handle: &mut VersHandle, pattern: &[
     answer
 }
 
-/// Puts the places of a pattern in a text, ascending, into another handle, as plain numbers. The handles are two.
+/// Puts the positions of a pattern in a text, ascending, into another handle, as plain numbers. The handles are
+/// distinct.
 #[unsafe(no_mangle)]
 pub extern "C" fn vers_places(
     alloc: Global,
@@ -77,7 +79,8 @@ pub extern "C" fn vers_places(
     fill_made(alloc, into, made)
 }
 
-/// Puts the symbols of a text from one place up to another into another handle, as plain numbers. The handles are two.
+/// Puts the symbols of a text from one position up to another into another handle, as plain numbers. The
+/// handles are distinct.
 #[unsafe(no_mangle)]
 pub extern "C" fn vers_extract(
     alloc: Global,

@@ -21,7 +21,11 @@ use vers_trees::trees::bp::BpTree;
 /// A list of parentheses with its index.
 pub type Parentheses = BpTree<512, Global>;
 
-/// The first `len` bits of words, or all where there are not so many, as parentheses.
+/// Returns the first `len` bits of words, or all if there are fewer, as parentheses.
+///
+/// # Errors
+///
+/// `TooLong` if the words are too many; `Memory` if the allocator refuses a request.
 pub fn tree(alloc: Global, words: &[u64], len: usize) -> Result<Box<Parentheses, Global>, GrowError>
     ensures made { IfOk result (λ tree. tree.value ≡ take len (pack words.now 64)) }
     ensures too_long { result ≡ Err GrowError.TooLong
@@ -31,7 +35,7 @@ pub fn tree(alloc: Global, words: &[u64], len: usize) -> Result<Box<Parentheses,
     boxed(alloc, growing(alloc, words, len)?)
 }
 
-// The tree of a list of bits.
+// Returns the tree of a list of bits.
 fn boxed(alloc: Global, bits: BitVec<Global>) -> Result<Box<Parentheses, Global>, GrowError>
     ensures made { IfOk result (λ tree. tree.value ≡ bits) }
     ensures too_long { (result ≡ Err GrowError.TooLong) ↔ (parentheses.MAX_LEN < length bits) }
@@ -42,7 +46,8 @@ fn boxed(alloc: Global, bits: BitVec<Global>) -> Result<Box<Parentheses, Global>
     }
 }
 
-/// The parentheses that bytes are the saved form of. A fault is that of the first test that fails.
+/// Returns the parentheses whose saved form the bytes are. Errors: that of the first test that fails; `Memory`
+/// if the allocator refuses a request.
 pub fn load_parentheses(alloc: Global, bytes: &[u8]) -> Result<Box<Parentheses, Global>, LoadError>
     ensures loaded { IfOk result (λ tree. bytes.now ≡ saved_parentheses 512 tree.value) }
     ensures none { OnOk result (fault_of (tree_kind 512) bytes.now ≡ None) }
@@ -56,7 +61,7 @@ pub fn load_parentheses(alloc: Global, bytes: &[u8]) -> Result<Box<Parentheses, 
     }
 }
 
-// A tree in a box.
+// Returns a tree in a box.
 fn in_box(alloc: Global, tree: Parentheses) -> Result<Box<Parentheses, Global>, GrowError>
     ensures made { IfOk result (λ made. made.value ≡ tree) }
     ensures memory { IfErr result (λ e. e ≡ GrowError.Memory) }
@@ -103,7 +108,7 @@ impl Asked for BpTree<512, Global> {
     }
 }
 
-// What any parentheses answer.
+// Returns the answer to a query of any parentheses.
 #[inline(always)]
 fn any_tree_answer(tree: &Parentheses, query: TreeQuery, a: usize, b: u64) -> Answer
     ensures { result ≡ answer_of_any tree.now query a b }

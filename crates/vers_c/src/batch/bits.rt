@@ -1,4 +1,4 @@
-//! Many queries of bits with ranks.
+//! Batches of queries of bits with rank and select.
 ghost use Rattle.std.specs.Prelude.{◌≡◌, map};
 ghost use Rattle.vers_bits.specs.Bits.{select};
 ghost use Rattle.vers_c.specs.Answers.{found};
@@ -12,7 +12,7 @@ use crate::query::Query;
 use std::alloc::Global;
 use vers_rank::fast_rs_vec::RsVec;
 
-// Places of zeros or of ones by their numbers.
+// Positions of zeros or of ones by their numbers.
 #[derive(Clone, Copy)]
 struct Selects {
     bit: bool,
@@ -45,8 +45,8 @@ impl Batch<RsVec<Global>, usize> for Selects {
     }
 }
 
-/// Puts into each row what bits with ranks answer to its numbers, by a loop of its own for each query that is asked
-/// often.
+/// Replaces each row by the answer of bits with rank and select to its numbers, with a loop of its own for each
+/// frequent query.
 pub fn each_of_bits<R: Row>(
     bits: &RsVec<Global>,
     query: Query,
@@ -67,7 +67,7 @@ pub fn each_of_bits<R: Row>(
     }
 }
 
-// The same for the places of a bit.
+// Does the same for the positions of a bit.
 #[inline(always)]
 fn select_each<R: Row>(bits: &RsVec<Global>, bit: bool, rows: &mut [R], b: u64, c: u64, other: u64)
     ensures { rows.new

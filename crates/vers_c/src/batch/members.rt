@@ -1,4 +1,4 @@
-//! Many queries of ascending lists.
+//! Batches of queries of ascending lists.
 ghost use Rattle.std.specs.Prelude.{◌≡◌, map, option_and_then};
 ghost use Rattle.vers_sorted.specs.Sorted.{below};
 ghost use Rattle.vers_c.specs.Answers.{found, found_or_absent};
@@ -13,7 +13,7 @@ use crate::query::Query;
 use std::alloc::Global;
 use vers_sorted::elias_fano::EliasFanoVec;
 
-// How many members are below numbers.
+// Numbers of members below numbers.
 #[derive(Clone, Copy)]
 struct Ranks;
 
@@ -40,14 +40,14 @@ impl Batch<EliasFanoVec<Global>, u64> for Ranks {
     }
 }
 
-/// Which member is looked for by a number.
+/// The member to be found from a number.
 #[derive(Clone, Copy)]
 pub enum Member {
-    /// The one at a place.
+    /// The one at a position.
     At,
-    /// The greatest that is not above the number.
+    /// The greatest that is at most the number.
     Before,
-    /// The least that is not below the number.
+    /// The least that is at least the number.
     After,
 }
 
@@ -79,8 +79,8 @@ impl Batch<EliasFanoVec<Global>, Option<u64>> for Member {
     }
 }
 
-/// Puts into each row what ascending members answer to its numbers, by many searches at once for each query that is
-/// asked often.
+/// Replaces each row by the answer of an ascending list to its numbers, with a batch search for each frequent
+/// query.
 pub fn each_of_members<R: Row>(
     members: &EliasFanoVec<Global>,
     query: Query,
@@ -103,7 +103,7 @@ pub fn each_of_members<R: Row>(
     }
 }
 
-// The same for a member.
+// Does the same for a member.
 fn find_each<R: Row>(
     members: &EliasFanoVec<Global>,
     member: Member,

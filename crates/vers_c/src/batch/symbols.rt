@@ -1,4 +1,4 @@
-//! Many queries of symbols.
+//! Batches of queries of symbols.
 ghost use Rattle.std.specs.Prelude.{◌≡◌, map, slice_get};
 ghost use Rattle.vers_c.specs.Answers.{found_or_absent};
 ghost use Rattle.vers_c.specs.Batches.{told_row};
@@ -13,7 +13,7 @@ use crate::query::{Query, SymbolsQuery};
 use std::alloc::Global;
 use vers_wavelet::wavelet::{GetQuery, QuantileQuery, RankQuery, SelectQuery, WaveletMatrix};
 
-// Symbols at places.
+// Symbols at positions.
 #[derive(Clone, Copy)]
 struct Gets;
 
@@ -40,7 +40,7 @@ impl Batch<WaveletMatrix<Global>, GetQuery> for Gets {
     }
 }
 
-// How many of the first places hold symbols.
+// Ranks of symbols.
 #[derive(Clone, Copy)]
 struct Ranks;
 
@@ -68,7 +68,7 @@ impl Batch<WaveletMatrix<Global>, RankQuery> for Ranks {
     }
 }
 
-// Places of symbols by the numbers of their occurrences.
+// Positions of symbols by the numbers of their occurrences.
 #[derive(Clone, Copy)]
 struct Selects;
 
@@ -96,7 +96,7 @@ impl Batch<WaveletMatrix<Global>, SelectQuery> for Selects {
     }
 }
 
-// Members of ranges by size.
+// Quantiles of ranges.
 #[derive(Clone, Copy)]
 struct Quantiles;
 
@@ -124,7 +124,7 @@ impl Batch<WaveletMatrix<Global>, QuantileQuery> for Quantiles {
     }
 }
 
-/// Puts into each row what symbols answer to its numbers, level by level for each query that is asked often.
+/// Replaces each row by the answer of a list of symbols to its numbers, level by level for each frequent query.
 pub fn each_of_symbols<R: Row>(
     alloc: Global,
     symbols: &WaveletMatrix<Global>,
