@@ -1,4 +1,4 @@
-//! A reader or a writer that remembers whether it has met a fault.
+//! A reader or a writer that records whether it has failed.
 ghost use Rattle.std.specs.Prelude.{◌≡◌, ◌||◌, ◌+◌, ◌-◌, ◌<◌, ◌^◌, true, false, is_err, IsErr};
 ghost use Rattle.std.specs.Io.{ReadsAtMost, WritesAtMost};
 ghost use Rattle.std.specs.Io.KnownBytes.{Keeps, Appends, ReadConsumes, WriteAppends};
@@ -9,10 +9,9 @@ use std::io;
 use std::io::{Read, Write};
 use std::marker::Model;
 
-/// A reader or a writer that remembers whether it has met a fault: a read, a write or a flush that
-/// answered an error, an interruption too, or a write that took no byte of a piece that has some.
-/// Reads, writes and flushes are passed on once each, and their answers are passed back. Only 2^64 - 1
-/// reads may give bytes.
+/// A reader or a writer that records whether it has failed: a read, a write or a flush returned an error, which
+/// may be an interruption, or a write took no byte of a nonempty piece. Each read, write and flush is forwarded
+/// once, and its result is returned. At most 2^64 - 1 reads may return bytes.
 #[derive(Drop)]
 pub struct Device<D> {
     inner: D,
@@ -29,7 +28,7 @@ impl<D> Model for Device<D> {
 }
 
 impl<D> Device<D> {
-    /// The reader or writer `inner`, which has met no fault so far.
+    /// Returns the reader or writer `inner`, which has not failed so far.
     pub fn new(inner: D) -> Device<D>
         ensures inner { result.inner ≡ inner }
         ensures fresh { result.has_failed ≡ false }
@@ -42,21 +41,21 @@ impl<D> Device<D> {
         }
     }
 
-    /// Whether a fault was met.
+    /// Returns true if it has failed.
     pub fn failed(&self) -> bool
         ensures { result ≡ self.now.has_failed }
     {
         self.has_failed
     }
 
-    /// The reader or writer inside.
+    /// Returns the inner reader or writer.
     pub fn into_inner(self) -> D
         ensures { result ≡ self.inner }
     {
         self.inner
     }
 
-    // Remembers a fault, where there is one.
+    // Records a failure if `is_fault`.
     fn note(&mut self, is_fault: bool)
         ensures inner { self.new.inner ≡ self.old.inner }
         ensures failed { self.new.has_failed ≡ (self.old.has_failed || is_fault) }
@@ -69,8 +68,8 @@ impl<D> Device<D> {
 impl<R: Source> Read for Device<R> {
     ghost remaining = { λ d. R.remaining d.inner };
 
-    /// Reads once from the reader inside. An error is a fault. After 2^64 - 1 reads that gave bytes
-    /// the reader isn't asked any more, and the answer is an error.
+    /// Reads once from the inner reader. An error is a failure. After 2^64 - 1 reads that returned bytes it
+    /// returns an error without reading.
     fn read(&mut self, buf: &mut [u8]) -> io::Result<usize>
         ensures bound { ReadsAtMost result buf.new }
         ensures bytes { ReadConsumes (R.remaining self.old.inner) (R.remaining self.new.inner)
@@ -97,8 +96,8 @@ impl<R: Source> Read for Device<R> {
 impl<W: Sink> Write for Device<W> {
     ghost contents = { λ d. W.contents d.inner };
 
-    /// Writes once to the writer inside. An error is a fault, and so is a write that takes no byte
-    /// of a piece that has some.
+    /// Writes once to the inner writer. An error is a failure, and so is a write that takes no byte of a
+    /// nonempty piece.
     fn write(&mut self, buf: &[u8]) -> io::Result<usize>
         ensures bound { WritesAtMost result buf.now }
         ensures bytes { WriteAppends (W.contents self.old.inner) (W.contents self.new.inner) result
@@ -115,7 +114,7 @@ impl<W: Sink> Write for Device<W> {
         result
     }
 
-    /// Flushes the writer inside. An error is a fault.
+    /// Flushes the inner writer. An error is a failure.
     fn flush(&mut self) -> io::Result<()>
         ensures bytes { Keeps (W.contents self.old.inner) (W.contents self.new.inner) }
         ensures once { W.flush_gives self.old.inner result self.new.inner }

@@ -1,4 +1,4 @@
-//! The engine: reads lines, and writes the answers of the lines of a read before it reads on.
+//! The engine: reads lines, and writes the answers of the lines of a read before the next read.
 ghost use Rattle.std.specs.Prelude.{◌≡◌, ◌<◌, ◌≤◌, ◌↔◌, ◌++◌, IsTrue, List, ℕ, [], length, false, OnOk, IfOk, IfErr};
 ghost use Rattle.std.specs.Io.KnownBytes.{Appends, Consumes};
 ghost use Rattle.vers_engine.specs.Device.{FollowsReadFault, FollowsWriteFault};
@@ -15,15 +15,15 @@ use vers_words::text::place_of;
 /// Why a run ended before the end of its input.
 #[derive(Clone, Copy, PartialEq, Eq, Debug, Drop)]
 pub enum RunError {
-    /// The reader answered an error, or an interruption.
+    /// The reader returned an error, or an interruption.
     Read,
-    /// The writer answered an error, or took no byte of a piece that has some.
+    /// The writer returned an error, or took no byte of a nonempty piece.
     Write,
-    /// The allocator has no memory.
+    /// The allocator refused a request.
     Memory,
 }
 
-/// What is to be printed of a fault: `read failed`, `write failed` or `out of memory`.
+/// Returns the text of an error: `read failed`, `write failed` or `out of memory`.
 pub fn fault_line(error: &RunError) -> &'static str
     ensures { result.now ≡ fault_text error.now }
 {
@@ -44,7 +44,7 @@ impl From<AllocError> for RunError {
     }
 }
 
-// Writes a whole piece, or as much of it as the writer takes before a fault.
+// Writes a whole piece, or as much of it as the writer takes before an error.
 fn write_piece<W: Sink>(writer: &mut Device<W>, piece: &[u8]) -> Result<(), RunError>
     ensures written { (text : List ℕ) × (rest : List ℕ)
         × Appends (W.contents writer.old.inner) (W.contents writer.new.inner) text
@@ -64,10 +64,10 @@ fn write_piece<W: Sink>(writer: &mut Device<W>, piece: &[u8]) -> Result<(), RunE
     Ok(())
 }
 
-// Room for so many bytes of a line, and of answers, is kept for the next ones.
+// The capacity in bytes that is kept for the next line, and for the next answers.
 const KEPT_LEN: usize = 262144;
 
-// Takes all bytes out, and gives back the room of a long line or answer.
+// Removes all bytes, and frees the memory of a long line or answer.
 fn empty<A: Allocator>(bytes: &mut Vec<u8, A>)
     ensures { bytes.new.items ≡ [] }
 {
@@ -75,8 +75,7 @@ fn empty<A: Allocator>(bytes: &mut Vec<u8, A>)
     bytes.shrink_to(KEPT_LEN);
 }
 
-// What answers lines, the bytes that were read since the last end of a line, and the answers that
-// are not written yet.
+// An answerer, the bytes that were read since the last end of a line, and the answers that are not written yet.
 #[derive(Drop)]
 struct Session<S, A: Allocator> {
     store: S,
@@ -101,8 +100,8 @@ impl<S: Answerer<A>, A: Allocator> Session<S, A> {
         Ok(())
     }
 
-    // Takes bytes up to the first end of a line and answers that line, or takes them all as
-    // pending. Returns how many were taken.
+    // Takes bytes up to the first end of a line and answers that line, or takes them all as pending. Returns
+    // the number of bytes taken.
     fn take_line(&mut self, bytes: &[u8]) -> Result<usize, AllocError>
         ensures within { IfOk result (λ taken. taken ≤ length bytes.now) }
         ensures progress { 0 < length bytes.now → IfOk result (λ taken. 0 < taken) }
@@ -122,7 +121,7 @@ impl<S: Answerer<A>, A: Allocator> Session<S, A> {
         }
     }
 
-    // Takes lines while there are bytes and room for answers. Returns how many bytes were taken.
+    // Takes lines while there are bytes and room for answers. Returns the number of bytes taken.
     fn take_lines(&mut self, bytes: &[u8]) -> Result<usize, AllocError>
         ensures within { IfOk result (λ taken. taken ≤ length bytes.now) }
         ensures progress { 0 < length bytes.now → self.old.answers.items ≡ []
@@ -156,8 +155,8 @@ impl<S: Answerer<A>, A: Allocator> Session<S, A> {
         Ok(())
     }
 
-    // Takes bytes that were read, and writes the answers of all lines that end in them. Where
-    // memory is refused the answers that are whole are written first.
+    // Takes bytes that were read, and writes the answers of all lines that end in them. If the allocator
+    // refuses a request, the complete answers are written first.
     fn take_bytes<W: Sink>(&mut self, bytes: &[u8], writer: &mut Device<W>) -> Result<(), RunError>
         requires { self.old.answers.items ≡ [] }
         ensures written { (text : List ℕ)
@@ -179,7 +178,7 @@ impl<S: Answerer<A>, A: Allocator> Session<S, A> {
         Ok(())
     }
 
-    // At the end of the input: answers the last line, unless it has no bytes.
+    // At the end of the input, answers the last line, unless it is empty.
     fn finish<W: Sink>(&mut self, writer: &mut Device<W>) -> Result<(), RunError>
         requires { self.old.answers.items ≡ [] }
         ensures written { (text : List ℕ)
@@ -197,40 +196,36 @@ impl<S: Answerer<A>, A: Allocator> Session<S, A> {
     }
 }
 
-// How many bytes are asked of the reader at once.
+// The number of bytes requested from the reader at once.
 const READ_LEN: usize = 65536;
 
-// The bytes that are read into.
+// Returns the buffer for reads.
 fn read_buffer<A: Allocator>(alloc: A) -> Result<Vec<u8, A>, AllocError>
     ensures { IfOk result (λ buffer. 0 < length buffer.items) }
 {
     vec![in alloc; 0u8; READ_LEN]
 }
 
-// Gathered answers of so many bytes are written before the next line is taken.
+// The number of bytes of gathered answers that are written before the next line is taken.
 const ANSWERS_LEN: usize = 65536;
 
-/// Reads lines to the end of the input and writes the answer of each, every whole line before the
-/// next read.
+/// Reads lines to the end of the input and writes the answer of each, every whole line before the next read.
 ///
-/// A line ends with byte 10 or with the end of the input. `store` answers the lines, one after the
-/// other. An answer is built whole before its first byte is written. The answers of the lines of one
-/// read are gathered, and written together once they have 64 KiB or the lines end. Memory is needed
-/// for 64 KiB of input, for the longest line, for gathered answers and for what `store` asks for.
+/// A line ends with byte 10 or with the end of the input. `store` answers the lines, one after another. An answer
+/// is complete before its first byte is written. The answers of the lines of one read are gathered, and written
+/// together once they have 64 KiB or the lines end. Memory is needed for 64 KiB of input, for the longest line,
+/// for gathered answers and for what `store` allocates.
 ///
 /// # Errors
 ///
-/// - `Read`: the reader answered an error. Every whole line that was read has been answered, and
-///   the line that the fault cut off has no answer.
-/// - `Write`: the writer answered an error or took no byte. What was written is a beginning of the
-///   answers.
-/// - `Memory`: the allocator refused. What was written is the answers of a first part of the lines,
-///   each answer whole.
+/// - `Read`: the reader returned an error. Every whole line that was read has been answered, and the line that
+///   was cut off has no answer.
+/// - `Write`: the writer returned an error or took no byte. A prefix of the answers was written.
+/// - `Memory`: the allocator refused a request. The answers of the first lines were written, each complete.
 ///
-/// `Read` and `Write` come exactly where the device has failed when the call returns. `Read` comes
-/// right after a read of the reader inside that answered an error, and `Write` right after a write
-/// to the writer inside that met a fault. A reader that has not come to its end after 2^64 - 1
-/// reads that gave bytes counts as failed too.
+/// The result is `Read` or `Write` exactly if the device has failed when the function returns. `Read` directly
+/// follows a read of the inner reader that returned an error, and `Write` a failed write to the inner writer. A
+/// reader that has not ended after 2^64 - 1 reads that returned bytes counts as failed too.
 pub fn answer_lines<A: Allocator + Copy, S: Answerer<A> + Drop, R: Source, W: Sink>(
     alloc: A,
     store: S,

@@ -1,7 +1,7 @@
 //! The engine of a program that answers lines: it reads them, has them answered, and writes the answers.
 //!
-//! What answers the lines is the caller's: any value with an impl of `Answerer`, or of `Replier`, which replies to
-//! their words.
+//! The caller supplies the answerer: any value that implements `Answerer`, or `Replier`, which replies to the
+//! words of a line.
 #![tactic(auto)]
 
 mod answerer;

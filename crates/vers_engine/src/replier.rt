@@ -1,4 +1,4 @@
-//! What replies to lines, which is asked for the first word of each.
+//! Replying to lines by their first word.
 ghost use Rattle.std.specs.Prelude.{◌≡◌, ◌++◌, ◌∷◌, [], length, take, IfOk, OnOk};
 ghost use Rattle.vers_words.specs.Text.{words_in};
 ghost use Rattle.vers_words.specs.Reply.{plain_reply, reply_text};
@@ -9,14 +9,15 @@ use std::alloc::{AllocError, Allocator};
 use vers_words::reply::Reply;
 use vers_words::text::{split_first_word, without_return};
 
-/// What replies to lines, one after the other. The reply of a line and what replies after it follow from
-/// the line's words and from what replies before it. It answers a line by the text of its reply, and a line
-/// without words by nothing; no impl of `Answerer` is to be written.
+/// A type that replies to lines, one after another. The reply to a line, and the replier afterwards, depend
+/// only on the line's words and the replier before. It answers a line with the text of its reply, and a line
+/// without words with nothing. It implements `Answerer`.
 pub trait Replier<A: Allocator + Copy> {
-    // How a line is replied to.
+    // The function from a line and a replier to its reply and the next replier.
     ghost replying: { Replying Self };
 
-    /// The reply of a line, by its first word and what stands after it.
+    /// Returns the reply to a line, from its first word and the text after it. Errors: `AllocError` if the
+    /// allocator refuses a request.
     fn reply(&mut self, word: &[u8], arguments: &[u8]) -> Result<Reply<A>, AllocError>
         ensures reply { IfOk result (λ reply. plain_reply reply
             ≡ replying.reply_to self.old word.now (words_in arguments.now)) }
@@ -37,8 +38,8 @@ impl<A: Allocator + Copy, S: Replier<A>> Answerer<A> for S {
     }
 }
 
-// Appends the answer of a line, with its end. A line without words has none. Where memory is refused a
-// part of it may stand appended.
+// Appends the answer of a line, with its end. A line without words has none. On error a part of it may have
+// been appended.
 fn append_answer<A: Allocator + Copy, S: Replier<A>>(
     replier: &mut S,
     line: &[u8],
@@ -56,7 +57,7 @@ fn append_answer<A: Allocator + Copy, S: Replier<A>>(
     append_line(replier.reply(word, arguments)?, answers)
 }
 
-// Appends a reply with the end of its line. Where memory is refused a part of it may stand appended.
+// Appends a reply with the end of its line. On error a part of it may have been appended.
 fn append_line<A: Allocator + Copy>(
     reply: Reply<A>,
     answers: &mut Vec<u8, A>,
