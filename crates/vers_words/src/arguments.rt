@@ -1,5 +1,5 @@
-//! The arguments of a line, which are the words of what stands after its first one. Each function
-//! answers None where they are malformed.
+//! The arguments of a line, which are the words after its first one. Each function returns `None` if they are
+//! malformed.
 ghost use Rattle.std.specs.Prelude.{◌≡◌, true, length, option_map, IfOk, IfSome};
 ghost use Rattle.std.specs.List.{list_all};
 ghost use Rattle.vers_words.specs.Text.{words_in};
@@ -8,7 +8,7 @@ ghost use Rattle.vers_words.specs.Arguments.{no_arguments as none_of, one_number
 use crate::text::{number, signed_number, split_first_word};
 use std::alloc::{AllocError, Allocator};
 
-/// The arguments of a line that takes none. None where there is one.
+/// Returns the arguments of a line that takes none, or `None` if there is one.
 pub fn no_arguments(arguments: &[u8]) -> Option<()>
     ensures { result ≡ none_of (words_in arguments.now) }
 {
@@ -18,8 +18,7 @@ pub fn no_arguments(arguments: &[u8]) -> Option<()>
     }
 }
 
-/// The argument of a line that takes one number. None where the words are not one number below
-/// 2^64.
+/// Returns the argument of a line that takes one number. `None` if the words are not one number below 2^64.
 pub fn one_number(arguments: &[u8]) -> Option<u64>
     ensures { result ≡ number_alone (words_in arguments.now) }
 {
@@ -28,8 +27,7 @@ pub fn one_number(arguments: &[u8]) -> Option<u64>
     number(word)
 }
 
-/// The arguments of a line that takes two numbers. None where the words are not two numbers below
-/// 2^64.
+/// Returns the arguments of a line that takes two numbers. `None` if the words are not two numbers below 2^64.
 pub fn two_numbers(arguments: &[u8]) -> Option<(u64, u64)>
     ensures { result ≡ numbers_two (words_in arguments.now) }
 {
@@ -39,8 +37,8 @@ pub fn two_numbers(arguments: &[u8]) -> Option<(u64, u64)>
     Some((number(first)?, number(second)?))
 }
 
-/// The arguments of a line that takes three numbers. None where the words are not three numbers
-/// below 2^64.
+/// Returns the arguments of a line that takes three numbers. `None` if the words are not three numbers below
+/// 2^64.
 pub fn three_numbers(arguments: &[u8]) -> Option<(u64, u64, u64)>
     ensures { result ≡ numbers_three (words_in arguments.now) }
 {
@@ -49,7 +47,7 @@ pub fn three_numbers(arguments: &[u8]) -> Option<(u64, u64, u64)>
     Some((number(first)?, second, third))
 }
 
-/// The arguments of a line that takes a number and a signed number. None where the words are not a
+/// Returns the arguments of a line that takes a number and a signed number. `None` if the words are not a
 /// number below 2^64 and one from -2^63 on, below 2^63.
 pub fn number_and_signed(arguments: &[u8]) -> Option<(u64, i64)>
     ensures { result ≡ number_and_signed_number (words_in arguments.now) }
@@ -60,8 +58,8 @@ pub fn number_and_signed(arguments: &[u8]) -> Option<(u64, i64)>
     Some((number(first)?, signed_number(second)?))
 }
 
-/// The arguments of a line that takes any number of numbers. None where a word is no number below
-/// 2^64.
+/// Returns the arguments of a line that takes any number of numbers. `None` if a word is no number below 2^64.
+/// Errors: `AllocError` if the allocator refuses a request.
 pub fn all_numbers<A: Allocator + Copy>(
     alloc: A,
     arguments: &[u8],
@@ -72,7 +70,7 @@ pub fn all_numbers<A: Allocator + Copy>(
     let Some(count) = count_numbers(arguments) else {
         return Ok(None);
     };
-    // There is room for all from the start, and for no more.
+    // Allocates exactly the memory of all numbers, from the start.
     let mut numbers = Vec::with_capacity(alloc, count)?;
     let mut rest = arguments;
     while let Some((word, others)) = split_first_word(rest) {
@@ -85,7 +83,7 @@ pub fn all_numbers<A: Allocator + Copy>(
     Ok(Some(numbers))
 }
 
-/// How many numbers a line writes that takes any number of them. None where a word is no number below
+/// Returns the number of numbers in a line that takes any number of them. `None` if a word is no number below
 /// 2^64.
 pub fn count_numbers(arguments: &[u8]) -> Option<usize>
     ensures { result ≡ option_map length (numbers_all (words_in arguments.now)) }
@@ -102,8 +100,8 @@ pub fn count_numbers(arguments: &[u8]) -> Option<usize>
     Some(count)
 }
 
-/// The arguments of a line that takes bits: one word of the digits 0 and 1, or no word for the empty
-/// list. None where the words are others.
+/// Returns the argument of a line that takes bits: one word of the digits 0 and 1, or no word for the empty
+/// list. `None` if the words are others.
 pub fn bit_digits(arguments: &[u8]) -> Option<&[u8]>
     ensures bits { option_map (λ digits. bits_of_digits digits.now) result
         ≡ bits_of (words_in arguments.now) }

@@ -1,5 +1,5 @@
-//! The text of lines: words and the numbers that they write, the arguments of a line, and the replies
-//! to lines with how they are written.
+//! The text of lines: words and the numbers that they represent, the arguments of a line, and the replies to
+//! lines and their text.
 #![tactic(auto)]
 
 pub mod arguments;

@@ -1,12 +1,12 @@
-//! What the arguments of a load line give.
+//! The result of parsing the arguments of a load line.
 
-/// What the arguments of a load line give.
+/// The result of parsing the arguments of a load line.
 #[derive(Drop)]
 pub enum Loading<T> {
-    /// They are not what the line takes.
+    /// The line does not take these arguments.
     Malformed,
-    /// They are well formed, and outside its limits.
+    /// They are well formed, but outside its limits.
     Inadmissible,
-    /// They write this.
+    /// They represent this value.
     Accepted(T),
 }

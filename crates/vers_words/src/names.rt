@@ -2,7 +2,7 @@
 ghost use Rattle.std.specs.Prelude.{◌≡◌, map, find, bytes_eq, option_map};
 ghost use Rattle.vers_words.specs.Names.{named as named_in};
 
-// The entry of a table that is written so.
+// Returns the entry of a table with that name.
 fn entry_of<'a, N>(table: &'a [(&'static [u8], N)], word: &[u8]) -> Option<&'a (&'static [u8], N)>
     ensures { option_map (λ entry. entry.now) result
         ≡ find (λ entry. bytes_eq entry.0.now word.now) table.now }
@@ -10,8 +10,8 @@ fn entry_of<'a, N>(table: &'a [(&'static [u8], N)], word: &[u8]) -> Option<&'a (
     table.iter().find(|entry| entry.0 == word)
 }
 
-/// What a word names in a table, whose entries say how a name is written and what it names. None where it
-/// names nothing; the first of two that are written the same counts.
+/// Returns what a word names in a table of names and their meanings. `None` if it names nothing; the first of
+/// two equal names counts.
 pub fn named<N: Copy>(table: &[(&'static [u8], N)], word: &[u8]) -> Option<N>
     ensures { result ≡ named_in (map (λ entry. (entry.0.now, entry.1)) table.now) word.now }
 {

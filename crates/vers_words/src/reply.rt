@@ -1,22 +1,22 @@
-//! What a line is answered by.
+//! The replies to lines.
 ghost use Rattle.std.specs.Prelude.{◌≡◌, ◌++◌, ◌∷◌, length, take, decimal, OnOk, OnErr};
 ghost use Rattle.std.specs.Fmt.{signed_decimal};
 ghost use Rattle.vers_words.specs.Reply.{numbers_text};
 
 use std::alloc::{AllocError, Allocator};
 
-/// The reply of a line.
+/// The reply to a line.
 #[derive(Drop)]
 pub enum Reply<A: Allocator + Copy> {
     /// The line is not understood.
     BadLine,
-    /// What is held doesn't have this query.
+    /// The current structure has no such query.
     WrongStructure,
-    /// The arguments are well formed, but outside what the line takes.
+    /// The arguments are well formed, but outside the limits of the line.
     Refused,
     /// A number.
     Number(u64),
-    /// A number with a sign.
+    /// A signed number.
     Signed(i64),
     /// There is no such number.
     Absent,
@@ -27,7 +27,7 @@ pub enum Reply<A: Allocator + Copy> {
 impl<A: Allocator + Copy> Reply<A> {
     ghost use Rattle.vers_words.specs.Reply.{plain_reply, reply_text, number_or_absent as reply_of, number_or_refused as admitted_reply_of};
 
-    /// A number, or that there is none.
+    /// Returns the reply with a number, or that there is none.
     pub fn number_or_absent(number: Option<u64>) -> Reply<A>
         ensures { plain_reply result ≡ reply_of number }
     {
@@ -37,7 +37,7 @@ impl<A: Allocator + Copy> Reply<A> {
         }
     }
 
-    /// A place, or that there is none.
+    /// Returns the reply with a position, or that there is none.
     pub fn place_or_absent(place: Option<usize>) -> Reply<A>
         ensures { plain_reply result ≡ reply_of place }
     {
@@ -47,7 +47,7 @@ impl<A: Allocator + Copy> Reply<A> {
         Reply::Number(p as u64)
     }
 
-    /// A number, or that the query is refused.
+    /// Returns the reply with a number, or that the query is refused.
     pub fn number_or_refused(number: Option<u64>) -> Reply<A>
         ensures { plain_reply result ≡ admitted_reply_of number }
     {
@@ -57,7 +57,7 @@ impl<A: Allocator + Copy> Reply<A> {
         }
     }
 
-    /// Appends the text of the reply. Where memory is refused a part of it may stand appended.
+    /// Appends the text of the reply. On error a part of it may have been appended.
     pub fn append_to(self, line: &mut Vec<u8, A>) -> Result<(), AllocError>
         ensures text { OnOk result (line.new.items
             ≡ line.old.items ++ reply_text (plain_reply self)) }
@@ -75,10 +75,10 @@ impl<A: Allocator + Copy> Reply<A> {
     }
 }
 
-// How many digits a number has at most.
+// The greatest number of digits of a number.
 const MAX_DIGITS: usize = 20;
 
-// Appends a number as a decimal, or nothing.
+// Appends a number in decimal. On error nothing is appended.
 fn append_number<A: Allocator>(number: u64, line: &mut Vec<u8, A>) -> Result<(), AllocError>
     ensures text { OnOk result (line.new.items ≡ line.old.items ++ decimal number) }
     ensures kept { OnErr result (line.new.items ≡ line.old.items) }
@@ -96,8 +96,7 @@ fn append_number<A: Allocator>(number: u64, line: &mut Vec<u8, A>) -> Result<(),
     line.extend_from_slice(&digits[start..])
 }
 
-// Appends a number as a decimal, with `-` before it where it is below 0. Where memory is refused a
-// part may stand appended.
+// Appends a number in decimal, with `-` before it if it is negative. On error a part may have been appended.
 fn append_signed_number<A: Allocator>(number: i64, line: &mut Vec<u8, A>) -> Result<(), AllocError>
     ensures text { OnOk result (line.new.items ≡ line.old.items ++ signed_decimal number) }
     ensures kept { take (length line.old.items) line.new.items ≡ line.old.items }
@@ -108,7 +107,7 @@ fn append_signed_number<A: Allocator>(number: i64, line: &mut Vec<u8, A>) -> Res
     append_number(number.unsigned_abs(), line)
 }
 
-// Appends numbers with one space between them. Where memory is refused a part may stand appended.
+// Appends numbers with one space between them. On error a part may have been appended.
 fn append_numbers<A: Allocator>(numbers: &[u64], line: &mut Vec<u8, A>) -> Result<(), AllocError>
     ensures text { OnOk result (line.new.items ≡ line.old.items ++ numbers_text numbers.now) }
     ensures kept { take (length line.old.items) line.new.items ≡ line.old.items }

@@ -3,21 +3,21 @@ ghost use Rattle.std.specs.Prelude.{◌≡◌, ◌<◌, ◌==◌, ◌∷◌, [],
 ghost use Rattle.std.specs.Io.BufRead.{strip_last};
 ghost use Rattle.vers_words.specs.Text.{words_in, number_of, signed_number_of};
 
-/// Where a byte stands first in a text. None where it stands nowhere.
+/// Returns the first position of a byte in a text, or `None` if there is none.
 pub fn place_of(byte: u8, text: &[u8]) -> Option<usize>
     ensures { result ≡ position (λ b. b == byte) text.now }
 {
     text.iter().position(|other| *other == byte)
 }
 
-// Where the first byte stands that is no space.
+// Returns the position of the first byte that is no space.
 fn first_of_word(text: &[u8]) -> Option<usize>
     ensures { result ≡ position (λ b. not (b == 32)) text.now }
 {
     text.iter().position(|byte| *byte != b' ')
 }
 
-/// The first word of a text and what stands after it. None where the text has no word.
+/// Returns the first word of a text and the text after it, or `None` if the text has no word.
 pub fn split_first_word(text: &[u8]) -> Option<(&[u8], &[u8])>
     ensures words { MatchOption result (words_in text.now ≡ [])
         (λ parts. words_in text.now ≡ parts.0.now ∷ words_in parts.1.now) }
@@ -28,7 +28,7 @@ pub fn split_first_word(text: &[u8]) -> Option<(&[u8], &[u8])>
     Some((&from_word[..len], &from_word[len..]))
 }
 
-/// A line without one byte 13 at its end.
+/// Returns a line without a byte 13 at its end.
 pub fn without_return(line: &[u8]) -> &[u8]
     ensures { result.now ≡ strip_last 13 line.now }
 {
@@ -40,7 +40,7 @@ pub fn without_return(line: &[u8]) -> &[u8]
     }
 }
 
-/// The number below 2^64 that a word writes in decimal digits, unless it writes none.
+/// Returns the number below 2^64 that a word represents in decimal digits, or `None` if it represents none.
 pub fn number(word: &[u8]) -> Option<u64>
     ensures { result ≡ number_of word.now }
 {
@@ -57,8 +57,8 @@ pub fn number(word: &[u8]) -> Option<u64>
     Some(value)
 }
 
-/// The number from -2^63 on, below 2^63, that a word writes in decimal digits, with `-` before them
-/// where it is below 0. None where it writes none.
+/// Returns the number from -2^63 on, below 2^63, that a word represents in decimal digits, with `-` before them
+/// if it is negative. `None` if it represents none.
 pub fn signed_number(word: &[u8]) -> Option<i64>
     ensures { result ≡ signed_number_of word.now }
 {
