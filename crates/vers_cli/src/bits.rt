@@ -17,7 +17,7 @@ use vers_words::arguments::{bit_digits, no_arguments, one_number};
 use vers_words::loading::Loading;
 use vers_words::reply::Reply;
 
-/// Whether the load line `bits S` is accepted.
+/// Returns true if the load line `bits S` is accepted.
 pub fn is_accepted(arguments: &[u8]) -> bool
     ensures { result ≡ accepts (bits_loaded (bits_of (words_in arguments.now))) }
 {
@@ -27,7 +27,7 @@ pub fn is_accepted(arguments: &[u8]) -> bool
     }
 }
 
-/// What the load line `bits S` gives.
+/// Returns the result of the load line `bits S`.
 pub fn load<'a, A: Allocator + Copy>(
     alloc: &'a A,
     arguments: &[u8],
@@ -47,7 +47,8 @@ pub fn load<'a, A: Allocator + Copy>(
     }
 }
 
-/// The list that digits 0 and 1 write.
+/// Returns the list of the bits in digits 0 and 1. Precondition: there are no other digits, and at most
+/// `MAX_LEN`. Errors: `AllocError` if the allocator refuses a request.
 pub fn bit_vec<A: Allocator + Copy>(alloc: A, digits: &[u8]) -> Result<BitVec<A>, AllocError>
     requires short { length digits.now ≤ MAX_LEN }
     requires digits { list_all is_bit_digit digits.now ≡ true }
@@ -57,7 +58,7 @@ pub fn bit_vec<A: Allocator + Copy>(alloc: A, digits: &[u8]) -> Result<BitVec<A>
     BitVec::from_bits(alloc, digits).map_err(|_| AllocError)
 }
 
-/// The reply of a query line, where these bits are held.
+/// Returns the reply to a query of these bits.
 pub fn reply<A: Allocator + Copy>(bits: &RsVec<A>, query: Query, arguments: &[u8]) -> Reply<A>
     ensures { plain_reply result ≡ bits_reply bits.now query (words_in arguments.now) }
 {
@@ -76,7 +77,7 @@ pub fn reply<A: Allocator + Copy>(bits: &RsVec<A>, query: Query, arguments: &[u8
     }
 }
 
-// What a query with one number finds. None where these have no such query.
+// Returns the result of a query with one number. `None` if there is no such query.
 fn found<A: Allocator + Copy>(bits: &RsVec<A>, query: Query, n: usize) -> Option<u64>
     ensures { result ≡ bits_found bits.now query n }
 {

@@ -20,7 +20,7 @@ use vers_words::loading::Loading;
 use vers_words::reply::Reply;
 use vers_words::text::{number, split_first_word};
 
-/// Whether the load line `postings d c ..` is accepted.
+/// Returns true if the load line `postings d c ..` is accepted.
 pub fn is_accepted(arguments: &[u8]) -> bool
     ensures { result ≡ accepts (postings_loaded (numbers_all (words_in arguments.now))) }
 {
@@ -30,7 +30,7 @@ pub fn is_accepted(arguments: &[u8]) -> bool
     }
 }
 
-/// What the load line `postings d c ..` gives.
+/// Returns the result of the load line `postings d c ..`.
 pub fn load<'a, A: Allocator + Copy>(
     alloc: &'a A,
     arguments: &[u8],
@@ -48,7 +48,7 @@ pub fn load<'a, A: Allocator + Copy>(
     }
 }
 
-/// The reply of a query line, where these documents are held.
+/// Returns the reply to a query of these documents.
 pub fn reply<A: Allocator + Copy>(
     alloc: A,
     postings: &Postings<A>,
@@ -80,7 +80,7 @@ pub fn reply<A: Allocator + Copy>(
     }
 }
 
-// What a query of one document finds. None where these have no such query.
+// Returns the result of a query with one document. `None` if there is no such query.
 fn found<A: Allocator + Copy>(postings: &Postings<A>, query: Query, document: u64) -> Option<u64>
     ensures { result ≡ postings_found postings.now query document }
 {
@@ -99,7 +99,7 @@ struct Pairs<A: Allocator> {
     costs: Vec<u64, A>,
 }
 
-// The documents and costs that a line writes in turn. None where a word is no number below 2^64, or the
+// Returns the documents and costs of a line, which alternate. `None` if a word is no number below 2^64, or the
 // last document has no cost.
 fn all_pairs<A: Allocator + Copy>(
     alloc: A,
@@ -125,8 +125,8 @@ fn all_pairs<A: Allocator + Copy>(
 }
 
 impl<A: Allocator> Pairs<A> {
-    // Takes up the documents and costs that a line writes in turn, where there are none yet. None where a word is
-    // no number below 2^64, or the last document has no cost.
+    // Appends the documents and costs of a line, which alternate. `None` if a word is no number below 2^64, or
+    // the last document has no cost. Precondition: there are none yet.
     fn fill(&mut self, arguments: &[u8]) -> Result<Option<()>, AllocError>
         requires documents { self.old.documents.items ≡ [] }
         requires costs { self.old.costs.items ≡ [] }
@@ -145,7 +145,7 @@ impl<A: Allocator> Pairs<A> {
     }
 }
 
-// The document and the cost that a text begins with, and what stands after them. None where it doesn't
+// Returns the document and the cost at the beginning of a text, and the text after them. `None` if it doesn't
 // begin with two numbers below 2^64.
 fn split_first_pair(text: &[u8]) -> Option<(u64, u64, &[u8])>
     ensures pairs { MatchOption result
@@ -163,8 +163,8 @@ fn split_first_pair(text: &[u8]) -> Option<(u64, u64, &[u8])>
     Some((document, cost, more))
 }
 
-// How many documents a line writes, each with its cost. None where it writes no such, or they don't ascend
-// strictly.
+// Returns the number of documents of a line, each with its cost. `None` if the words are others, or the
+// documents don't ascend strictly.
 fn ascending_documents(arguments: &[u8]) -> Option<usize>
     ensures { result ≡ rising_count (option_and_then posted_of (numbers_all (words_in arguments.now))) }
 {
@@ -184,7 +184,7 @@ fn ascending_documents(arguments: &[u8]) -> Option<usize>
     }
 }
 
-// Documents with their costs. None where the documents don't ascend strictly or are too many.
+// Returns documents with their costs. `None` if the documents don't ascend strictly or are too many.
 fn admitted<A: Allocator + Copy>(
     documents: &[u64],
     costs: Vec<u64, A>,
@@ -202,8 +202,8 @@ fn admitted<A: Allocator + Copy>(
     }
 }
 
-// The documents held that stand among these too, which are refused where they don't ascend strictly
-// or are too many.
+// Returns the reply with the documents that are also among others, which are refused if they don't ascend
+// strictly or are too many.
 fn shared<A: Allocator + Copy>(
     alloc: A,
     postings: &Postings<A>,
@@ -212,13 +212,13 @@ fn shared<A: Allocator + Copy>(
     ensures { IfOk result (λ reply.
         plain_reply reply ≡ shared_reply postings.now.documents documents.now) }
 {
-    // The costs play no part.
+    // The costs are not used.
     let costs = vec![in alloc; 0u64; documents.len()]?;
     among(postings, admitted(documents, costs))
 }
 
-// The documents held that stand among others too, where these are admitted. They may be of any type, so that the
-// proof doesn't go through their fields.
+// Returns the reply with the documents that are also among others, if these are admitted. Their type is
+// generic, so that the proof doesn't go through their fields.
 fn among<A: Allocator + Copy, O: Others<A> + Drop>(
     postings: &Postings<A>,
     others: Result<Option<O>, AllocError>,
@@ -234,11 +234,11 @@ fn among<A: Allocator + Copy, O: Others<A> + Drop>(
     }
 }
 
-// Other documents than those held.
+// Other documents.
 trait Others<A: Allocator + Copy> {
     ghost documents: { Self → List ℕ };
 
-    // The documents that stand among those held too.
+    // Returns the reply with the documents that are in both lists.
     fn common_reply(&self, postings: &Postings<A>) -> Result<Reply<A>, AllocError>
         ensures { IfOk result (λ reply.
             plain_reply reply ≡ Numbers (common postings.now.documents (documents self.now))) };

@@ -1,4 +1,4 @@
-//! The lines of balanced parentheses: what is asked of the nodes of the forest that they write down.
+//! The lines of balanced parentheses: queries of the nodes of their forest.
 ghost use Rattle.std.specs.Prelude.{◌≡◌, IfOk};
 ghost use Rattle.std.specs.Iterator.{Drains, IsFinite};
 ghost use Rattle.vers_trees.specs.Forest.{IsBalanced, forest_of};
@@ -13,7 +13,7 @@ use vers_trees::trees::bp::{BpTree, LevelEnd, Measure, Relative};
 use vers_words::arguments::{no_arguments, one_number, two_numbers};
 use vers_words::reply::Reply;
 
-/// The reply of a query line that balanced parentheses alone have, where these are held.
+/// Returns the reply to a query that only balanced parentheses have.
 pub fn reply<A: Allocator + Copy>(
     alloc: A,
     tree: &BpTree<512, &A>,
@@ -55,7 +55,7 @@ pub fn reply<A: Allocator + Copy>(
     }
 }
 
-/// The places that an iterator has left.
+/// Returns the positions that an iterator has left. Errors: `AllocError` if the allocator refuses a request.
 pub fn places_left<A: Allocator + Copy, I: Iterator<Item = usize> + Drop>(
     alloc: A,
     places: I,
@@ -71,7 +71,7 @@ pub fn places_left<A: Allocator + Copy, I: Iterator<Item = usize> + Drop>(
     Ok(numbers)
 }
 
-// The reply of all nodes, each after those below it.
+// Returns the reply with all nodes in postorder.
 fn all_nodes_reply<A: Allocator + Copy>(
     alloc: A,
     tree: &BpTree<512, &A>,
@@ -84,7 +84,7 @@ fn all_nodes_reply<A: Allocator + Copy>(
     Ok(Reply::Numbers(places_left(alloc, tree.dfs_post_iter())?))
 }
 
-// The reply of a query for the node that stands so to a node.
+// Returns the reply with a relative of a node.
 fn relative_reply<A: Allocator + Copy>(
     tree: &BpTree<512, &A>,
     which: Relative,
@@ -99,7 +99,7 @@ fn relative_reply<A: Allocator + Copy>(
     }
 }
 
-// The reply of a query for a number of a node.
+// Returns the reply with a number of a node.
 fn measure_reply<A: Allocator + Copy>(
     tree: &BpTree<512, &A>,
     which: Measure,
@@ -114,7 +114,7 @@ fn measure_reply<A: Allocator + Copy>(
     }
 }
 
-// The reply of a query for the nodes that a walk from a node passes.
+// Returns the reply with the nodes that a walk from a node passes.
 fn walk_reply<A: Allocator + Copy>(
     alloc: A,
     tree: &BpTree<512, &A>,
@@ -129,7 +129,7 @@ fn walk_reply<A: Allocator + Copy>(
     Ok(Reply::Numbers(walk(alloc, tree, query, node)?))
 }
 
-// The nodes that a walk from a node passes.
+// Returns the nodes that a walk from a node passes.
 fn walk<A: Allocator + Copy>(
     alloc: A,
     tree: &BpTree<512, &A>,
@@ -148,7 +148,7 @@ fn walk<A: Allocator + Copy>(
     }
 }
 
-// The reply of a query for the first or the last node of a depth.
+// Returns the reply with the first or the last node of a depth.
 fn level_reply<A: Allocator + Copy>(tree: &BpTree<512, &A>, which: LevelEnd, depth: u64) -> Reply<A>
     ensures { plain_reply result ≡ reply_of_level tree.now which depth }
 {
@@ -159,7 +159,7 @@ fn level_reply<A: Allocator + Copy>(tree: &BpTree<512, &A>, which: LevelEnd, dep
     }
 }
 
-// Whether a node is an ancestor of another.
+// Returns the reply with 1 if a node is an ancestor of another, otherwise with 0.
 fn is_ancestor_reply<A: Allocator + Copy>(
     tree: &BpTree<512, &A>,
     ancestor: usize,
@@ -174,7 +174,7 @@ fn is_ancestor_reply<A: Allocator + Copy>(
     }
 }
 
-// The ancestor of a node so many levels up.
+// Returns the reply with the ancestor of a node `levels` levels up.
 fn level_ancestor_reply<A: Allocator + Copy>(
     tree: &BpTree<512, &A>,
     node: usize,

@@ -1,4 +1,4 @@
-//! What is held between lines.
+//! The current structure.
 ghost use Rattle.std.specs.Prelude.{◌≡◌, true, IfOk};
 ghost use Rattle.vers_words.specs.Text.{words_in};
 ghost use Rattle.vers_words.specs.Loading.{map_loading};
@@ -17,7 +17,7 @@ use vers_wavelet::wavelet::WaveletMatrix;
 use vers_words::loading::Loading;
 use vers_words::reply::Reply;
 
-/// What is held: nothing, or the structure of the last load line that was accepted.
+/// The current structure: nothing, or the structure of the last accepted load line.
 #[derive(Drop)]
 pub enum Held<'a, A: Allocator + Copy> {
     Nothing,
@@ -25,13 +25,13 @@ pub enum Held<'a, A: Allocator + Copy> {
     Sorted(EliasFanoVec<A>),
     Sparse(SparseRSVec<A>),
     Values(FastRmq<A>),
-    // In a box, since the tables of bytes inside make it large, and each move copies it.
+    // Boxed, since the lookup tables for bytes make it large, and each move copies it.
     Tree(Box<BpTree<512, &'a A>, &'a A>),
     Symbols(WaveletMatrix<A>),
     Postings(Postings<A>),
 }
 
-/// Whether a load line is accepted. It takes no memory to tell.
+/// Returns true if a load line is accepted. Allocates nothing.
 pub fn is_accepted(load: Load, arguments: &[u8]) -> bool
     ensures { result ≡ accepts (loaded load (words_in arguments.now)) }
 {
@@ -46,7 +46,7 @@ pub fn is_accepted(load: Load, arguments: &[u8]) -> bool
     }
 }
 
-/// What a load line gives.
+/// Returns the result of a load line.
 pub fn load<'a, A: Allocator + Copy>(
     alloc: &'a A,
     load: Load,
@@ -69,7 +69,7 @@ pub fn load<'a, A: Allocator + Copy>(
 impl<A: Allocator + Copy> Held<'_, A> {
     ghost use Rattle.vers_words.specs.Reply.{plain_reply};
 
-    /// The length of what is held.
+    /// Returns the length of the current structure.
     pub fn len(&self) -> u64
         ensures { result ≡ length_of (holding_of self.now) }
     {
@@ -85,7 +85,7 @@ impl<A: Allocator + Copy> Held<'_, A> {
         }
     }
 
-    /// The reply of a query line.
+    /// Returns the reply to a query line.
     pub(crate) fn reply(
         &self,
         alloc: A,

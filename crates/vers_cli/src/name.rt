@@ -58,14 +58,14 @@ pub enum Query {
     Intersect,
 }
 
-/// The first word of a query line of parentheses, by the arguments that it takes.
+/// The first word of a query line of parentheses, by its arguments.
 #[derive(Clone, Copy, Drop)]
 pub enum TreeQuery {
-    /// Of the whole list: no argument.
+    /// A query of the whole list: no argument.
     Whole(WholeQuery),
-    /// Of a place: a number.
+    /// A query of a position: a number.
     Place(PlaceQuery),
-    /// A search from a place: a number and a signed number.
+    /// A search from a position: a number and a signed number.
     Search(SearchQuery),
 }
 
@@ -78,7 +78,7 @@ pub enum WholeQuery {
     DfsIter,
 }
 
-/// A query of a place in a list of parentheses.
+/// A query of a position in a list of parentheses.
 #[derive(Clone, Copy, Drop)]
 pub enum PlaceQuery {
     Excess,
@@ -95,18 +95,18 @@ pub enum SearchQuery {
     BwdSearch,
 }
 
-/// The first word of a query line of symbols, by the arguments that it takes. All are numbers.
+/// The first word of a query line of symbols, by its arguments, which are numbers.
 #[derive(Clone, Copy, Drop)]
 pub enum SymbolsQuery {
-    /// Of all symbols: no argument.
+    /// A query of all symbols: no argument.
     All(AllQuery),
-    /// Of the symbol at a place: the place.
+    /// The symbol at a position: the position.
     GetU64,
-    /// Of the places of a symbol: a number, and the symbol.
+    /// A query of the positions of a symbol: a number, and the symbol.
     Symbol(SymbolQuery),
-    /// Of a range: its start and its end.
+    /// A query of a range: its start and its end.
     Range(RangeQuery),
-    /// Of a range, or of what stands from a place on: three numbers.
+    /// A query of a range, or of the symbols from a position on: three numbers.
     Within(WithinQuery),
 }
 
@@ -117,7 +117,7 @@ pub enum AllQuery {
     IterSortedU64,
 }
 
-/// A query of the places of a symbol.
+/// A query of the positions of a symbol.
 #[derive(Clone, Copy, Drop)]
 pub enum SymbolQuery {
     RankU64,
@@ -132,7 +132,7 @@ pub enum RangeQuery {
     RangeMedianU64,
 }
 
-/// A query of a range of symbols, or of those from a place on, with one number more.
+/// A query of a range of symbols, or of those from a position on, with one more number.
 #[derive(Clone, Copy, Drop)]
 pub enum WithinQuery {
     RankRangeU64,
@@ -142,27 +142,27 @@ pub enum WithinQuery {
     SuccessorU64,
 }
 
-/// The first word of a query line that balanced parentheses alone have, by the arguments that it
-/// takes. A node is the place where it opens.
+/// The first word of a query line that only balanced parentheses have, by its arguments. A node is the position
+/// where it opens.
 #[derive(Clone, Copy, Drop)]
 pub enum ForestQuery {
-    /// What is told of all nodes: no argument.
+    /// All nodes in postorder: no argument.
     DfsPostIter,
-    /// A node beside another: a node.
+    /// A relative of a node: a node.
     Relative(bp::Relative),
-    /// A number of a node, where truth is 1 and else 0: a node.
+    /// A number of a node, 1 for true and 0 for false: a node.
     Measure(bp::Measure),
-    /// Nodes from a node on: a node.
+    /// The nodes of a walk from a node: a node.
     Walk(WalkQuery),
     /// An end of a level: a depth.
     Level(bp::LevelEnd),
-    /// Whether the first node is an ancestor of the second: two nodes.
+    /// 1 if the first node is an ancestor of the second, otherwise 0: two nodes.
     IsAncestor,
-    /// The ancestor so many levels up: a node and a number.
+    /// The ancestor a number of levels up: a node and a number.
     LevelAncestor,
 }
 
-/// A query for the nodes that a walk from a node passes.
+/// A walk from a node.
 #[derive(Clone, Copy, Drop)]
 pub enum WalkQuery {
     Children,
@@ -178,8 +178,7 @@ pub enum Name {
     Query(Query),
 }
 
-/// All names, and how they are written. It is the one table of names: the contract of `Name::of`
-/// reads it too.
+/// All names, with their text. It is the only table of names: the contract of `Name::of` reads it too.
 pub const NAMES: [(&[u8], Name); 68] = [
     (b"bits", Name::Load(Load::Bits)),
     (b"sorted", Name::Load(Load::Sorted)),
@@ -272,7 +271,7 @@ pub const NAMES: [(&[u8], Name); 68] = [
 impl Name {
     ghost use Rattle.vers_cli.specs.Name.{name_of};
 
-    /// The name that a word is, unless it is none.
+    /// Returns the name that a word is, or `None` if it is none.
     pub fn of(word: &[u8]) -> Option<Name>
         ensures { result ≡ name_of word.now }
     {

@@ -9,29 +9,25 @@ use crate::store::Store;
 use std::alloc::Allocator;
 use vers_engine::{Device, RunError, Sink, Source, answer_lines};
 
-/// Reads lines to the end of the input and writes the answer of each, every whole line before the
-/// next read.
+/// Reads lines to the end of the input and writes the answer of each, every whole line before the next read.
 ///
-/// A line ends with byte 10 or with the end of the input, and its words are separated by spaces.
-/// An answer line is built whole before its first byte is written. The answers of the lines of one
-/// read are gathered, and written together once they have 64 KiB or the lines end. A line that is
-/// malformed, that asks what isn't held, or that is refused is answered by `bad line`, `wrong
-/// structure` or `refused`; nothing held is lost by it, and the run goes on. Memory is needed for
-/// 64 KiB of input, for the longest line, for gathered answers and for what is held.
+/// A line ends with byte 10 or with the end of the input, and its words are separated by spaces. An answer line
+/// is complete before its first byte is written. The answers of the lines of one read are gathered, and written
+/// together once they have 64 KiB or the lines end. The answer is `bad line` if a line is malformed, `wrong
+/// structure` if the current structure has no such query, and `refused` if a precondition fails; the current
+/// structure is then unchanged, and the run goes on. Memory is needed for 64 KiB of input, for the longest line,
+/// for gathered answers and for the current structure.
 ///
 /// # Errors
 ///
-/// - `Read`: the reader answered an error. Every whole line that was read has been answered, and
-///   the line that the fault cut off has no answer.
-/// - `Write`: the writer answered an error or took no byte. What was written is a beginning of the
-///   answers.
-/// - `Memory`: the allocator refused. What was written is the answers of a first part of the lines,
-///   each answer whole.
+/// - `Read`: the reader returned an error. Every whole line that was read has been answered, and the line that
+///   was cut off has no answer.
+/// - `Write`: the writer returned an error or took no byte. A prefix of the answers was written.
+/// - `Memory`: the allocator refused a request. The answers of the first lines were written, each complete.
 ///
-/// `Read` and `Write` come exactly where the device has failed when the run returns. `Read` comes
-/// right after a read of the reader inside that answered an error, and `Write` right after a write
-/// to the writer inside that met a fault. A reader that has not come to its end after 2^64 - 1
-/// reads that gave bytes counts as failed too.
+/// The result is `Read` or `Write` exactly if the device has failed when the function returns. `Read` directly
+/// follows a read of the inner reader that returned an error, and `Write` a failed write to the inner writer. A
+/// reader that has not ended after 2^64 - 1 reads that returned bytes counts as failed too.
 pub fn run<A: Allocator + Copy, R: Source, W: Sink>(
     alloc: A,
     reader: &mut Device<R>,
@@ -54,11 +50,11 @@ pub fn run<A: Allocator + Copy, R: Source, W: Sink>(
     run_from(alloc, Store::new(&alloc), reader, writer)
 }
 
-/// Does what `run` does, where `store` says what is held before the first line.
+/// Does what `run` does, with the structure in `store` before the first line.
 ///
 /// # Errors
 ///
-/// As those of `run`.
+/// As for `run`.
 pub fn run_from<A: Allocator + Copy, R: Source, W: Sink>(
     alloc: A,
     store: Store<'_, A>,

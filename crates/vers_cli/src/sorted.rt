@@ -20,7 +20,7 @@ use vers_words::loading::Loading;
 use vers_words::reply::Reply;
 use vers_words::text::{number, split_first_word};
 
-/// How many numbers ascend, and the last of them, or 0 where there are none.
+/// The number of ascending numbers so far, and the last of them, or 0 if there are none.
 #[derive(Clone, Copy, Drop)]
 pub struct Rise {
     pub len: usize,
@@ -28,7 +28,7 @@ pub struct Rise {
 }
 
 impl Rise {
-    /// Whether a number may come next.
+    /// Returns true if a number may come next.
     pub fn admits(self, next: u64, strictly: bool) -> bool
         ensures { result ≡ ((self.len == 0) || in_order strictly self.last next) }
     {
@@ -42,7 +42,7 @@ impl Rise {
         }
     }
 
-    /// Whether all numbers are below a limit, where they ascend.
+    /// Returns true if all numbers are below a limit, given that they ascend.
     pub fn is_below(self, limit: u64) -> bool
         ensures { result ≡ ((self.len == 0) || nat_lt self.last limit) }
     {
@@ -50,8 +50,8 @@ impl Rise {
     }
 }
 
-/// How the numbers of a line ascend. None where a word is no number below 2^64, or a number is below the
-/// one before it, or equal to it where they have to ascend strictly.
+/// Returns the number of the numbers of a line, and the last of them. `None` if a word is no number below 2^64,
+/// or a number is below the previous one, or equal to it if `strictly`.
 pub fn rise_of(arguments: &[u8], strictly: bool) -> Option<Rise>
     ensures none { result ≡ None → (numbers : List ℕ)
         → numbers_all (words_in arguments.now) ≡ Some numbers → each_next (in_order strictly) numbers ≡ false }
@@ -76,7 +76,7 @@ pub fn rise_of(arguments: &[u8], strictly: bool) -> Option<Rise>
     Some(rise)
 }
 
-// The numbers that the words of a text write, up to the first word that writes none.
+// The numbers of the words of a text, up to the first word that is no number.
 #[derive(Clone, Copy, Drop)]
 struct LineNumbers<'a> {
     rest: &'a [u8],
@@ -93,7 +93,8 @@ impl Numbers for LineNumbers<'_> {
     }
 }
 
-/// The list of the numbers that a line writes, read off its text.
+/// Returns the list of the numbers of a line, parsed from its text. Precondition: they ascend. Errors:
+/// `AllocError` if the allocator refuses a request.
 pub fn members_of<A: Allocator + Copy>(
     alloc: A,
     arguments: &[u8],
@@ -104,21 +105,21 @@ pub fn members_of<A: Allocator + Copy>(
     requires last { rise.last ≡ last_of (first_numbers (words_in arguments.now)) }
     ensures { IfOk result (λ members. members ≡ first_numbers (words_in arguments.now)) }
 {
-    // A line of more numbers takes more than there is memory for.
+    // A line of more numbers needs more memory than there can be.
     if rise.len > MAX_LEN {
         return Err(AllocError);
     }
     EliasFanoVec::from_numbers(alloc, LineNumbers { rest: arguments }, rise.len, rise.last)
 }
 
-/// Whether the load line `sorted n ..` is accepted.
+/// Returns true if the load line `sorted n ..` is accepted.
 pub fn is_accepted(arguments: &[u8]) -> bool
     ensures { result ≡ accepts (sorted_loaded (numbers_all (words_in arguments.now))) }
 {
     rise_of(arguments, false).is_some()
 }
 
-/// What the load line `sorted n ..` gives.
+/// Returns the result of the load line `sorted n ..`.
 pub fn load<'a, A: Allocator + Copy>(
     alloc: &'a A,
     arguments: &[u8],
@@ -138,7 +139,7 @@ pub fn load<'a, A: Allocator + Copy>(
     }
 }
 
-/// The reply of a query line, where these members are held.
+/// Returns the reply to a query of these members.
 pub fn reply<A: Allocator + Copy>(
     alloc: A,
     members: &EliasFanoVec<A>,
@@ -167,7 +168,7 @@ pub fn reply<A: Allocator + Copy>(
     }
 }
 
-// What a query with one number finds. None where these have no such query.
+// Returns the result of a query with one number. `None` if there is no such query.
 fn found<A: Allocator + Copy>(members: &EliasFanoVec<A>, query: Query, n: u64) -> Option<u64>
     ensures { result ≡ sorted_found members.now query n }
 {
@@ -181,14 +182,14 @@ fn found<A: Allocator + Copy>(members: &EliasFanoVec<A>, query: Query, n: u64) -
     }
 }
 
-/// The reply of the numbers that an iterator has left.
+/// Returns the reply with the numbers that an iterator has left.
 pub fn members_reply<A: Allocator + Copy, S: Source<Item = u64>>(
     alloc: A,
     members: BothEnds<S>,
 ) -> Result<Reply<A>, AllocError>
     ensures { IfOk result (λ reply. plain_reply reply ≡ reply_of_numbers members.left) }
 {
-    // `collect` alone would go on where room for all at once is refused.
+    // `collect` would continue if the memory for all at once is refused.
     let mut numbers = Vec::with_capacity(alloc, members.len())?;
     numbers.extend(members)?;
     Ok(Reply::Numbers(numbers))

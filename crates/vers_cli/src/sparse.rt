@@ -17,7 +17,7 @@ use vers_words::loading::Loading;
 use vers_words::reply::Reply;
 use vers_words::text::{number, split_first_word};
 
-/// Whether the load line `sparse LEN p ..` is accepted.
+/// Returns true if the load line `sparse LEN p ..` is accepted.
 pub fn is_accepted(arguments: &[u8]) -> bool
     ensures { result ≡ accepts (sparse_loaded (numbers_all (words_in arguments.now))) }
 {
@@ -33,7 +33,7 @@ pub fn is_accepted(arguments: &[u8]) -> bool
     }
 }
 
-/// What the load line `sparse LEN p ..` gives.
+/// Returns the result of the load line `sparse LEN p ..`.
 pub fn load<'a, A: Allocator + Copy>(
     alloc: &'a A,
     arguments: &[u8],
@@ -62,7 +62,7 @@ pub fn load<'a, A: Allocator + Copy>(
     }
 }
 
-/// The reply of a query line, where these bits are held.
+/// Returns the reply to a query of these bits.
 pub fn reply<A: Allocator + Copy>(
     alloc: A,
     bits: &SparseRSVec<A>,
@@ -89,7 +89,7 @@ pub fn reply<A: Allocator + Copy>(
     }
 }
 
-// What a query with one number finds. None where these have no such query.
+// Returns the result of a query with one number. `None` if there is no such query.
 fn found<A: Allocator + Copy>(bits: &SparseRSVec<A>, query: Query, n: u64) -> Option<u64>
     ensures { result ≡ sparse_found bits.now query n }
 {

@@ -1,4 +1,4 @@
-//! How a line is replied to, and what is held after it.
+//! Replies to lines, and the current structure after them.
 ghost use Rattle.std.specs.Prelude.{◌≡◌, if◌then◌else◌, IfOk, OnOk, IsErr, MatchResult};
 ghost use Rattle.vers_words.specs.Text.{words_in, words_of};
 ghost use Rattle.vers_words.specs.Reply.{plain_reply};
@@ -16,7 +16,7 @@ use vers_words::loading::Loading;
 use vers_words::reply::Reply;
 use vers_words::text::{split_first_word, without_return};
 
-/// What is held, with the allocator for answers and for what is held next.
+/// The current structure, with the allocator for answers and for the next structure.
 #[derive(Drop)]
 pub struct Store<'a, A: Allocator + Copy> {
     alloc: &'a A,
@@ -33,28 +33,28 @@ impl<'a, A: Allocator + Copy> Model for Store<'a, A> {
 }
 
 impl<'a, A: Allocator + Copy> Store<'a, A> {
-    /// Nothing is held.
+    /// Returns a store without a structure.
     pub fn new(alloc: &'a A) -> Store<'a, A>
         ensures { result ≡ Nothing }
     {
         Store::of(alloc, Held::Nothing)
     }
 
-    /// This is held.
+    /// Returns a store with this structure.
     pub fn of(alloc: &'a A, held: Held<'a, A>) -> Store<'a, A>
         ensures { result ≡ holding_of held.entry }
     {
         Store { alloc, held }
     }
 
-    /// What is held.
+    /// Returns the current structure.
     pub fn held(&self) -> &Held<'a, A>
         ensures { holding_of result.now ≡ self.now }
     {
         &self.held
     }
 
-    // The reply of a load line. What was held is kept, unless the line is accepted.
+    // Returns the reply to a load line. The current structure is kept unless the line is accepted.
     fn load(&mut self, load: Load, arguments: &[u8]) -> Result<Reply<A>, AllocError>
         ensures reply { IfOk result (λ reply.
             plain_reply reply ≡ load_reply (loaded load (words_in arguments.now))) }
@@ -69,7 +69,7 @@ impl<'a, A: Allocator + Copy> Store<'a, A> {
         }
     }
 
-    // Lets go of what is held where a load line is accepted, so that its room is there for what comes in its place.
+    // Drops the current structure if a load line is accepted, so that its memory is free for the next.
     fn make_room(&mut self, load: Load, arguments: &[u8])
         ensures { self.new
             ≡ (if accepts (loaded load (words_in arguments.now)) then Nothing else self.old) }
@@ -80,7 +80,7 @@ impl<'a, A: Allocator + Copy> Store<'a, A> {
     }
 }
 
-/// What a line gives that is to be a load line: a store that holds the list that it writes.
+/// Returns the result of a line that must be a load line: a store with its structure.
 pub fn load_line<'a, A: Allocator + Copy>(
     alloc: &'a A,
     line: &[u8],
@@ -97,7 +97,7 @@ pub fn load_line<'a, A: Allocator + Copy>(
     }
 }
 
-// What a load line gives, as a store that holds it.
+// Returns the result of a load line, as a store with its structure.
 fn store_loaded<'a, A: Allocator + Copy>(
     alloc: &'a A,
     load: Load,
@@ -113,15 +113,15 @@ fn store_loaded<'a, A: Allocator + Copy>(
     }
 }
 
-// Puts a value in the place of another, which is let go.
+// Replaces a value by another, and drops it.
 fn put<H: Drop>(held: &mut H, new: H)
     ensures { held.new ≡ new }
 {
     *held = new;
 }
 
-// Puts what a load line gives in the place of what was held, where it is accepted. What is held may be
-// of any type, so that the proof doesn't go through its fields.
+// Replaces the current structure by the result of a load line, if it is accepted. The type is generic, so that
+// the proof doesn't go through its fields.
 fn accept<H: Drop>(
     held: &mut H,
     given: Result<Loading<H>, AllocError>,

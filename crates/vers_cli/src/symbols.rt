@@ -21,10 +21,10 @@ use vers_words::loading::Loading;
 use vers_words::reply::Reply;
 use vers_words::text::{number, split_first_word};
 
-// How many bits a symbol has at most.
+// The greatest number of bits of a symbol.
 const WIDEST: u64 = 64;
 
-/// Whether the load line `symbols K n ..` is accepted.
+/// Returns true if the load line `symbols K n ..` is accepted.
 pub fn is_accepted(arguments: &[u8]) -> bool
     ensures { result ≡ accepts (symbols_loaded (numbers_all (words_in arguments.now))) }
 {
@@ -37,7 +37,7 @@ pub fn is_accepted(arguments: &[u8]) -> bool
     }
 }
 
-/// What the load line `symbols K n ..` gives. Its numbers are kept packed as they are read.
+/// Returns the result of the load line `symbols K n ..`. Its numbers are packed as they are read.
 pub fn load<'a, A: Allocator + Copy>(
     alloc: &'a A,
     arguments: &[u8],
@@ -63,7 +63,7 @@ pub fn load<'a, A: Allocator + Copy>(
     }
 }
 
-// How many bits of each number are kept: none where so many are refused.
+// Returns the number of bits of each number that are kept: none if the width is refused.
 fn kept_width(width: u64) -> usize
     ensures narrow { result ≤ 64 }
     ensures all { width ≤ 64 → result ≡ width }
@@ -71,8 +71,8 @@ fn kept_width(width: u64) -> usize
     if width <= WIDEST { width as usize } else { 0 }
 }
 
-// The low `width` bits of each number of a line, one after another. None where a word is no number
-// below 2^64.
+// Returns the low `width` bits of each number of a line, one after another. `None` if a word is no number below
+// 2^64.
 fn packed_numbers<A: Allocator + Copy>(
     alloc: A,
     arguments: &[u8],
@@ -94,8 +94,7 @@ fn packed_numbers<A: Allocator + Copy>(
     Ok(Some(packed))
 }
 
-// Appends the low `n` bits of a number. More bits than a list may have are more than there is memory
-// for.
+// Appends the low `n` bits of a number. More bits than a list may have need more memory than there can be.
 fn append_low<A: Allocator + Copy>(
     bits: &mut BitVec<A>,
     number: u64,
@@ -110,8 +109,8 @@ fn append_low<A: Allocator + Copy>(
     Ok(())
 }
 
-// The symbols of `width` bits each that a list of bits holds; none where they have no bits. Prefixes
-// are counted where the tables for it take no more room than the symbols.
+// Returns the symbols of `width` bits each in a list of bits; none if `width` is 0. Prefixes are counted if the
+// tables for it take no more memory than the symbols.
 fn of_packed<A: Allocator + Copy>(
     packed: &BitVec<A>,
     width: u16,
@@ -132,7 +131,7 @@ fn of_packed<A: Allocator + Copy>(
     WaveletMatrix::from_bit_vec(packed, width)
 }
 
-/// The reply of a query line, where these symbols are held.
+/// Returns the reply to a query of these symbols.
 pub fn reply<A: Allocator + Copy>(
     alloc: A,
     symbols: &WaveletMatrix<A>,
@@ -171,7 +170,7 @@ pub fn reply<A: Allocator + Copy>(
     }
 }
 
-// The reply of a query of all symbols.
+// Returns the reply to a query of all symbols.
 fn all_reply<A: Allocator + Copy>(
     alloc: A,
     symbols: &WaveletMatrix<A>,
@@ -191,7 +190,7 @@ fn all_reply<A: Allocator + Copy>(
     }
 }
 
-// The reply of a query of the symbol at a place.
+// Returns the reply to a query of the symbol at a position.
 #[tactic(auto, unfolding(vers_wavelet::specs::Symbols::as_word))]
 fn place_reply<A: Allocator + Copy>(symbols: &WaveletMatrix<A>, i: usize) -> Reply<A>
     ensures { plain_reply result ≡ reply_at_place symbols.now i }
@@ -199,7 +198,7 @@ fn place_reply<A: Allocator + Copy>(symbols: &WaveletMatrix<A>, i: usize) -> Rep
     Reply::number_or_absent(symbols.get_u64(i))
 }
 
-// The reply of a query of the places of a symbol.
+// Returns the reply to a query of the positions of a symbol.
 #[tactic(auto, unfolding(vers_wavelet::specs::Symbols::as_word))]
 fn symbol_reply<A: Allocator + Copy>(
     symbols: &WaveletMatrix<A>,
@@ -215,7 +214,7 @@ fn symbol_reply<A: Allocator + Copy>(
     }
 }
 
-// The reply of a query of a range.
+// Returns the reply to a query of a range.
 fn range_reply<A: Allocator + Copy>(
     symbols: &WaveletMatrix<A>,
     query: RangeQuery,
@@ -231,7 +230,7 @@ fn range_reply<A: Allocator + Copy>(
     }
 }
 
-// The reply of a query with three numbers.
+// Returns the reply to a query with three numbers.
 #[tactic(auto, unfolding(vers_wavelet::specs::Symbols::as_word))]
 fn within_reply<A: Allocator + Copy>(
     symbols: &WaveletMatrix<A>,

@@ -19,7 +19,7 @@ use vers_words::arguments::{bit_digits, no_arguments, number_and_signed, one_num
 use vers_words::loading::Loading;
 use vers_words::reply::Reply;
 
-/// Whether the load line `tree S` is accepted.
+/// Returns true if the load line `tree S` is accepted.
 pub fn is_accepted(arguments: &[u8]) -> bool
     ensures { result ≡ accepts (tree_loaded (bits_of (words_in arguments.now))) }
 {
@@ -29,7 +29,7 @@ pub fn is_accepted(arguments: &[u8]) -> bool
     }
 }
 
-/// What the load line `tree S` gives.
+/// Returns the result of the load line `tree S`.
 pub fn load<'a, A: Allocator + Copy>(
     alloc: &'a A,
     arguments: &[u8],
@@ -50,7 +50,7 @@ pub fn load<'a, A: Allocator + Copy>(
     }
 }
 
-// A value that was made, in a box. It may be of any type, so that the proof doesn't go through its fields.
+// Returns a value in a box. Its type is generic, so that the proof doesn't go through its fields.
 fn boxed<T: Drop, E: Drop, A: Allocator>(
     alloc: A,
     made: Result<T, E>,
@@ -63,7 +63,7 @@ fn boxed<T: Drop, E: Drop, A: Allocator>(
     }
 }
 
-/// The reply of a query line, where these parentheses are held.
+/// Returns the reply to a query of these parentheses.
 pub fn reply<A: Allocator + Copy>(
     alloc: A,
     tree: &BpTree<512, &A>,
@@ -91,7 +91,7 @@ pub fn reply<A: Allocator + Copy>(
     }
 }
 
-// The reply of a query of the whole list.
+// Returns the reply to a query of the whole list.
 fn whole_reply<A: Allocator + Copy>(
     alloc: A,
     tree: &BpTree<512, &A>,
@@ -107,14 +107,14 @@ fn whole_reply<A: Allocator + Copy>(
     }
 }
 
-// The place of the first bit. None where there are no bits.
+// Returns the position of the first bit, or `None` if there are no bits.
 fn root<A: Allocator + Copy>(tree: &BpTree<512, &A>) -> Option<usize>
     ensures { result ≡ first_place tree.now }
 {
     tree.root()
 }
 
-// The reply of the places of the ones.
+// Returns the reply with the positions of the ones.
 fn nodes_reply<A: Allocator + Copy>(
     alloc: A,
     tree: &BpTree<512, &A>,
@@ -124,7 +124,7 @@ fn nodes_reply<A: Allocator + Copy>(
     Ok(Reply::Numbers(places_left(alloc, tree.dfs_iter())?))
 }
 
-// The reply of a query of a place.
+// Returns the reply to a query of a position.
 fn place_reply<A: Allocator + Copy>(tree: &BpTree<512, &A>, query: PlaceQuery, i: usize) -> Reply<A>
     ensures { plain_reply result ≡ reply_at_place tree.now query i }
 {
@@ -137,7 +137,7 @@ fn place_reply<A: Allocator + Copy>(tree: &BpTree<512, &A>, query: PlaceQuery, i
     }
 }
 
-// The excess past the bit at a place, which is refused past the end.
+// Returns the reply with the excess past the bit at a position, which is refused past the end.
 fn excess<A: Allocator + Copy>(tree: &BpTree<512, &A>, i: usize) -> Reply<A>
     ensures { plain_reply result ≡ excess_reply tree.now i }
 {
@@ -148,7 +148,7 @@ fn excess<A: Allocator + Copy>(tree: &BpTree<512, &A>, i: usize) -> Reply<A>
     }
 }
 
-// The reply of a search from a place for where the excess has risen by `r`.
+// Returns the reply to a search from a position for one where the excess has risen by `r`.
 fn search_reply<A: Allocator + Copy>(
     tree: &BpTree<512, &A>,
     query: SearchQuery,

@@ -16,7 +16,7 @@ use vers_words::arguments::{all_numbers, count_numbers, no_arguments, two_number
 use vers_words::loading::Loading;
 use vers_words::reply::Reply;
 
-/// Whether the load line `values n ..` is accepted.
+/// Returns true if the load line `values n ..` is accepted.
 pub fn is_accepted(arguments: &[u8]) -> bool
     ensures { result ≡ accepts (values_loaded (numbers_all (words_in arguments.now))) }
 {
@@ -26,7 +26,7 @@ pub fn is_accepted(arguments: &[u8]) -> bool
     }
 }
 
-/// What the load line `values n ..` gives.
+/// Returns the result of the load line `values n ..`.
 pub fn load<'a, A: Allocator + Copy>(
     alloc: &'a A,
     arguments: &[u8],
@@ -46,7 +46,7 @@ pub fn load<'a, A: Allocator + Copy>(
     }
 }
 
-/// The reply of a query line, where these values are held.
+/// Returns the reply to a query of these values.
 pub fn reply<A: Allocator + Copy>(values: &FastRmq<A>, query: Query, arguments: &[u8]) -> Reply<A>
     ensures { plain_reply result ≡ values_reply values.now query (words_in arguments.now) }
 {
@@ -63,8 +63,8 @@ pub fn reply<A: Allocator + Copy>(values: &FastRmq<A>, query: Query, arguments: 
     }
 }
 
-// The first place of a least value from place `i` to place `j`, both included. None where `i` is past
-// `j`, or `j` is no place.
+// Returns the first position of a least value from position `i` to position `j`, both included. `None` if `i`
+// is past `j`, or `j` is out of bounds.
 fn range_min<A: Allocator + Copy>(values: &FastRmq<A>, i: u64, j: u64) -> Option<u64>
     ensures { result ≡ first_least values.now i j }
 {
