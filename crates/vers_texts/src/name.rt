@@ -19,8 +19,7 @@ pub enum Name {
     Query(Query),
 }
 
-/// All names, and how they are written. It is the one table of names: the contract of `Name::of`
-/// reads it too.
+/// All names, with their text. It is the only table of names: the contract of `Name::of` reads it too.
 pub const NAMES: [(&[u8], Name); 5] = [
     (b"text", Name::Text),
     (b"len", Name::Query(Query::Len)),
@@ -32,7 +31,7 @@ pub const NAMES: [(&[u8], Name); 5] = [
 impl Name {
     ghost use Rattle.vers_texts.specs.Name.{name_of};
 
-    /// The name that a word is, unless it is none.
+    /// Returns the name that a word is, or `None` if it is none.
     pub fn of(word: &[u8]) -> Option<Name>
         ensures { result ≡ name_of word.now }
     {

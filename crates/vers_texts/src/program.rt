@@ -9,27 +9,24 @@ use crate::store::Store;
 use std::alloc::Allocator;
 use vers_engine::{Device, RunError, Sink, Source, answer_lines};
 
-/// Reads lines to the end of the input and writes the answer of each, every whole line before the
-/// next read. No text is held before the first line.
+/// Reads lines to the end of the input and writes the answer of each, every whole line before the next read.
+/// There is no text before the first line.
 ///
-/// A line ends with byte 10 or with the end of the input, and its words are separated by spaces.
-/// A line that is malformed, that asks something where no text is held, or that is refused is answered by `bad
-/// line`, `wrong structure` or `refused`; what is held is not lost by it, and the run goes on. Answers are gathered
-/// and written as `answer_lines` says. Memory is needed for what it names, and for the numbers of a line and the text.
+/// A line ends with byte 10 or with the end of the input, and its words are separated by spaces. The answer is
+/// `bad line` if a line is malformed, `wrong structure` if it queries a text and there is none, and `refused` if
+/// a precondition fails; the current text is then unchanged, and the run goes on. Answers are gathered and
+/// written as `answer_lines` does. Memory is needed as there, and for the numbers of a line and the text.
 ///
 /// # Errors
 ///
-/// - `Read`: the reader answered an error. Every whole line that was read has been answered, and
-///   the line that the fault cut off has no answer.
-/// - `Write`: the writer answered an error or took no byte. What was written is a beginning of the
-///   answers.
-/// - `Memory`: the allocator refused. What was written is the answers of a first part of the lines,
-///   each answer whole.
+/// - `Read`: the reader returned an error. Every whole line that was read has been answered, and the line that
+///   was cut off has no answer.
+/// - `Write`: the writer returned an error or took no byte. A prefix of the answers was written.
+/// - `Memory`: the allocator refused a request. The answers of the first lines were written, each complete.
 ///
-/// `Read` and `Write` come exactly where the device has failed when the run returns. `Read` comes
-/// right after a read of the reader inside that answered an error, and `Write` right after a write
-/// to the writer inside that met a fault. A reader that has not come to its end after 2^64 - 1
-/// reads that gave bytes counts as failed too.
+/// The result is `Read` or `Write` exactly if the device has failed when the function returns. `Read` directly
+/// follows a read of the inner reader that returned an error, and `Write` a failed write to the inner writer. A
+/// reader that has not ended after 2^64 - 1 reads that returned bytes counts as failed too.
 pub fn run<A: Allocator + Copy, R: Source, W: Sink>(
     alloc: A,
     reader: &mut Device<R>,
@@ -52,11 +49,11 @@ pub fn run<A: Allocator + Copy, R: Source, W: Sink>(
     run_from(alloc, Store::new(alloc), reader, writer)
 }
 
-/// Does what `run` does, where `store` says which text is held before the first line.
+/// Does what `run` does, with the text in `store` before the first line.
 ///
 /// # Errors
 ///
-/// As those of `run`.
+/// As for `run`.
 pub fn run_from<A: Allocator + Copy, R: Source, W: Sink>(
     alloc: A,
     store: Store<A>,

@@ -11,7 +11,7 @@ use text_index::TextIndex;
 use vers_words::arguments::{all_numbers, no_arguments, two_numbers};
 use vers_words::reply::Reply;
 
-/// The reply of a query line, where this text is held.
+/// Returns the reply to a query of this text.
 pub fn reply<A: Allocator + Copy>(
     alloc: A,
     text: &TextIndex<A>,
@@ -41,7 +41,7 @@ pub fn reply<A: Allocator + Copy>(
     }
 }
 
-// The reply of a query of the places of a pattern, ascending.
+// Returns the reply with the positions of a pattern, ascending.
 fn places_reply<A: Allocator + Copy>(
     alloc: A,
     text: &TextIndex<A>,
@@ -54,7 +54,7 @@ fn places_reply<A: Allocator + Copy>(
     Ok(Reply::Numbers(numbers_of(alloc, places.as_slice())?))
 }
 
-// Places as numbers of 64 bits.
+// Returns positions as numbers of 64 bits.
 fn numbers_of<A: Allocator>(alloc: A, places: &[usize]) -> Result<Vec<u64, A>, AllocError>
     ensures { IfOk result (λ numbers. numbers.items ≡ places.now) }
 {
@@ -65,7 +65,7 @@ fn numbers_of<A: Allocator>(alloc: A, places: &[usize]) -> Result<Vec<u64, A>, A
     Ok(numbers)
 }
 
-// The reply of a query of the symbols from one place on, before another.
+// Returns the reply with the symbols from one position on, before another.
 fn piece_reply<A: Allocator + Copy>(
     text: &TextIndex<A>,
     from: usize,

@@ -1,4 +1,4 @@
-//! How a line is replied to, and what is held after it.
+//! Replies to lines, and the current text after them.
 ghost use Rattle.std.specs.Prelude.{◌≡◌, Some, None, IfOk, OnOk, IsOk, IsErr, MatchResult};
 ghost use Rattle.text_index.specs.Makers.{is_text as are_text};
 ghost use Rattle.vers_words.specs.Text.{words_in};
@@ -17,7 +17,7 @@ use vers_sorted::order::are_below;
 use vers_words::arguments::all_numbers;
 use vers_words::reply::Reply;
 
-/// The text that is held, if one is, with the allocator for answers and for what is held next. Contracts see its
+/// The current text, if there is one, with the allocator for answers and for the next text. Contracts see its
 /// symbols.
 #[derive(Drop)]
 pub struct Store<A: Allocator + Copy> {
@@ -34,14 +34,14 @@ impl<A: Allocator + Copy> Model for Store<A> {
 }
 
 impl<A: Allocator + Copy> Store<A> {
-    /// No text is held.
+    /// Returns a store without a text.
     pub fn new(alloc: A) -> Store<A>
         ensures { result ≡ None }
     {
         Store { alloc, held: None }
     }
 
-    /// The text of this index is held.
+    /// Returns a store with the text of this index.
     pub fn of(alloc: A, text: TextIndex<A>) -> Store<A>
         ensures { result ≡ Some text.items }
     {
@@ -49,7 +49,7 @@ impl<A: Allocator + Copy> Store<A> {
         Store { alloc, held }
     }
 
-    // The reply of the load line `text K S..`. What was held is kept, unless the line is accepted.
+    // Returns the reply to the load line `text K S..`. The current text is kept unless the line is accepted.
     fn load(&mut self, arguments: &[u8]) -> Result<Reply<A>, AllocError>
         ensures reply { IfOk result (λ reply.
             plain_reply reply ≡ text_reply (numbers_all (words_in arguments.now))) }
@@ -69,8 +69,8 @@ impl<A: Allocator + Copy> Store<A> {
         Ok(Reply::Number(symbols.len() as u64))
     }
 
-    // Holds a text in the place of what was held, which is let go first, so that its room is there. A text that
-    // was tested is refused only where there is no memory.
+    // Replaces the current text, which is dropped first, so that its memory is free. A text that passed the
+    // tests fails only if the allocator refuses a request.
     fn hold(&mut self, width: u16, symbols: &[u64]) -> Result<(), AllocError>
         ensures { OnOk result (self.new ≡ Some symbols.now) }
     {
@@ -82,8 +82,8 @@ impl<A: Allocator + Copy> Store<A> {
     }
 }
 
-// Puts what was made in the place of what was held, where it was made. It may be of any type, so that the proof
-// doesn't go through its fields.
+// Replaces the current text by the result, if it is no error. The type is generic, so that the proof doesn't go
+// through its fields.
 fn accept<H: Drop, E: Drop>(held: &mut Option<H>, made: Result<H, E>) -> Result<(), AllocError>
     ensures { MatchResult made (λ new. IsOk result × (held.new ≡ Some new)) (λ _. IsErr result) }
 {
@@ -96,10 +96,10 @@ fn accept<H: Drop, E: Drop>(held: &mut Option<H>, made: Result<H, E>) -> Result<
     }
 }
 
-// How many bits a symbol has at most.
+// The greatest number of bits of a symbol.
 const WIDEST: u64 = 16;
 
-// Whether these are a text whose symbols have so many bits.
+// Returns true if the symbols and their width make a text.
 fn is_text(width: u64, symbols: &[u64]) -> bool
     ensures { result ≡ are_text width symbols.now }
 {
