@@ -1,6 +1,6 @@
-//! Lists of the line program in files: `save_to` puts the saved form of what a load line says in a place, whole or not
-//! at all, `ask` answers query lines about the list of a file, `ask_text` lines about its text, and `show` tells what a
-//! file holds.
+//! Lists of the line program in files: `save_to` replaces a file by the saved form of a load line's list,
+//! completely or not at all, `ask` answers query lines about the list of a file, `ask_text` lines about its
+//! text, and `show` describes the list of a file.
 #![tactic(auto)]
 
 mod asking;

@@ -1,4 +1,4 @@
-//! What a file holds, as what the line program holds.
+//! Loading files into stores.
 ghost use Rattle.std.specs.Prelude.{◌≡◌, List, ℕ, ◌⊎◌, Err, IfOk, IfErr, IfSome, MatchResult, Some, None};
 ghost use Rattle.vers_saved.specs.Format.{bytes_word};
 ghost use Rattle.vers_saved.specs.Faults.{fault_of};
@@ -15,7 +15,7 @@ use vers_saved::saved::load_from_slice;
 use vers_saved::stream::{fill, load as load_list};
 use vers_saved::trees::{load_tree, load_tree_from_slice};
 
-// The word of eight bytes.
+// Returns the word of eight bytes.
 #[tactic(auto, unfolding(vers_saved::specs::Format::bytes_word))]
 fn word_of(bytes: [u8; 8]) -> u64
     ensures { result ≡ bytes_word bytes }
@@ -23,7 +23,7 @@ fn word_of(bytes: [u8; 8]) -> u64
     u64::from_le_bytes(bytes)
 }
 
-// The number of the kind that bytes name: their third word, and 0 where they have none.
+// Returns the number of the kind that bytes name: their third word, or 0 if they have none.
 #[tactic(auto, unfolding(vers_saved::specs::Format::words_of))]
 fn number_of_kind(bytes: &[u8]) -> u64
     ensures { result ≡ number_of_kind bytes.now }
@@ -35,7 +35,7 @@ fn number_of_kind(bytes: &[u8]) -> u64
     word_of(words[2])
 }
 
-// What a load of a structure gives, as a store that holds it.
+// Returns a loaded structure as a store.
 macro_rules! stored {
     ($alloc:expr, $loaded:expr, $held:path) => {
         match $loaded {
@@ -45,7 +45,7 @@ macro_rules! stored {
     };
 }
 
-// What was loaded, in a box. It may be of any type, so that the proof doesn't go through its fields.
+// Returns a loaded structure in a box. Its type is generic, so that the proof doesn't go through its fields.
 fn boxed<T: Drop, A: Allocator>(
     alloc: A,
     loaded: Result<T, LoadError>,
@@ -60,7 +60,7 @@ fn boxed<T: Drop, A: Allocator>(
     }
 }
 
-// What the load of a list of the kind with a number gives: of a tree one load, and of all others another.
+// Loads a list of the kind with a number: a tree by one function, and all others by another.
 macro_rules! stored_by_kind {
     ($alloc:expr, $number:expr, $list:expr, $tree:expr) => {
         match $number {
@@ -75,7 +75,7 @@ macro_rules! stored_by_kind {
     };
 }
 
-// A store that holds the tree that the bytes are the saved form of.
+// Returns a store with the tree whose saved form the bytes are.
 fn tree_of_slice<'a, A: Allocator + Copy>(
     alloc: &'a A,
     bytes: &[u8],
@@ -91,7 +91,7 @@ fn tree_of_slice<'a, A: Allocator + Copy>(
     )
 }
 
-// A store that holds the tree that all bytes of a reader are the saved form of.
+// Returns a store with the tree whose saved form the rest of a reader is.
 fn tree_of_reader<'a, A: Allocator + Copy, R: Source>(
     alloc: &'a A,
     reader: &mut R,
@@ -102,8 +102,8 @@ fn tree_of_reader<'a, A: Allocator + Copy, R: Source>(
     stored!(alloc, boxed(alloc, load_tree(alloc, reader)), Held::Tree)
 }
 
-/// A store that holds the list that the bytes are the saved form of. A fault is that of the bytes as a form of the
-/// kind that they name.
+/// Returns a store with the list whose saved form the bytes are. Errors: that of the bytes as a form of the
+/// kind that they name; `Memory` if the allocator refuses a request.
 #[tactic(auto, using(crate::proofs::Numbered::kinds))]
 pub fn load<'a, A: Allocator + Copy>(alloc: &'a A, bytes: &[u8]) -> Result<Store<'a, A>, LoadError>
     ensures loaded { IfOk result (λ held. (bytes.now ≡ saved_form held) × HasForm held) }
@@ -118,7 +118,7 @@ pub fn load<'a, A: Allocator + Copy>(alloc: &'a A, bytes: &[u8]) -> Result<Store
     )
 }
 
-// A store that holds the list of the kind with a number that all bytes of a reader are the saved form of.
+// Returns a store with the list of the kind with a number whose saved form the rest of a reader is.
 #[tactic(auto, using(crate::proofs::Numbered::kinds))]
 fn load_numbered<'a, A: Allocator + Copy, R: Source>(
     alloc: &'a A,
@@ -136,7 +136,7 @@ fn load_numbered<'a, A: Allocator + Copy, R: Source>(
     )
 }
 
-/// All bytes that a reader has left.
+/// Returns all bytes that a reader has left.
 pub fn read<A: Allocator, F: Read>(alloc: A, file: &mut F) -> Result<Vec<u8, A>, LoadError>
     ensures bytes { IfOk result (λ bytes. IfSome (F.remaining file.old) (λ left. left ≡ bytes.items)) }
     ensures refused { IfErr result (λ e. (e ≡ LoadError.Read) ⊎ (e ≡ LoadError.Memory)) }
@@ -149,11 +149,11 @@ pub fn read<A: Allocator, F: Read>(alloc: A, file: &mut F) -> Result<Vec<u8, A>,
     }
 }
 
-// How many bytes a file has up to the end of the word that names its kind.
+// The number of bytes of a file up to the end of the word that names its kind.
 const NAMED: usize = 24;
 
-/// A store that holds the list that all bytes of a reader are the saved form of. They are read by blocks, and their
-/// words alone are kept, with no copy of the bytes.
+/// Returns a store with the list whose saved form the rest of a reader is. It is read by blocks, and only its
+/// words are kept, with no copy of the bytes.
 pub fn load_file<'a, A: Allocator + Copy, F: Read>(
     alloc: &'a A,
     file: &mut F,
@@ -167,7 +167,7 @@ pub fn load_file<'a, A: Allocator + Copy, F: Read>(
     load_numbered(alloc, number_of_kind(front), &mut front.chain(file))
 }
 
-/// What is to be said of a fault: its name, and what it means.
+/// Returns the text of an error: its name, and what it means.
 pub fn fault_line(fault: &LoadError) -> &'static str
     ensures { result.now ≡ fault_text fault.now }
 {

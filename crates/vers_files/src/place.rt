@@ -1,4 +1,4 @@
-//! Places whose bytes are replaced whole.
+//! Files whose bytes are replaced atomically.
 ghost use Rattle.std.specs.Prelude.{◌≡◌, List, ℕ, Option, None, OnOk, OnErr, IfOk};
 
 use std::fs::{File, Files};
@@ -6,60 +6,61 @@ use std::io::Write;
 use std::path::Path;
 use std::{fs, io};
 
-/// A place whose bytes are replaced whole: new ones are written beside it, synced, put there, and then settled.
+/// A file, or another place, whose bytes are replaced atomically: new ones are written to a temporary one,
+/// synced, renamed to it, and then settled.
 pub trait Place {
-    /// What is written to beside the place.
+    /// The temporary file.
     type Beside: Write + Drop;
 
-    // The bytes of a new `Beside`: none, where they are known.
+    // The bytes of a new `Beside`: none, if they are known.
     ghost nothing: { Option (List ℕ) };
 
-    // The bytes in the place, where they are known.
+    // The bytes in the place, if they are known.
     ghost bytes: { Self → Option (List ℕ) };
 
-    // The bytes beside it that were synced last, where they are known.
+    // The bytes of the temporary file that were synced last, if they are known.
     ghost synced: { Self → Option (List ℕ) };
 
-    // The bytes that stay in the place whatever happens to the machine, where they are known.
+    // The bytes that stay in the place even if the machine fails, if they are known.
     ghost settled: { Self → Option (List ℕ) };
 
-    /// Begins beside the place. Refused where something was begun there and not put or left.
+    /// Creates the temporary file. Errors: another save has begun, and neither put nor left it.
     fn begin(&mut self) -> io::Result<Self::Beside>
         ensures nothing { IfOk result (λ beside. Self.Beside.contents beside ≡ nothing) }
         ensures kept { bytes self.new ≡ bytes self.old };
 
-    /// Makes sure of what was written.
+    /// Syncs what was written.
     fn sync(&mut self, beside: &Self::Beside) -> io::Result<()>
         ensures synced { OnOk result (synced self.new ≡ Self.Beside.contents beside.now) }
         ensures kept { bytes self.new ≡ bytes self.old };
 
-    /// Puts what was synced in the place.
+    /// Replaces the place's bytes by those synced.
     fn put(&mut self) -> io::Result<()>
         ensures put { OnOk result (bytes self.new ≡ synced self.old) }
         ensures kept { OnErr result (bytes self.new ≡ bytes self.old) };
 
-    /// Makes sure that what was put stays in the place.
+    /// Syncs the replacement, so that it stays even if the machine fails.
     fn settle(&mut self) -> io::Result<()>
         ensures settled { OnOk result (settled self.new ≡ bytes self.old) }
         ensures kept { bytes self.new ≡ bytes self.old };
 
-    /// Takes away what was begun.
+    /// Removes the temporary file.
     fn leave(&mut self)
         ensures kept { bytes self.new ≡ bytes self.old };
 }
 
-/// A file, which is written beside under another name. Nothing is known of the bytes of a file.
+/// A file, with a temporary file under another name. Contracts know nothing of the bytes of a file.
 #[derive(Drop)]
 pub struct FilePlace<'a, R: Files<File = File>> {
-    /// Where files are.
+    /// The file system.
     pub files: &'a R,
     /// The name of the file.
     pub path: &'a str,
-    /// The name that is written beside.
+    /// The name of the temporary file.
     pub beside: &'a str,
 }
 
-// The folder that a file stands in.
+// Returns the folder of a file.
 fn folder_of(path: &str) -> Path<'_> {
     match Path::new(path).parent() {
         Some(folder) if !folder.as_str().is_empty() => folder,

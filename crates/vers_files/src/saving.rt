@@ -1,4 +1,4 @@
-//! What a load line says, saved.
+//! Saving the list of a load line.
 ghost use Rattle.std.specs.Prelude.{◌≡◌, ◌≢◌, true, OnOk, OnErr, IfErr, ◌⊎◌};
 ghost use Rattle.std.specs.Io.KnownBytes.{Appends, Keeps};
 ghost use Rattle.vers_words.specs.Text.{words_of};
@@ -25,22 +25,22 @@ pub enum SaveFault {
     Refused,
     /// The list has too many items for a saved form.
     NoForm,
-    /// The allocator has no memory.
+    /// The allocator refused a request.
     OutOfMemory,
-    /// What is written to answered an error, or took no byte of a piece that has some.
+    /// The writer returned an error, or took no byte of a nonempty piece.
     Write,
-    /// The place could not be written beside: another save has begun there, or one was cut off.
+    /// The temporary file could not be created: another save has begun, or one was cut off.
     Begin,
-    /// What was written could not be made sure of.
+    /// What was written could not be synced.
     Sync,
-    /// What was written could not be put in the place.
+    /// What was written could not replace the file.
     Put,
-    /// What was put in the place could not be made sure of: it stands there, and after a failure of the machine
-    /// either it or what stood there before.
+    /// The replacement could not be synced: the file is replaced, but after a failure of the machine it may
+    /// have the old bytes.
     Settle,
 }
 
-// What a save of a list gives, as that of its line.
+// Returns the result of saving a list as that of saving its line.
 fn line_saved(saved: Result<(), SaveError>) -> Result<(), SaveFault>
     ensures { result ≡ line_saved saved }
 {
@@ -52,8 +52,11 @@ fn line_saved(saved: Result<(), SaveError>) -> Result<(), SaveFault>
     }
 }
 
-/// Writes the saved form of what is held. After a fault of the writer a beginning of it was written, and after
-/// another one nothing.
+/// Writes the saved form of the current structure.
+///
+/// # Errors
+///
+/// On `Write`, a prefix of the form was written; on any other error, nothing.
 pub fn save<A: Allocator + Copy, W: Write>(
     alloc: A,
     held: &Held<'_, A>,
@@ -78,8 +81,11 @@ pub fn save<A: Allocator + Copy, W: Write>(
     }
 }
 
-/// Writes the saved form of the list that a load line says. After a fault of the writer a beginning of it was
-/// written, and after another one nothing.
+/// Writes the saved form of a load line's list.
+///
+/// # Errors
+///
+/// On `Write`, a prefix of the form was written; on any other error, nothing.
 pub fn save_line<A: Allocator + Copy, W: Write>(
     alloc: A,
     line: &[u8],
@@ -107,8 +113,12 @@ pub fn save_line<A: Allocator + Copy, W: Write>(
     }
 }
 
-/// Puts the saved form of the list that a load line says in a place, whole or not at all, and makes sure that it
-/// stays there. After the fault `Settle` it stands in the place, and after another one what stood there before.
+/// Replaces the bytes of a place by the saved form of a load line's list, completely or not at all, and syncs
+/// the replacement.
+///
+/// # Errors
+///
+/// On `Settle`, the place has the new bytes; on any other error, the old ones.
 pub fn save_to<A: Allocator + Copy, P: Place>(
     alloc: A,
     line: &[u8],
@@ -135,7 +145,8 @@ pub fn save_to<A: Allocator + Copy, P: Place>(
     Ok(())
 }
 
-// Writes the saved form of the list that a load line says beside a place, and puts it there, with nothing settled.
+// Writes the saved form of a load line's list to a temporary file, and replaces the place's bytes by it,
+// without settling.
 fn put_line<A: Allocator + Copy, P: Place>(
     alloc: A,
     line: &[u8],

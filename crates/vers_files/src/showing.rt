@@ -1,4 +1,4 @@
-//! What is told of a list that a file holds.
+//! Descriptions of the lists of files.
 ghost use Rattle.std.specs.Prelude.{◌≡◌, length, IfOk, IfErr, ◌⊎◌, Some, None};
 ghost use Rattle.vers_cli.specs.Holding.{Holding, holding_of, length_of};
 ghost use Rattle.vers_files.specs.Forms.{saved_form, HasForm, form_fault};
@@ -9,20 +9,20 @@ use std::alloc::Allocator;
 use vers_cli::Held;
 use vers_saved::fault::LoadError;
 
-/// What is told of a list that a file holds.
+/// A description of the list of a file.
 #[derive(Clone, Copy, Drop)]
 pub struct Shown {
     /// The first word of the load line of such lists.
     pub kind: &'static str,
     /// The length of the list.
     pub len: u64,
-    /// How many bits an item has in the file, and of a tree its blocks.
+    /// The number of bits of an item in the file, or of a block of a tree.
     pub width: u64,
-    /// How many bytes the file has.
+    /// The number of bytes of the file.
     pub bytes: u64,
 }
 
-// The kind of what is held.
+// Returns the kind of the current structure.
 fn kind_of<A: Allocator + Copy>(held: &Held<'_, A>) -> &'static str
     ensures { result.now ≡ kind_text (holding_of held.now) }
 {
@@ -38,7 +38,7 @@ fn kind_of<A: Allocator + Copy>(held: &Held<'_, A>) -> &'static str
     }
 }
 
-// How many bits an item has in a file, and of a tree its blocks.
+// Returns the number of bits of an item in a file, or of a block of a tree.
 fn width_of<A: Allocator + Copy>(held: &Held<'_, A>) -> u64
     ensures { result ≡ width_of (holding_of held.now) }
 {
@@ -52,7 +52,7 @@ fn width_of<A: Allocator + Copy>(held: &Held<'_, A>) -> u64
     }
 }
 
-/// What is told of the list that the bytes are the saved form of.
+/// Returns the description of the list whose saved form the bytes are.
 pub fn show<A: Allocator + Copy>(alloc: A, bytes: &[u8]) -> Result<Shown, LoadError>
     ensures shown { IfOk result (λ shown. (held : Holding) × (bytes.now ≡ saved_form held) × HasForm held
         × (shown.kind.now ≡ kind_text held) × (shown.len ≡ length_of held)
@@ -71,7 +71,7 @@ pub fn show<A: Allocator + Copy>(alloc: A, bytes: &[u8]) -> Result<Shown, LoadEr
     }
 }
 
-// What is told of what is held, where its saved form has so many bytes.
+// Returns the description of the current structure, whose saved form has `bytes` bytes.
 fn told_of<A: Allocator + Copy>(held: &Held<'_, A>, bytes: u64) -> Shown
     ensures kind { result.kind.now ≡ kind_text (holding_of held.now) }
     ensures len { result.len ≡ length_of (holding_of held.now) }

@@ -18,18 +18,18 @@ use vers_saved::fault::LoadError;
 use vers_texts::{Device, RunError, Sink, Source, Store, run_from};
 use vers_wavelet::wavelet::WaveletMatrix;
 
-/// Why the lines about the text of a file were not answered. The first that applies is told.
+/// Why the lines about the text of a file were not answered: the first reason that applies.
 #[derive(Clone, Copy, PartialEq, Eq, Debug, Drop)]
 pub enum TextFault {
     /// The file was not loaded.
     File(LoadError),
-    /// Its list is none of symbols.
+    /// It is no list of symbols.
     NoSymbols,
-    /// Its symbols have no bits, or more than 16.
+    /// Its symbols have 0 bits, or more than 16.
     OtherWidth,
-    /// There are more symbols than a text has.
+    /// There are more symbols than a text can have.
     TooLong,
-    /// The allocator has no memory for the symbols or the index.
+    /// The allocator refused a request for the symbols or the index.
     Memory,
 }
 
@@ -43,17 +43,17 @@ impl From<AllocError> for TextFault {
     }
 }
 
-// The symbols of a list, and how many bits each has.
+// The symbols of a list, and the number of bits of each.
 #[derive(Drop)]
 struct PlainSymbols<A: Allocator> {
     width: u16,
     items: Vec<u64, A>,
 }
 
-/// Reads lines to the end of the input and writes the answer of each, where the text is held before the first line
-/// that `file` is the saved form of, as a list of symbols of 1 to 16 bits. The answers are those of the program over
-/// texts, and so are the faults of reader and writer, which are the inner error. The text is indexed before the first
-/// line; what was loaded is let go before.
+/// Reads lines to the end of the input and writes the answer of each, with the text of `file`, the saved form
+/// of a list of symbols of 1 to 16 bits. The answers are those of the program over texts, and so are the errors
+/// of reader and writer, which are the inner error. The text is indexed before the first line; what was loaded
+/// is dropped before.
 ///
 /// # Errors
 ///
@@ -85,7 +85,7 @@ pub fn ask_text<A: Allocator + Copy, F: Read, R: Source, W: Sink>(
     }
 }
 
-// The index of the text that all bytes of a reader are the saved form of.
+// Returns the index of the text whose saved form the rest of a reader is.
 fn load_text<A: Allocator + Copy, F: Read>(
     alloc: A,
     file: &mut F,
@@ -98,7 +98,7 @@ fn load_text<A: Allocator + Copy, F: Read>(
     indexed(alloc, symbols.items.as_slice(), symbols.width)
 }
 
-// The symbols that all bytes of a reader are the saved form of. What finds them in the list is let go.
+// Returns the symbols whose saved form the rest of a reader is. Their index is dropped.
 fn load_symbols<A: Allocator + Copy, F: Read>(
     alloc: A,
     file: &mut F,
@@ -111,8 +111,8 @@ fn load_symbols<A: Allocator + Copy, F: Read>(
     symbols_of(alloc, load_file(&alloc, file))
 }
 
-// The symbols of what was loaded, which is let go. It may be of any type, so that the proof doesn't go through its
-// fields.
+// Returns the symbols of what was loaded, which is dropped. Its type is generic, so that the proof doesn't go
+// through its fields.
 fn symbols_of<A: Allocator + Copy, O: Owner<A>>(
     alloc: A,
     loaded: Result<O, LoadError>,
@@ -130,11 +130,11 @@ fn symbols_of<A: Allocator + Copy, O: Owner<A>>(
     }
 }
 
-// What owns a list.
+// An owner of a list.
 trait Owner<A: Allocator + Copy>: Drop {
     ghost holding: { Self → Holding };
 
-    // The symbols of what is held.
+    // Returns the symbols of the current structure.
     fn symbols(&self, alloc: A) -> Result<PlainSymbols<A>, TextFault>
         ensures held { IfOk result (λ symbols. holding self.now
             ≡ SymbolsHeld (record { width = symbols.width; items = symbols.items.items })) }
@@ -163,7 +163,7 @@ impl<A: Allocator + Copy> Owner<A> for vers_cli::Store<'_, A> {
     }
 }
 
-// The items of a list of symbols of at most 64 bits.
+// Returns the items of a list of symbols of at most 64 bits.
 fn items_of<A: Allocator + Copy>(
     alloc: A,
     symbols: &WaveletMatrix<A>,
@@ -178,7 +178,7 @@ fn items_of<A: Allocator + Copy>(
     Ok(items)
 }
 
-// The index of a text of a width that texts have.
+// Returns the index of a text of a width that texts may have.
 fn indexed<A: Allocator + Copy>(
     alloc: A,
     symbols: &[u64],
@@ -197,7 +197,7 @@ fn indexed<A: Allocator + Copy>(
     }
 }
 
-/// What is to be said of a fault: its name, and what it means.
+/// Returns the text of an error: its name, and what it means.
 pub fn text_fault_line(fault: &TextFault) -> &'static str
     ensures { result.now ≡ text_fault_text fault.now }
 {
