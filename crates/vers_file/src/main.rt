@@ -1,6 +1,6 @@
-//! Lists in files: `save` puts the list that a load line says into a file, `ask` answers query lines
-//! about the list of a file, and `show` tells which list that is. Status 1 says that this can't be
-//! done, and 2 that the arguments are others; why stands on standard error.
+//! Lists in files: `save` saves the list of a load line to a file, `ask` answers query lines about the list of
+//! a file, and `show` describes that list. Status 1 means that this failed, and 2 that the arguments are wrong;
+//! the reason is printed to standard error.
 #![tactic(auto)]
 
 use std::alloc::AllocError;
@@ -27,7 +27,7 @@ bytes of FILE.
 
 vers_file --help prints this, and vers_file --version the version of the library.";
 
-/// What the arguments say.
+/// The command in the arguments.
 #[derive(Clone, Copy)]
 enum Command<'a> {
     Save(&'a str),
@@ -63,7 +63,7 @@ fn print_line(rt: &HostRuntime, text: &str) -> ExitCode {
     }
 }
 
-// Says why something can't be done.
+// Prints why a command failed, and returns status 1.
 fn fail(rt: &HostRuntime, why: &str) -> ExitCode {
     let _ = eprintln!(rt; "vers_file: {why}");
     ExitCode::FAILURE

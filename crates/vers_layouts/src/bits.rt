@@ -5,7 +5,7 @@ use std::io;
 use vers_vecs::bit_vec::GrowError;
 use vers_vecs::{BitVec, RsVec};
 
-// A hundred bits.
+// Returns a hundred bits.
 fn hundred_bits(alloc: Global) -> Result<BitVec<Global>, GrowError> {
     let mut bits = BitVec::from_limbs(alloc, &[0x0123_4567_89AB_CDEF, 0xFEDC_BA98_7654_3210])?;
     bits.drop_last(28);
@@ -21,12 +21,12 @@ fn print_hundred(rt: &HostRuntime, bits: &BitVec<Global>) -> io::Result<()> {
     println!(rt; "\nlimbs heap_size {}", bits.heap_size())
 }
 
-/// The limbs of a list.
+/// Prints the limbs of a list.
 pub fn print_limbs(rt: &HostRuntime) -> io::Result<()> {
     asked(hundred_bits(rt.alloc()), |bits| print_hundred(rt, bits))
 }
 
-// Limbs of which number `k` has 64 - k % 64 ones, the lowest bits.
+// Returns limbs of which limb `k` has 64 - k % 64 ones, the lowest bits.
 fn limbs(alloc: Global) -> Result<Vec<u64>, AllocError> {
     let mut limbs = Vec::with_capacity(alloc, 313)?;
     for k in 0..313u32 {
@@ -54,8 +54,7 @@ fn print_indexed(rt: &HostRuntime, bits: &RsVec<Global>) -> io::Result<()> {
     println!(rt; "index heap_size {}", bits.heap_size())
 }
 
-/// Ranks at the start of each block and at the end, and the places that begin each 8192 zeros or
-/// ones.
+/// Prints the ranks at the start of each block and at the end, and the positions of every 8192nd zero and one.
 pub fn print_index(rt: &HostRuntime) -> io::Result<()> {
     asked(indexed(rt.alloc()), |bits| print_indexed(rt, bits))
 }

@@ -1,7 +1,7 @@
-//! Prints the values that the pictures of docs/LAYOUTS.md are drawn from, each as a public call answers it.
+//! Prints the values from which the pictures of docs/LAYOUTS.md are drawn, each as a public call returns it.
 //!
-//! A line has a structure, the name of a call, and what it answers, of the places or numbers asked for in order where
-//! there are several. The page ends with the stored run.
+//! A line has a structure, the name of a function, and its results, in the order of the positions or numbers
+//! queried if there are several. The page ends with the stored run.
 #![tactic(auto)]
 
 mod bits;
@@ -12,8 +12,8 @@ mod tree;
 
 use std::io;
 
-/// What is asked of a value that was made. The value may be of any type, so that a caller's proof
-/// doesn't go through its fields.
+/// Runs `ask` on a value that was made. The value is of a generic type, so that a caller's proof doesn't go
+/// through its fields.
 pub fn asked<T: Drop, E: Drop, F: FnOnce(&T) -> io::Result<()>>(
     made: Result<T, E>,
     ask: F,

@@ -12,7 +12,7 @@ fn made(alloc: Global) -> Result<FastRmq<Global>, AllocError> {
     FastRmq::from_vec(Vec::from_slice(alloc, &ITEMS)?)
 }
 
-// The first place of a least item, or nothing where there is no such range.
+// Prints the first position of a least item, or nothing if there is no such range.
 fn print_least(
     rt: &HostRuntime,
     minima: &FastRmq<Global>,
@@ -25,7 +25,7 @@ fn print_least(
     Ok(())
 }
 
-// For each place, the least item from the start of a part of `size` places up to it.
+// Prints for each position the least item from the start of a part of `size` positions up to it.
 fn print_from_starts(rt: &HostRuntime, minima: &FastRmq<Global>, size: usize) -> io::Result<()> {
     print!(rt; "minima from_start_of_{size}")?;
     for place in 0..minima.len() {
@@ -35,7 +35,7 @@ fn print_from_starts(rt: &HostRuntime, minima: &FastRmq<Global>, size: usize) ->
     println!(rt; "")
 }
 
-// For each place, the least item from it up to the end of a part of `size` places.
+// Prints for each position the least item from it up to the end of a part of `size` positions.
 fn print_to_ends(rt: &HostRuntime, minima: &FastRmq<Global>, size: usize) -> io::Result<()> {
     let final_place = minima.len().saturating_sub(1);
     print!(rt; "minima to_end_of_{size}")?;
@@ -63,7 +63,7 @@ fn print_minima(rt: &HostRuntime, minima: &FastRmq<Global>) -> io::Result<()> {
     println!(rt; "minima heap_size {}", minima.heap_size())
 }
 
-/// The items, the ranges that the masks of a block answer, and the size.
+/// Prints the items, the ranges that the masks of a block answer, and the size.
 pub fn print(rt: &HostRuntime) -> io::Result<()> {
     asked(made(rt.alloc()), |minima| print_minima(rt, minima))
 }

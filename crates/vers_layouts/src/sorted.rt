@@ -3,7 +3,7 @@ use crate::asked;
 use std::io;
 use vers_vecs::EliasFanoVec;
 
-/// Its members, and its size.
+/// Prints its members, and its size.
 pub fn print(rt: &HostRuntime) -> io::Result<()> {
     asked(
         EliasFanoVec::from_slice(rt.alloc(), &[0, 1, 4, 7]),

@@ -15,7 +15,7 @@ fn print_matrix(rt: &HostRuntime, matrix: &WaveletMatrix<Global>) -> io::Result<
     println!(rt; "\nsymbols heap_size {}", matrix.heap_size())
 }
 
-/// The width, the symbols and the size.
+/// Prints the width, the symbols and the size.
 pub fn print(rt: &HostRuntime) -> io::Result<()> {
     asked(
         WaveletMatrix::from_slice(rt.alloc(), &[1, 5, 3], 3),

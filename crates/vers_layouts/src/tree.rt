@@ -23,7 +23,7 @@ fn print_tree(rt: &HostRuntime, tree: &Tree) -> io::Result<()> {
     println!(rt; "\ntree heap_size {}", tree.heap_size())
 }
 
-/// The excess past each place, and the size.
+/// Prints the excess past each position, and the size.
 pub fn print(rt: &HostRuntime) -> io::Result<()> {
     asked(made(rt.alloc()), |tree| print_tree(rt, tree))
 }

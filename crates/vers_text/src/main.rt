@@ -1,6 +1,6 @@
-//! Answers the lines of standard input on standard output, as the library `vers_texts` says. The
-//! status is 0 at the end of the input. After a fault it is 1, and the fault stands on standard
-//! error. Where lines are typed on a terminal, standard error first says what is waited for.
+//! Answers the lines of standard input on standard output, as the library `vers_texts` does. The status is 0 at
+//! the end of the input, and 1 after an error, which is printed to standard error. If lines are typed on a
+//! terminal, a line on standard error first says that the program waits for them.
 #![tactic(auto)]
 
 use std::io::IsTerminal;
