@@ -1,4 +1,4 @@
-//! What several counted queries read together.
+//! The reads of several counted queries together.
 ghost use Rattle.std.specs.Prelude.{◌<◌, ◌≤◌, ◌↔◌, IsTrue};
 ghost use Rattle.vers_vecs.specs.Reads.{AddsAtMost, times};
 ghost use Rattle.vers_vecs.specs.Queries.{rank_reads};
@@ -8,17 +8,17 @@ use crate::genome::Genome;
 use std::alloc::Allocator;
 use vers_vecs::tally::Tally;
 
-/// A stretch of a genome: its first place, and the one past its last.
+/// A range of a genome: its first position, and the one past its last.
 #[derive(Clone, Copy, PartialEq, Eq, Debug)]
 pub struct Window {
-    /// The first place.
+    /// The first position.
     pub from: usize,
-    /// The place past the last.
+    /// The position past the last.
     pub to: usize,
     ghost ordered: { from ≤ to },
 }
 
-/// Whether the second window has more Gs and Cs than the first, by four ranks.
+/// Returns true if the second window has more Gs and Cs than the first. Reads at most what four ranks do.
 pub fn has_more<A: Allocator + Copy>(
     genome: &Genome<A>,
     first: Window,

@@ -1,4 +1,4 @@
-//! Documents that stand one after another in one text.
+//! Documents stored one after another in one text.
 ghost use Rattle.std.specs.Prelude.{◌≡◌, ℕ, ◌↔◌, [], length, slice_get, IfOk, IfSome, IsNone, IsTrue};
 ghost use Rattle.std.specs.List.Sorted.{IsNonDecreasing};
 ghost use Rattle.vers_uses.specs.Documents.{Holds};
@@ -8,8 +8,8 @@ use std::marker::Model;
 use vers_vecs::EliasFanoVec;
 use vers_vecs::laws::sorted::{first_members_are_below, other_members_are_not_below};
 
-/// The documents of a text: where each starts, and where the text ends. A document goes up to the
-/// start of the next one.
+/// The documents of a text: the start of each, and the end of the text. A document ends where the next one
+/// starts.
 #[derive(Drop)]
 pub struct Documents<A: Allocator + Copy> {
     starts: EliasFanoVec<A>,
@@ -25,8 +25,9 @@ impl<A: Allocator + Copy> Model for Documents<A> {
 }
 
 impl<A: Allocator + Copy> Documents<A> {
-    /// The documents that start at these bytes of a text of `end` bytes. Two documents may start at
-    /// the same byte. Then the first is empty.
+    /// Returns the documents that start at these bytes of a text of `end` bytes. Two documents may start at the
+    /// same byte; the first is then empty. Precondition: the starts ascend. Errors: `AllocError` if the
+    /// allocator refuses a request.
     pub fn new(alloc: A, starts: &[u64], end: u64) -> Result<Self, AllocError>
         requires { IsNonDecreasing starts.now }
         ensures { IfOk result (λ texts. texts ≡ record { starts = starts.now; end = end }) }
@@ -37,28 +38,28 @@ impl<A: Allocator + Copy> Documents<A> {
         })
     }
 
-    /// How many documents there are.
+    /// Returns the number of documents.
     pub fn len(&self) -> usize
         ensures { result ≡ length self.now.starts }
     {
         self.starts.len()
     }
 
-    /// Whether there are no documents.
+    /// Returns true if there are no documents.
     pub fn is_empty(&self) -> bool
         ensures { IsTrue result ↔ (self.now.starts ≡ []) }
     {
         self.starts.is_empty()
     }
 
-    /// Where a document starts. None for a document that isn't there.
+    /// Returns the start of a document, or `None` if there is no such document.
     pub fn start_of(&self, document: usize) -> Option<u64>
         ensures { result ≡ slice_get self.now.starts document }
     {
         self.starts.get(document)
     }
 
-    /// The document that holds a byte. None where none does.
+    /// Returns the document that contains a byte, or `None` if none does.
     pub fn document_of(&self, byte: u64) -> Option<usize>
         ensures found { IfSome result (Holds self.now byte) }
         ensures none { IsNone result → (document : ℕ) → Holds self.now byte document → ⊥ }

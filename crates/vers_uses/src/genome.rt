@@ -16,7 +16,7 @@ use vers_vecs::laws::bits::{
 use vers_vecs::tally::Tally;
 use vers_vecs::{BitVec, RsVec};
 
-/// Which bases of a genome are G or C. Contracts see a list of bits: a one for each such base.
+/// The bases of a genome that are G or C. Contracts see a list of bits: a one for each such base.
 #[derive(Drop)]
 pub struct Genome<A: Allocator + Copy> {
     gc: RsVec<A>,
@@ -31,7 +31,11 @@ impl<A: Allocator + Copy> Model for Genome<A> {
 }
 
 impl<A: Allocator + Copy> Genome<A> {
-    /// The genome of these bases, each a letter.
+    /// Returns the genome of these bases, each a letter.
+    ///
+    /// # Errors
+    ///
+    /// `TooLong` if there are too many; `Memory` if the allocator refuses a request.
     pub fn from_bases(alloc: A, bases: &[u8]) -> Result<Self, GrowError>
         ensures { IfOk result (λ genome. genome ≡ map is_gc bases.now) }
     {
@@ -44,7 +48,8 @@ impl<A: Allocator + Copy> Genome<A> {
         })
     }
 
-    /// How many bases from place `from` up to place `to` are G or C.
+    /// Returns the number of bases from position `from` up to position `to` that are G or C. Precondition:
+    /// `from` is at most `to`.
     pub fn gc_between(&self, from: usize, to: usize) -> usize
         requires { from ≤ to }
         ensures { result ≡ gc_in self.now from to }
@@ -53,7 +58,7 @@ impl<A: Allocator + Copy> Genome<A> {
         self.gc_between_counted(from, to, &mut tally)
     }
 
-    /// How many bases from place `from` up to place `to` are G or C, by two ranks.
+    /// Returns `gc_between(from, to)`. Reads at most what two ranks do.
     pub fn gc_between_counted(&self, from: usize, to: usize, tally: &mut Tally) -> usize
         requires { from ≤ to }
         ensures value { result ≡ gc_in self.now from to }
@@ -64,7 +69,7 @@ impl<A: Allocator + Copy> Genome<A> {
         self.gc.rank1_counted(to, tally) - self.gc.rank1_counted(from, tally)
     }
 
-    /// The place of G or C number `number`, counted from 0. None where there are no more.
+    /// Returns the position of G or C number `number` (from 0), or `None` if there are fewer.
     pub fn nth_gc(&self, number: usize) -> Option<usize>
         ensures some { IsSome result ↔ (number < count true self.now (length self.now)) }
         ensures stands { IfSome result (λ place. slice_get self.now place ≡ Some true) }
@@ -76,7 +81,7 @@ impl<A: Allocator + Copy> Genome<A> {
         (place < self.gc.len()).then_some(place)
     }
 
-    /// The place of the next G or C after a place. None where there is none.
+    /// Returns the position of the next G or C after a position, or `None` if there is none.
     pub fn next_gc(&self, place: usize) -> Option<u64>
         ensures found { IfSome result (λ next. (place < next) × HoldsAt true self.now next
             × NoneFrom true self.now (place + 1) next) }

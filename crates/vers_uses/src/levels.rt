@@ -6,7 +6,11 @@ use std::alloc::{AllocError, Allocator};
 use vers_vecs::bit_vec::GrowError;
 use vers_vecs::trees::{LevelTree, TreeBuilder};
 
-/// Tells a builder to enter a node for each true and to leave one for each false.
+/// Calls a builder to enter a node for each true and to leave one for each false.
+///
+/// # Errors
+///
+/// Those of the builder.
 pub fn take_steps<B: TreeBuilder>(builder: &mut B, steps: &[bool]) -> Result<(), GrowError>
     ensures { OnOk result (B.steps builder.new ≡ B.steps builder.old ++ steps.now) }
 {
@@ -20,7 +24,8 @@ pub fn take_steps<B: TreeBuilder>(builder: &mut B, steps: &[bool]) -> Result<(),
     Ok(())
 }
 
-/// The nodes of a depth in any tree, from left to right.
+/// Returns the nodes of a depth in any tree, from left to right. Errors: `AllocError` if the allocator refuses
+/// a request.
 pub fn nodes_on_level<T: LevelTree, A: Allocator>(
     alloc: A,
     tree: &T,

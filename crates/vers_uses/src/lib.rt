@@ -1,5 +1,5 @@
-//! A use of the library: an index of documents, the bases of a genome, and prices by the day.
-//! docs/USING.md goes through it.
+//! A use of the library: an index of documents, the bases of a genome, and prices by the day. docs/USING.md
+//! explains it.
 #![tactic(auto)]
 
 pub mod budget;

@@ -22,7 +22,8 @@ impl<A: Allocator + Copy> Model for Prices<A> {
 }
 
 impl<A: Allocator + Copy> Prices<A> {
-    /// The prices of days 0, 1, and so on.
+    /// Returns the prices of days 0, 1, and so on. Precondition: there are at most `MAX_LEN`. Errors:
+    /// `AllocError` if the allocator refuses a request.
     pub fn new(by_day: Vec<u64, A>) -> Result<Self, AllocError>
         requires { length by_day.items ≤ MAX_LEN }
         ensures { IfOk result (λ prices. prices ≡ by_day.items) }
@@ -32,8 +33,8 @@ impl<A: Allocator + Copy> Prices<A> {
         })
     }
 
-    /// The first of the cheapest days from day `from` up to day `to`. None for no days, and where
-    /// the days go on past the last.
+    /// Returns the first of the cheapest days from day `from` up to day `to`. `None` if there are no such days,
+    /// or they extend past the last.
     pub fn cheapest(&self, from: usize, to: usize) -> Option<usize>
         ensures some { IsSome result ↔ ((from < to) × (to ≤ length self.now)) }
         ensures least { IfSome result (λ day. day ≡ least_place self.now from (to - 1)) }
