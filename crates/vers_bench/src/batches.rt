@@ -1,6 +1,6 @@
 //! The series of batches: queries one by one, and the same many at once.
 //!
-//! A batch puts answers in the place of its queries, so these are copied before the time is taken.
+//! A batch replaces its queries by answers, so these are copied outside the measured time.
 use crate::bits::indexed;
 use crate::report::{Report, Timed, asked, timed_since};
 use crate::symbols::{Quantile, Quantiles, Symbols, sorted_build};
@@ -15,21 +15,21 @@ use vers_sorted::elias_fano::EliasFanoVec;
 use vers_sorted::order::is_ascending;
 use vers_wavelet::wavelet::{GetQuery, QuantileQuery, RankQuery, SelectQuery, WaveletMatrix};
 
-/// The most queries that a batch has.
+/// The greatest numbers of queries in a batch.
 const SIZES: [usize; 2] = [64, 65_536];
 
-/// A kind of queries, which are asked one by one, or many at once.
+/// A kind of queries, which are answered one by one, or many at once.
 trait Batched: Draw {
-    /// What they are asked of.
+    /// The structure that they query.
     type Structure;
 
     /// Answers one query.
     fn one(structure: &Self::Structure, query: &Self::Item) -> u64;
 
-    /// Answers many queries, each in its place.
+    /// Answers many queries in place.
     fn each(structure: &Self::Structure, queries: &mut [Self::Item]);
 
-    /// Tells what a query was answered.
+    /// Returns the answer of a query.
     fn answer(query: &Self::Item) -> u64;
 }
 
@@ -45,7 +45,7 @@ fn batches_pass<K: Batched>(structure: &K::Structure, queries: &mut [K::Item], s
     sum
 }
 
-// How long a pass over batches of a size took, and its checksum.
+// Returns the time of a pass over batches of a size, and its checksum.
 fn measured<K: Batched>(
     report: &Report,
     structure: &K::Structure,
@@ -85,7 +85,7 @@ where
 
 type Matrix = WaveletMatrix<Global>;
 
-/// Queries for the symbols at places of so many.
+/// Queries for the symbols at positions below a number.
 #[derive(Clone, Copy)]
 struct Gets(u64);
 
@@ -113,7 +113,7 @@ impl Batched for Gets {
     }
 }
 
-/// Queries for how many of the first symbols are one of them.
+/// Queries for ranks of symbols.
 #[derive(Clone, Copy)]
 struct Ranks<'a>(Symbols<'a>);
 
@@ -142,7 +142,7 @@ impl Batched for Ranks<'_> {
     }
 }
 
-/// Queries for the first places of symbols.
+/// Queries for the first positions of symbols.
 #[derive(Clone, Copy)]
 struct Selects<'a>(Symbols<'a>);
 
@@ -170,7 +170,7 @@ impl Batched for Selects<'_> {
     }
 }
 
-/// Queries for members of ranges of so many symbols.
+/// Queries for quantiles.
 #[derive(Clone, Copy)]
 struct Members(Quantiles);
 
@@ -213,7 +213,7 @@ fn run_matrix(report: &Report, source: Symbols, matrix: &Matrix) -> io::Result<(
     run_kind(report, "quantile_u64", matrix, &quantiles)
 }
 
-// The series over symbols of 32 bits.
+// Runs the series over symbols of 32 bits.
 fn run_symbols(report: &Report, n: usize) -> io::Result<()> {
     let width = 32;
     let parameters = format!(in report.alloc(); "symbols n={n} width={width}")?;
@@ -228,7 +228,7 @@ fn run_symbols(report: &Report, n: usize) -> io::Result<()> {
 
 type Bits = RsVec<Global>;
 
-/// The numbers of so many ones.
+/// The numbers of that many ones.
 #[derive(Clone, Copy)]
 struct Ones(u64);
 
@@ -256,7 +256,7 @@ impl Batched for Ones {
     }
 }
 
-/// The numbers of so many zeros.
+/// The numbers of that many zeros.
 #[derive(Clone, Copy)]
 struct Zeros(u64);
 
@@ -291,7 +291,7 @@ fn run_bits(report: &Report, _source: (), bits: &Bits) -> io::Result<()> {
     run_kind(report, "select0", bits, &zeros)
 }
 
-// The series over bits of which half are ones.
+// Runs the series over bits of which half are ones.
 fn run_limbs(report: &Report, limb_count: usize) -> io::Result<()> {
     let data = RandomBits {
         limb_count,
@@ -305,7 +305,7 @@ fn run_limbs(report: &Report, limb_count: usize) -> io::Result<()> {
 
 type List = EliasFanoVec<Global>;
 
-/// Places of so many members.
+/// Positions of that many members.
 #[derive(Clone, Copy)]
 struct Places(u64);
 
@@ -336,7 +336,7 @@ impl Batched for Places {
     }
 }
 
-// How many members are below a number.
+// The number of members below a number.
 impl Batched for Below {
     type Structure = List;
 
@@ -353,7 +353,7 @@ impl Batched for Below {
     }
 }
 
-/// Numbers below one, for the greatest member not above each.
+/// Numbers below a limit, for the predecessor of each.
 #[derive(Clone, Copy)]
 struct Predecessors(u64);
 
@@ -384,7 +384,7 @@ impl Batched for Predecessors {
     }
 }
 
-/// Numbers below one, for the least member not below each.
+/// Numbers below a limit, for the successor of each.
 #[derive(Clone, Copy)]
 struct Successors(u64);
 
@@ -415,7 +415,7 @@ impl Batched for Successors {
     }
 }
 
-// The series over a list whose members are below a number.
+// Runs the series over a list whose members are below a number.
 fn run_list(report: &Report, end: u64, list: &List) -> io::Result<()> {
     let places = report.questions(8, 0, Places(list.len() as u64));
     run_kind(report, "get", list, &places)?;
@@ -426,7 +426,7 @@ fn run_list(report: &Report, end: u64, list: &List) -> io::Result<()> {
     run_kind(report, "successor", list, &numbers)
 }
 
-// The series over members far apart.
+// Runs the series over members far apart.
 fn run_members(report: &Report, n: usize) -> io::Result<()> {
     let parameters = format!(in report.alloc(); "members n={n}")?;
     let members = members_uniform(report.alloc(), n)?;

@@ -1,4 +1,4 @@
-//! The series of lists of bits with ranks and selects.
+//! The series of lists of bits with rank and select.
 use crate::lists::bits_of;
 use crate::report::{Report, asked};
 use crate::walks::sum_of_places;
@@ -26,14 +26,14 @@ fn iter1_pass(bits: &Bits) -> u64 {
     sum_of_places(bits.iter1())
 }
 
-// How much more memory the list takes than its bits alone, in thousandths of a percent.
+// Returns the overhead of the list over its bits, in thousandths of a percent.
 fn overhead(bits: &Bits) -> u64 {
     let heap_bits = (bits.heap_size() as u64).saturating_mul(8);
     let len = (bits.len() as u64).max(1);
     (heap_bits.saturating_mul(100_000) / len).saturating_sub(100_000)
 }
 
-/// The bits of limbs, with ranks and selects.
+/// Returns the bits of limbs, with rank and select.
 pub fn indexed(alloc: Global, limbs: &[u64]) -> Result<Bits, AllocError> {
     RsVec::from_bit_vec(bits_of(alloc, limbs)?)
 }

@@ -23,7 +23,7 @@ fn cheapest(list: &List, range: &Ends) -> u64 {
     list.cheapest(range.first, range.last).unwrap_or(NONE)
 }
 
-// The documents that were found folded into a checksum, and what stands for none without memory.
+// Folds the documents found into a checksum, or the value for none if memory was refused.
 fn folded(mut sum: u64, found: Result<Vec<u64>, AllocError>) -> u64 {
     let Ok(found) = found else {
         return fold(sum, NONE);
@@ -52,7 +52,7 @@ fn next_halving(all: &Plain, number: &u64) -> u64 {
     all.get(place).copied().unwrap_or(NONE)
 }
 
-// The documents of the shorter list that the longer has too, by halving.
+// Returns the documents of the shorter list that are in the longer one too, by bisection.
 fn common_by_halving(shorter: &[u64], longer: &Plain) -> Result<Vec<u64>, AllocError> {
     let mut found = Vec::new(*longer.allocator());
     for document in shorter {
@@ -72,8 +72,8 @@ fn halving_intersect_pass(all: &Plain, others: &[Vec<u64>]) -> u64 {
     sum
 }
 
-// The first place from `from` on whose document is not below one: by steps that double, and by halving
-// what they enclose.
+// Returns the first position from `from` on whose document is at least a number: by steps that double, and
+// bisection of the last step.
 #[inline]
 fn galloped(list: &[u64], from: usize, document: u64) -> usize {
     let mut start = from;
@@ -90,7 +90,7 @@ fn galloped(list: &[u64], from: usize, document: u64) -> usize {
     start.saturating_add(place_between(list, start, end, document))
 }
 
-// How many documents of a part of the list stand before the place of one.
+// Returns the position of a document in a part of the list, by bisection.
 #[inline]
 fn place_between(list: &[u64], start: usize, end: usize, document: u64) -> usize {
     let Some(part) = list.get(start..end.min(list.len())) else {
@@ -100,7 +100,8 @@ fn place_between(list: &[u64], start: usize, end: usize, document: u64) -> usize
     place
 }
 
-// The documents of the shorter list that the longer has too, each looked for from the last place on.
+// Returns the documents of the shorter list that are in the longer one too, each searched from the last
+// position on.
 fn common_by_galloping(shorter: &[u64], longer: &Plain) -> Result<Vec<u64>, AllocError> {
     let mut found = Vec::new(*longer.allocator());
     let mut place = 0;
@@ -151,8 +152,7 @@ fn made_at(alloc: Global, lists: &[Vec<u64>], place: usize) -> Result<List, Allo
     made(alloc, documents)
 }
 
-/// Runs all series over documents, and looks for what lists of a thousandth as many have in common with
-/// them.
+/// Runs all series over documents, and intersects them with lists of a thousandth as many.
 pub fn run(report: &Report) -> io::Result<()> {
     let n = report.query_count();
     let all = documents(report.alloc(), n)?;
@@ -185,7 +185,7 @@ fn run_queries(report: &Report, all: &Plain, list: &List) -> io::Result<()> {
     )
 }
 
-// How many documents lists have together.
+// Returns the number of documents of all lists.
 fn len_of_all(lists: &[Vec<u64>]) -> u64 {
     let mut sum = 0u64;
     for list in lists {

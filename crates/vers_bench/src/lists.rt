@@ -11,12 +11,12 @@ type Bits = BitVec<Global>;
 
 const WIDTH: usize = 37;
 
-/// The bits of limbs.
+/// Returns the bits of limbs.
 pub fn bits_of(alloc: Global, limbs: &[u64]) -> Result<Bits, AllocError> {
     or_refused(BitVec::from_limbs(alloc, limbs))
 }
 
-// How many bits a list has that was made.
+// Returns the number of bits of a list, or the value for none if it was not made.
 fn len_or_none(made: Result<Bits, GrowError>) -> u64 {
     match made {
         Ok(list) => list.len() as u64,
@@ -35,7 +35,7 @@ fn extended(bits: &Bits) -> Result<Bits, GrowError> {
     Ok(list)
 }
 
-// A list of three bits is extended, so that no limb falls on a limb.
+// A list of three bits is extended, so that no limb is aligned with a limb.
 #[inline(never)]
 fn extend_bitvec_pass(bits: &Bits) -> u64 {
     len_or_none(extended(bits))

@@ -1,9 +1,9 @@
 //! Measures the structures of the library.
 //!
-//! Without arguments it prints the checksums of a small workload. With arguments it prints times:
-//! the name of the driver in the lines, then the structures to run (none: all), and the options
-//! `--small` (a sixteenth of the sizes), `--reps N` (how often each series is run, 5 by default) and
-//! `--size N` (one size of structures in place of the usual ones, as bits, members, symbols, items or nodes).
+//! Without arguments it prints the checksums of a small workload. With arguments it prints times: the name of
+//! the driver in the lines, then the structures to run (none: all), and the options `--small` (a sixteenth of
+//! the sizes), `--reps N` (how often each series is run, 5 by default) and `--size N` (one size of structures
+//! instead of the usual ones, as bits, members, symbols, items or nodes).
 #![tactic(auto)]
 
 mod batches;
@@ -25,7 +25,7 @@ use report::{Report, Settings};
 use std::io;
 use workload::RandomBits;
 
-/// What a word of the arguments is, by the word before it.
+/// The meaning of an argument, by the argument before it.
 #[derive(Clone, Copy)]
 enum Meaning {
     /// An option, or a name.
@@ -36,7 +36,7 @@ enum Meaning {
     Size,
 }
 
-// Takes a word of the arguments. Answers what the next one is.
+// Takes an argument, and returns the meaning of the next one.
 fn take(settings: &mut Settings, word: String, meaning: Meaning) -> io::Result<Meaning> {
     let number = word.as_str().parse::<usize>().ok();
     match meaning {
@@ -83,14 +83,14 @@ fn run_limbs(report: &Report, limbs: &[u64]) -> io::Result<()> {
     }
 }
 
-// The same over a list of random bits.
+// Does the same over a list of random bits.
 fn run_list(report: &Report, data: RandomBits) -> io::Result<()> {
     let parameters = data.parameters(report.alloc())?;
     let limbs = data.limbs(report.alloc())?;
     run_limbs(&report.over(parameters.as_str()), limbs.as_slice())
 }
 
-// The same over lists of each share of ones, or of the first where one size is asked for.
+// Does the same over lists of each share of ones, or of only the first if one size is requested.
 fn run_shares(report: &Report, len: usize, percents: &[u64]) -> io::Result<()> {
     for percent in percents {
         let data = RandomBits {
@@ -105,7 +105,7 @@ fn run_shares(report: &Report, len: usize, percents: &[u64]) -> io::Result<()> {
     Ok(())
 }
 
-// The same over a list of 2^20 bits, and where times are asked for over one of 2^26 too.
+// Does the same over a list of 2^20 bits, and if times are requested over one of 2^26 too.
 fn run_lengths(report: &Report, percents: &[u64]) -> io::Result<()> {
     let settings = report.settings;
     run_shares(report, settings.size_or(1 << 20), percents)?;
@@ -143,7 +143,7 @@ fn run_structure(report: &Report) -> io::Result<()> {
     }
 }
 
-// Runs the series of each structure that is asked for.
+// Runs the series of each structure that is requested.
 fn run(report: &Report) -> io::Result<()> {
     for structure in STRUCTURES {
         if report.settings.wants(structure) {

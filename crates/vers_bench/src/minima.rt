@@ -6,16 +6,15 @@ use std::io;
 use vers_rmq::rmq::binary_rmq::BinaryRmq;
 use vers_rmq::rmq::fast_rmq::FastRmq;
 
-// The most items that both types take; more are refused.
+// The greatest number of items of both types; more are refused.
 const MOST: usize = 4_294_967_295;
 
-/// What is measured of both types.
+/// The interface that is measured of both types.
 trait RangeMinima: Drop {
-    /// The first place of a least item of a range, or the greatest number where there is no such
-    /// range.
+    /// Returns the first position of a least item of a range, or the greatest number if there is no such range.
     fn first_least(&self, first: usize, last: usize) -> usize;
 
-    /// How many bytes are kept.
+    /// Returns the number of bytes of the structure.
     fn bytes(&self) -> usize;
 }
 
@@ -49,7 +48,7 @@ impl RangeMinima for BinaryRmq<Global> {
     }
 }
 
-// The ranges of at most 64 of so many items.
+// The ranges of at most 64 of that many items.
 #[derive(Clone, Copy)]
 struct Short(u64);
 
@@ -125,7 +124,7 @@ fn run_count(report: &Report, n: usize) -> io::Result<()> {
     run_items(&report.over(parameters.as_str()), items.as_slice())
 }
 
-/// Runs all series over a million items, and where times are asked for over ten millions too.
+/// Runs all series over a million items, and if times are requested over ten million too.
 pub fn run(report: &Report) -> io::Result<()> {
     let settings = report.settings;
     run_count(report, settings.size_or(1_000_000))?;

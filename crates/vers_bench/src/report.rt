@@ -1,33 +1,33 @@
-//! What is printed: a line for each series, with its checksum, and with its time where one is asked for.
+//! The output: a line for each series, with its checksum, and with its time if requested.
 use crate::workload::{Below, Draw, Questions, fold};
 use std::alloc::{AllocError, Global};
 use std::io;
 use std::time::{CpuClock, Duration};
 
-/// What the arguments ask for.
+/// The settings in the arguments.
 #[derive(Drop)]
 pub struct Settings {
-    /// What the lines name the driver. Where it is empty, each series is run once on a small workload for
-    /// its checksum alone, so that each run prints the same.
+    /// The name of the driver in the lines. If it is empty, each series is run once on a small workload for its
+    /// checksum only, so that each run prints the same.
     pub name: String,
-    /// The structures to run; all where there are none.
+    /// The structures to run; all if there are none.
     pub structures: Vec<String>,
     /// How often each series is run, for the median of the times.
     pub repetitions: usize,
-    /// What the sizes are divided by.
+    /// The divisor of the sizes.
     pub divisor: usize,
-    /// The one size of structures, in place of the usual ones: of bits, members, symbols, items or nodes. Then each
-    /// has the first kind of data alone, and no series that goes over all of it but builds.
+    /// The one size of structures, instead of the usual ones: of bits, members, symbols, items or nodes. Then
+    /// each has only the first kind of data, and of the series that go over all of it only builds.
     pub size: Option<usize>,
 }
 
 impl Settings {
-    /// Whether times are asked for.
+    /// Returns true if times are requested.
     pub fn are_timed(&self) -> bool {
         !self.name.is_empty()
     }
 
-    /// A size, divided by what all sizes are divided by.
+    /// Returns a size, divided by the divisor of all sizes.
     pub fn scaled(&self, size: usize) -> usize {
         size / if self.are_timed() {
             self.divisor.max(1)
@@ -36,7 +36,7 @@ impl Settings {
         }
     }
 
-    /// The size of a structure: the one that is asked for, or the usual one, divided as all are.
+    /// Returns the size of a structure: the one that is requested, or the usual one, divided as all are.
     pub fn size_or(&self, usual: usize) -> usize {
         match self.size {
             Some(size) => size,
@@ -44,12 +44,12 @@ impl Settings {
         }
     }
 
-    /// Whether larger structures are asked for too.
+    /// Returns true if larger structures are requested too.
     pub fn has_large(&self) -> bool {
         self.are_timed() && self.size.is_none()
     }
 
-    /// How often a series is run.
+    /// Returns how often a series is run.
     pub fn repetitions(&self) -> usize {
         if self.are_timed() {
             self.repetitions
@@ -58,13 +58,13 @@ impl Settings {
         }
     }
 
-    /// Whether a structure is asked for.
+    /// Returns true if a structure is requested.
     pub fn wants(&self, structure: &str) -> bool {
         self.structures.is_empty() || self.structures.iter().any(|it| it.as_str() == structure)
     }
 }
 
-/// How long a run of a series took, in nanoseconds, and the checksum of its answers.
+/// The time of a run of a series, in nanoseconds, and the checksum of its answers.
 #[derive(Clone, Copy, Drop)]
 pub struct Timed {
     nanoseconds: u64,
@@ -72,18 +72,18 @@ pub struct Timed {
 }
 
 impl Timed {
-    /// The same run with another checksum, which is known after its time.
+    /// Returns the same run with another checksum, which is known after its time.
     pub fn with_checksum(self, checksum: u64) -> Timed {
         Timed { checksum, ..self }
     }
 }
 
-/// What is measured: a structure over some data. Each of its series prints a line.
+/// The structure and the data that are measured. Each of the series prints a line.
 #[derive(Clone, Copy)]
 pub struct Report<'a> {
-    /// What the program has of its surroundings.
+    /// The program's runtime.
     pub rt: &'a HostRuntime,
-    /// What the arguments ask for.
+    /// The settings in the arguments.
     pub settings: &'a Settings,
     /// The structure's name.
     pub structure: &'a str,
@@ -92,12 +92,12 @@ pub struct Report<'a> {
 }
 
 impl<'a> Report<'a> {
-    /// The report of another structure.
+    /// Returns the report of another structure.
     pub fn of(&self, structure: &'a str) -> Report<'a> {
         Report { structure, ..*self }
     }
 
-    /// The report of the same structure over some data.
+    /// Returns the report of the same structure over some data.
     pub fn over<'b>(&self, parameters: &'b str) -> Report<'b>
     where
         'a: 'b,
@@ -108,17 +108,17 @@ impl<'a> Report<'a> {
         }
     }
 
-    /// The allocator.
+    /// Returns the allocator.
     pub fn alloc(&self) -> Global {
         self.rt.alloc()
     }
 
-    /// How many queries a series has, unless it says otherwise.
+    /// Returns the number of queries of a series, unless it says otherwise.
     pub fn query_count(&self) -> usize {
         self.settings.scaled(1_000_000)
     }
 
-    /// The questions of such a series, drawn after `lists_before` lists of as many numbers.
+    /// Returns the questions of such a series, drawn after `lists_before` lists of as many numbers.
     pub fn questions<D: Draw>(&self, seed: u64, lists_before: usize, from: D) -> Questions<D> {
         Questions::new(self.query_count(), seed, lists_before, from)
     }
@@ -142,7 +142,7 @@ impl<'a> Report<'a> {
         )
     }
 
-    /// Prints a size in thousandths, where times are asked for: it is no series, and has no checksum.
+    /// Prints a size in thousandths, if times are requested: it is no series, and has no checksum.
     pub fn size(&self, name: &str, thousandths: u64) -> io::Result<()> {
         if self.settings.are_timed() {
             self.print(name, thousandths, 0)
@@ -151,7 +151,7 @@ impl<'a> Report<'a> {
         }
     }
 
-    // Prints the line of a series that took these times, in nanoseconds, for `count` operations each.
+    // Prints the line of a series with these times, in nanoseconds, for `count` operations each.
     fn times(&self, operation: &str, times: Vec<u64>, count: u64, checksum: u64) -> io::Result<()> {
         self.print(operation, per_operation(times, count), checksum)
     }
@@ -174,7 +174,7 @@ impl<'a> Report<'a> {
         self.times(operation, times, count, checksum)
     }
 
-    /// The same of builds that take what they are made of: it is copied before the time is taken.
+    /// Does the same for builds that take their source: it is copied before the time is taken.
     pub fn builds_of_copies<
         S: Copy + Drop,
         C: Drop,
@@ -260,7 +260,7 @@ impl<'a> Report<'a> {
         self.passes(operation, count, structure, queries, pass)
     }
 
-    /// The same of queries that are drawn.
+    /// Does the same for queries that are drawn.
     pub fn queries<T, D: Draw, F: FnOnce(&T, &D::Item) -> u64 + Copy>(
         &self,
         operation: &str,
@@ -274,7 +274,7 @@ impl<'a> Report<'a> {
         self.listed_queries(operation, structure, queries.as_slice(), answer)
     }
 
-    /// The same of queries that each wait for the answer of the one before.
+    /// Does the same for queries that each depend on the answer of the one before.
     pub fn chained_queries<T, F: FnOnce(&T, &u64) -> u64 + Copy>(
         &self,
         operation: &str,
@@ -290,7 +290,7 @@ impl<'a> Report<'a> {
         self.passes(operation, count, structure, queries.as_slice(), pass)
     }
 
-    /// The same of queries that are each asked with an item of another list.
+    /// Does the same for queries that each take an item of another list.
     pub fn paired_queries<T, D: Draw, E: Draw, F: FnOnce(&T, &D::Item, &E::Item) -> u64 + Copy>(
         &self,
         operation: &str,
@@ -372,13 +372,13 @@ fn paired_pass<T, Q, U, F: FnOnce(&T, &Q, &U) -> u64 + Copy>(
     sum
 }
 
-// The processor time since, in nanoseconds.
+// Returns the processor time since, in nanoseconds.
 fn nanoseconds_since(rt: &HostRuntime, start: Duration) -> io::Result<u64> {
     let elapsed = rt.thread_cpu_time()?.saturating_sub(start);
     Ok(u64::try_from(elapsed.as_nanos()).unwrap_or(u64::MAX))
 }
 
-// How long a pass took, and its checksum.
+// Returns the time of a pass, and its checksum.
 fn measured<T, Q, F: FnOnce(&T, &[Q]) -> u64>(
     rt: &HostRuntime,
     structure: &T,
@@ -392,7 +392,7 @@ fn measured<T, Q, F: FnOnce(&T, &[Q]) -> u64>(
     timed_since(rt, start, checksum)
 }
 
-/// What a run took that began at `start`, with its checksum.
+/// Returns the time of a run that began at `start`, with its checksum.
 pub fn timed_since(rt: &HostRuntime, start: Duration, checksum: u64) -> io::Result<Timed> {
     let nanoseconds = nanoseconds_since(rt, start)?;
     Ok(Timed {
@@ -401,7 +401,7 @@ pub fn timed_since(rt: &HostRuntime, start: Duration, checksum: u64) -> io::Resu
     })
 }
 
-// The time of a build.
+// Returns the time of a build.
 fn build_time<S: Drop, T: Drop, F: FnOnce(Global, S) -> Result<T, AllocError>>(
     rt: &HostRuntime,
     source: S,
@@ -413,7 +413,7 @@ fn build_time<S: Drop, T: Drop, F: FnOnce(Global, S) -> Result<T, AllocError>>(
     built_since(rt, start, build(rt.alloc(), source))
 }
 
-// The time of a build of a copy, which isn't timed.
+// Returns the time of a build of a copy, which isn't timed.
 fn build_time_of_copy<
     S: Drop,
     C: Drop,
@@ -429,7 +429,7 @@ fn build_time_of_copy<
     built_since(rt, start, build(copied))
 }
 
-// The time of a build that began at `start`, in nanoseconds. What it made is let go after that time is
+// Returns the time of a build that began at `start`, in nanoseconds. Its result is dropped after that time is
 // taken.
 fn built_since<T: Drop>(
     rt: &HostRuntime,
@@ -448,15 +448,15 @@ fn built_since<T: Drop>(
 
 fn let_go<T: Drop>(_value: T) {}
 
-// The median of the times of `count` operations, in thousandths of a nanosecond an operation.
+// Returns the median of the times of `count` operations, in thousandths of a nanosecond an operation.
 fn per_operation(mut times: Vec<u64>, count: u64) -> u64 {
     times.sort_unstable();
     let median = times.get(times.len() / 2).copied().unwrap_or(0);
     median.saturating_mul(1000) / count.max(1)
 }
 
-/// Has `ask` report on a structure that was made of `source`. The structure may be of any type, so that a
-/// caller's proof doesn't go through its fields.
+/// Runs `ask` on a structure that was made of `source`. The structure is of a generic type, so that a caller's
+/// proof doesn't go through its fields.
 pub fn asked<S: Copy, T: Drop, F: FnOnce(&Report, S, &T) -> io::Result<()>>(
     report: &Report,
     source: S,
@@ -471,8 +471,8 @@ pub fn asked<S: Copy, T: Drop, F: FnOnce(&Report, S, &T) -> io::Result<()>>(
     }
 }
 
-/// What was made, or that memory is refused where a maker has an error of its own: none of the lists that
-/// are measured is too long.
+/// Returns the value, or `AllocError` for any other error of its constructor: none of the lists that are
+/// measured is too long.
 pub fn or_refused<T: Drop, E: Drop>(made: Result<T, E>) -> Result<T, AllocError> {
     match made {
         Ok(value) => Ok(value),
@@ -480,7 +480,7 @@ pub fn or_refused<T: Drop, E: Drop>(made: Result<T, E>) -> Result<T, AllocError>
     }
 }
 
-/// As many values as told, each made of `source` by its number. They may be of any type, as in `asked`.
+/// Returns `count` values, each made of `source` by its number. They are of a generic type, as in `asked`.
 pub fn many<S: Copy, T: Drop, F: FnOnce(Global, S, usize) -> Result<T, AllocError> + Copy>(
     alloc: Global,
     count: usize,
@@ -496,7 +496,7 @@ pub fn many<S: Copy, T: Drop, F: FnOnce(Global, S, usize) -> Result<T, AllocErro
     Ok(all)
 }
 
-/// How many bits one of `count` items takes of a structure of so many bytes, in thousandths.
+/// Returns the number of bits of one of `count` items in a structure of `bytes` bytes, in thousandths.
 pub fn bits_per_item(bytes: usize, count: u64) -> u64 {
     (bytes as u64).saturating_mul(8).saturating_mul(1000) / count.max(1)
 }

@@ -20,12 +20,12 @@ use vers_sorted::elias_fano::EliasFanoVec;
 use vers_sorted::order::is_ascending;
 use vers_wavelet::wavelet::WaveletMatrix;
 
-// The error of a list that could not be saved or loaded.
+// Returns the error of a list that could not be saved or loaded.
 fn no_form() -> io::Error {
     io::Error::from(io::ErrorKind::InvalidInput)
 }
 
-// The saved form of a list.
+// Returns the saved form of a list.
 fn form_of<S: Saved>(alloc: Global, list: &S) -> io::Result<Vec<u8>> {
     let mut bytes = Vec::new(alloc);
     match save_to_vec(list, &mut bytes) {
@@ -34,7 +34,7 @@ fn form_of<S: Saved>(alloc: Global, list: &S) -> io::Result<Vec<u8>> {
     }
 }
 
-// The sum in a form, which is its last word.
+// Returns the sum in a form, which is its last word.
 fn sum_in(bytes: &[u8]) -> u64 {
     match bytes.last_chunk::<8>() {
         Some(word) => u64::from_le_bytes(*word),
@@ -42,22 +42,22 @@ fn sum_in(bytes: &[u8]) -> u64 {
     }
 }
 
-// How long a save took.
+// Returns the time of a save.
 fn saved<S: Saved>(report: &Report, list: &S) -> io::Result<Timed> {
     let start = report.rt.thread_cpu_time()?;
     let bytes = form_of(report.alloc(), list)?;
     timed_since(report.rt, start, sum_in(bytes.as_slice()))
 }
 
-// How long a copy of the bytes took.
+// Returns the time of a copy of the bytes.
 fn copied_bytes(report: &Report, bytes: &[u8]) -> io::Result<Timed> {
     let start = report.rt.thread_cpu_time()?;
     let copy = Vec::from_slice(report.alloc(), bytes)?;
     timed_since(report.rt, start, sum_in(copy.as_slice()))
 }
 
-// How long a load took. Another was let go before, so that its memory is known to the system, as that of a list is
-// that is made again and again.
+// Returns the time of a load. Another was dropped before, so that its memory is known to the allocator, as that
+// of a list that is made again and again.
 fn loaded<S: Saved + Drop, L: FnOnce(Global, &[u8]) -> Result<S, LoadError> + Copy>(
     report: &Report,
     bytes: &[u8],
@@ -77,7 +77,7 @@ fn loaded<S: Saved + Drop, L: FnOnce(Global, &[u8]) -> Result<S, LoadError> + Co
     Ok(timed.with_checksum(sum_in(form.as_slice())))
 }
 
-// Runs the series over a list of so many items.
+// Runs the series over a list of `count` items.
 fn run_made<S: Saved + Drop, L: FnOnce(Global, &[u8]) -> Result<S, LoadError> + Copy>(
     report: &Report,
     count: u64,
@@ -93,7 +93,7 @@ fn run_made<S: Saved + Drop, L: FnOnce(Global, &[u8]) -> Result<S, LoadError> + 
     report.repeated("load", count, || loaded(report, bytes, load))
 }
 
-// Runs the series over a list of so many items that `make` makes of a source.
+// Runs the series over a list of `count` items that `make` makes of a source.
 fn run_list<
     S: Saved + Drop,
     I: Copy + Drop,
@@ -137,7 +137,7 @@ pub fn run_limbs(report: &Report, limbs: &[u64]) -> io::Result<()> {
     )
 }
 
-// The ascending list of members. None of the lists that are measured descends.
+// Returns the ascending list of members. None of the lists that are measured descends.
 fn sorted_of(alloc: Global, members: &[u64]) -> Result<EliasFanoVec<Global>, AllocError> {
     if is_ascending(members) {
         EliasFanoVec::from_slice(alloc, members)
@@ -175,12 +175,12 @@ fn run_symbols(report: &Report, count: usize, width: u16) -> io::Result<()> {
     )
 }
 
-// The tree of parentheses, which are copied.
+// Returns the tree of parentheses, which are copied.
 fn tree_of_copy(alloc: Global, bits: &BitVec<Global>) -> Result<Tree, AllocError> {
     tree_of(copied(alloc, bits)?)
 }
 
-// A tree by the parentheses of its form, as `load_tree_from_slice` loads one in memory of a reference.
+// Returns a tree from the parentheses of its form, as `load_tree_from_slice` loads one in memory of a reference.
 fn load_tree(alloc: Global, bytes: &[u8]) -> Result<Tree, LoadError> {
     let bits = load_parentheses_from_slice(alloc, 512, bytes)?;
     Ok(tree_of(bits)?)

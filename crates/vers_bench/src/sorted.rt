@@ -38,7 +38,7 @@ fn iter_pass(list: &Members) -> u64 {
     sum_of(list.iter())
 }
 
-/// Which values are asked for: `span` values from `first` on, by `count` queries.
+/// The values that are queried: `span` values from `first` on, by `count` queries.
 #[derive(Clone, Copy)]
 struct Asked {
     first: u64,
@@ -67,7 +67,7 @@ fn run_built(report: &Report, values: Asked, list: &Members) -> io::Result<()> {
     report.walk("iter", len, list, iter_pass)
 }
 
-// Runs all series over a list of numbers. Numbers that don't ascend are left out.
+// Runs all series over a list of numbers. Numbers that don't ascend are skipped.
 fn run_list(report: &Report, numbers: &[u64], values: Asked) -> io::Result<()> {
     if !is_ascending(numbers) {
         return Ok(());
@@ -78,7 +78,7 @@ fn run_list(report: &Report, numbers: &[u64], values: Asked) -> io::Result<()> {
     asked(report, values, made, run_built)
 }
 
-// The same under the name of a kind of numbers.
+// Does the same under the name of a kind of numbers.
 fn run_kind(report: &Report, kind: &str, numbers: &[u64], values: Asked) -> io::Result<()> {
     let len = numbers.len();
     let parameters = format!(in report.alloc(); "{kind} n={len}")?;
@@ -95,7 +95,7 @@ fn run_uniform(report: &Report, len: usize) -> io::Result<()> {
     run_kind(report, "uniform", members.as_slice(), values)
 }
 
-// Lists with a dense cluster, or with many equal members. They have few queries.
+// Runs the series over lists with a dense cluster, or with many equal members. They have few queries.
 fn run_clustered(report: &Report, len: usize, are_equal: bool) -> io::Result<()> {
     let Clustered { members, first } = members_clustered(report.alloc(), len, are_equal)?;
     let count = report.settings.scaled(2_000);

@@ -8,17 +8,18 @@ use vers_wavelet::wavelet::WaveletMatrix;
 
 type Matrix = WaveletMatrix<Global>;
 
-/// Symbols of a width, which a matrix is made of.
+/// Symbols of a width, the source of a matrix.
 #[derive(Clone, Copy)]
 pub struct Symbols<'a> {
     /// The symbols.
     pub list: &'a [u64],
-    /// How many bits each has.
+    /// The number of bits of each.
     pub width: u16,
 }
 
 impl Symbols<'_> {
-    // The most of the numbers that are asked of a symbol: of 8 bits, each occurs some n / 256 times.
+    // Returns the greatest number of occurrences that is queried: of 8 bits, each symbol occurs about n / 256
+    // times.
     fn most_occurrences(&self) -> u64 {
         if self.width == 8 {
             (self.list.len() as u64 / 256).saturating_mul(3) / 4
@@ -28,18 +29,18 @@ impl Symbols<'_> {
     }
 }
 
-/// A range of places, and a number of one of its members by size.
+/// A range of positions, and the rank of one of its members by size.
 #[derive(Clone, Copy, Drop)]
 pub struct Quantile {
-    /// The first place of the range.
+    /// The first position of the range.
     pub from: usize,
-    /// The place that it ends before.
+    /// The position after the range.
     pub to: usize,
-    /// The number of the member.
+    /// The rank of the member.
     pub number: usize,
 }
 
-/// The ranges of a list of so many symbols, each with a member.
+/// The ranges of a list of that many symbols, each with a member.
 #[derive(Clone, Copy)]
 pub struct Quantiles(pub u64);
 
@@ -128,12 +129,12 @@ fn run_built(report: &Report, source: Symbols, matrix: &Matrix) -> io::Result<()
     report.walk("iter_sorted_u64", n, matrix, sorted_walk_pass)
 }
 
-/// A build by stable sorting, of symbols that have at most 64 bits.
+/// Builds by stable sorting, of symbols that have at most 64 bits.
 pub fn sorted_build(alloc: Global, source: Symbols) -> Result<Matrix, AllocError> {
     WaveletMatrix::from_slice(alloc, source.list, source.width.min(64))
 }
 
-// A build by counting prefixes.
+// Builds by counting prefixes.
 fn counted_build(alloc: Global, source: Symbols) -> Result<Matrix, AllocError> {
     WaveletMatrix::from_slice_pc(alloc, source.list, source.width.clamp(1, 63))
 }

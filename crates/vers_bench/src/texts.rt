@@ -1,6 +1,6 @@
 //! The series of texts in which patterns are found.
 //!
-//! Patterns are taken from the text, or, where they are to stand nowhere in it, from another one of its kind.
+//! Patterns are taken from the text, or, if they must not occur in it, from another one of its kind.
 use crate::report::{Report, asked, bits_per_item, or_refused};
 use crate::workload::{Below, NONE, Questions, bases, fold, words};
 use std::alloc::{AllocError, Global};
@@ -9,7 +9,7 @@ use text_index::TextIndex;
 
 type Text = TextIndex<Global>;
 
-/// What a text is made of, and another text of its kind.
+/// The source of a text, and another text of its kind.
 #[derive(Clone, Copy)]
 struct Source<'a> {
     symbols: &'a [u64],
@@ -17,18 +17,18 @@ struct Source<'a> {
     width: u16,
 }
 
-// How many symbols patterns have that are counted, and the names of these series.
+// The lengths of the patterns that are counted, and the names of these series.
 const COUNTS: [(&str, usize); 3] = [("count_8", 8), ("count_16", 16), ("count_32", 32)];
 
-// The most symbols that a pattern has.
+// The greatest length of a pattern.
 const LONGEST: usize = 32;
 
-// How many places of a pattern are asked for, and how many symbols of the text.
+// The number of occurrences of a pattern that are located, and the number of symbols that are extracted.
 const PLACES: usize = 10;
 
 const PIECE: usize = 64;
 
-// The symbols from a place on, so many of them.
+// Returns the `len` symbols from a position on.
 fn pattern(symbols: &[u64], place: u64, len: usize) -> &[u64] {
     let place = place as usize;
     symbols.get(place..place.saturating_add(len)).unwrap_or(&[])
@@ -38,7 +38,7 @@ fn count(text: &Text, symbols: &[u64], place: u64, len: usize) -> u64 {
     text.count(pattern(symbols, place, len)) as u64
 }
 
-// The first places of a pattern of eight symbols, folded.
+// Returns the first positions of a pattern of eight symbols, folded.
 fn places(text: &Text, symbols: &[u64], place: u64) -> u64 {
     let Ok(found) = text.first_places(pattern(symbols, place, 8), PLACES) else {
         return NONE;
@@ -50,7 +50,7 @@ fn places(text: &Text, symbols: &[u64], place: u64) -> u64 {
     sum
 }
 
-// The symbols from a place on, folded.
+// Returns the symbols from a position on, folded.
 fn piece(text: &Text, place: u64) -> u64 {
     let place = place as usize;
     let Ok(Some(found)) = text.extract(place..place.saturating_add(PIECE)) else {
@@ -109,7 +109,7 @@ fn run_text(report: &Report, kind: &str, source: Source) -> io::Result<()> {
     asked(&report, source, text, run_queries)
 }
 
-// The series over bases, with the symbols of 2 bits.
+// Runs the series over bases, with the symbols of 2 bits.
 fn run_bases(report: &Report, n: usize) -> io::Result<()> {
     let symbols = bases(report.alloc(), n, 100)?;
     let others = bases(report.alloc(), n / 10, 101)?;
@@ -121,7 +121,7 @@ fn run_bases(report: &Report, n: usize) -> io::Result<()> {
     run_text(report, "bases", source)
 }
 
-// The series over words, with the symbols of 8 bits.
+// Runs the series over words, with the symbols of 8 bits.
 fn run_words(report: &Report, n: usize) -> io::Result<()> {
     let symbols = words(report.alloc(), n, 100)?;
     let others = words(report.alloc(), n / 10, 101)?;
@@ -133,7 +133,7 @@ fn run_words(report: &Report, n: usize) -> io::Result<()> {
     run_text(report, "words", source)
 }
 
-// The build over one symbol of 2 bits, as often as told.
+// Runs the build over `n` equal symbols of 2 bits.
 fn run_equal(report: &Report, n: usize) -> io::Result<()> {
     let symbols = Vec::from_elem(report.alloc(), 1u64, n)?;
     let source = Source {
@@ -150,7 +150,7 @@ fn run_size(report: &Report, n: usize) -> io::Result<()> {
     run_equal(report, n)
 }
 
-/// Runs all series over texts of a million symbols, and where times are asked for of ten millions too.
+/// Runs all series over texts of a million symbols, and if times are requested of ten million too.
 pub fn run(report: &Report) -> io::Result<()> {
     let settings = report.settings;
     run_size(report, settings.size_or(1_000_000))?;

@@ -19,7 +19,7 @@ type Bits = BitVec<Global>;
 /// The trees that are measured, in blocks of 512 bits.
 pub type Tree = BpTree<512, Global>;
 
-// The trees that are measured.
+// The shapes of trees that are measured.
 #[derive(Clone, Copy)]
 enum Shape {
     /// A random tree, each as likely as any other.
@@ -30,7 +30,7 @@ enum Shape {
     Star,
 }
 
-/// A node, and how many levels up from it an ancestor is asked for.
+/// A node, and the number of levels up to the ancestor that is queried.
 #[derive(Clone, Copy, Drop)]
 struct Climb {
     node: usize,
@@ -98,7 +98,7 @@ fn children_pass(tree: &Tree, nodes: &[usize]) -> u64
     sum
 }
 
-// How many nodes are asked for their children, and how many children they have.
+// Returns the number of children of the nodes.
 fn children_count(tree: &Tree, nodes: &[usize]) -> u64
     requires balanced { IsBalanced tree.now }
     requires nodes { All (λ v. IsNode (forest_of tree.now) v) nodes.now }
@@ -117,7 +117,7 @@ fn dfs_iter_pass(tree: &Tree) -> u64 {
     sum_of_places(tree.dfs_iter())
 }
 
-// The node of this number in preorder. None where there are no more.
+// Returns the node of this number in preorder, or `None` if there are fewer.
 fn numbered(tree: &Tree, number: usize) -> Option<usize>
     requires { IsBalanced tree.now }
     ensures { IfSome result (λ v. IsNode (forest_of tree.now) v) }
@@ -156,7 +156,7 @@ fn parent(tree: &Tree, node: usize) -> Option<usize>
     tree.parent(node)
 }
 
-// From the first root through the whole tree by first children, next siblings and parents. Each step
+// Walks from the first root through the whole tree by first children, next siblings and parents. Each step
 // enters a node or leaves one.
 #[inline(never)]
 fn dfs_walk_pass(tree: &Tree, _none: &[()]) -> u64
@@ -189,7 +189,7 @@ fn dfs_walk_pass(tree: &Tree, _none: &[()]) -> u64
     sum
 }
 
-// The bits of a tree, as many as told.
+// Returns the bits of a tree of `count` bits.
 fn bits_of(alloc: Global, shape: Shape, count: usize) -> Result<Bits, GrowError> {
     match shape {
         Shape::Random => random_bits(alloc, count),
@@ -198,7 +198,7 @@ fn bits_of(alloc: Global, shape: Shape, count: usize) -> Result<Bits, GrowError>
     }
 }
 
-/// The parentheses of a random tree, as many as told.
+/// Returns the parentheses of a random tree, `count` of them.
 pub fn random_bits(alloc: Global, count: usize) -> Result<Bits, GrowError> {
     let limbs = parentheses(alloc, count)?;
     let mut bits = BitVec::from_limbs(alloc, limbs.as_slice())?;
@@ -224,7 +224,7 @@ fn star_bits(alloc: Global, count: usize) -> Result<Bits, GrowError> {
     Ok(bits)
 }
 
-// Nodes at random.
+// Returns random nodes.
 fn nodes_asked(
     alloc: Global,
     random: &mut Random,
@@ -244,7 +244,7 @@ fn nodes_asked(
     Ok(nodes)
 }
 
-// The same nodes, each with a number of levels.
+// Returns the same nodes, each with a number of levels.
 fn climbs_asked(
     alloc: Global,
     random: &mut Random,
@@ -264,7 +264,7 @@ fn climbs_asked(
     Ok(climbs)
 }
 
-// Where the nodes close.
+// Returns the positions at which the nodes close.
 fn ends_of(alloc: Global, tree: &Tree, nodes: &[usize]) -> Result<Vec<usize>, AllocError> {
     let mut ends = Vec::with_capacity(alloc, nodes.len())?;
     for node in nodes {
@@ -273,12 +273,12 @@ fn ends_of(alloc: Global, tree: &Tree, nodes: &[usize]) -> Result<Vec<usize>, Al
     Ok(ends)
 }
 
-/// The tree of parentheses.
+/// Returns the tree of parentheses.
 pub fn tree_of(bits: Bits) -> Result<Tree, AllocError> {
     or_refused(BpTree::from_bit_vector(bits))
 }
 
-/// A copy of parentheses.
+/// Returns a copy of parentheses.
 pub fn copied(_alloc: Global, bits: &Bits) -> Result<Bits, AllocError> {
     bits.clone()
 }

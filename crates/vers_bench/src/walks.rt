@@ -12,10 +12,10 @@ use vers_rank::fast_rs_vec::RsVec;
 
 type Bits = RsVec<Global>;
 
-/// How many ones a step of `iter1_nth` passes, with the one that it gives.
+/// The number of ones that a step of `iter1_nth` passes, including the one that it returns.
 const STEP: usize = 10;
 
-/// The sum of the places that a walk passes.
+/// Returns the sum of the positions that a walk passes.
 #[inline(always)]
 pub fn sum_of_places<I: Iterator<Item = usize> + Drop>(walk: I) -> u64
     requires can { I.can_next walk }
@@ -24,7 +24,7 @@ pub fn sum_of_places<I: Iterator<Item = usize> + Drop>(walk: I) -> u64
     walk.fold(0u64, |sum, place| sum.wrapping_add(place as u64))
 }
 
-/// The sum of the numbers that a walk passes.
+/// Returns the sum of the numbers that a walk passes.
 #[inline(always)]
 pub fn sum_of<I: Iterator<Item = u64> + Drop>(walk: I) -> u64
     requires can { I.can_next walk }

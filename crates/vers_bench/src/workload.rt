@@ -1,7 +1,7 @@
 //! The data and the queries, the same at each run and in every driver of the benchmark.
 use std::alloc::{AllocError, Global};
 
-// What the generator's state grows by with each number.
+// The increment of the generator's state with each number.
 const STRIDE: u64 = 0x9E37_79B9_7F4A_7C15;
 
 /// The generator splitmix64.
@@ -11,17 +11,17 @@ pub struct Random {
 }
 
 impl Random {
-    /// A generator that begins at a seed.
+    /// Returns a generator that begins at a seed.
     pub fn new(seed: u64) -> Self {
         Random { state: seed }
     }
 
-    /// A generator that begins at a seed and has given `skipped` numbers.
+    /// Returns a generator that begins at a seed and has skipped `skipped` numbers.
     fn after(seed: u64, skipped: usize) -> Self {
         Random::new(seed.wrapping_add(STRIDE.wrapping_mul(skipped as u64)))
     }
 
-    /// The next number.
+    /// Returns the next number.
     pub fn step(&mut self) -> u64 {
         self.state = self.state.wrapping_add(STRIDE);
         let z = self.state;
@@ -30,12 +30,12 @@ impl Random {
         z ^ (z >> 31)
     }
 
-    /// The next number below `n`, and 0 where `n` is 0.
+    /// Returns the next number below `n`, or 0 if `n` is 0.
     pub fn below(&mut self, n: u64) -> u64 {
         self.step().checked_rem(n).unwrap_or(0)
     }
 
-    /// The next `count` items that are drawn.
+    /// Returns the next `count` items that are drawn.
     pub fn many<D: Draw>(
         &mut self,
         alloc: Global,
@@ -50,16 +50,16 @@ impl Random {
     }
 }
 
-/// What items are drawn from.
+/// The distribution that items are drawn from.
 pub trait Draw {
     /// An item.
     type Item: Drop;
 
-    /// The next item.
+    /// Returns the next item.
     fn draw(&self, random: &mut Random) -> Self::Item;
 }
 
-/// The numbers below one.
+/// The numbers below a limit.
 #[derive(Clone, Copy)]
 pub struct Below(pub u64);
 
@@ -75,14 +75,14 @@ impl Draw for Below {
 #[derive(Drop)]
 pub struct Questions<D> {
     seed: u64,
-    /// How many numbers of the generator are left out.
+    /// The number of numbers of the generator that are skipped.
     skipped: usize,
     count: usize,
     from: D,
 }
 
 impl<D: Draw> Questions<D> {
-    /// `count` questions, drawn after `lists_before` lists of as many numbers.
+    /// Returns `count` questions, drawn after `lists_before` lists of as many numbers.
     pub fn new(count: usize, seed: u64, lists_before: usize, from: D) -> Self {
         Questions {
             seed,
@@ -92,13 +92,13 @@ impl<D: Draw> Questions<D> {
         }
     }
 
-    /// All of them.
+    /// Returns all of them.
     pub fn made(&self, alloc: Global) -> Result<Vec<D::Item>, AllocError> {
         Random::after(self.seed, self.skipped).many(alloc, self.count, &self.from)
     }
 }
 
-/// What stands for no answer in a checksum.
+/// The value for no answer in a checksum.
 pub const NONE: u64 = u64::MAX;
 
 /// Folds an answer into the checksum of a series of queries.
@@ -106,7 +106,7 @@ pub fn fold(sum: u64, answer: u64) -> u64 {
     sum.wrapping_mul(31).wrapping_add(answer)
 }
 
-/// A place or a count as a number; what stands for none where there is none.
+/// Returns a position or a count as a number, or the value for no answer.
 pub fn place_or_none(place: Option<usize>) -> u64 {
     match place {
         Some(place) => place as u64,
@@ -117,13 +117,13 @@ pub fn place_or_none(place: Option<usize>) -> u64 {
 /// A range of numbers, both ends included.
 #[derive(Clone, Copy, Drop)]
 pub struct Ends {
-    /// Where it begins.
+    /// The first number.
     pub first: u64,
-    /// Where it ends.
+    /// The last number.
     pub last: u64,
 }
 
-/// The ranges between two numbers below one.
+/// The ranges between two numbers below a limit.
 #[derive(Clone, Copy)]
 pub struct Between(pub u64);
 
@@ -143,21 +143,21 @@ impl Draw for Between {
 /// A list of bits in limbs of 64, of which each is a one with a chance of `percent` in 100.
 #[derive(Clone, Copy)]
 pub struct RandomBits {
-    /// How many limbs there are.
+    /// Returns the number of limbs.
     pub limb_count: usize,
     /// The chance of a one.
     pub percent: u64,
 }
 
 impl RandomBits {
-    /// What a line says of them.
+    /// Returns the parameters in a line.
     pub fn parameters(&self, alloc: Global) -> Result<String, AllocError> {
         let len = (self.limb_count as u64).wrapping_mul(64);
         let percent = self.percent;
         format!(in alloc; "n={len} ones={percent}%")
     }
 
-    /// The limbs, the same at each call.
+    /// Returns the limbs, the same at each call.
     pub fn limbs(&self, alloc: Global) -> Result<Vec<u64>, AllocError> {
         Random::new(1).many(alloc, self.limb_count, self)
     }
@@ -177,7 +177,7 @@ impl Draw for RandomBits {
     }
 }
 
-// The highest bits of numbers of 64, without as many of the lowest, which are at most 63.
+// The highest bits of numbers of 64 bits, without the given number of lowest bits, which is at most 63.
 #[derive(Clone, Copy)]
 struct Highest(u32);
 
@@ -189,39 +189,39 @@ impl Draw for Highest {
     }
 }
 
-/// Numbers of 64 bits.
+/// Returns numbers of 64 bits.
 pub fn values(alloc: Global, count: usize) -> Result<Vec<u64>, AllocError> {
     Random::new(5).many(alloc, count, &Highest(0))
 }
 
-/// Symbols of at most 64 bits: the highest bits of numbers of 64.
+/// Returns symbols of at most 64 bits: the highest bits of numbers of 64.
 pub fn symbols(alloc: Global, count: usize, width: u16) -> Result<Vec<u64>, AllocError> {
     let shift = 64u32.saturating_sub(width as u32);
     Random::new(4).many(alloc, count, &Highest(shift))
 }
 
-/// Bases: symbols of 2 bits, the highest bits of numbers of 64.
+/// Returns bases: symbols of 2 bits, the highest bits of numbers of 64.
 pub fn bases(alloc: Global, count: usize, seed: u64) -> Result<Vec<u64>, AllocError> {
     Random::new(seed).many(alloc, count, &Highest(62))
 }
 
-/// A text of made words, letter by letter, with a space before each word.
+/// A text of random words, letter by letter, with a space before each word.
 ///
-/// There are 2,047 words, numbered from 1 on, in eleven groups: one of `2^k` words from number `2^k` on for each
-/// `k` below 11. Each group is as likely as any other, and each word as any other of its group, so word `k` is
-/// drawn once in some `8 * k` times, as words of a language are. A generator that begins at 1,000 and the word's
-/// number tells the word: at first its length, 2 and a number below 8, and then for each letter two numbers below
-/// 26, of which the lesser is the letter, 0 for `a`.
+/// There are 2,047 words, numbered from 1 on, in eleven groups: one of `2^k` words from number `2^k` on for
+/// each `k` below 11. Each group is as likely as any other, and each word as any other of its group, so word
+/// `k` is drawn once in about `8 * k` times, as words of a language are. A generator that begins at 1,000 plus
+/// the word's number determines the word: first its length, 2 plus a number below 8, and then for each letter
+/// two numbers below 26, of which the lesser is the letter, 0 for `a`.
 #[derive(Drop)]
 struct Spelling {
     choices: Random,
     letters: Random,
-    /// How many letters of the word are to come.
+    /// The number of letters of the word to come.
     left: u64,
 }
 
 impl Spelling {
-    // The next symbol.
+    // Returns the next symbol.
     fn symbol(&mut self) -> u64 {
         if self.left == 0 {
             self.begin_word();
@@ -240,7 +240,7 @@ impl Spelling {
     }
 }
 
-/// A text of made words, of `count` symbols of 8 bits.
+/// Returns a text of random words, of `count` symbols of 8 bits.
 pub fn words(alloc: Global, count: usize, seed: u64) -> Result<Vec<u64>, AllocError> {
     let mut spelling = Spelling {
         choices: Random::new(seed),
@@ -254,14 +254,14 @@ pub fn words(alloc: Global, count: usize, seed: u64) -> Result<Vec<u64>, AllocEr
     Ok(symbols)
 }
 
-/// How far members that follow each other are apart: `least` and a number below `span`.
+/// The gaps between consecutive members: `least` plus a number below `span`.
 #[derive(Clone, Copy)]
 struct Gaps {
     least: u64,
     span: u64,
 }
 
-// Adds `count` members after `value`, and answers the last.
+// Appends `count` members after `value`, and returns the last.
 fn push_members(
     members: &mut Vec<u64>,
     mut value: u64,
@@ -278,7 +278,7 @@ fn push_members(
     Ok(value)
 }
 
-// Adds `count` members after `value` with one gap between them, and answers the last.
+// Appends `count` members after `value` with one gap between them, and returns the last.
 fn push_evenly(
     members: &mut Vec<u64>,
     mut value: u64,
@@ -292,14 +292,14 @@ fn push_evenly(
     Ok(value)
 }
 
-// `count` ascending members with gaps at random.
+// Returns `count` ascending members with random gaps.
 fn ascending(alloc: Global, count: usize, seed: u64, gaps: Gaps) -> Result<Vec<u64>, AllocError> {
     let mut members = Vec::with_capacity(alloc, count)?;
     push_members(&mut members, 0, count, &mut Random::new(seed), gaps)?;
     Ok(members)
 }
 
-/// Ascending members with gaps below 2^20.
+/// Returns ascending members with gaps below 2^20.
 pub fn members_uniform(alloc: Global, count: usize) -> Result<Vec<u64>, AllocError> {
     let gaps = Gaps {
         least: 0,
@@ -308,7 +308,7 @@ pub fn members_uniform(alloc: Global, count: usize) -> Result<Vec<u64>, AllocErr
     ascending(alloc, count, 2, gaps)
 }
 
-/// Ascending documents with gaps from 2 to 2^10 + 1.
+/// Returns ascending documents with gaps from 2 to 2^10 + 1.
 pub fn documents(alloc: Global, count: usize) -> Result<Vec<u64>, AllocError> {
     let gaps = Gaps {
         least: 2,
@@ -317,12 +317,12 @@ pub fn documents(alloc: Global, count: usize) -> Result<Vec<u64>, AllocError> {
     ascending(alloc, count, 12, gaps)
 }
 
-/// Members with gaps below 2^40, but for a tenth of them in the middle, which lie close together.
+/// Members with gaps below 2^40, but for a tenth of them in the middle, which are close together.
 #[derive(Drop)]
 pub struct Clustered {
     /// All members.
     pub members: Vec<u64>,
-    /// What the close ones begin at.
+    /// The value at which the close ones begin.
     pub first: u64,
 }
 
@@ -331,7 +331,7 @@ const FAR: Gaps = Gaps {
     span: 1 << 40,
 };
 
-// Adds `count` members after `value` that are equal or 1 to 3 apart, and answers the last.
+// Appends `count` members after `value` that are equal or 1 to 3 apart, and returns the last.
 fn push_close(
     members: &mut Vec<u64>,
     value: u64,
@@ -346,8 +346,8 @@ fn push_close(
     }
 }
 
-// Adds eight members after `value`, 100 apart, then the close ones, then eight more. Answers what the
-// close ones begin at, and the last.
+// Appends eight members after `value`, 100 apart, then the close ones, then eight more. Returns the value at
+// which the close ones begin, and the last.
 fn push_cluster(
     members: &mut Vec<u64>,
     value: u64,
@@ -361,7 +361,7 @@ fn push_cluster(
     Ok(Ends { first, last })
 }
 
-// The same amid `far` members with wide gaps.
+// Does the same amid `far` members with wide gaps.
 fn push_clustered(
     members: &mut Vec<u64>,
     far: usize,
@@ -376,7 +376,7 @@ fn push_clustered(
     Ok(first)
 }
 
-/// `count` members: in their middle eight, then a tenth of all that are equal or 1 to 3 apart, then
+/// Returns `count` members: in their middle eight, then a tenth of all that are equal or 1 to 3 apart, then
 /// eight more.
 pub fn members_clustered(
     alloc: Global,
@@ -390,9 +390,9 @@ pub fn members_clustered(
     Ok(Clustered { members, first })
 }
 
-/// A list of a thousandth as many documents, each drawn at random from a stretch of equal length of
-/// `documents`. Half of them are one more than the drawn one, which is not among those. Lists of other
-/// numbers are others.
+/// Returns a list of a thousandth as many documents, each drawn at random from a range of equal length of
+/// `documents`. Half of them are one more than the drawn one, which is not in `documents`. Lists of other
+/// numbers differ.
 pub fn drawn(alloc: Global, documents: &[u64], number: usize) -> Result<Vec<u64>, AllocError> {
     let mut random = Random::new((number as u64).wrapping_add(14));
     let count = documents.len() / 1000;
@@ -405,26 +405,26 @@ pub fn drawn(alloc: Global, documents: &[u64], number: usize) -> Result<Vec<u64>
     Ok(drawn)
 }
 
-// A document of a stretch from `start` on, or one more.
+// Returns a document of a range from `start` on, or one more.
 fn drawn_from(random: &mut Random, documents: &[u64], start: usize, stretch: usize) -> u64 {
     let place = start.wrapping_add(random.below(stretch as u64) as usize);
     let document = documents.get(place).copied().unwrap_or(NONE);
     document.wrapping_add(random.below(2))
 }
 
-/// A tree at random that grows by its parentheses, each tree of as many bits as likely as any other: one
-/// root, whose nodes are half as many as the bits.
+/// A random tree that grows by its parentheses, each tree of as many bits as likely as any other: one root,
+/// whose nodes are half as many as the bits.
 #[derive(Drop)]
 struct Growth {
     random: Random,
-    /// How many nodes are open.
+    /// The number of open nodes.
     open: u64,
-    /// How many bits there are to come.
+    /// The number of bits to come.
     left: u64,
 }
 
 impl Growth {
-    // The next limb. Past the end its bits are zeros.
+    // Returns the next limb. Past the end its bits are zeros.
     fn limb(&mut self) -> u64 {
         let mut limb = 0u64;
         for i in 0..64u32 {
@@ -435,7 +435,7 @@ impl Growth {
         limb
     }
 
-    // The next bit.
+    // Returns the next bit.
     fn bit(&mut self) -> bool {
         self.left = self.left.wrapping_sub(1);
         let opens = self.open == 0 || self.left > 0 && self.opens();
@@ -447,7 +447,7 @@ impl Growth {
         opens
     }
 
-    // Whether another node is opened below one that is open, before the last bit.
+    // Returns true if another node is opened below one that is open, before the last bit.
     fn opens(&mut self) -> bool {
         let drawn = self
             .random
@@ -458,7 +458,7 @@ impl Growth {
     }
 }
 
-/// The limbs of the parentheses of a random tree.
+/// Returns the limbs of the parentheses of a random tree.
 pub fn parentheses(alloc: Global, bit_count: usize) -> Result<Vec<u64>, AllocError> {
     let mut growth = Growth {
         random: Random::new(6),
