@@ -1,4 +1,4 @@
-//! An allocator for tests: it counts the requests for memory and refuses those that it is told to.
+//! An allocator for tests: it counts the requests for memory and refuses those in its plan.
 #![tactic(auto)]
 
 mod asking;
@@ -21,7 +21,7 @@ pub use tries::{
     try_change, try_clone, try_convert, try_make, try_use,
 };
 
-/// Which requests are refused, and what has been asked so far. Requests count from 1.
+/// The requests that are refused, and the requests so far. Requests count from 1.
 pub struct Plan {
     next: Cell<u64>,
     first: Cell<u64>,
@@ -48,15 +48,16 @@ impl Drop for Plan {
     }
 }
 
-/// Passes each request on to `inner`, but for those that its plan refuses. A test owns it and hands
-/// out `&`s, each of which is an allocator that can be copied.
+/// Forwards each request to `inner`, except those that its plan refuses. A test owns it and uses references,
+/// each of which is an allocator that can be copied.
 pub struct Refusing<B: Allocator> {
     inner: B,
     plan: Plan,
 }
 
 impl<B: Allocator> Refusing<B> {
-    /// Refuses the requests with the numbers `first` to `last`; none where `first` is above `last`.
+    /// Returns an allocator that refuses the requests with the numbers `first` to `last`; none if `first` is
+    /// above `last`.
     pub fn between(inner: B, first: u64, last: u64) -> Refusing<B> {
         Refusing {
             inner,
@@ -73,88 +74,88 @@ impl<B: Allocator> Refusing<B> {
         }
     }
 
-    /// Refuses nothing.
+    /// Returns an allocator that refuses nothing.
     pub fn none(inner: B) -> Refusing<B> {
         Refusing::between(inner, 1, 0)
     }
 
-    /// Refuses request number `n` alone.
+    /// Returns an allocator that refuses only request number `n`.
     pub fn nth(inner: B, n: u64) -> Refusing<B> {
         Refusing::between(inner, n, n)
     }
 
-    /// Refuses every request.
+    /// Returns an allocator that refuses every request.
     pub fn all(inner: B) -> Refusing<B> {
         Refusing::between(inner, 0, u64::MAX)
     }
 
-    /// Refuses nothing before `start`, and then the `n`th request from there on. `n` is above 0.
+    /// Returns an allocator that refuses nothing before `start`, and then the `n`th request. `n` is above 0.
     pub fn after_start(inner: B, n: u64) -> Refusing<B> {
         let heap = Refusing::none(inner);
         heap.plan.next.set(n);
         heap
     }
 
-    /// Starts to refuse what `after_start` was told to. The call that is tried comes next.
+    /// Starts the refusal that `after_start` planned. The tested call comes next.
     pub fn start(&self) {
         self.refuse_next(self.plan.next.replace(0));
     }
 
-    /// Whether what `after_start` was told to refuse waits for `start`.
+    /// Returns true if the refusal that `after_start` planned waits for `start`.
     pub fn is_waiting(&self) -> bool {
         self.plan.next.get() > 0
     }
 
-    /// From here on, the next request that is refused is the `n`th from now on.
+    /// Refuses from here on only the `n`th request from now.
     pub fn refuse_next(&self, n: u64) {
         let at = self.plan.asked.get().saturating_add(n);
         self.plan.first.set(at);
         self.plan.last.set(at);
     }
 
-    /// From here on nothing is refused.
+    /// Refuses nothing from here on.
     pub fn allow_all(&self) {
         self.plan.first.set(1);
         self.plan.last.set(0);
     }
 
-    /// From here on everything is refused.
+    /// Refuses every request from here on.
     pub fn refuse_all(&self) {
         self.plan.first.set(0);
         self.plan.last.set(u64::MAX);
     }
 
-    /// How many requests for memory were made, refused ones included.
+    /// Returns the number of requests for memory, refused ones included.
     pub fn asked(&self) -> u64 {
         self.plan.asked.get()
     }
 
-    /// How many of them were refused by the plan.
+    /// Returns the number of requests that the plan refused.
     pub fn refused(&self) -> u64 {
         self.plan.refused.get()
     }
 
-    /// Whether every block that was granted was given back.
+    /// Returns true if every granted block was freed.
     pub fn is_empty(&self) -> bool {
         self.asked().checked_sub(self.refused()) == Some(self.freed())
     }
 
-    /// How many blocks were given back.
+    /// Returns the number of freed blocks.
     pub fn freed(&self) -> u64 {
         self.plan.freed.get()
     }
 
-    /// How many bytes were granted and not given back.
+    /// Returns the number of bytes granted and not freed.
     pub fn held_bytes(&self) -> usize {
         self.plan.held.get()
     }
 
-    /// How many bytes were held at most at once, since the start or the last `measure_anew`.
+    /// Returns the greatest number of bytes in use at once, since the start or the last `measure_anew`.
     pub fn most_held_bytes(&self) -> usize {
         self.plan.most_held.get()
     }
 
-    /// From here on `most_held_bytes` tells of what is held from now on.
+    /// Restarts the measurement of `most_held_bytes` from the bytes now in use.
     pub fn measure_anew(&self) {
         self.plan.most_held.set(self.plan.held.get());
     }
@@ -166,7 +167,7 @@ impl<B: Allocator> Drop for Refusing<B> {
     }
 }
 
-// Whether the next request, for so many bytes, is refused. It is counted.
+// Returns true if the next request, for that many bytes, is refused, and counts it.
 fn is_refused(plan: &Plan, size: usize) -> bool {
     let number = plan.asked.get().saturating_add(1);
     plan.asked.set(number);
@@ -181,7 +182,7 @@ fn is_refused(plan: &Plan, size: usize) -> bool {
     is_refused
 }
 
-// Counts a block of so many bytes that is given back.
+// Counts a freed block of that many bytes.
 fn count_freed(plan: &Plan, size: usize) {
     plan.freed.set(plan.freed.get().saturating_add(1));
     plan.held.set(plan.held.get().wrapping_sub(size));
@@ -203,9 +204,9 @@ unsafe impl<B: Allocator> Allocator for Refusing<B> {
     }
 }
 
-/// Runs `fails` with the first request refused, then the second, and so on, until a run ends with
-/// none refused. Answers how many requests that run made; None where a run with a refusal did not
-/// fail, where the last one did, or where `most` runs all had one.
+/// Runs `fails` with the first request refused, then the second, and so on, until a run ends with none refused.
+/// Returns the number of requests of that run, or `None` if a run with a refusal did not fail, the last one
+/// did, or all `most` runs had one.
 pub fn refused_in_turn<B: Allocator + Copy, F: Fn(&Refusing<B>) -> bool>(
     inner: B,
     most: u64,
@@ -227,7 +228,7 @@ pub fn refused_in_turn<B: Allocator + Copy, F: Fn(&Refusing<B>) -> bool>(
     None
 }
 
-/// Whether `works` does what it should with every request refused, and asks for nothing.
+/// Returns true if `works` does what it should with every request refused, and makes none.
 pub fn takes_none<B: Allocator, F: Fn(&Refusing<B>) -> bool>(inner: B, works: F) -> bool
     requires { F.IsAlwaysCallable works }
 {
