@@ -5,7 +5,7 @@ use crate::tests::queries::{Query, first_wrong_answer};
 use std::alloc::Global;
 use vers_bits::bit_vec::{BitVec, GrowError};
 
-// Whether so many ones end in the limbs 1, all ones, 6 after those are appended.
+// Returns true if that many ones end in the limbs 1, all ones, 6 after these are appended.
 fn appends_limbs(list: &mut BitVec<Global>, limbs: &BitVec<Global>, len: usize) -> bool {
     let rows = [
         (Query::Len, Some((len as u64).wrapping_add(192))),
@@ -24,7 +24,7 @@ fn ones_append_limbs(limbs: &BitVec<Global>, len: usize) -> bool {
     }
 }
 
-// The first length, of some, at which limbs are not appended right.
+// Returns the first length, of several, at which limbs are appended wrongly.
 fn first_wrong_length(limbs: &BitVec<Global>) -> Option<usize> {
     for len in [0, 1, 63, 64, 65, 130].iter() {
         if !ones_append_limbs(limbs, *len) {
@@ -34,13 +34,13 @@ fn first_wrong_length(limbs: &BitVec<Global>) -> Option<usize> {
     None
 }
 
-// Whether three ones stay as many when no bits are appended.
+// Returns true if three ones stay as many when no bits are appended.
 fn append_nothing(ones: &mut BitVec<Global>) -> bool {
     let none = BitVec::new(ones.allocator());
     ones.extend_bitvec(&none) == Ok(()) && ones.len() == 3
 }
 
-// The first length at which limbs are appended wrong, and whether no bits are appended right.
+// Returns the first length at which limbs are appended wrongly, and whether no bits are appended rightly.
 fn appended(alloc: Global) -> Result<(Option<usize>, bool), GrowError> {
     let wrong = first_wrong_length(&BitVec::from_limbs(alloc, &[1, u64::MAX, 6])?);
     Ok((wrong, append_nothing(&mut BitVec::from_ones(alloc, 3)?)))
@@ -51,12 +51,12 @@ fn lists_are_appended_at_any_length(rt: HostRuntime) {
     assert_eq!(rt; appended(rt.alloc()), Ok((None, true)), "a length");
 }
 
-// Whether a one, extended by lists, is 1100.
+// Returns true if a one, extended by lists, is 1100.
 fn is_1100(list: &BitVec<Global>) -> bool {
     list.len() == 4 && list.get_bits(0, 4) == Some(3)
 }
 
-// The bits 10 and 0 as lists.
+// Returns the bits 10 and 0 as lists.
 fn two_lists(alloc: Global) -> Result<Vec<BitVec<Global>, Global>, GrowError> {
     let mut lists = Vec::new(alloc);
     for bits in [[1u8, 0].as_slice(), [0].as_slice()] {
@@ -65,7 +65,7 @@ fn two_lists(alloc: Global) -> Result<Vec<BitVec<Global>, Global>, GrowError> {
     Ok(lists)
 }
 
-// Whether a one is 1100 once lists are appended, taken by reference and by value.
+// Returns true if a one is 1100 once lists are appended, taken by reference and by value.
 fn extends_by_reference(made: Result<BitVec<Global>, GrowError>, lists: &[BitVec<Global>]) -> bool {
     match made {
         Ok(mut one) => extend_ref(&mut one, lists).0.is_ok() && is_1100(&one),

@@ -1,9 +1,9 @@
-//! Every maker of a list of bits, by one table of items in each type that lists are made of.
+//! Every constructor of a list of bits, by one table of items in each type that lists are made of.
 use crate::tests::pattern::item;
 use std::alloc::{AllocError, Allocator};
 use vers_bits::bit_vec::{BitVec, GrowError};
 
-/// A maker; where it packs, with the number of bits that each item gets.
+/// A constructor; if it packs, with the number of bits of each item.
 #[derive(Clone, Copy, Drop)]
 pub enum Maker {
     WithCapacity,
@@ -51,7 +51,7 @@ impl<A: Allocator + Copy> Items<A> {
         }
     }
 
-    /// The allocator of the items.
+    /// Returns the allocator of the items.
     pub fn allocator(&self) -> A {
         self.alloc
     }
@@ -65,7 +65,7 @@ impl<A: Allocator + Copy> Items<A> {
         push(&mut self.longs, number)
     }
 
-    /// The items with the lowest digits of the numbers.
+    /// Returns the items with the lowest digits of the numbers.
     pub fn of_numbers(alloc: A, numbers: &[u64]) -> Result<Self, AllocError> {
         let mut items = Items::new(alloc);
         for number in numbers {
@@ -74,7 +74,7 @@ impl<A: Allocator + Copy> Items<A> {
         Ok(items)
     }
 
-    /// The first items of the pattern.
+    /// Returns the first items of the pattern.
     pub fn of_pattern(alloc: A, len: usize) -> Result<Self, AllocError> {
         let mut items = Items::new(alloc);
         for place in 0..len {
@@ -84,7 +84,7 @@ impl<A: Allocator + Copy> Items<A> {
     }
 }
 
-/// A push of which the prover knows nothing.
+/// Appends an item. The prover knows nothing of it.
 pub fn push<T: Drop, A: Allocator + Copy>(
     items: &mut Vec<T, A>,
     item: T,
@@ -93,7 +93,7 @@ pub fn push<T: Drop, A: Allocator + Copy>(
     Ok(())
 }
 
-/// The list that a maker makes of items; where it takes only a length, of as many bits.
+/// Returns the list that a constructor makes of items, or of as many bits if it takes only a length.
 pub fn make<A: Allocator + Copy>(
     alloc: A,
     maker: Maker,
@@ -114,7 +114,7 @@ pub fn make<A: Allocator + Copy>(
     }
 }
 
-// The same of the makers that pack a slice.
+// Does the same for the constructors that pack a slice.
 fn pack<A: Allocator + Copy>(
     alloc: A,
     maker: Maker,
@@ -129,7 +129,7 @@ fn pack<A: Allocator + Copy>(
     }
 }
 
-// The same of the makers that take an iterator.
+// Does the same for the constructors that take an iterator.
 fn make_of_iter<A: Allocator + Copy>(
     alloc: A,
     maker: Maker,
@@ -143,7 +143,7 @@ fn make_of_iter<A: Allocator + Copy>(
     }
 }
 
-// The same of the makers that pack the items of one.
+// Does the same for the constructors that pack the items of one.
 fn pack_iter<A: Allocator + Copy>(
     alloc: A,
     maker: Maker,

@@ -1,11 +1,11 @@
-//! What masks make, how they are read, and lists of different lengths.
+//! The results of masks, reads of them, and lists of different lengths.
 use crate::tests::masks::{Mask, answer_of_nor, answer_of_or, apply, is_cloned, masked};
 use crate::tests::queries::{Query, first_wrong_answer};
 use std::alloc::{AllocError, Global};
 use test_alloc::asked_both;
 use vers_bits::bit_vec::{BitVec, LengthMismatch};
 
-// The masks, and what each makes of the bits 0011 and 0101, as a number of which the first bit is the lowest.
+// The masks, and the result of each for the bits 0011 and 0101, as a number of which the first bit is the lowest.
 const NUMBERS: [(Mask, u64); 4] = [
     (Mask::Or, 14),
     (Mask::And, 8),
@@ -13,7 +13,7 @@ const NUMBERS: [(Mask, u64); 4] = [
     (Mask::AndNot, 4),
 ];
 
-// The number of a list of four bits. None where it has not four.
+// Returns the number of a list of four bits. `None` if it has another length.
 fn number_of_four(list: &BitVec<Global>) -> Option<u64> {
     if list.len() != 4 {
         return None;
@@ -21,7 +21,7 @@ fn number_of_four(list: &BitVec<Global>) -> Option<u64> {
     list.get_bits(0, 4)
 }
 
-// The number of the list that a mask makes. None where it was not made.
+// Returns the number of the list that a mask makes. `None` if it was not made.
 fn number_of_masked(made: Result<BitVec<Global>, Option<AllocError>>) -> Option<u64> {
     match made {
         Ok(list) => number_of_four(&list),
@@ -29,7 +29,7 @@ fn number_of_masked(made: Result<BitVec<Global>, Option<AllocError>>) -> Option<
     }
 }
 
-// The number of a copy of a list that was changed by a mask.
+// Returns the number of a copy of a list that was changed by a mask.
 fn changed_number(
     copy: Result<BitVec<Global>, AllocError>,
     mask: Mask,
@@ -44,7 +44,7 @@ fn changed_number(
     }
 }
 
-// The first mask that makes another number, or changes a list to another.
+// Returns the first mask that makes another number, or changes a list to another.
 fn first_wrong_mask(left: &BitVec<Global>, right: &BitVec<Global>) -> Option<usize> {
     for (row, (mask, number)) in NUMBERS.iter().enumerate() {
         if number_of_masked(masked(*mask, left, right)) != Some(*number)
@@ -66,7 +66,7 @@ fn two_lists_are_combined_bit_by_bit(rt: HostRuntime) {
     assert_eq!(rt; wrong, Ok(None), "a mask");
 }
 
-// What is asked of masks that make 70 ones, and the answers.
+// Queries of masks that make 70 ones, and their answers.
 const OF_ONES: [(Query, Option<u64>); 14] = [
     (Query::GetBits(3, 64), Some(u64::MAX)),
     (Query::GetBits(7, 64), None),
@@ -84,8 +84,7 @@ const OF_ONES: [(Query, Option<u64>); 14] = [
     (Query::IsBitSetUnchecked(64), Some(1)),
 ];
 
-// The row of the first question of the or of zeros and ones that has another answer, and the same of a closure that
-// makes ones of zeros.
+// Returns the first wrong row for the or of zeros and ones, and for a closure that makes ones of zeros.
 fn first_wrong_reads(
     zeros: &BitVec<Global>,
     ones: &BitVec<Global>,
@@ -102,7 +101,7 @@ fn first_wrong_reads(
     wrong
 }
 
-// Whether a list was made, and is equal to another one.
+// Returns true if a list was made, and is equal to another one.
 fn is_equal(made: Result<BitVec<Global>, AllocError>, other: &BitVec<Global>) -> bool {
     match made {
         Ok(list) => list == *other,
@@ -110,7 +109,7 @@ fn is_equal(made: Result<BitVec<Global>, AllocError>, other: &BitVec<Global>) ->
     }
 }
 
-// Whether a closure that answers ones where both bits are equal makes zeros of zeros and ones.
+// Returns true if a closure that returns ones where both bits are equal makes zeros of zeros and ones.
 fn makes_zeros(zeros: &BitVec<Global>, ones: &BitVec<Global>) -> bool {
     let Ok(mask) = zeros.mask_custom(ones, |a: u64, b: u64| !(a ^ b)) else {
         return false;
@@ -118,7 +117,7 @@ fn makes_zeros(zeros: &BitVec<Global>, ones: &BitVec<Global>) -> bool {
     mask.count_ones() == 0 && mask.count_zeros() == 70 && is_equal(mask.to_bit_vec(), zeros)
 }
 
-// Whether a closure that answers ones where both bits are zeros makes ones of zeros.
+// Returns true if a closure that returns ones where both bits are zeros makes ones of zeros.
 fn makes_ones(zeros: &BitVec<Global>, ones: &BitVec<Global>) -> bool {
     match zeros.mask_custom(zeros, |a: u64, b: u64| !(a | b)) {
         Ok(mask) => is_equal(mask.to_bit_vec(), ones),
@@ -130,7 +129,7 @@ fn nor(a: u64, b: u64) -> u64 {
     !(a | b)
 }
 
-// Whether a function makes ones of a copy of zeros, with no bit past the length.
+// Returns true if a function makes ones of a copy of zeros, with no bit past the length.
 fn is_changed_to_ones(copy: Result<BitVec<Global>, AllocError>, zeros: &BitVec<Global>) -> bool {
     let rows = [
         (Query::Len, Some(70)),
@@ -145,7 +144,7 @@ fn is_changed_to_ones(copy: Result<BitVec<Global>, AllocError>, zeros: &BitVec<G
     }
 }
 
-// What goes right with 70 zeros and as many ones.
+// Returns which tests pass with 70 zeros and as many ones.
 fn masks_work(zeros: &BitVec<Global>, ones: &BitVec<Global>) -> [bool; 5] {
     [
         first_wrong_reads(zeros, ones) == (None, None),
@@ -166,7 +165,7 @@ fn a_mask_is_read_like_a_list(rt: HostRuntime) {
     );
 }
 
-// Whether no mask of two lists is made.
+// Returns true if no mask of two lists is made.
 fn makes_no_mask(one: &BitVec<Global>, other: &BitVec<Global>) -> bool {
     for (mask, _) in &NUMBERS {
         if !matches!(masked(*mask, one, other), Err(None)) {
@@ -176,7 +175,7 @@ fn makes_no_mask(one: &BitVec<Global>, other: &BitVec<Global>) -> bool {
     true
 }
 
-// Whether a list of 70 zeros is changed by no mask.
+// Returns true if no mask changes a list of 70 zeros.
 fn stays(list: &mut BitVec<Global>, other: &BitVec<Global>) -> bool {
     for (mask, _) in &NUMBERS {
         if apply(*mask, list, other) != Err(LengthMismatch) {
@@ -186,7 +185,7 @@ fn stays(list: &mut BitVec<Global>, other: &BitVec<Global>) -> bool {
     first_wrong_answer(list, &[(Query::Len, Some(70)), (Query::CountOnes, Some(0))]).is_none()
 }
 
-// The same of a copy of zeros.
+// Does the same for a copy of zeros.
 fn is_not_changed(copy: Result<BitVec<Global>, AllocError>, other: &BitVec<Global>) -> bool {
     match copy {
         Ok(mut list) => stays(&mut list, other),
