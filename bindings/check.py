@@ -3,7 +3,7 @@
 
     python3 bindings/check.py            both, where their tools are there; crates/vers_c is proved first if need be
     python3 bindings/check.py ARCHIVE    this archive alone
-    python3 bindings/check.py --cargo    the library of cargo alone
+    python3 bindings/check.py --cargo    the library of cargo alone; with --quick by one compiler a language, without valgrind and pip
     python3 bindings/check.py --write    writes the codes anew, and checks nothing
 
 - The codes of statuses, queries and changes in vers.h, in the Python package and in bindings/c/src are those of
@@ -34,6 +34,8 @@ from sources import has_cargo
 C, CPP, PY = (os.path.join(HERE, it) for it in ("c", "cpp", "python"))
 ARCHIVE = os.path.join(TOP, "crates", "vers_c", "out", "libvers_c.a")
 STRICT = ["-O1", "-g", "-pedantic", "-Wall", "-Wextra", "-Werror", f"-I{C}"]
+# The tools that a quick check leaves out.
+SLOW = {"clang", "clang++", "valgrind", "pip"}
 # by which tests refuse the library memory
 REFUSING = "-Wl,--wrap=malloc,--wrap=realloc"
 # the table of crates/vers_c, the enum of vers.h with its codes, what its names begin with, and a row of that table
@@ -51,8 +53,8 @@ FENCE = re.compile(r"(?ms)^```(\w+)\n(.*?)^```\n(?:(?:[^`\n]*\n)*?^```text\n(.*?
 class Checks:
     """What passed, what failed, and what was left out."""
 
-    def __init__(self):
-        self.passed, self.failed, self.left_out, self.library = 0, 0, [], ""
+    def __init__(self, is_quick):
+        self.passed, self.failed, self.left_out, self.library, self.is_quick = 0, 0, [], "", is_quick
         self.folder = tempfile.mkdtemp(prefix="vers")
 
     def run(self, what, command, wanted=None, **more):
@@ -69,10 +71,11 @@ class Checks:
         return False
 
     def has(self, tool, what):
-        """Whether a tool is there; what is left out for want of it is noted."""
-        if not shutil.which(tool):
-            self.left_out.append(f"{what} (no {tool})")
-        return shutil.which(tool)
+        """Whether a tool is there, and a quick check uses it; what is left out is noted."""
+        is_left_out = self.is_quick and tool in SLOW
+        if is_left_out or not shutil.which(tool):
+            self.left_out.append(f"{what} ({'quick' if is_left_out else 'no ' + tool})")
+        return not is_left_out and shutil.which(tool)
 
     def path(self, name):
         """A path in the scratch folder."""
@@ -281,6 +284,8 @@ def modules_of(checks):
     pythons = {os.path.realpath(it): it for it in [sys.executable, "/usr/bin/python3"] if os.path.exists(it)}
     wanted = {"numpy": "numpy arrays", "mypy": "types", "pip": "an installed wheel",
               "distributed": "parts on Dask's workers"}
+    if checks.is_quick:
+        checks.left_out.append(f"{wanted.pop('pip')} (quick)")
     tried = f"import importlib.util as u; print(*(it for it in {list(wanted)} if u.find_spec(it)))"
     modules = {it: subprocess.check_output([it, "-c", tried], text=True).split() for it in pythons.values()}
     for module, what in wanted.items():
@@ -379,7 +384,7 @@ def check_all(checks, library):
 
 def main(arguments):
     """Runs all checks."""
-    checks = Checks()
+    checks = Checks("--quick" in arguments)
     archives = [it for it in arguments if not it.startswith("--")]
     libraries = [Proved(os.path.abspath((archives or [ARCHIVE])[0]))] if "--cargo" not in arguments else []
     libraries += [Cargo(checks.path("target"))] if not archives else []
