@@ -4,7 +4,7 @@ use Rattle.std.specs.List.Sorted.{IsStrictlyIncreasing}
 use Rattle.postings.specs.declared.fault.PostingsError.{PostingsError}
 use Rattle.postings.specs.declared.fault.PostingsError.TheVariants.{LengthMismatch, TooLong, NotAscending, Memory}
 
--- what each fault says of the documents and the costs, and of the most that a list holds
+-- what each error means for the documents, their costs, and the greatest length that a list may have
 abbrev pub IsRefusedFor : List ℕ → List ℕ → ℕ → PostingsError → Type 0
 IsRefusedFor documents costs most LengthMismatch = length documents ≢ length costs
 IsRefusedFor documents costs most TooLong = (length documents ≡ length costs) × (most < length documents)

@@ -11,13 +11,13 @@ pub record Posted : Type 0 where
   pub documents : List ℕ
   pub costs : List ℕ
 
--- the documents ascend and are numbers of 64 bits, and there are as many costs
+-- the documents ascend strictly and fit in 64 bits, and there is one cost for each
 pub record ArePaired (posted : Posted) : Type 0 where
   pub ascending : IsStrictlyIncreasing posted.documents
   pub paired : length posted.costs ≡ length posted.documents
   pub numbers : All (λ d. d ≤ 18446744073709551615) posted.documents
 
--- whether a document is one of a list
+-- whether d is one of the documents
 unfoldable pub is_among : List ℕ → ℕ → Bool
 is_among documents d = list_any (λ m. m == d) documents
 
@@ -26,16 +26,16 @@ unfoldable pub places_between : List ℕ → ℕ → ℕ → List ℕ
 places_between documents from to =
     filter (λ i. nat_le from (slice_index documents i) && nat_le (slice_index documents i) to) (range_with_len 0 (length documents))
 
--- the first document of least cost among those from one number to another, both included
+-- the first document of least cost from document `from` to document `to`, both included; `None` if there is none
 unfoldable pub cheapest : Posted → ℕ → ℕ → Option ℕ
 cheapest posted from to =
     option_map (slice_index posted.documents) (first_least_of posted.costs (places_between posted.documents from to))
 
--- the documents of one list that another has too
+-- the documents that are also in the other list, ascending
 unfoldable pub common : List ℕ → List ℕ → List ℕ
 common documents others = filter (is_among others) documents
 
--- what `cheapest` reads at most: two searches and a document, and 18 costs
+-- bound on the reads of `cheapest`: two searches, one document and 18 costs
 abbrev pub cheapest_reads : List ℕ → Reads
 cheapest_reads documents = record (select_calls (2 * digits (length documents) + 18) documents) { items = 18 }
 
@@ -43,6 +43,6 @@ cheapest_reads documents = record (select_calls (2 * digits (length documents) +
 abbrev pub lookups : List ℕ → List ℕ → Reads
 lookups documents others = times (length documents) (plus (member_reads documents) (search_reads others))
 
--- what `intersect` reads at most: it looks in the longer list for each document of the shorter
+-- bound on the reads of `intersect`, which searches the longer list for each document of the shorter
 abbrev pub intersect_reads : List ℕ → List ℕ → Reads
 intersect_reads documents others = if nat_le (length documents) (length others) then lookups documents others else lookups others documents

@@ -8,12 +8,12 @@ use Rattle.std.specs.Int.{bit_at, div_ceil}
 abbrev pub bit_value : Bool → ℕ
 bit_value bit = if bit then 1 else 0
 
--- the number whose binary digits the bits are, the lowest first
+-- the number whose binary digits are the bits, least significant first
 abbrev pub number : List Bool → ℕ
 number [] = 0
 number (bit ∷ bits) = bit_value bit + 2 * number bits
 
--- the k lowest binary digits of v, the lowest first
+-- the k least significant binary digits of v, least significant first
 unfoldable pub low_bits : ℕ → ℕ → List Bool
 low_bits v k = map (λ i. bit_at v i == 1) (range_with_len 0 k)
 
@@ -21,39 +21,39 @@ low_bits v k = map (λ i. bit_at v i == 1) (range_with_len 0 k)
 abbrev pub is_bit : Bool → Bool → Bool
 is_bit bit x = if bit then x else not x
 
--- how many of the first i bits are ones (or zeros)
+-- rank: how many of the first i bits equal `bit`
 unfoldable pub count : Bool → List Bool → ℕ → ℕ
 count bit bits i = count_by (is_bit bit) (take i bits)
 
--- the places of all ones (or zeros), ascending
+-- the positions of all bits that equal `bit`, ascending
 unfoldable pub places : Bool → List Bool → List ℕ
 places bit bits = filter (λ p. is_bit bit (slice_index_or bits p false)) (range_with_len 0 (length bits))
 
--- the place of one (or zero) number r, from 0, or the length where there are no more
+-- the position of occurrence r of `bit`, from 0, or the length if there are at most r
 unfoldable pub select : Bool → List Bool → ℕ → ℕ
 select bit bits r = slice_index_or (places bit bits) r (length bits)
 
--- the least place of a one (or zero) above p
+-- the least position above p of a bit that equals `bit`
 unfoldable pub place_after : Bool → List Bool → ℕ → Option ℕ
 place_after bit bits p = find (λ q. nat_lt p q) (places bit bits)
 
--- the greatest place of a one (or zero) below p
+-- the greatest position below p of a bit that equals `bit`
 unfoldable pub place_before : Bool → List Bool → ℕ → Option ℕ
 place_before bit bits p = last_or None (filter (λ q. nat_lt q p) (places bit bits))
 
--- the n bits from place p on, or as many of them as there are
+-- the n bits from position p, or fewer at the end
 abbrev pub part : List Bool → ℕ → ℕ → List Bool
 part bits p n = take n (drop p bits)
 
--- the number of the n bits from place p on, where there are so many and n is from 1 to 64
+-- the number of the n bits from position p; `None` if they exceed the list, or n is 0 or above 64
 unfoldable pub part_number : List Bool → ℕ → ℕ → Option ℕ
 part_number bits p n = if nat_le 1 n && (nat_le n 64 && nat_le (p + n) (length bits)) then Some (number (part bits p n)) else None
 
--- the k low digits of each item, one item after another
+-- the k low digits of each element, one element after another
 abbrev pub pack : List ℕ → ℕ → List Bool
 pack items k = flat_map (λ v. low_bits v k) items
 
--- limb k: the number of the 64 bits from 64 * k on, or of as many of them as there are
+-- limb k: the number of the 64 bits from position 64 * k, or of fewer at the end
 unfoldable pub limb : List Bool → ℕ → ℕ
 limb bits k = number (part bits (64 * k) 64)
 

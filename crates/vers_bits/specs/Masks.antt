@@ -2,7 +2,7 @@
 use Rattle.std.specs.Prelude.{◌≡◌, ◌≢◌, ℕ, ◌^◌, ◌<◌, Bool, not, List, [], ◌∷◌, length, if◌then◌else◌, Result, MatchResult}
 use Rattle.vers_bits.specs.Bits.{masked}
 
--- a call is allowed on every pair of limbs
+-- a closure may be called on every pair of limbs
 abbrev pub OnEveryPair : (ℕ → ℕ → Type 0) → Type 0
 OnEveryPair pre = (x y : ℕ) → x < 2 ^ 64 → y < 2 ^ 64 → pre x y
 
@@ -10,7 +10,7 @@ OnEveryPair pre = (x y : ℕ) → x < 2 ^ 64 → y < 2 ^ 64 → pre x y
 abbrev pub AnswersAs : (ℕ → ℕ → ℕ → Type 0) → (ℕ → ℕ → ℕ) → Type 0
 AnswersAs post g = (x y answer : ℕ) → x < 2 ^ 64 → y < 2 ^ 64 → post x y answer → answer ≡ g x y
 
--- P holds of what a closure makes of two lists, whatever definition the closure follows
+-- P holds for what a closure makes of two lists, whatever function the closure computes
 abbrev pub OfBoth : (ℕ → ℕ → ℕ → Type 0) → List Bool → List Bool → (List Bool → Type 0) → Type 0
 OfBoth post xs ys P = (g : ℕ → ℕ → ℕ) → AnswersAs post g → P (masked g xs ys)
 
@@ -20,15 +20,15 @@ pub record Masking (F : Type 0) : Type 0 where
   pub right : List Bool
   pub mask : F
 
--- the same of the two lists of a mask
+-- `OfBoth` for the two lists of a mask
 abbrev pub OfMasked : {F : Type 0} → (ℕ → ℕ → ℕ → Type 0) → Masking F → (List Bool → Type 0) → Type 0
 OfMasked post masking P = OfBoth post masking.left masking.right P
 
--- two lists are of one length, and P holds of what was made of them, or they are not, and that was refused
+-- either the lists have equal length and P holds for the result, or they do not and the call returned an error
 abbrev pub OfOneLength : {X Y E : Type 0} → Result X E → List Y → List Y → (X → Type 0) → Type 0
 OfOneLength result xs ys P = MatchResult result (λ made. (length xs ≡ length ys) × P made) (λ _. length xs ≢ length ys)
 
--- a mask by another list led from old to new as P says, or the lists are not of one length, and it was refused and left the list as it was
+-- either the lists have equal length and P holds for the change, or they do not, and the call returned an error and changed nothing
 abbrev pub Applied : {X Y E : Type 0} → Result X E → (old new other : List Y) → Type 0 → Type 0
 Applied result old new other P = MatchResult result (λ _. (length old ≡ length other) × P) (λ _. (length old ≢ length other) × (new ≡ old))
 
@@ -38,6 +38,6 @@ zip_bits f [] ys = []
 zip_bits f (x ∷ xs) [] = []
 zip_bits f (x ∷ xs) (y ∷ ys) = f x y ∷ zip_bits f xs ys
 
--- whether just one of two bits is a one
+-- whether exactly one of two bits is a one
 abbrev pub xor : Bool → Bool → Bool
 xor x y = if x then not y else y

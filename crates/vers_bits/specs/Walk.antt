@@ -5,33 +5,33 @@ use Rattle.std.specs.Iterator.{YieldsFirst, YieldsLast}
 use Rattle.vers_bits.specs.declared.walk.Span.{Span}
 
 module _ {X : Type 0} where
-  -- n items were dropped from the front and the next was taken, or all were dropped where no more than n were left
+  -- n elements were skipped from the front and the next one was yielded, or all of at most n were skipped
   pub record TakesNth (n : ℕ) (old : List X) (taken : Option X) (new : List X) : Type 0 where
     pub given : taken ≡ slice_get old n
     pub left : new ≡ drop (n + 1) old
 
-  -- the same from the back
+  -- n elements were skipped from the back and the next one was yielded, or all of at most n were skipped
   pub record TakesNthBack (n : ℕ) (old : List X) (taken : Option X) (new : List X) : Type 0 where
     pub given : taken ≡ slice_get (reverse old) n
     pub left : new ≡ take (length old - (n + 1)) old
 
-  -- the first was taken, or there was none
+  -- `TakesNth` of 0: `next`
   abbrev pub TakesFirst : List X → Option X → List X → Type 0
   TakesFirst = TakesNth 0
 
-  -- the last was taken, or there was none
+  -- `TakesNthBack` of 0: `next_back`
   abbrev pub TakesLast : List X → Option X → List X → Type 0
   TakesLast = TakesNthBack 0
 
-  -- the items at the places of a span
+  -- the elements at the positions of a span
   unfoldable pub items_in : List X → Span → List X
   items_in xs s = slice_range xs s.from s.to
 
--- a span dropped n places from the front and gave the next, or dropped all where no more than n were left
+-- a span dropped n positions from the front and gave the next one, or dropped all of at most n
 abbrev pub DropsThenGives : ℕ → Span → Option ℕ → Span → Type 0
 DropsThenGives n s given t = MatchOption given ((s.to ≤ s.from + n) × (t.from ≡ s.to) × (t.to ≡ s.to)) (λ p. (p ≡ s.from + n) × (p < s.to) × (t.from ≡ p + 1) × (t.to ≡ s.to))
 
--- the same from the back
+-- a span dropped n positions from the back and gave the next one, or dropped all of at most n
 abbrev pub DropsThenGivesBack : ℕ → Span → Option ℕ → Span → Type 0
 DropsThenGivesBack n s given t = MatchOption given ((s.to ≤ s.from + n) × (t.from ≡ s.to) × (t.to ≡ s.to)) (λ p. (p + n + 1 ≡ s.to) × (s.from ≤ p) × (t.from ≡ s.from) × (t.to ≡ p))
 
@@ -52,11 +52,11 @@ pub data Walk {X : Type 0} : (old fronts backs new : List X) → Type 0 where
   call : (old between new fronts backs more_fronts more_backs : List X) (taken : Option X) → Step old taken fronts backs between → Walk between more_fronts more_backs new
       → Walk old (fronts ++ more_fronts) (backs ++ more_backs) new
 
--- each item is passed once: those passed from the front, those left, and those passed from the back, the last of them first, are the list
+-- an iterator yields each element once: those from the front, those left, and those from the back in reverse are the list
 abbrev pub PassesEachOnce : Type 0 → Type 0
 PassesEachOnce X = (old fronts backs new : List X) → Walk old fronts backs new → fronts ++ (new ++ reverse backs) ≡ old
 
--- an ended iterator stays ended, whatever is asked of it
+-- an exhausted iterator stays exhausted
 abbrev pub StaysEnded : Type 0 → Type 0
 StaysEnded X = (taken : Option X) (fronts backs new : List X) → Step [] taken fronts backs new → (taken ≡ None) × (new ≡ [])
 

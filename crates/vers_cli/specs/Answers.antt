@@ -14,7 +14,7 @@ replies_by_the_rules = record {
   holding_after = λ held word arguments. holding_after_name held (name_of word) arguments;
 }
 
--- the answer of a line, and what is held after it, as the engine takes them
+-- the answer to a line, and the structure after it, as the engine takes them
 abbrev pub by_the_rules : Answering Holding
 by_the_rules = answering_by replies_by_the_rules
 
@@ -30,11 +30,10 @@ holding_after held line = by_the_rules.holding_after held line
 abbrev pub answers_to : Holding → List (List ℕ) → List ℕ
 answers_to held lines = answers_of by_the_rules held lines
 
--- what was written of the answers of the lines that were read, with this held before them, by how a
--- run ends
+-- the output is the answers to the lines that a run read, beginning with the given structure, depending on how the run ended
 abbrev pub WrittenFrom : Holding → Result (Unit {0}) RunError → List (List ℕ) → List ℕ → Type 0
 WrittenFrom held result lines text = WrittenOf (answers_to held) result lines text
 
--- the same, with nothing held before them
+-- `WrittenFrom` for a run that begins without a structure
 abbrev pub WrittenAt : Result (Unit {0}) RunError → List (List ℕ) → List ℕ → Type 0
 WrittenAt result lines text = WrittenFrom Nothing result lines text

@@ -21,7 +21,7 @@ use Rattle.vers_cli.specs.TreeLines.{tree_loaded, tree_reply}
 use Rattle.vers_cli.specs.SymbolsLines.{symbols_loaded, symbols_reply}
 use Rattle.vers_cli.specs.PostingsLines.{postings_loaded, postings_reply}
 
--- the list of the last load line that was accepted, if there was one
+-- the list of the last accepted load line, or `Nothing`
 pub data Holding : Type 0 where
   Nothing : Holding
   BitsHeld : List Bool → Holding
@@ -32,7 +32,7 @@ pub data Holding : Type 0 where
   SymbolsHeld : Symbols → Holding
   PostingsHeld : Posted → Holding
 
--- the plain list of what the program holds
+-- the plain list of the program's current structure
 abbrev pub holding_of : {A : Type 0} → Held A → Holding
 holding_of held.Nothing = Nothing
 holding_of (held.Bits bits) = BitsHeld bits
@@ -43,7 +43,7 @@ holding_of (held.Tree tree) = TreeHeld tree.value
 holding_of (held.Symbols symbols) = SymbolsHeld symbols
 holding_of (held.Postings posted) = PostingsHeld posted
 
--- the length of what is held
+-- the length of the current structure
 abbrev pub length_of : Holding → ℕ
 length_of Nothing = 0
 length_of (BitsHeld bits) = length bits
@@ -79,7 +79,7 @@ query_reply (PostingsHeld posted) query arguments = postings_reply posted query 
 abbrev pub kind_of : {H : Type 0} → Loading H → Loading (Unit {0})
 kind_of loading = map_loading (λ _. tt) loading
 
--- whether a load line that gives this is accepted
+-- whether a load line with this outcome is accepted
 abbrev pub is_accepted : {H : Type 0} → Loading H → Bool
 is_accepted Malformed = false
 is_accepted Inadmissible = false

@@ -38,7 +38,7 @@ named_loaded None arguments = Malformed
 named_loaded (Some (name.Load line)) arguments = loaded line arguments
 named_loaded (Some (name.Query line)) arguments = Malformed
 
--- what a line of these words gives, where it is to be a load line
+-- the outcome of a line of these words, read as a load line
 unfoldable pub line_loaded : List (List ℕ) → Loading Holding
 line_loaded [] = Malformed
 line_loaded (word ∷ arguments) = named_loaded (name_of word) arguments

@@ -15,7 +15,7 @@ abbrev pub held_after : {H : Type 0} → Answering H → H → List (List ℕ) �
 held_after by held [] = held
 held_after by held (line ∷ lines) = held_after by (by.holding_after held line) lines
 
--- the answers of the lines in their order, where this is held before them
+-- the answers to the lines, in order, beginning with the given structure
 abbrev pub answers_of : {H : Type 0} → Answering H → H → List (List ℕ) → List ℕ
 answers_of by held [] = []
 answers_of by held (line ∷ lines) = by.answer_to held line ++ answers_of by (by.holding_after held line) lines
@@ -29,22 +29,21 @@ AnswersFirst answers lines text =
 abbrev pub BeginsAnswer : (List (List ℕ) → List ℕ) → List (List ℕ) → List ℕ → Type 0
 BeginsAnswer answers lines text = (rest : List ℕ) × (text ++ rest ≡ answers lines)
 
--- what was written of the answers of the lines that were read, by how a run ends
+-- the output is the answers to the lines that a run read, depending on how the run ended
 abbrev pub WrittenOf : (List (List ℕ) → List ℕ) → Result (Unit {0}) RunError → List (List ℕ) → List ℕ → Type 0
 WrittenOf answers (Ok u) lines text = text ≡ answers lines
 WrittenOf answers (Err Read) lines text = text ≡ answers lines
 WrittenOf answers (Err Memory) lines text = AnswersFirst answers lines text
 WrittenOf answers (Err Write) lines text = BeginsAnswer answers lines text
 
--- the lines that were read, by how a run ends: those of the whole input after Ok, and after a fault
--- the whole lines of what was read, or those of the whole input where it was read to its end
+-- the lines that a run read: those of the whole input after `Ok`; after an error the complete lines of what it read, or those of the whole input if it read all
 abbrev pub AreLinesRead : Result (Unit {0}) RunError → Option (List ℕ) → List ℕ → List (List ℕ) → Type 0
 AreLinesRead (Ok u) left read lines = IsAtEnd left × (lines ≡ lines_of read)
 AreLinesRead (Err Read) left read lines = lines ≡ whole_lines read
 AreLinesRead (Err Memory) left read lines = (lines ≡ whole_lines read) ⊎ (IsAtEnd left × (lines ≡ lines_of read))
 AreLinesRead (Err Write) left read lines = (lines ≡ whole_lines read) ⊎ (IsAtEnd left × (lines ≡ lines_of read))
 
--- the line that is printed of a fault
+-- the line that is printed for an error
 abbrev pub fault_text : RunError → List ℕ
 fault_text Read = codes "read failed"
 fault_text Write = codes "write failed"

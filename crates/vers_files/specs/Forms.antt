@@ -11,7 +11,7 @@ use Rattle.vers_saved.specs.Faults.{fault_of}
 use Rattle.vers_saved.specs.Kinds.{IsWhole, tree_kind}
 use Rattle.vers_cli.specs.Holding.{Holding, Nothing, BitsHeld, SortedHeld, SparseHeld, ValuesHeld, TreeHeld, SymbolsHeld, PostingsHeld}
 
--- the saved form of what is held, or no bytes where it has none
+-- the saved form of the current structure, or no bytes if it has none
 abbrev pub saved_form : Holding → List ℕ
 saved_form Nothing = []
 saved_form (BitsHeld bits) = saved_bits bits
@@ -22,7 +22,7 @@ saved_form (TreeHeld bits) = saved_parentheses 512 bits
 saved_form (SymbolsHeld symbols) = saved_symbols symbols.width symbols.items
 saved_form (PostingsHeld posted) = saved_postings posted
 
--- what is held has a saved form
+-- the current structure has a saved form
 abbrev pub HasForm : Holding → Type 0
 HasForm Nothing = ⊥
 HasForm (BitsHeld bits) = IsWhole BIT_LISTS (length bits) 1 (limbs bits)
@@ -48,19 +48,19 @@ kind_numbered number =
 abbrev pub number_of_kind : List ℕ → ℕ
 number_of_kind bytes = slice_index (words_of bytes) 2
 
--- the fault of bytes as a saved form of the kind that they name, or None where they are one
+-- the error in bytes as a saved form of the kind that they name, or `None` if they are one
 abbrev pub form_fault : List ℕ → Option LoadError
 form_fault bytes = fault_of (kind_numbered (number_of_kind bytes)) bytes
 
--- the bytes that a reader had left are the saved form of what is held
+-- the bytes left in a reader are the saved form of the current structure
 abbrev pub IsFormOf : Option (List ℕ) → Holding → Type 0
 IsFormOf left held = HasForm held × IfSome left (λ bytes. bytes ≡ saved_form held)
 
--- the reader failed, memory ran out, or what the reader had left has the fault
+-- the reader failed, memory ran out, or the bytes left in the reader have the error
 abbrev pub IsNoForm : Option (List ℕ) → LoadError → Type 0
 IsNoForm left fault = (fault ≡ Read) ⊎ ((fault ≡ Memory) ⊎ IfSome left (λ bytes. form_fault bytes ≡ Some fault))
 
--- what is said of a fault: its name, and what it means
+-- the message for an error: its name and its meaning
 abbrev pub fault_text : LoadError → List ℕ
 fault_text TooShort = codes "TooShort: the file is cut off"
 fault_text NotOurs = codes "NotOurs: the file does not begin as a saved list does"

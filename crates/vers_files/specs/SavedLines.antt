@@ -9,13 +9,13 @@ use Rattle.vers_files.specs.declared.saving.SaveFault.{SaveFault}
 use Rattle.vers_files.specs.declared.saving.SaveFault.TheVariants.{BadLine, Refused, NoForm, OutOfMemory, Write, Begin, Sync, Put, Settle}
 use Rattle.vers_files.specs.Forms.{HasForm}
 
--- what holds of what a load line writes, where it is accepted
+-- P holds for the list of a load line, if the line is accepted
 abbrev pub IfAccepted : {H : Type 0} → Loading H → (H → Type 0) → Type 0
 IfAccepted Malformed P = ⊤
 IfAccepted Inadmissible P = ⊤
 IfAccepted (Accepted held) P = P held
 
--- why a line that gives this is not saved
+-- why a line with this outcome is not saved
 abbrev pub SaysWhy : SaveFault → Loading Holding → Type 0
 SaysWhy BadLine loading = loading ≡ Malformed
 SaysWhy Refused loading = loading ≡ Inadmissible
@@ -29,7 +29,7 @@ line_saved (Err error.NoForm) = Err NoForm
 line_saved (Err error.Memory) = Err OutOfMemory
 line_saved (Err error.Write) = Err Write
 
--- a fault of a line or of a writer, and not of a place
+-- an error of a line or of a writer, and not of a file
 abbrev pub IsOfLine : SaveFault → Type 0
 IsOfLine Begin = ⊥
 IsOfLine Sync = ⊥
@@ -37,6 +37,6 @@ IsOfLine Put = ⊥
 IsOfLine Settle = ⊥
 IsOfLine _ = ⊤
 
--- the list was put in its place: the save ended well, or only what was put could not be settled
+-- the file is in place: the save succeeded, or only the sync of its folder failed
 abbrev pub IsPut : Result (Unit {0}) SaveFault → Type 0
 IsPut result = (result ≡ Ok tt) ⊎ (result ≡ Err Settle)

@@ -2,7 +2,7 @@
 use Rattle.std.specs.Prelude.{ℕ, List, codes}
 use Rattle.vers_cli.specs.Holding.{Holding, Nothing, BitsHeld, SortedHeld, SparseHeld, ValuesHeld, TreeHeld, SymbolsHeld, PostingsHeld}
 
--- the kind of what is held: the first word of its load line
+-- the kind of the current structure: the first word of its load line
 abbrev pub kind_text : Holding → List ℕ
 kind_text Nothing = codes "nothing"
 kind_text (BitsHeld bits) = codes "bits"
@@ -13,7 +13,7 @@ kind_text (TreeHeld bits) = codes "tree"
 kind_text (SymbolsHeld symbols) = codes "symbols"
 kind_text (PostingsHeld posted) = codes "postings"
 
--- how many bits an item of what is held has in a file, and of a tree its blocks
+-- how many bits an element has in a file; for a tree, how many bits a block has
 abbrev pub width_of : Holding → ℕ
 width_of Nothing = 0
 width_of (BitsHeld bits) = 1

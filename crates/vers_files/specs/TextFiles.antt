@@ -8,7 +8,7 @@ use Rattle.vers_files.specs.declared.texts.TextFault.{TextFault}
 use Rattle.vers_files.specs.declared.texts.TextFault.TheVariants.{File, NoSymbols, OtherWidth, TooLong, Memory}
 use Rattle.vers_files.specs.Forms.{IsFormOf, IsNoForm, fault_text}
 
--- the bytes that a reader had left are the saved form of these symbols
+-- the bytes left in a reader are the saved form of these symbols
 abbrev pub AreSymbolsOf : Option (List ℕ) → Symbols → Type 0
 AreSymbolsOf left symbols = IsFormOf left (SymbolsHeld symbols)
 
@@ -16,7 +16,7 @@ AreSymbolsOf left symbols = IsFormOf left (SymbolsHeld symbols)
 abbrev pub HasNoSymbols : Holding → Type 0
 HasNoSymbols held = (symbols : Symbols) → held ≡ SymbolsHeld symbols → ⊥
 
--- what each fault says of the bytes that a reader had left
+-- what each error means for the bytes left in a reader
 abbrev pub IsNoText : Option (List ℕ) → TextFault → Type 0
 IsNoText left (File fault) = IsNoForm left fault
 IsNoText left NoSymbols = (held : Holding) × IsFormOf left held × HasNoSymbols held
@@ -24,7 +24,7 @@ IsNoText left OtherWidth = (symbols : Symbols) × AreSymbolsOf left symbols × (
 IsNoText left TooLong = (symbols : Symbols) × AreSymbolsOf left symbols × IsSymbolWidth symbols.width × (MAX_LEN < length symbols.items)
 IsNoText left Memory = ⊤
 
--- what is said of a fault: its name, and what it means
+-- the message for an error: its name and its meaning
 abbrev pub text_fault_text : TextFault → List ℕ
 text_fault_text (File fault) = fault_text fault
 text_fault_text NoSymbols = codes "NoSymbols: the list of the file is none of symbols"

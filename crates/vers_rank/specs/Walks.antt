@@ -9,10 +9,10 @@ pub record ChunksOf : Type 0 where
   pub left : List ℕ
   pub unread : ℕ
 
--- how many chunks n bits fill
+-- how many chunks of 16 bits n bits fill
 abbrev pub chunk_count : ℕ → ℕ
 chunk_count n = block_count 16 n
 
--- what loading n chunks adds at most
+-- bound on loading n chunks
 abbrev pub chunk_reads : ℕ → Reads
 chunk_reads n = record no_reads { data_words = 2 * n; rank_calls = 2 * n; chunks = n }

@@ -2,10 +2,10 @@
 use Rattle.std.specs.Prelude.{◌≡◌, ℕ, ◌≤◌, List}
 use Rattle.vers_rmq.specs.Minima.{IsFirstLeast, least_place}
 
--- a range has one first least place
+-- a range has exactly one first position of a least element
 abbrev pub OneFirstLeast : Type 0
 OneFirstLeast = (items : List ℕ) (i j m n : ℕ) → IsFirstLeast items i j m → IsFirstLeast items i j n → m ≡ n
 
--- the least place of a range is its first place of a least item
+-- `least_place` is the first position of a least element in its range
 abbrev pub LeastPlaceIsFirst : Type 0
 LeastPlaceIsFirst = (items : List ℕ) (i j : ℕ) → i ≤ j → IsFirstLeast items i j (least_place items i j)

@@ -22,7 +22,7 @@ is_least items places m = list_all (λ p. nat_le (slice_index items m) (slice_in
 unfoldable pub first_least_of : List ℕ → List ℕ → Option ℕ
 first_least_of items places = find (is_least items places) places
 
--- the first place of a least item from place i to place j, both included, and i where i is past j
+-- the first position of a least element from position i to position j, both included; i if i is past j
 unfoldable pub least_place : List ℕ → ℕ → ℕ → ℕ
 least_place items i j = unwrap_or (first_least_of items (range_with_len i (j + 1 - i))) i
 

@@ -3,15 +3,15 @@ use Rattle.std.specs.Prelude.{ℕ, ◌-◌, ◌^◌, ◌<◌, ◌≤◌, min}
 use Rattle.std.specs.declared.ops.Bound.{Bound}
 use Rattle.std.specs.Range.Bound.{start_index, end_index}
 
--- the first place of a range that starts at the bound, cut to n places
+-- the first position of a range that starts at the bound, cut to n positions
 abbrev pub start_place : Bound ℕ → ℕ → ℕ
 start_place start n = min (start_index start) (n - 1)
 
--- the last place of a range that ends at the bound, cut to n places
+-- the last position of a range that ends at the bound, cut to n positions
 abbrev pub end_place : Bound ℕ → ℕ → ℕ
 end_place end n = min (end_index end n - 1) (n - 1)
 
--- the bounds name a range of places of n items: there is an item, a start excluded is not the greatest number, an end excluded is not 0, and the start, cut to the places, is not past the end
+-- the bounds name a range of n elements: n is not 0, an excluded start is not the greatest number, an excluded end is not 0, and the start, cut to the positions, is not past the end
 pub record IsRangeOf (start end : Bound ℕ) (n : ℕ) : Type 0 where
   pub some : 0 < n
   pub start_fits : start_index start < 2 ^ 64

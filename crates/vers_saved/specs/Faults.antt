@@ -90,6 +90,6 @@ tests_of kind size words =
     ∷ (nat_le size (saved_size (bits_said kind words)), BadLength)
     ∷ body_tests kind.order (bits_said kind words) words
 
--- the fault of bytes as the saved form of a list of that kind, or None where they are one
+-- the error in bytes as the saved form of a list of that kind, or `None` if they are one
 unfoldable pub fault_of : Kind → List ℕ → Option LoadError
 fault_of kind bytes = first_failing (tests_of kind (length bytes) (words_of bytes))

@@ -40,7 +40,7 @@ head kind count width = MAGIC ∷ VERSION ∷ kind ∷ width ∷ count ∷ []
 unfoldable pub with_sum : List ℕ → List ℕ
 with_sum words = words ++ check_sum words ∷ []
 
--- the saved form of so many items of a width, which these words hold
+-- the saved form of `count` elements of a width, whose content is these words
 unfoldable pub saved : ℕ → ℕ → ℕ → List ℕ → List ℕ
 saved kind count width words = bytes_of (with_sum (head kind count width ++ words))
 
@@ -72,7 +72,7 @@ saved_sparse bits = saved SPARSE (length (sparse_words bits)) 64 (sparse_words b
 abbrev pub saved_values : List ℕ → List ℕ
 saved_values items = saved VALUES (length items) 64 items
 
--- the saved form of parentheses, of which a tree has blocks of `size` bits: their limbs
+-- the saved form of parentheses for a tree with blocks of `size` bits: their limbs
 abbrev pub saved_parentheses : ℕ → List Bool → List ℕ
 saved_parentheses size bits = saved PARENTHESES (length bits) size (limbs bits)
 

@@ -16,11 +16,11 @@ EndsPadded n words = (n % 64 ≡ 0) ⊎ (slice_index words (limb_count n - 1) < 
 abbrev pub AreWords : List ℕ → Type 0
 AreWords words = (k : ℕ) → slice_index words k < 2 ^ 64
 
--- whether the kind has lists of so many items of that width
+-- whether the kind has lists of that many elements of that width
 abbrev pub may_be_saved : Kind → (count width : ℕ) → Bool
 may_be_saved kind count width = takes_width kind width && (takes_count kind count && nat_le (count * item_bits kind width) MAX_LEN)
 
--- the kind has such lists, and the words are as many as their items fill, hold no one past them, and stand in the order of the kind
+-- the kind has such lists, and the words are as many as the elements fill, have no one past them, and are in the order of the kind
 pub record IsWhole (kind : Kind) (count width : ℕ) (words : List ℕ) : Type 0 where
   pub may : may_be_saved kind count width ≡ true
   pub counted : length words ≡ limb_count (count * item_bits kind width)
@@ -28,7 +28,7 @@ pub record IsWhole (kind : Kind) (count width : ℕ) (words : List ℕ) : Type 0
   pub padded : EndsPadded (count * item_bits kind width) words
   pub ordered : in_order kind.order words ≡ true
 
--- the kind of parentheses of which a tree has blocks of so many bits, where it may have such
+-- the kind of parentheses for a tree with blocks of `size` bits, if it may have such blocks
 abbrev pub tree_kind : ℕ → Kind
 tree_kind size = record {
   number = PARENTHESES;

@@ -11,7 +11,7 @@ use Rattle.vers_saved.specs.Format.{check_sum, saved_bits, saved_sorted, saved_s
 use Rattle.vers_saved.specs.Faults.{fault_of}
 use Rattle.vers_saved.specs.Kinds.{AreWords, tree_kind}
 
--- where two lists of words differ in one word alone, their sums differ
+-- lists of words that differ in exactly one word have different sums
 abbrev pub SumTellsOneWord : Type 0
 SumTellsOneWord = (us vs : List ℕ) (x y : ℕ) → x < 2 ^ 64 → y < 2 ^ 64 → AreWords vs
     → check_sum (us ++ x ∷ vs) ≡ check_sum (us ++ y ∷ vs) → x ≡ y
@@ -20,38 +20,38 @@ SumTellsOneWord = (us vs : List ℕ) (x y : ℕ) → x < 2 ^ 64 → y < 2 ^ 64 �
 abbrev pub GoesRound : {T : Type 0} → Kind → (T → Type 0) → (T → List ℕ) → Type 0
 GoesRound {T} kind MayBeSaved form = (x : T) → MayBeSaved x → (fault_of kind (form x) ≡ None) × ((y : T) → MayBeSaved y → form x ≡ form y → x ≡ y)
 
--- lists of bits
+-- a saved list of bits loads as the same list
 abbrev pub BitsGoRound : Type 0
 BitsGoRound = GoesRound BIT_LISTS (λ bits. length bits ≤ BIT_LISTS.greatest_count) saved_bits
 
--- ascending lists of numbers of 64 bits
+-- a saved ascending list of 64-bit numbers loads as the same list
 abbrev pub SortedGoRound : Type 0
 SortedGoRound = GoesRound SORTED_LISTS (λ members. (length members ≤ SORTED_LISTS.greatest_count) × AreWords members × IsNonDecreasing members) saved_sorted
 
--- lists of symbols of 1 to 64 bits
+-- a saved list of symbols of 1 to 64 bits loads as the same list
 abbrev pub SymbolsGoRound : Type 0
 SymbolsGoRound =
     (width : ℕ) → 1 ≤ width → width ≤ 64
     → GoesRound SYMBOL_LISTS (λ items. (length items * width ≤ MAX_LEN) × All (λ y. y < 2 ^ width) items) (saved_symbols width)
 
--- lists of bits with few ones
+-- a saved sparse list of bits loads as the same list
 abbrev pub SparseGoRound : Type 0
 SparseGoRound = GoesRound SPARSE_LISTS (λ bits. (length bits < 2 ^ 64) × (count true bits (length bits) < GREATEST_WORDS)) saved_sparse
 
--- numbers of 64 bits, as many as a table holds
+-- saved 64-bit numbers, up to the length limit of a sparse table, load as the same list
 abbrev pub TableValuesGoRound : Type 0
 TableValuesGoRound = GoesRound TABLE_VALUES (λ items. (length items ≤ TABLE_VALUES.greatest_count) × AreWords items) saved_values
 
--- numbers of 64 bits, as many as blocks hold
+-- saved 64-bit numbers, up to the length limit of blocks, load as the same list
 abbrev pub BlockValuesGoRound : Type 0
 BlockValuesGoRound = GoesRound BLOCK_VALUES (λ items. (length items ≤ BLOCK_VALUES.greatest_count) × AreWords items) saved_values
 
--- parentheses of trees with blocks of each size
+-- the saved parentheses of a tree load as the same list, for each block size
 abbrev pub ParenthesesGoRound : Type 0
 ParenthesesGoRound =
     (size : ℕ) → 1 ≤ size → size ≤ MAX_BLOCK_SIZE
     → GoesRound (tree_kind size) (λ bits. length bits ≤ (tree_kind size).greatest_count) (saved_parentheses size)
 
--- documents with costs of 64 bits
+-- saved documents with 64-bit costs load as the same documents and costs
 abbrev pub PostingsGoRound : Type 0
 PostingsGoRound = GoesRound POSTING_LISTS (λ posted. (length posted.documents ≤ POSTING_LISTS.greatest_count) × ArePaired posted × AreWords posted.costs) saved_postings

@@ -6,10 +6,10 @@ use Rattle.vers_saved.specs.declared.fault.LoadError.{LoadError}
 use Rattle.vers_saved.specs.declared.fault.LoadError.TheVariants.{Memory, Read}
 use Rattle.vers_saved.specs.Faults.{fault_of}
 
--- a beginning of the bytes was written, and at Ok all of them
+-- a prefix of the bytes was written; after `Ok` all of them
 abbrev pub Writes : {T E : Type 0} → Result T E → (old new : Option (List ℕ)) → List ℕ → Type 0
 Writes result old new bytes = (text : List ℕ) × (rest : List ℕ) × Appends old new text × (bytes ≡ text ++ rest) × OnOk result (rest ≡ [])
 
--- the reader failed, memory ran out, or what the reader had left has the fault, where this is known
+-- the reader failed, memory ran out, or the bytes left in the reader have the error, if it is known
 abbrev pub IsRefused : Kind → Option (List ℕ) → LoadError → Type 0
 IsRefused kind left fault = (fault ≡ Read) ⊎ ((fault ≡ Memory) ⊎ IfSome left (λ bytes. fault_of kind bytes ≡ Some fault))

@@ -11,6 +11,7 @@ pub use Rattle.vers_tally.specs.Reads.{clog}
 abbrev pub first_of : List ℕ → ℕ
 first_of members = slice_index members 0
 
+-- the last element of a list that has one
 abbrev pub last_of : List ℕ → ℕ
 last_of members = slice_index members (length members - 1)
 
@@ -45,7 +46,7 @@ high_parts members = ones_at (map (high_place members) (range_with_len 0 (length
 unfoldable pub low_parts : List ℕ → List Bool
 low_parts members = pack (map (λ m. m - first_of members) members) (low_width members)
 
--- the bytes of both: the high parts with their index, and the limbs of the low parts
+-- the bytes of the high parts with their index, and of the limbs of the low parts
 abbrev pub heap_size_of : List ℕ → ℕ
 heap_size_of members = index_size (high_parts members) + 8 * limb_count (length (low_parts members))
 
@@ -53,10 +54,10 @@ heap_size_of members = index_size (high_parts members) + 8 * limb_count (length 
 abbrev pub select_calls : ℕ → List ℕ → Reads
 select_calls calls members = record (times calls (select_reads (superblock_count (high_length members)))) { low_parts = calls }
 
--- what reading a member or two adds at most
+-- bound on reading one element, or two neighbouring ones
 abbrev pub member_reads : List ℕ → Reads
 member_reads members = select_calls 2 members
 
--- what a search adds at most
+-- bound on a search
 abbrev pub search_reads : List ℕ → Reads
 search_reads members = select_calls (digits (length members) + 8) members

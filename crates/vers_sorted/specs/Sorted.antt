@@ -2,24 +2,24 @@
 use Rattle.std.specs.Prelude.{ℕ, ◌-◌, ◌==◌, ◌&&◌, Bool, true, List, [], ◌∷◌, count_by, filter, find, slice_get, slice_index, nat_lt, nat_le, Option, None, option_map, if◌then◌else◌}
 use Rattle.std.specs.List.{last_or}
 
--- whether each number stands in this order to the next one
+-- whether each number is in this order with the next one
 abbrev pub each_next : (ℕ → ℕ → Bool) → List ℕ → Bool
 each_next order [] = true
 each_next order (n ∷ []) = true
 each_next order (n ∷ next ∷ more) = order n next && each_next order (next ∷ more)
 
--- how many members are less than v
+-- how many elements are less than v
 unfoldable pub below : List ℕ → ℕ → ℕ
 below members v = count_by (λ m. nat_lt m v) members
 
--- the greatest member that is not above v: of an ascending list, the last such
+-- the last element that is at most v: in an ascending list, the greatest
 unfoldable pub greatest_not_above : List ℕ → ℕ → Option ℕ
 greatest_not_above members v = last_or None (filter (λ m. nat_le m v) members)
 
--- the least member that is not below v: of an ascending list, the first such
+-- the first element that is at least v: in an ascending list, the least
 unfoldable pub least_not_below : List ℕ → ℕ → Option ℕ
 least_not_below members v = find (λ m. nat_le v m) members
 
--- how far member i lies above the one before it, and the first member above 0
+-- element i less the one before it; element 0 less 0
 unfoldable pub delta : List ℕ → ℕ → Option ℕ
 delta members i = option_map (λ m. m - (if i == 0 then 0 else slice_index members (i - 1))) (slice_get members i)

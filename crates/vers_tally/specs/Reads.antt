@@ -14,39 +14,47 @@ pub record Reads : Type 0 where
   pub nodes : ℕ
   pub chunks : ℕ
 
--- nothing was read; bounds are built from it, as `record no_reads { data_words = 8 }`
+-- no reads; a bound is built from it, such as `record no_reads { data_words = 8 }`
 abbrev pub no_reads : Reads
 no_reads = record { data_words = 0; block_entries = 0; superblock_entries = 0; low_parts = 0; rank_calls = 0; items = 0; blocks = 0; nodes = 0; chunks = 0 }
 
--- a counter one higher, where it has not reached its greatest value
+-- a counter increased by one, unless it is at its greatest value
 abbrev pub one_more : ℕ → ℕ
 one_more n = min (n + 1) 18446744073709551615
 
--- n of one kind, and none of the others
+-- n data words and nothing else
 abbrev pub only_data_words : ℕ → Reads
 only_data_words n = record no_reads { data_words = n }
 
+-- n block entries and nothing else
 abbrev pub only_block_entries : ℕ → Reads
 only_block_entries n = record no_reads { block_entries = n }
 
+-- n superblock entries and nothing else
 abbrev pub only_superblock_entries : ℕ → Reads
 only_superblock_entries n = record no_reads { superblock_entries = n }
 
+-- n low parts and nothing else
 abbrev pub only_low_parts : ℕ → Reads
 only_low_parts n = record no_reads { low_parts = n }
 
+-- n rank calls and nothing else
 abbrev pub only_rank_calls : ℕ → Reads
 only_rank_calls n = record no_reads { rank_calls = n }
 
+-- n elements and nothing else
 abbrev pub only_items : ℕ → Reads
 only_items n = record no_reads { items = n }
 
+-- n blocks and nothing else
 abbrev pub only_blocks : ℕ → Reads
 only_blocks n = record no_reads { blocks = n }
 
+-- n nodes and nothing else
 abbrev pub only_nodes : ℕ → Reads
 only_nodes n = record no_reads { nodes = n }
 
+-- n chunks and nothing else
 abbrev pub only_chunks : ℕ → Reads
 only_chunks n = record no_reads { chunks = n }
 
@@ -67,7 +75,7 @@ pub record AddsAtMost (old new bound : Reads) : Type 0 where
   pub nodes : Adds old.nodes new.nodes bound.nodes
   pub chunks : Adds old.chunks new.chunks bound.chunks
 
--- two bounds together
+-- the sum of two bounds
 abbrev pub plus : Reads → Reads → Reads
 plus p q = record {
   data_words = p.data_words + q.data_words;
@@ -81,7 +89,7 @@ plus p q = record {
   chunks = p.chunks + q.chunks;
 }
 
--- a bound n times
+-- n times a bound
 abbrev pub times : ℕ → Reads → Reads
 times n p = record {
   data_words = n * p.data_words;

@@ -5,7 +5,7 @@ use Rattle.vers_engine.specs.Answers.{Answering, answers_of, WrittenOf}
 use Rattle.vers_engine.specs.Replies.{answering_by}
 use Rattle.vers_texts.specs.Rules.{replies_by_the_rules}
 
--- the answer of a line, and the text that is held after it, as the engine takes them
+-- the answer to a line, and the text after it, as the engine takes them
 abbrev pub by_the_rules : Answering (Option (List ℕ))
 by_the_rules = answering_by replies_by_the_rules
 
@@ -13,10 +13,10 @@ by_the_rules = answering_by replies_by_the_rules
 abbrev pub answers_to : Option (List ℕ) → List (List ℕ) → List ℕ
 answers_to held lines = answers_of by_the_rules held lines
 
--- what was written of the answers of the lines that were read, with this text held before them, by how a run ends
+-- the output is the answers to the lines that a run read, beginning with the given text, depending on how the run ended
 abbrev pub WrittenFrom : Option (List ℕ) → Result (Unit {0}) RunError → List (List ℕ) → List ℕ → Type 0
 WrittenFrom held result lines text = WrittenOf (answers_to held) result lines text
 
--- the same, where no text is held before them
+-- `WrittenFrom` for a run that begins without a text
 abbrev pub WrittenAt : Result (Unit {0}) RunError → List (List ℕ) → List ℕ → Type 0
 WrittenAt result lines text = WrittenFrom None result lines text

@@ -13,6 +13,6 @@ closes (suc n) (false ∷ bits) = closes n bits
 abbrev pub are_balanced : List Bool → Bool
 are_balanced bits = closes 0 bits
 
--- whether parentheses are balanced and a one stands at a place, which is where a node opens
+-- whether parentheses are balanced and position v has a one, which opens a node
 abbrev pub has_node : List Bool → ℕ → Bool
 has_node bits v = are_balanced bits && unwrap_or (slice_get bits v) false

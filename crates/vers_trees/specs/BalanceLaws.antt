@@ -3,6 +3,6 @@ use Rattle.std.specs.Prelude.{Bool, List, Decides}
 use Rattle.vers_trees.specs.Balance.{are_balanced}
 use Rattle.vers_trees.specs.Forest.{IsBalanced}
 
--- reading from the left decides whether parentheses are some forest written down
+-- `are_balanced` decides `IsBalanced`
 abbrev pub ReadingDecidesBalance : Type 0
 ReadingDecidesBalance = (bits : List Bool) → Decides (are_balanced bits) (IsBalanced bits)

@@ -3,7 +3,7 @@ use Rattle.std.specs.Prelude.{◌≡◌, ◌≢◌, ℕ, ◌+◌, ◌-◌, ◌*�
 use Rattle.vers_bits.specs.Bits.{number}
 use Rattle.vers_trees.specs.Excess.{excess}
 
--- the eight bits of a byte, the lowest first
+-- the eight bits of a byte, least significant first
 pub record IsByte (bits : List Bool) (byte : ℕ) : Type 0 where
   pub eight : length bits ≡ 8
   pub valued : number bits ≡ byte
@@ -37,7 +37,7 @@ pub record IsFirstMet (from_end : Bool) (bits : List Bool) (n x p : ℕ) : Type 
   pub first : (k : ℕ) → k < step → sum_along from_end bits (k + 1) +ℤ pos 8 ≢ pos x
   pub place : p ≡ place_along from_end step
 
--- the entry has the greatest and the least of the sums, for each from the least to the greatest the place first met, and 7 for all others
+-- a table entry of eight bits: the greatest and the least excess along them, each plus 8, and for each excess between these the first position that reaches it, 7 for all others
 pub record IsEntry (from_end : Bool) (bits : List Bool) (entry : ℕ) : Type 0 where
   pub bounded : greatest_in entry ≤ 16
   pub high : (k : ℕ) → k < 8 → (sum_along from_end bits (k + 1) +ℤ pos 8) ≤ℤ pos (greatest_in entry)

@@ -8,7 +8,7 @@ use Rattle.vers_bits.specs.Bits.{count}
 unfoldable pub excess : List Bool → ℕ → ℤ
 excess bits i = pos (count true bits i) -ℤ pos (count false bits i)
 
--- the first place after i past which the excess is r more than past i
+-- the first position after i past which the excess is r more than past i
 unfoldable pub first_rise_after : List Bool → ℕ → ℤ → Option ℕ
 first_rise_after bits i r =
     find (λ j. int_eq (excess bits (j + 1)) (excess bits (i + 1) +ℤ r)) (range_with_len (i + 1) (length bits - (i + 1)))
@@ -17,11 +17,11 @@ first_rise_after bits i r =
 abbrev pub places_below : List Bool → ℕ → List ℕ
 places_below bits i = if nat_lt i (length bits) then range_with_len 0 i else []
 
--- the last place before i before which the excess is r more than before i
+-- the last position before i before which the excess is r more than before i
 unfoldable pub last_rise_before : List Bool → ℕ → ℤ → Option ℕ
 last_rise_before bits i r = last_or None (filter (λ j. int_eq (excess bits j) (excess bits i +ℤ r)) (places_below bits i))
 
--- where the nearest pair around the bit at i opens, in a balanced list: the excess there is one less than before a one, and two less than before a zero
+-- the position that opens the nearest pair around the bit at i, in a balanced list
 unfoldable pub enclosing : List Bool → ℕ → Option ℕ
 enclosing bits i = last_rise_before bits i (if slice_index_or bits i false then negsuc 0 else negsuc 1)
 

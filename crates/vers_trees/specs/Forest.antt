@@ -1,12 +1,12 @@
 -- Ordered forests, and the lists of parentheses that write them down.
 use Rattle.std.specs.Prelude.{◌≡◌, ℕ, ◌+◌, Bool, true, false, List, [], ◌∷◌, ◌++◌, map, length}
 
--- ordered trees: the children of the first tree, and then the trees after it
+-- ordered trees: the children of the first tree, and the trees after it
 pub data Forest : Type 0 where
   none : Forest
   tree : Forest → Forest → Forest
 
--- a forest written down: each tree opens, gives its children, and closes
+-- a forest as parentheses: each tree opens, then its children follow, then it closes
 abbrev pub text : Forest → List Bool
 text none = []
 text (tree X Y) = true ∷ (text X ++ false ∷ text Y)
@@ -21,7 +21,7 @@ pairs none = []
 pairs (tree X Y) =
     (0, length (text X) + 1) ∷ (map (moved 1) (pairs X) ++ map (moved (length (text X) + 2)) (pairs Y))
 
--- the parentheses are balanced: they are some forest written down
+-- the parentheses are balanced: they are the text of some forest
 pub record IsBalanced (bits : List Bool) : Type 0 where
   pub forest : Forest
   pub written : text forest ≡ bits
@@ -37,6 +37,6 @@ parse [] = (none, [])
 parse (true ∷ bits) = closed (parse bits).0 (parse bits).1
 parse (false ∷ bits) = (none, (parse bits).0 ∷ (parse bits).1)
 
--- the forest that a balanced list writes down
+-- the forest whose text is a balanced list
 unfoldable pub forest_of : List Bool → Forest
 forest_of bits = (parse bits).0

@@ -19,47 +19,47 @@ pub record IsLastRiseBefore (bits : List Bool) (i : ℕ) (r : ℤ) (j : ℕ) : T
   pub sum : excess bits j ≡ excess bits i +ℤ r
   pub last : (k : ℕ) → j < k → k < i → excess bits k ≢ excess bits i +ℤ r
 
--- a search forwards finds the first place of them all
+-- a forward search finds the first such position
 abbrev pub ForwardFindsFirst : Type 0
 ForwardFindsFirst = (bits : List Bool) (i : ℕ) (r : ℤ) (j : ℕ) → (first_rise_after bits i r ≡ Some j) ↔ IsFirstRiseAfter bits i r j
 
--- a search backwards finds the last place of them all
+-- a backward search finds the last such position
 abbrev pub BackwardFindsLast : Type 0
 BackwardFindsLast = (bits : List Bool) (i : ℕ) (r : ℤ) (j : ℕ) → (last_rise_before bits i r ≡ Some j) ↔ IsLastRiseBefore bits i r j
 
--- no list writes down two forests
+-- a list is the text of at most one forest
 abbrev pub OneForest : Type 0
 OneForest = (F G : Forest) → text F ≡ text G → F ≡ G
 
--- from a one, the first place past which the excess is one less is where its pair closes
+-- a one is closed at the first position past which the excess is one less
 abbrev pub CloseFindsPair : Type 0
 CloseFindsPair = (F : Forest) (v c : ℕ) → slice_get (text F) v ≡ Some true
     → (first_rise_after (text F) v (negsuc 0) ≡ Some c) ↔ Contains (pairs F) (v, c)
 
--- from a zero, the last place before which the excess is one less is where its pair opens
+-- a zero closes the one at the last position before which the excess is one less
 abbrev pub OpenFindsPair : Type 0
 OpenFindsPair = (F : Forest) (v c : ℕ) → slice_get (text F) c ≡ Some false
     → (last_rise_before (text F) c (negsuc 0) ≡ Some v) ↔ Contains (pairs F) (v, c)
 
--- of both places of a pair, the nearest pair around it opens at the parent of its node, and there is none for a root
+-- the nearest pair around either position of a node's pair is the pair of its parent; a root has none
 abbrev pub EncloseFindsParent : Type 0
 EncloseFindsParent = (F : Forest) (v c : ℕ) → Contains (pairs F) (v, c)
     → (enclosing (text F) v ≡ parent F v) × (enclosing (text F) c ≡ parent F v)
 
--- the forest of a balanced list writes down that list again
+-- the text of the forest of a balanced list is the list
 abbrev pub ForestWritesItsList : Type 0
 ForestWritesItsList = (bits : List Bool) → IsBalanced bits → text (forest_of bits) ≡ bits
 
--- the tree over the blocks of some bits has fewer than three nodes a block
+-- the min-max tree has fewer than three nodes for each block
 abbrev pub NodesAreFew : Type 0
 NodesAreFew = (size n : ℕ) → 0 < size → 0 < n → node_count size n < 3 * block_count size n
 
--- each one is closed somewhere, and what opens there is that one
+-- each one is closed by a zero, and `open` of that zero is this one
 abbrev pub OpenUndoesClose : Type 0
 OpenUndoesClose = (F : Forest) (v : ℕ) → slice_get (text F) v ≡ Some true
     → (c : ℕ) × (first_rise_after (text F) v (negsuc 0) ≡ Some c) × (last_rise_before (text F) c (negsuc 0) ≡ Some v)
 
--- each zero closes what opens somewhere, and what closes that is this zero
+-- each zero closes a one, and `close` of that one is this zero
 abbrev pub CloseUndoesOpen : Type 0
 CloseUndoesOpen = (F : Forest) (c : ℕ) → slice_get (text F) c ≡ Some false
     → (v : ℕ) × (last_rise_before (text F) c (negsuc 0) ≡ Some v) × (first_rise_after (text F) v (negsuc 0) ≡ Some c)

@@ -15,18 +15,18 @@ unfoldable pub node_count : ℕ → ℕ → ℕ
 node_count size zero = 0
 node_count size (suc n) = block_count size (suc n) + max 1 (2 ^ clog (block_count size (suc n)) - 1)
 
--- the bytes of a list with its index and its tree of nodes of 24, up to the greatest number of the machine
+-- the bytes of a list with its index and its min-max tree of 24 bytes a node, or the greatest `usize` if they are more
 abbrev pub tree_heap_size : ℕ → List Bool → ℕ
 tree_heap_size size bits = min (index_size bits + 24 * node_count size (length bits)) 18446744073709551615
 
--- what one search over n bits adds at most: two blocks begun, four nodes a level, and each bit of two blocks once
+-- bound on one search over n bits: two blocks begun, four nodes a level, and each bit of two blocks once
 abbrev pub search_reads : ℕ → ℕ → Reads
 search_reads size n = record no_reads { data_words = 2 * size + 4; rank_calls = 2 * size + 4; blocks = 2; nodes = 4 * levels size n }
 
--- the same with one bit more, by which the search is chosen
+-- `search_reads` and one bit more, which selects the search
 abbrev pub enclose_reads : ℕ → ℕ → Reads
 enclose_reads size n = plus get_reads (search_reads size n)
 
--- what two searches add at most
+-- bound on two searches
 abbrev pub two_searches_reads : ℕ → ℕ → Reads
 two_searches_reads size n = plus (search_reads size n) (search_reads size n)

@@ -4,10 +4,11 @@ use Rattle.std.specs.List.{last_or}
 use Rattle.std.specs.Option.{option_eq}
 use Rattle.vers_trees.specs.Forest.{Forest, pairs}
 
--- the places where the trees open, ascending: the nodes in preorder
+-- the positions that open the trees, ascending: the nodes in preorder
 abbrev pub nodes : Forest → List ℕ
 nodes F = map (λ p. p.0) (pairs F)
 
+-- v is one of the nodes
 abbrev pub IsNode : Forest → ℕ → Type 0
 IsNode F v = Contains (nodes F) v
 
@@ -15,7 +16,7 @@ IsNode F v = Contains (nodes F) v
 unfoldable pub closing : Forest → ℕ → ℕ
 closing F v = unwrap_or (option_map (λ p. p.1) (find (λ p. p.0 == v) (pairs F))) v
 
--- whether the pair of a contains that of v: each node is its own ancestor
+-- whether the pair of a contains that of v; each node is its own ancestor
 unfoldable pub is_ancestor : Forest → ℕ → ℕ → Bool
 is_ancestor F a v = nat_le a v && nat_le (closing F v) (closing F a)
 
@@ -27,15 +28,15 @@ is_proper_ancestor F a v = nat_lt a v && nat_lt (closing F v) (closing F a)
 abbrev pub proper_ancestors : Forest → ℕ → List ℕ
 proper_ancestors F v = filter (λ a. is_proper_ancestor F a v) (nodes F)
 
--- how many they are: 0 for a root
+-- the number of proper ancestors of v: 0 for a root
 unfoldable pub depth : Forest → ℕ → ℕ
 depth F v = length (proper_ancestors F v)
 
--- the nearest of them, and none for a root
+-- the nearest proper ancestor; `None` for a root
 unfoldable pub parent : Forest → ℕ → Option ℕ
 parent F v = last_or None (proper_ancestors F v)
 
--- the ancestor whose depth is t less, itself where t is 0
+-- the ancestor whose depth is t less, v itself if t is 0
 unfoldable pub level_ancestor : Forest → ℕ → ℕ → Option ℕ
 level_ancestor F v t = find (λ a. is_ancestor F a v && (depth F a + t == depth F v)) (nodes F)
 
@@ -43,30 +44,34 @@ level_ancestor F v t = find (λ a. is_ancestor F a v && (depth F a + t == depth 
 unfoldable pub nodes_under : Forest → Option ℕ → List ℕ
 nodes_under F p = filter (λ v. option_eq nat_eq (parent F v) p) (nodes F)
 
+-- the nodes whose parent is v, ascending
 abbrev pub children : Forest → ℕ → List ℕ
 children F v = nodes_under F (Some v)
 
 abbrev pub roots : Forest → List ℕ
 roots F = nodes_under F None
 
--- the nodes with the parent of v, among them v; roots are siblings
+-- the nodes with the parent of v, v included; roots are siblings
 abbrev pub siblings : Forest → ℕ → List ℕ
 siblings F v = nodes_under F (parent F v)
 
--- the first and the last of some nodes, and the nearest after a node and before it
+-- the first of some nodes, or `None`
 abbrev pub first_of : List ℕ → Option ℕ
 first_of vs = slice_get vs 0
 
+-- the last of some nodes, or `None`
 abbrev pub last_of : List ℕ → Option ℕ
 last_of vs = last_or None vs
 
+-- the nearest of some nodes after v, or `None`
 abbrev pub next_of : List ℕ → ℕ → Option ℕ
 next_of vs v = find (λ w. nat_lt v w) vs
 
+-- the nearest of some nodes before v, or `None`
 abbrev pub previous_of : List ℕ → ℕ → Option ℕ
 previous_of vs v = last_or None (filter (λ w. nat_lt w v) vs)
 
--- the nodes of one depth, ascending
+-- the nodes of depth d, ascending
 unfoldable pub level : Forest → ℕ → List ℕ
 level F d = filter (λ v. depth F v == d) (nodes F)
 
@@ -74,6 +79,6 @@ level F d = filter (λ v. depth F v == d) (nodes F)
 unfoldable pub subtree : Forest → ℕ → List ℕ
 subtree F v = filter (λ w. is_ancestor F v w) (nodes F)
 
--- the number of v in preorder: how many nodes come before it
+-- the index of v in preorder: how many nodes precede it
 unfoldable pub node_index : Forest → ℕ → ℕ
 node_index F v = count_by (λ w. nat_lt w v) (nodes F)

@@ -20,7 +20,7 @@ tree_reads size n = record no_reads {
   nodes = 8 * levels size n;
 }
 
--- each bound that the contract of a call or of an iterator's step names is within that one
+-- each bound in the contract of a call or of an iterator's step is within `tree_reads`, except that of `is_balanced`
 abbrev pub CallsAreWithinOneBound : Type 0
 CallsAreWithinOneBound = (size n : ℕ) → IsWithin (search_reads size n) (tree_reads size n)
     × IsWithin (enclose_reads size n) (tree_reads size n)
@@ -30,12 +30,12 @@ CallsAreWithinOneBound = (size n : ℕ) → IsWithin (search_reads size n) (tree
     × IsWithin rank_reads (tree_reads size n)
     × IsWithin (select_reads (superblock_count n)) (tree_reads size n)
 
--- what is within that bound begins at most four blocks, and reads at most eight nodes a level and 4 * size + 32 data words
+-- `tree_reads` allows at most four blocks begun, eight nodes a level and 4 * size + 32 data words
 abbrev pub CallsReadFew : Type 0
 CallsReadFew = (size n : ℕ) (old new : Reads) → AddsAtMost old new (tree_reads size n)
     → (new.blocks ≤ old.blocks + 4) × (new.nodes ≤ old.nodes + 8 * levels size n) × (new.data_words ≤ old.data_words + (4 * size + 32))
 
--- a search begins at most two blocks, and reads at most four nodes a level and 2 * size + 4 data words
+-- `search_reads` allows at most two blocks begun, four nodes a level and 2 * size + 4 data words
 abbrev pub SearchesReadFew : Type 0
 SearchesReadFew = (size n : ℕ) (old new : Reads) → AddsAtMost old new (search_reads size n)
     → (new.blocks ≤ old.blocks + 2) × (new.nodes ≤ old.nodes + 4 * levels size n) × (new.data_words ≤ old.data_words + (2 * size + 4))

@@ -10,7 +10,7 @@ use Rattle.vers_trees.specs.declared.trees.bp.relatives.Measure.TheVariants.{Nod
 use Rattle.vers_trees.specs.declared.trees.bp.relatives.LevelEnd.{LevelEnd}
 use Rattle.vers_trees.specs.declared.trees.bp.relatives.LevelEnd.TheVariants.{Leftmost, Rightmost}
 
--- the node that stands so to v, or none
+-- the relative of v of this kind, or `None`
 abbrev pub relative : Forest → Relative → ℕ → Option ℕ
 relative F Parent v = parent F v
 relative F FirstChild v = first_of (children F v)
@@ -20,14 +20,14 @@ relative F PreviousSibling v = previous_of (siblings F v) v
 relative F LevelNext v = next_of (level F (depth F v)) v
 relative F LevelPrev v = previous_of (level F (depth F v)) v
 
--- a number of v, where truth is 1 and else 0
+-- a measure of v; true counts as 1 and false as 0
 abbrev pub measure : Forest → Measure → ℕ → ℕ
 measure F NodeIndex v = node_index F v
 measure F IsLeaf v = bit_value (length (children F v) == 0)
 measure F Depth v = depth F v
 measure F SubtreeSize v = length (subtree F v)
 
--- the first or the last node of depth d, or none
+-- the first or the last node of depth d, or `None`
 abbrev pub level_end : Forest → LevelEnd → ℕ → Option ℕ
 level_end F Leftmost d = first_of (level F d)
 level_end F Rightmost d = last_of (level F d)

@@ -9,7 +9,7 @@ pairs_by_closing none = []
 pairs_by_closing (tree X Y) =
     map (moved 1) (pairs_by_closing X) ++ (0, length (text X) + 1) ∷ map (moved (length (text X) + 2)) (pairs_by_closing Y)
 
--- the nodes in postorder: each after those below it
+-- the nodes in postorder: each after its descendants
 abbrev pub postorder : Forest → List ℕ
 postorder F = map (λ p. p.0) (pairs_by_closing F)
 

@@ -5,14 +5,14 @@ use Rattle.vers_trees.specs.Forest.{Forest, text, IsBalanced, forest_of}
 use Rattle.vers_trees.specs.Nodes.{nodes, IsNode, closing}
 use Rattle.vers_trees.specs.Traversals.{postorder}
 
--- the nodes in preorder open at the ones, each at the next
+-- the nodes in preorder are opened by the ones, in order
 abbrev pub PreorderOpensInOrder : Type 0
 PreorderOpensInOrder = (F : Forest) → nodes F ≡ places true (text F)
 
--- the nodes in postorder close at the zeros, each at the next
+-- the nodes in postorder are closed by the zeros, in order
 abbrev pub PostorderClosesInOrder : Type 0
 PostorderClosesInOrder = (F : Forest) → map (closing F) (postorder F) ≡ places false (text F)
 
--- in a balanced list each one is a node
+-- in a balanced list each one opens a node
 abbrev pub OnesAreNodes : Type 0
 OnesAreNodes = (bits : List Bool) (i : ℕ) → IsBalanced bits → i < count true bits (length bits) → IsNode (forest_of bits) (select true bits i)

@@ -6,7 +6,7 @@ pub record Collection : Type 0 where
   pub starts : List ℕ
   pub end : ℕ
 
--- the byte lies in the text; the document starts at it or before it, and the next one, if there is one, after it
+-- the byte is in the text; document d starts at or before it, and the next document, if there is one, after it
 pub record Holds (texts : Collection) (byte document : ℕ) : Type 0 where
   pub within : byte < texts.end
   pub inside : document < length texts.starts

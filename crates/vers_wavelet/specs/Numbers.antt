@@ -2,11 +2,11 @@
 use Rattle.std.specs.Prelude.{ℕ, ◌%◌, ◌^◌, ◌&&◌, nat_le, nat_lt, List, length, slice_get, Option, Some, None, if◌then◌else◌}
 use Rattle.vers_wavelet.specs.Symbols.{Symbols, occurrences}
 
--- the symbol that a number stands for, by its low bits
+-- the symbol of the low bits of a number
 abbrev pub low_bits_of : Symbols → ℕ → ℕ
 low_bits_of symbols s = s % 2 ^ symbols.width
 
--- the places from place a on, before place b, that hold the symbol of a number
+-- the positions from a to before b that have the symbol of a number
 abbrev pub places_of : Symbols → ℕ → ℕ → ℕ → List ℕ
 places_of symbols a b s = occurrences symbols.items a b (low_bits_of symbols s)
 

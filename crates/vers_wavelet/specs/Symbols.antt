@@ -6,12 +6,12 @@ use Rattle.std.specs.List.{range_with_len, sum_by, last_or}
 use Rattle.vers_bits.specs.Bits.{low_bits}
 use Rattle.vers_rank.specs.Queries.{index_size}
 
--- a width, and a list of numbers of at most as many binary digits
+-- a width, and a list of numbers of at most that many binary digits
 pub record Symbols : Type 0 where
   pub width : ℕ
   pub items : List ℕ
 
--- the places of a range that hold the symbol s, ascending
+-- the positions from a to before b that have the symbol s, ascending
 unfoldable pub occurrences : List ℕ → ℕ → ℕ → ℕ → List ℕ
 occurrences items a b s = filter (λ p. slice_index items p == s) (range_with_len a (b - a))
 
@@ -24,11 +24,11 @@ turned (suc k) s = 2 * turned k s + bit_at s k
 abbrev pub gathered_before : Symbols → ℕ → ℕ
 gathered_before symbols s = count_by (λ y. nat_lt (turned symbols.width y) (turned symbols.width s)) symbols.items
 
--- where the first s from a place on goes in that order, in which equal symbols keep the order of their places
+-- the index in bit-reversed order of the first s from a position; equal symbols keep the order of their positions
 abbrev pub gathered : Symbols → ℕ → ℕ → ℕ
 gathered symbols place s = gathered_before symbols s + length (occurrences symbols.items 0 place s)
 
--- a is a place of the list, and b lies from a up to the length of the list
+-- a is a position of the list, and b is from a to the length of the list
 abbrev pub BeginsInside : ℕ → ℕ → List ℕ → Type 0
 BeginsInside a b items = (a < length items) × (b ≤ length items) × (a ≤ b)
 
@@ -37,24 +37,24 @@ abbrev pub placed : ℕ → List ℕ → List ℕ
 placed x [] = x ∷ []
 placed x (y ∷ ys) = if nat_le x y then x ∷ y ∷ ys else y ∷ placed x ys
 
--- the members of a list in ascending order, equal ones too
+-- the elements of a list in ascending order, duplicates included
 abbrev pub by_size : List ℕ → List ℕ
 by_size [] = []
 by_size (x ∷ xs) = placed x (by_size xs)
 
--- the members of a range, in the order of their places; none of a range that ends past the list
+-- the elements from position a to before position b, in order; none if b is past the end
 unfoldable pub range_members : List ℕ → ℕ → ℕ → List ℕ
 range_members items a b = if nat_le b (length items) then slice_range items a b else []
 
--- member i of a list by size, from 0, equal ones counted; none where there are not so many
+-- element i of a list by size, from 0, counting duplicates; `None` if there are at most i
 unfoldable pub kth_by_size : List ℕ → ℕ → Option ℕ
 kth_by_size items i = slice_get (by_size items) i
 
--- the greatest member of a list that is not above s, or none
+-- the greatest element that is at most s, or `None`
 unfoldable pub greatest_up_to : List ℕ → ℕ → Option ℕ
 greatest_up_to items s = last_or None (filter (λ y. nat_le y s) (by_size items))
 
--- the least member of a list that is not below s, or none
+-- the least element that is at least s, or `None`
 unfoldable pub least_from : List ℕ → ℕ → Option ℕ
 least_from items s = find (λ y. nat_le s y) (by_size items)
 
@@ -63,7 +63,7 @@ abbrev pub nearest : (up : Bool) → List ℕ → ℕ → Option ℕ
 nearest true items s = least_from items s
 nearest false items s = greatest_up_to items s
 
--- a symbol as a number of the machine; none where symbols have more than 64 bits
+-- a symbol as a machine word; `None` if symbols have more than 64 bits
 unfoldable pub as_word : (width : ℕ) → Option ℕ → Option ℕ
 as_word width symbol = if nat_le width 64 then symbol else None
 
@@ -88,7 +88,7 @@ pub record IsSuccessor (items : List ℕ) (s x : ℕ) : Type 0 where
 abbrev pub ordered : Bool → List ℕ → List ℕ
 ordered ascending items = if ascending then by_size items else items
 
--- each number as the list of its k lowest bits
+-- each number as the list of its k low bits
 abbrev pub in_bits : ℕ → List ℕ → List (List Bool)
 in_bits k numbers = map (λ y. low_bits y k) numbers
 
@@ -96,6 +96,6 @@ in_bits k numbers = map (λ y. low_bits y k) numbers
 abbrev pub digit_list : ℕ → List ℕ → List Bool
 digit_list j numbers = map (λ y. bit_at y j == 1) numbers
 
--- the bytes of an indexed list of bits for each digit of the symbols, or the greatest usize where they are more
+-- the bytes of one indexed list of bits for each digit of the symbols, or the greatest `usize` if they are more
 abbrev pub matrix_size : Symbols → ℕ
 matrix_size symbols = min (sum_by (λ j. index_size (digit_list j symbols.items)) (range_with_len 0 symbols.width)) 18446744073709551615

@@ -29,7 +29,7 @@ abbrev pub numbers_text : List ℕ → List ℕ
 numbers_text [] = []
 numbers_text (n ∷ others) = decimal n ++ flat_map (λ other. 32 ∷ decimal other) others
 
--- how a reply is written, without the end of its line
+-- the text of a reply, without the end of its line
 abbrev pub reply_text : PlainReply → List ℕ
 reply_text BadLine = codes "bad line"
 reply_text WrongStructure = codes "wrong structure"
@@ -39,12 +39,12 @@ reply_text (Signed n) = signed_decimal n
 reply_text Absent = codes "none"
 reply_text (Numbers numbers) = numbers_text numbers
 
--- the reply of a query that finds a number or nothing
+-- the reply to a query that finds a number or nothing
 abbrev pub number_or_absent : Option ℕ → PlainReply
 number_or_absent None = Absent
 number_or_absent (Some n) = Number n
 
--- the reply of a query that finds a number, or whose condition is not met
+-- the reply to a query that finds a number, unless its precondition fails
 abbrev pub number_or_refused : Option ℕ → PlainReply
 number_or_refused None = Refused
 number_or_refused (Some n) = Number n

@@ -18,7 +18,7 @@ words_in text = filter has_bytes (slice_split (λ byte. byte == 32) text)
 abbrev pub words_of : List ℕ → List (List ℕ)
 words_of line = words_in (strip_last 13 line)
 
--- the number that a word writes: one or more decimal digits, of a value that 64 bits hold
+-- the number that a word writes in decimal digits, if it fits in 64 bits
 unfoldable pub number_of : List ℕ → Option ℕ
 number_of word =
     if has_bytes word && (list_all is_ascii_digit word && nat_lt (digits_value 10 word) (2 ^ 64))
@@ -30,7 +30,7 @@ abbrev pub with_sign : Bool → ℕ → Option ℤ
 with_sign false n = if nat_lt n (2 ^ 63) then Some (pos n) else None
 with_sign true n = if nat_le n (2 ^ 63) then Some (neg_ℤ (pos n)) else None
 
--- the signed number that a word writes: decimal digits, or the byte `-` and decimal digits
+-- the signed number that a word writes: decimal digits, or `-` and decimal digits
 unfoldable pub signed_number_of : List ℕ → Option ℤ
 signed_number_of [] = None
 signed_number_of (byte ∷ bytes) =
