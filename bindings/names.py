@@ -77,9 +77,9 @@ def calls():
     """Returns the calls of each structure, without those that want a condition."""
     found = {}
     for part in read(f"{TOP}/docs/CALLS.md").split("\n## ")[1:]:
-        owner = re.match(r"`(\w+)` of", part)
+        owner = re.match(r"`\w+::(\w+)`", part)
         if owner and owner[1] in STRUCTURES:
-            found[owner[1]] = [it for it in re.findall(r"(?m)^\| `(\w+)", part) if not it.endswith("_unchecked")]
+            found[owner[1]] = [it for it in re.findall(r"(?m)^(\w+)[(<]", part) if not it.endswith("_unchecked")]
     return found
 
 

@@ -1,20 +1,23 @@
 #!/usr/bin/env python3
-"""Writes the tables of docs/CALLS.md, every public call of the library on one page, and the figures of README's table of times.
+"""Writes docs/CALLS.md and docs/DEFINITIONS.md, and the figures of README's table of times.
 
-A row of CALLS has a call as it is declared, the first paragraph of its doc comment, the conditions that a caller keeps, what the counted
-form adds to the counters at most, and its time where docs/PERFORMANCE.md has one. A call and its counted form share a row.
+A line of CALLS has a public call as it is declared, the first sentence of its doc comment with its preconditions unless `cargo doc` has a
+call of that name, and the bound on the reads of the counted form, which shares the line. `tools/definitions.py` writes DEFINITIONS.
 
-A row of a table of PERFORMANCE is read where its first cell is a call, as `rank1` or `FastRmq::range_min`, or a call and what its time is
-of, as "`iter1`, a place". Nothing is measured.
+A row of a table of PERFORMANCE is read if its first cell is a call, such as `rank1` or `FastRmq::range_min`, or a call and what its time
+is for, such as "`iter1`, a place". Nothing is measured.
 
-It also says which names that the facade exports, and which calls of its types, are neither in the table of our own names in
-docs/DIFFERENCES.md nor among those of the crate vers-vecs (tools/original_names.txt); and which of the first aren't our own. Counted
-forms and laws are all our own.
+It also lists the names that the facade exports, and the calls of its types, that are neither in the table of our own names in
+docs/DIFFERENCES.md nor among those of vers-vecs (tools/original_names.txt), and the names in the first that aren't our own. Counted forms
+and laws are all our own.
 """
 import re
 import sys
+import textwrap
 from collections import defaultdict, namedtuple
 
+import definitions
+from rust_contracts import ADDS, facade_files
 from sources import TOP, public_functions, read, read_crate, write_or_check
 
 PAGE, DIFFERENCES, FACADE = "docs/CALLS.md", "docs/DIFFERENCES.md", "crates/vers_vecs/src/lib.rt"
@@ -65,7 +68,8 @@ def with_figures(text, found):
 
 CRATES = """vers_bits vers_tally vers_rank vers_sorted vers_rmq vers_trees vers_wavelet vers_saved postings text_index vers_words
     vers_engine vers_cli vers_texts vers_files"""
-ADDS = "AddsAtMost tally.old tally.new "
+# The crates whose calls the Rust crate has under the same names.
+IN_RUST = "vers_bits vers_rank vers_sorted vers_rmq vers_trees vers_wavelet vers_saved postings text_index".split()
 
 
 def owner(function):
@@ -79,38 +83,41 @@ def declaration(function):
     return re.sub(r"^(?:pub |const |fn )*", "", re.sub(r",? \)", ")", head.replace("( ", "(")))
 
 
-def first_paragraph(function):
-    """Returns the first paragraph of a call's doc comment."""
+def first_sentence(function):
+    """Returns the first sentence of a call's doc comment."""
     doc = [it.strip().removeprefix("///").strip() for it in function.above[0]]
-    return " ".join("\n".join(doc).split("\n\n")[0].split())
+    return re.split(r"(?<=[.]) (?=[A-Z`])", " ".join("\n".join(doc).split("\n\n")[0].split()))[0].rstrip(".")
 
 
-def section(title, functions, times):
-    """Returns the table of one owner, with times where one of its calls has one."""
+def call_with_comment(function, counted, is_in_rust):
+    """Returns a call as it is declared, below a comment of what this doesn't say."""
+    conditions = [fact for kind, fact in function.clauses if kind == "requires"]
+    bounds = [fact.removeprefix(ADDS) for _, fact in counted.clauses if fact.startswith(ADDS)]
+    said = [] if is_in_rust else [first_sentence(function)]
+    said += [f"requires {', '.join(conditions)}"] if conditions and not is_in_rust else []
+    said += [f"reads {', '.join(bounds)}"] if bounds else []
+    return "\n".join([*(f"// {it}" for it in textwrap.wrap("; ".join(said), 117)), declaration(function)])
+
+
+def section(title, functions, in_rust):
+    """Returns the calls of one owner, of which `in_rust` are calls of the Rust crate."""
     by_name = {it.name: it for it in functions}
-    rows = [["Call", "Answers", "Condition", "Reads", "Time"]]
-    for it in functions:
-        if not it.name.endswith("_counted") or it.name.removesuffix("_counted") not in by_name:
-            conditions = [f"`{fact}`" for kind, fact in it.clauses if kind == "requires"]
-            bounds = [fact.split(ADDS) for _, fact in by_name.get(f"{it.name}_counted", it).clauses if fact.startswith(ADDS)]
-            reads, time = [f"`{fact}`" for _, fact in bounds], times.get((owner(it), it.name), "")
-            rows.append([f"`{declaration(it)}`", first_paragraph(it), ", ".join(conditions), ", ".join(reads), time])
-    width = 5 if any(row[4] for row in rows[1:]) else 4
-    lines = ["|" + "|".join(f" {cell} ".replace("|", "\\|") for cell in row[:width]) + "|" for row in rows]
-    return "\n".join([f"## {title}", "", lines[0], "|" + "---|" * width, *lines[1:]])
+    shown = [it for it in functions if not it.name.endswith("_counted") or it.name.removesuffix("_counted") not in by_name]
+    lines = [call_with_comment(it, by_name.get(f"{it.name}_counted", it), it.name in in_rust) for it in shown]
+    return "\n".join([f"## {title}", "", "```text", *lines, "```"])
 
 
 def page(top):
-    """Returns the text of the page."""
-    # of a call with several times the first
-    times = {(it.holder, it.call): f"{it.time}, {it.data}" for it in reversed(figures(top))}
+    """Returns the text of the page of calls."""
+    facade = "".join(text for _, text in facade_files(f"{top}/rust/src"))
+    in_rust = set(re.findall(r"(?<=\bfn )\w+|\b\w+(?=,)", facade))
     parts = [read(f"{top}/{PAGE}").split("\n\n## ")[0]]
     for crate in CRATES.split():
         groups = defaultdict(list)
         for it in sorted(public_functions(read_crate(top, crate)), key=lambda it: (it.source.path, it.first)):
             if not it.trait and not it.is_declared_by_trait and it.source.module != "laws":
                 groups[owner(it)].append(it)
-        parts += [section(f"`{name}` of `{crate}`", of, times) for name, of in sorted(groups.items())]
+        parts += [section(f"`{crate}::{name}`", of, in_rust if crate in IN_RUST else ()) for name, of in sorted(groups.items())]
     return "\n\n".join(parts) + "\n"
 
 
@@ -135,7 +142,9 @@ def misplaced_names(top):
 
 
 if __name__ == "__main__":
-    misplaced = list(misplaced_names(TOP))
-    print("".join(f"{it}\n" for it in misplaced), end="", file=sys.stderr)
-    pages = {PAGE: page(TOP), README: with_figures(read(f"{TOP}/{README}"), figures(TOP))}
-    sys.exit(write_or_check(pages, "tools/pages.py") or bool(misplaced))
+    cited = definitions.cited_words(TOP)
+    faults = [*misplaced_names(TOP), *definitions.missing_comments(TOP, cited)]
+    print("".join(f"{it}\n" for it in faults), end="", file=sys.stderr)
+    readme = with_figures(read(f"{TOP}/{README}"), figures(TOP))
+    pages = {PAGE: page(TOP), definitions.PAGE: definitions.page(TOP, cited), README: readme}
+    sys.exit(write_or_check(pages, "tools/pages.py") or bool(faults))
