@@ -1,9 +1,10 @@
 #!/usr/bin/env python3
 """Checks the bindings with the C library, as the proved archive and as cargo builds it of bindings/c.
 
-    python3 bindings/check.py            both, where their tools are there; crates/vers_c is proved first if need be
-    python3 bindings/check.py ARCHIVE    this archive alone
-    python3 bindings/check.py --cargo    the library of cargo alone; with --quick by one compiler a language, without valgrind and pip
+    python3 bindings/check.py            both, if their tools are there; proves crates/vers_c first if need be
+    python3 bindings/check.py ARCHIVE    only this archive
+    python3 bindings/check.py --cargo    only the library of cargo
+    python3 bindings/check.py --quick    without clang, valgrind and pip
     python3 bindings/check.py --write    writes the codes anew, and checks nothing
 
 - The codes of statuses, queries and changes in vers.h, in the Python package and in bindings/c/src are those of
@@ -15,7 +16,7 @@
 - The package for Python says in one line what it wants where there is no library, and its source distribution makes a wheel.
 - Each program of each page README.md was run, and printed what the page says.
 
-What can't be checked here, for want of a tool, is named. The last line is "N passed, M failed".
+It names what it leaves out because a tool is missing. The last line is "N passed, M failed".
 """
 import glob
 import itertools
@@ -147,14 +148,16 @@ def word(name):
 
 
 def code_tables(source):
-    """The names of the codes in the crate's tables, by the enums of vers.h. One that stands twice, or ends a level, has its group before it."""
+    """The names of the codes in the crate's tables, by the enums of vers.h. One that stands twice, or ends a level, has
+    its group before it."""
     tables = {}
     for file, enum, start, row in TABLES:
         text = read(os.path.join(source, file))
         body = text[text.rfind("= [") if "= [" in text else 0:]
         rows = [[word(it) for it in found] for found in re.findall(row, body)]
         names = [name for _, name in rows]
-        tables[enum] = [start + (f"{group}_{name}" if group == "LEVEL" or name in names[:k] else name) for k, (group, name) in enumerate(rows)]
+        tables[enum] = [start + (f"{group}_{name}" if group == "LEVEL" or name in names[:k] else name)
+                        for k, (group, name) in enumerate(rows)]
     return tables
 
 
@@ -165,7 +168,8 @@ def written_header(text, tables):
         about = dict(re.findall(r"VERS_(\w+) = \d+,? +(/\*\*<.*\*/)", body))
         rows = [f"    VERS_{name} = {k}{',' if k < len(names) - 1 else ''}" for k, name in enumerate(names)]
         width = max(map(len, rows))
-        text = head + "".join(f"{row:<{width}} {about.get(name, '/**< . */')}\n" for row, name in zip(rows, names)) + tail
+        text = head + "".join(f"{row:<{width}} {about.get(name, '/**< . */')}\n"
+                              for row, name in zip(rows, names)) + tail
     return text
 
 
@@ -280,7 +284,8 @@ def check_pkg_config(checks, link):
 
 
 def modules_of(checks):
-    """Returns the Pythons that are there, with the modules that checks use, and notes each check whose module is missing."""
+    """Returns the Pythons that are there, with the modules that checks use, and notes each check whose module is
+    missing."""
     pythons = {os.path.realpath(it): it for it in [sys.executable, "/usr/bin/python3"] if os.path.exists(it)}
     wanted = {"numpy": "numpy arrays", "mypy": "types", "pip": "an installed wheel",
               "distributed": "parts on Dask's workers"}

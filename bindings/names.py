@@ -1,8 +1,10 @@
 #!/usr/bin/env python3
-"""Writes bindings/NAMES.md: by which name each call of a structure is asked from C, C++, Rust and Python, and what is left out and why.
+"""Writes bindings/NAMES.md: by which name each call of a structure is asked from C, C++, Rust and Python, and what is
+left out and why.
 
-The calls are those of docs/CALLS.md. A call has its own name in each language, or that of `NAMES`, or is left out for a reason of `LEFT_OUT`.
-Each name has to stand in the header, the classes and the crate; a call that is neither named nor left out is a fault.
+The calls are those of docs/CALLS.md. A call has its own name in each language, or that of `NAMES`, or is left out for a
+reason of `LEFT_OUT`. Each name has to be in the header, the classes and the crate; a call that is neither named nor
+left out is a fault.
 """
 import os
 import re
@@ -27,15 +29,16 @@ STRUCTURES = {
     "Postings": ("postings", "postings.rs"),
     "TextIndex": ("text", "text.rs"),
 }
-# a call's names in the four languages, where they are others than its own without `_u64`; `=` stands for its own, `-` for none, and
-# `()` and `[]` for what the language writes so. The first row that fits counts.
+# a call's names in the four languages, where they are others than its own without `_u64`; `=` is its own, `-`
+# for none, and `()` and `[]` for what the language writes so. The first row that fits counts.
 NAMES = (
     (r"(?!BpTree)\w+\.len", "= = = len()"),
     (r"\w+\.is_empty", "len = = len()"),
     (r"RsVec\.from_bit_vec|BpTree\.from_bit_vector", "of from_words = from_words"),
     (r"BitVec\.from_limbs", "of from_words from_vec from_words"),
     (r"BitVec\.set", "= = = []"),
-    (r"SparseRSVec\.new|EliasFanoVec\.from_slice|WaveletMatrix\.from_slice|\w+Rmq\.from_vec|Postings\.from_sorted", "of from = ()"),
+    (r"SparseRSVec\.new|EliasFanoVec\.from_slice|WaveletMatrix\.from_slice|\w+Rmq\.from_vec|Postings\.from_sorted",
+     "of from = ()"),
     (r"TextIndex\.with_step", "of from = ()"),
     (r"\w+Rmq\.(item|as_slice)", "get get [] []"),
     (r"Postings\.documents", "= get get get"),
@@ -60,7 +63,8 @@ LEFT_OUT = (
      "A structure is made of an array, and its items are written over one."),
     (r"WaveletMatrix\.(bit_len|from_\w+|get_value|(iter|into_iter|rank|rank_range|rank_offset|select|select_offset|quantile|predecessor|successor|get_sorted|range_m[a-z]+)(_sorted)?)",
      "Symbols are numbers of at most 64 bits, and not lists of bits."),
-    (r"\w+\.\w*iter\w*|BpTree\.\w*children", "Iterators: the query of the next place, or `_each` over a range of places."),
+    (r"\w+\.\w*iter\w*|BpTree\.\w*children",
+     "Iterators: the query of the next place, or `_each` over a range of places."),
     (r"\w+Rmq\.range_min_\w+", "Ranges are from one place to another."),
     (r"TextIndex\.(places|first_places)", "Places are answered ascending."),
 )
@@ -93,7 +97,8 @@ def python_class(text, name):
     """Returns the text of a class of the Python package and of those above it."""
     head = re.search(rf"^class {name}(?:\((.*?)\))?:\n", text, re.M)
     above = re.findall(r"\w+", head[1] or "") if head else []
-    return class_body(text, rf"^class {name}\b[^\n]*\n") + "".join(python_class(text, it) for it in above if it != "Generic")
+    return class_body(text, rf"^class {name}\b[^\n]*\n") + "".join(python_class(text, it) for it in above
+                                                                   if it != "Generic")
 
 
 def has(structure, language, name):

@@ -1,7 +1,7 @@
 """Ways around the counters, for the self-test of `counting_rules.py` to plant, and what has to be said of each.
 
-Code is put at the beginning of a function's body, or before a struct's first field; `beside` at the end of its file; of `instead`
-the second text is written for the first. A plant whose place is gone is an error.
+Code is put at the beginning of a function's body, or before a struct's first field; `beside` at the end of its file; of
+`instead` the second text is written for the first. A plant whose place is gone is an error.
 """
 from collections import namedtuple
 
@@ -23,7 +23,8 @@ def method(head, body, of="impl<A> RsVec<A>"):
     return f"{of} {{\n    fn {head} {{\n        {body}\n    }}\n}}"
 
 
-RANK0, RANK1, RANK, SHARED = "RsVec::rank0_counted", "RsVec::rank1_counted", "EliasFanoVec::rank_counted", "common_documents"
+RANK0, RANK1 = "RsVec::rank0_counted", "RsVec::rank1_counted"
+RANK, SHARED = "EliasFanoVec::rank_counted", "common_documents"
 SPARSE, READ, ENTRIES = "SparseRSVec::rank1_counted", "BlockEntries::read", "BlockEntries"
 WALK, WHOLE = "let mut walk = longer.iter();", "self.bits.as_bit_vec(Uncounted)"
 WORD_OF = function("word_of<A>(bits: &CountedBits<A>) -> u64", "bits.as_bit_vec(Uncounted).limb(0)")
@@ -57,9 +58,10 @@ IN_BODIES = (
     ("raises the counter 1 times for 2 reads", READ, "let _first = self.entries[0];"),
     ("or reads several", READ, "let BlockEntries { entries } = other;"),
     ("reads without the counter", "BlockEntries::len", "let _first = self.entries[0];"),
-    ("Postings::rank is not its counted form", "Postings::rank_counted", "let _first = self.documents.get_counted(0, tally);"),
+    ("Postings::rank is not its counted form", "Postings::rank_counted",
+     "let _first = self.documents.get_counted(0, tally);"),
 )
-# names of one's own in place of known ones, errors that are turned, and ranges and numbers that are none
+# names of one's own instead of known ones, errors that are turned, and ranges and numbers that are none
 IN_BODIES += (
     ("gives the counter's name to another variable", RANK0, "let tally = &self.bits;"),
     ("gives the counter's name to another variable", RANK0, "let (place, tally) = (0, &self.bits);"),
@@ -71,20 +73,23 @@ IN_BODIES += (
     ("far_below has a loop", "far_below", "for _lane in 0..16 {}"),
     ("last_up_to has a loop", "last_up_to", "while false {}"),
 )
-# what stands beside, in the file of a body that may use it: functions, those of traits and types, second names
+# what is next to it, in the file of a body that may use it: functions, those of traits and types, second names
 BESIDE = (
     ("may be word_of,", RANK0, "peeks::word_of(&self.bits);", f"mod peeks {{\n{WORD_OF}\n}}"),
     ("may be word_of,", RANK0, "self.by(word_of);", WORD_OF),
     ("gives `word_of` the name `tidy`", RANK0, "tidy(&self.bits);", f"use crate::peeks::word_of as tidy;\n{WORD_OF}"),
     ("may be RsVec::list,", RANK0, "self.list();", method("list(&self) -> &BitVec<A>", WHOLE)),
     ("may be RsVec::peek,", RANK0, "self.peek();", method("peek(&self) -> u64", WHOLE, "impl<A> Peek for &RsVec<A>")),
-    ("may be Listed::first,", RANK0, "self.first();", method("first(&self) -> u64", "as_bit_vec(Uncounted)", "trait Listed<A>")),
+    ("may be Listed::first,", RANK0, "self.first();",
+     method("first(&self) -> u64", "as_bit_vec(Uncounted)", "trait Listed<A>")),
     ("may be RsVec::word_at,", RANK0, "self.word_at::<3>();", method("word_at<const K: usize>(&self) -> u64", WHOLE)),
-    ("may be usize::peek,", RANK0, "place.peek(self);", method("peek(self)", "whole(Uncounted)", "impl Peek for usize")),
+    ("may be usize::peek,", RANK0, "place.peek(self);",
+     method("peek(self)", "whole(Uncounted)", "impl Peek for usize")),
     ("may be RsVec::any,", RANK0, "self.any();", method("any(&self) -> bool", "for _bit in self {}")),
     ("RsVec::word_at reads a whole list", RANK0, "", method("word_at(&self) -> u64", f"{WHOLE}.limb(0)")),
     ("a call of another trait, Deref", RANK0, "", method("deref(&self) -> &u64", "&0", "impl<A> Deref for RsVec<A>")),
-    ("a type that is not of these crates", RANK0, "", method("peek(&self) -> u64", "self[0]", "impl Peek for Vec<u64>")),
+    ("a type that is not of these crates", RANK0, "",
+     method("peek(&self) -> u64", "self[0]", "impl Peek for Vec<u64>")),
     ("a type that is not of these crates", RANK0, "", method("list(&self) -> u64", "0", "impl<T: Send> Indexed for T")),
     ("`macro_rules!` stands where it may not", RANK0, "", f"macro_rules! word_of {{\n    () => {{ {WHOLE} }};\n}}"),
     ("may be RsVec::max,", RANK0, "self.max(place);", method("max(&self, n: usize) -> u64", WHOLE)),
@@ -102,13 +107,16 @@ BESIDE = (
     ("reads without the counter", READ, "", f"pub {function(ENTRY, 'blocks.entries[0]')}"),
     ("reads without the counter", READ, "", f"pub {function(ENTRY, 'let BlockEntries { entries } = blocks;')}"),
 )
-# what stands in a body or a struct, and what is written for it
+# a text of a body or a struct, and its replacement
 INSTEAD = (
     ("throws away what `differences` returns", "last_up_to", "let below = differences(zeros, bit, r);",
      "let _below = differences(zeros, bit, r); let below = zeros;"),
-    ("throws away what `far_below` returns", "last_up_to", "let block = 15 - far_below(below);", "far_below(below); let block = 0;"),
-    ("doesn't return the place that `place_met` gives", "bytes_forward", "return Ok(start + within + place);", "return Ok(start + within);"),
-    ("doesn't return the place that `place_met` gives", "bytes_backward", "return Ok(start + within + place);", "return Ok(start + within);"),
+    ("throws away what `far_below` returns", "last_up_to", "let block = 15 - far_below(below);",
+     "far_below(below); let block = 0;"),
+    ("doesn't return the place that `place_met` gives", "bytes_forward", "return Ok(start + within + place);",
+     "return Ok(start + within);"),
+    ("doesn't return the place that `place_met` gives", "bytes_backward", "return Ok(start + within + place);",
+     "return Ok(start + within);"),
     ("BinaryRmq.table keeps `Vec<u64, A>`", "BinaryRmq", "table: Vec<u32, A>", "table: Vec<u64, A>"),
     ("raises the counter 0 times for 1 reads", READ, RAISE, ""),
     ("or reads several", READ, "self.entries[k]", "self.as_slice(Uncounted)[k]"),
@@ -117,7 +125,7 @@ INSTEAD = (
     ("reads without the counter", READ, "k: usize, tally: &mut Tally", "k: usize"),
     ("entries can be read from outside", ENTRIES, "entries: Vec<u16, A>", "pub entries: Vec<u16, A>"),
 )
-# plain queries, what stands there, and what is not their counted form
+# plain queries, their text, and what is not their counted form
 PLAIN = {
     ("RsVec::rank1", "self.rank1_counted(place, &mut tally)"): (
         "self.scan(place, &mut tally)", "self.rank1_counted(place, &mut tally) + self.len()",
@@ -129,22 +137,26 @@ PLAIN = {
         "self.documents.rank(document) + 1", "self.documents.get(0); self.documents.rank(document)",
     ),
 }
-KEPT = ("Vec<u64, A>", "Option<BitVec<A>>", "BTreeMap<u64, u64>", "[u64; 4]", "u64x8", "Rc<u64>", "Cache<A>", "&'static [u64]")
-PLANTS = [Plant(*it) for it in IN_BODIES + BESIDE] + [Plant(wanted, place, instead=texts) for wanted, place, *texts in INSTEAD]
+KEPT = ("Vec<u64, A>", "Option<BitVec<A>>", "BTreeMap<u64, u64>", "[u64; 4]", "u64x8", "Rc<u64>", "Cache<A>",
+        "&'static [u64]")
+PLANTS = [Plant(*it) for it in IN_BODIES + BESIDE] + [Plant(wanted, place, instead=texts)
+                                                      for wanted, place, *texts in INSTEAD]
 for (place, old), others in PLAIN.items():
     PLANTS += [Plant(f"{place} is not its counted form", place, instead=(old, new)) for new in others]
 PLANTS += [Plant(f"RsVec.cache keeps `{it}`", "RsVec", f"cache: {it},") for it in KEPT]
 for place, calls in CALLS.items():
     PLANTS += [Plant(f"{place} has no call of `{it}`", place, instead=(it, "another")) for it in calls.split()]
 for places, calls in BARRED.items():
-    PLANTS += [Plant(f"{it} calls `{calls.split()[0]}`", it, f"let _ = {calls.split()[0]}(0);") for it in places.split()]
+    PLANTS += [Plant(f"{it} calls `{calls.split()[0]}`", it, f"let _ = {calls.split()[0]}(0);")
+               for it in places.split()]
 
 
 def planted(plant, sources):
     """Returns the sources with a fault planted."""
     for at, source in enumerate(sources):
         spans = [(it.first, it.body, it.last) for it in source.functions if it.has_body and it.full_name == plant.place]
-        spans += [(line - 1, line, source.lines.index("}", line)) for name, _, line in source.structs if name == plant.place]
+        spans += [(line - 1, line, source.lines.index("}", line)) for name, _, line in source.structs
+                  if name == plant.place]
         for first, body, last in spans:
             head, inside = ["\n".join(it) for it in (source.lines[first:body], source.lines[body : last + 1])]
             if plant.instead:

@@ -1,25 +1,26 @@
 #!/usr/bin/env python3
 """Rules over the source text on what is counted, which no contract states.
 
-Entries of counted vectors are reached through a counter, or by a call that takes the token `Uncounted`. So what is left to see in
-the text is where that token and a fresh counter are made, and that no counted body, which is that of a function with a
-`&mut Tally`, leads there:
+Entries of counted vectors are reached through a counter, or by a call that takes the token `Uncounted`. So what is left
+to see in the text is where that token and a fresh counter are made, and that no counted body, which is that of a
+function with a `&mut Tally`, leads there:
 
-1. `Uncounted` stands in the functions that `WHOLE` names alone: clones, equality, conversions and the slice of all items.
-2. `Tally::new` stands alone in plain queries. A plain query `q` of a type with `q_counted` is that form of its own parameters,
-   with a fresh counter or written without one, or a trait's query that asks the type's own.
-3. A counted body mentions no *uncounted function*: none that makes a token or a counter, and none that mentions such a one. A
-   mention is a name before a bracket, behind a dot or in a path. Where the text tells of which type a call is, only that type's
-   function is meant, else all of that name. What Rust calls without a name counts as one: a loop over what is no range, a
-   comparison in which nothing shows that numbers are compared.
-4. The counter's type stands as `tally: &mut Tally` and in rule 2. Crates with counted bodies have no `unsafe`, of macros
-   `unreachable!` alone, and of Rust's traits those that `TRAITS` names, among which are no operators.
-5. Types of these crates keep numbers, allocators, counted vectors and each other, and the plain lists that `TABLES` names.
-6. A counted vector raises the counter once for each read: its counted calls are a raise and one read.
-7. Kernels go by lanes or by chunks of words, and makers by counting count: bodies make the calls that `CALLS` names, and none of
-   those in `BARRED`. A proof says what a kernel answers, and only the text shows how.
+1. Only the functions in `WHOLE` use `Uncounted`: clones, equality, conversions and the slice of all items.
+2. Only plain queries call `Tally::new`. A plain query `q` of a type with `q_counted` is that form with its own
+   parameters and a fresh counter, or written without one, or a trait's query that calls the type's own.
+3. A counted body mentions no *uncounted function*: none that makes a token or a counter, and none that mentions such a
+   one. A mention is a name before a bracket, after a dot or in a path. If the text shows the type of a call, the rule
+   takes that type's function, otherwise all functions of that name. What Rust calls without a name counts as a mention:
+   a loop over anything but a range, and a comparison that the text doesn't show to be one of numbers.
+4. The counter's type is written as `tally: &mut Tally`, and as in rule 2. Crates with counted bodies use no `unsafe`,
+   only the macro `unreachable!`, and only the Rust traits in `TRAITS`, which include no operators.
+5. Types of these crates contain numbers, allocators, counted vectors, each other, and the plain lists in `TABLES`.
+6. A counted vector raises the counter once for each read: its counted calls are one raise and one read.
+7. Kernels work by lanes or by chunks of words, and makers by counting: their bodies make the calls in `CALLS` and none
+   of those in `BARRED`. A proof covers what a kernel returns; only the text shows how.
 
-Exit status 1 where a rule is broken, with a line for each place. `--self-test` plants faults (`counting_plants.py`).
+Exits with status 1 if a rule is broken, and prints a line for each position. `--self-test` plants faults
+(`counting_plants.py`).
 """
 import re
 import sys
@@ -36,20 +37,25 @@ WHOLE = {
 }
 # Functions without a counted form that make a counter, besides the calls whose names end in `_unchecked`.
 FRESH = {"RsVec::has_places_of", "WaveletMatrix::place_from", "BothEnds::last"}
-# Plain lists that types may keep: tables of numbers that are stored for queries, and what is at work while something is made.
+# Plain lists that types may keep: tables of numbers that are stored for queries, and what is at work while something is
+# made.
 TABLES = {
-    "BpBuilder.bits": "BitVec<A>", "BinaryRmq.table": "Vec<u32, A>", "FastRmq.places": "Vec<u8, A>", "Met.places": "[u64; 17]",
+    "BpBuilder.bits": "BitVec<A>", "BinaryRmq.table": "Vec<u32, A>", "FastRmq.places": "Vec<u8, A>",
+    "Met.places": "[u64; 17]",
     "FastRmq.masks": "Vec<BlockMasks, A>", "WaveletMatrix.levels": "Vec<RsVec<A>, A>", "Words.numbers": "&'a [u64]",
-    "Packed.bits": "&'a BitVec<A>", "Way.nodes": "[Node; 64]", "Blocks.minima": "Vec<u64, A>", "Blocks.places": "Vec<u8, A>",
+    "Packed.bits": "&'a BitVec<A>", "Way.nodes": "[Node; 64]", "Blocks.minima": "Vec<u64, A>",
+    "Blocks.places": "Vec<u8, A>",
     "Blocks.masks": "Vec<BlockMasks, A>", "ByteTables.forward": "[u64; 256]", "ByteTables.backward": "[u64; 256]",
-    "ChunkWalk.offsets": "[u8; CHUNK]", "SliceNumbers.rest": "&'a [u64]", "Parts.high": "BitVec<A>", "Parts.low": "BitVec<A>",
+    "ChunkWalk.offsets": "[u8; CHUNK]", "SliceNumbers.rest": "&'a [u64]", "Parts.high": "BitVec<A>",
+    "Parts.low": "BitVec<A>",
     "Asked.numbers": "[usize; GROUP]", "Group.slots": "[usize; GROUP]",
 }
 # The calls that bodies have to make: public calls those of their kernels, and kernels those that make them kernels.
 CALLS = {
     "BitVec::count_ones": "ones_of", "ones_of": "as_chunks ones_of_chunk", "BitVec::eq": "are_same",
     "are_same": "as_chunks agree", "agree": "from_array simd_ne any", "RsVec::block_with": "block_among",
-    "RsVec::block_among": "read_16 last_up_to", "last_up_to": "differences far_below", "differences": "splat from_slice",
+    "RsVec::block_among": "read_16 last_up_to", "last_up_to": "differences far_below",
+    "differences": "splat from_slice",
     "far_below": "simd_ge to_bitmask count_ones", "ChunkWalk::next_counted": "load",
     "ChunkWalk::load": "put_offsets put_offsets_plainly", "put_offsets": "offsets_in_byte splat put_lanes",
     "offsets_in_byte": "lanes_from", "lanes_from": "from_slice", "put_lanes": "copy_to_slice",
@@ -67,8 +73,10 @@ BARRED = {
     "WaveletMatrix::counted counted_levels levels_by_counting placed_digits start_next":
         "sort sort_by sort_by_digit sort_by_key sort_unstable sort_unstable_by_key sorted sorted_levels levels_by_sorting split",
 }
-# Kernels of lanes, in which nothing goes on in turns; and searches of whole bytes, which return the place that a byte's table gives.
-WITHOUT_LOOPS = {"agree", "RsVec::block_among", "last_up_to", "differences", "far_below", "offsets_in_byte", "lanes_from", "put_lanes"}
+# Kernels of lanes, in which nothing goes on in turns; and searches of whole bytes, which return the place that a byte's
+# table gives.
+WITHOUT_LOOPS = {"agree", "RsVec::block_among", "last_up_to", "differences", "far_below", "offsets_in_byte",
+                 "lanes_from", "put_lanes"}
 BYTES = {"bytes_forward", "bytes_backward"}
 RETURNED = re.compile(r"\bif let Some\((\w+)\) = place_met\([^;{]*\{\s*return Ok\([^;]*\b\1\b[^;]*\);")
 NUMBER = r"(?:[ui](?:8|16|32|64|128|size)|bool)"
@@ -79,7 +87,8 @@ SHOWN = re.compile(
     rf"|.*(?:\blen$|[\w)\]] (?:[-+*/%|^]|>>|<<|&) [\w(]|\bas {NUMBER})"
 )
 SIDES = re.compile(r"(?:^|[({;,&|!]|= )([^={};,]*?)(?<![=!<>])(?:==|!=)(?!=)([^={};,]*?)(?=[){;,]|&&|\|\||$)", re.M)
-# Calls of the standard library that counted bodies make: on numbers, options, lanes and lists made there. Others may walk a list.
+# Calls of the standard library that counted bodies make: on numbers, options, lanes and lists made there. Others may
+# walk a list.
 KNOWN = re.compile(
     r"(?:saturating|checked|wrapping)_\w+|(?:leading|trailing|count)_(?:zeros|ones)|div_ceil|unwrap(?:_or)?|ok|is_none|is_some"
     r"|map_err|push|reverse|splat|to_array|to_bitmask|copy_to_slice|simd_\w+"
@@ -91,7 +100,8 @@ MENTION = re.compile(
     r"\b(?!(?:if|while|match|for|in|return|let|mut|else|as|loop|break|continue|true|false|self|move|ref)\b)"
     r"(?P<name>[a-z_]\w*)\b(?P<call>\s*(?:\(|::<))?"
 )
-# Where the counter's type may stand, and in the file of counters besides; and what else may not stand where that doesn't.
+# Where the counter's type may stand, and in the file of counters besides; and what else may not stand where that
+# doesn't.
 COUNTER = r"^\s*(?:pub )?use [^;]*;|\b\w+: &mut Tally(?=[,)])|let mut tally = Tally::new\(\);"
 OF_VECTORS = r"|struct Tally|impl (?:Model for )?Tally \{|-> Tally|^\s*Tally \{|struct Uncounted"
 MISPLACED = re.compile(
@@ -119,11 +129,13 @@ class Library:
                 self.types_of_field[name].add(type_)
         self.holders = STANDARD | {it for function in self.functions for it in (function.holder, function.trait) if it}
         self.structs = {name for source in sources for name, _, _ in source.structs}
-        self.aliases = {word for source in sources for word in re.findall(r"(?m)^(?:pub(?:\([a-z]+\))? )?type (\w+)", source.text)}
+        self.aliases = {word for source in sources
+                        for word in re.findall(r"(?m)^(?:pub(?:\([a-z]+\))? )?type (\w+)", source.text)}
         self.traits = {word for source in sources for word in re.findall(r"\btrait (\w+)", source.text)}
         # the functions that lead to a token or to a fresh counter, other than counted bodies, which may not
         plain = [it for it in self.functions if is_looked_at(it) and not takes_counter(it)]
-        made = {it for it in plain if next(self.made(it), None)} | {it for it in self.functions if "Uncounted" in it.declared}
+        made = {it for it in plain if next(self.made(it), None)} | {it for it in self.functions
+                                                                    if "Uncounted" in it.declared}
         self.uncounted = closed(made, {it: {other for other, _ in self.mentions(it)} for it in plain})
 
     def of_type(self, holder, name):
@@ -140,12 +152,14 @@ class Library:
                 return self.of_type(holder, name)
             return self.by_name[name] if path[0].isupper() else free
         if not of and not found["dot"]:
-            is_bound = name in dict(function.parameters) or re.search(rf"\b(?:let|mut|for|Some\(|Ok\() ?{name}\b", function.code)
+            is_bound = name in dict(function.parameters) or re.search(rf"\b(?:let|mut|for|Some\(|Ok\() ?{name}\b",
+                                                                      function.code)
             return free if found["call"] or not is_bound else []
         if name in ("min", "max") and not re.match(r"\s*\(\s*\)", function.code[found.end("name") :]):
             return [it for it in self.by_name[name] if it.owner and it.parameters]
         field = re.fullmatch(r"self\.(\w+)", of or "")
-        type_ = self.fields.get((function.holder, field[1]), "") if field else {"tally": "Tally", "self": function.holder}.get(of)
+        type_ = self.fields.get((function.holder, field[1]),
+                                "") if field else {"tally": "Tally", "self": function.holder}.get(of)
         own = self.of_type(type_, name) if type_ else []
         return own if field and len(type_) > 1 else own or [it for it in self.by_name[name] if it.owner]
 
@@ -161,7 +175,8 @@ class Library:
 
     def made(self, function):
         """Yields what a body does that reads without its counter, and what Rust calls without a name."""
-        if BINDS.search(function.code) or any(name == "tally" and type_ != "&mut Tally" for name, type_ in function.parameters):
+        if BINDS.search(function.code) or any(name == "tally" and type_ != "&mut Tally"
+                                              for name, type_ in function.parameters):
             yield "gives the counter's name to another variable"
         for word in ("Uncounted", "Tally::new", "Tally {"):
             if word in function.code:
@@ -182,11 +197,12 @@ class Library:
         types = [type_ for name, type_ in function.parameters if name == text]
         if field := re.fullmatch(r"[\w.]+\.(\w+)", text):
             types += self.types_of_field[field[1]]
-        return bool(types) and all(NUMBERS.fullmatch(it.strip()) for it in types) or bool(SHOWN.match(without_brackets(text).split("(")[0]))
+        return bool(types) and all(NUMBERS.fullmatch(it.strip())
+                                   for it in types) or bool(SHOWN.match(without_brackets(text).split("(")[0]))
 
 
 def without_brackets(text):
-    """Returns a text without what stands in brackets."""
+    """Returns a text without what is in brackets."""
     while (shorter := re.sub(r"\([^()]*\)|\[[^\[\]]*\]", "", text)) != text:
         text = shorter
     return text
@@ -262,7 +278,8 @@ def function_faults(library, function):
     if function.trait and function.source.crate != BELOW:
         if function.trait not in TRAITS | library.traits:
             yield f"is a call of another trait, {function.trait}"
-        if len(function.holder) < 2 or function.holder in ("Vec", "Box", "Rc") or "[" in function.owner.partition(" for ")[2]:
+        if len(function.holder) < 2 or function.holder in ("Vec", "Box",
+                                                           "Rc") or "[" in function.owner.partition(" for ")[2]:
             yield "is a call of a type that is not of these crates"
 
 
@@ -287,7 +304,8 @@ def kept_faults(library, source):
     for struct, fields, line in [] if is_vectors(source) else source.structs:
         for name, type_ in fields:
             words = set(re.findall(r"[A-Za-z_]\w*", type_)) - known
-            is_list = "[" in type_ or any(not re.fullmatch(rf"{NUMBER}|[A-Z]|[A-Z][A-Z_]+", it) or it in library.aliases for it in words)
+            is_list = "[" in type_ or any(not re.fullmatch(rf"{NUMBER}|[A-Z]|[A-Z][A-Z_]+", it) or it in library.aliases
+                                          for it in words)
             if is_list and TABLES.get(f"{struct}.{name}") != type_:
                 yield line, f"{struct}.{name} keeps `{' '.join(type_.split())}`"
 
@@ -305,7 +323,8 @@ def named_faults(library):
             made = set(re.findall(r"\b([a-z_]\w*)(?:::<[^<>]*>)?\(", body))
             yield from (f"{name} has no call of `{it}`" for it in calls.split() if it not in made)
             yield from (f"{name} calls `{it}`" for it in barred.split() if it in made)
-            yield from (f"{name} throws away what `{it}` returns" for it in calls.split() if is_thrown_away(library, it, body))
+            yield from (f"{name} throws away what `{it}` returns" for it in calls.split()
+                        if is_thrown_away(library, it, body))
             if name in WITHOUT_LOOPS and re.search(r"\b(?:for|while|loop)\b", body):
                 yield f"{name} has a loop"
             if name in BYTES and not RETURNED.search(body):
@@ -313,7 +332,8 @@ def named_faults(library):
 
 
 def is_thrown_away(library, name, body):
-    """Whether each call of a function that returns something is a statement of its own, or gives a variable that nobody reads."""
+    """Whether each call of a function that returns something is a statement of its own, or gives a variable that nobody
+    reads."""
     if not any(" -> " in it.head for it in library.by_name[name]):
         return False
     calls = []
@@ -335,13 +355,15 @@ def faults(sources):
     for it in library.functions:
         yield from (f"{it.where}: {it.full_name} {what}" for what in function_faults(library, it))
     for source in [it for it in sources if it.crate != BELOW]:
-        yield from (f"{source.path}:{line}: {what}" for line, what in [*file_faults(source), *kept_faults(library, source)])
+        yield from (f"{source.path}:{line}: {what}"
+                    for line, what in [*file_faults(source), *kept_faults(library, source)])
     yield from named_faults(library)
 
 
 if __name__ == "__main__":
     listed = Crates(TOP)
-    named = [it for it in listed.lines if COUNTERS in [it, *listed.uses(it)] and not re.search(r"_tests$|_cli$|_saved$|_vecs$", it)]
+    named = [it for it in listed.lines if COUNTERS in [it, *listed.uses(it)]
+             and not re.search(r"_tests$|_cli$|_saved$|_vecs$", it)]
     read = [source for name in [BELOW, *named] for source in read_crate(TOP, name)]
     if "--self-test" in sys.argv:
         from counting_plants import self_test

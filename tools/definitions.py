@@ -1,7 +1,7 @@
 """Writes docs/DEFINITIONS.md: the words of `specs/` that public contracts cite, each with its comment there.
 
-A word is shown with the parameters of its definition. Its comment is the lines `-- ..` right above it. `missing_comments` lists the
-cited words that have none.
+A word is shown with the parameters of its definition. Its comment is the lines `-- ..` right above it.
+`missing_comments` lists the cited words that have none.
 """
 import os
 import re
@@ -39,12 +39,14 @@ PARAMETER = r"[a-z]\w*|[A-Z]"
 def parameters_of(name, text):
     """Returns the parameters in the head of a record, or of a definition that names them all."""
     defined = re.search(rf"(?m)^ *{re.escape(name)}((?: [^\s=]+)*) =", text)
-    names = defined[1].split() if defined else re.findall(r"\w+", " ".join(re.findall(r"\(([\w ]+) :", text.split("\n")[0])))
+    names = defined[1].split() if defined else re.findall(r"\w+",
+                                                          " ".join(re.findall(r"\(([\w ]+) :", text.split("\n")[0])))
     return names if all(re.fullmatch(PARAMETER, it) for it in names) else []
 
 
 def declared_words(top, crate):
-    """Yields each page of a crate's `specs/`, and the name, the parameters and the comment of each word that it declares."""
+    """Yields each page of a crate's `specs/`, and the name, the parameters and the comment of each word that it
+    declares."""
     folder = f"{top}/crates/{crate}/specs"
     for file in re.findall(r"(?m)^pub mod (\w+)$", read(f"{folder}/Lib.antt")):
         if file not in ("Rows", "inside"):
@@ -58,7 +60,8 @@ def cited_words(top):
     declared = {crate: {name for _, name, *_ in declared_words(top, crate)} for crate in TITLES}
     found = defaultdict(set)
     for crate in os.listdir(f"{top}/crates"):
-        for owner, name in (word for function in public_functions(read_crate(top, crate)) for word in words_of(function)):
+        for owner, name in (word for function in public_functions(read_crate(top, crate))
+                            for word in words_of(function)):
             # a crate may export a word of another
             for it in [owner] if name in declared.get(owner, ()) else TITLES:
                 found[it].add(name)
@@ -82,7 +85,8 @@ def page(top, cited):
         for file, name, parameters, comment in declared_words(top, crate):
             if name in cited[crate]:
                 row = f"- `{' '.join([name, *parameters])}`: {comment}"
-                rows[file] += textwrap.wrap(row, 120, subsequent_indent="  ", break_on_hyphens=False, break_long_words=False)
+                rows[file] += textwrap.wrap(row, 120, subsequent_indent="  ", break_on_hyphens=False,
+                                            break_long_words=False)
         for file, lines in rows.items():
             parts += [f"### [`{file}`](../crates/{crate}/specs/{file}.antt)", "\n".join(lines)]
     return "\n\n".join(parts) + "\n"

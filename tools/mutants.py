@@ -1,20 +1,23 @@
 #!/usr/bin/env python3
-"""Runs the wrong bodies of the crates that are written as plain Rust: all of them in one build, each by the test that its file names.
+"""Runs the wrong bodies of the crates that are written as plain Rust: all of them in one build, each by the test that
+its file names.
 
-    python3 tools/mutants.py [--jobs N] [CRATE..]    builds, and runs each wrong body; the last line is "N passed, M failed"
-    python3 tools/mutants.py --find [CRATE..]        names the quickest test that fails for each wrong body whose file names none
-    python3 tools/mutants.py --self-test             tries edits of bodies, signatures and constants
+    tools/mutants.py [--jobs N] [CRATE..]    builds, and runs each wrong body; the last line is "N passed, M failed"
+    tools/mutants.py --find [CRATE..]        names the quickest test that fails for each wrong body that has none
+    tools/mutants.py --self-test             tries edits of bodies, signatures and constants
 
-A wrong body (a mutant) that breaks a clause which says what a call returns has a line `row: TEST`. The expected values of that test come from
-a plain model of the definition. The test has to pass with the right bodies and to fail with this one: the row at which it fails is a
-counterexample to the clause. Right bodies are run too (tools/mutant_plants.py), and have to pass. Wrong bodies without that line are tried by the
-prover (tools/wrong_bodies.py).
+A wrong body (a mutant) that breaks a clause which says what a call returns has a line `row: TEST`. The expected values
+of that test come from a plain model of the definition. The test has to pass with the right bodies and to fail with this
+one: the row at which it fails is a counterexample to the clause. Right bodies are run too (tools/mutant_plants.py), and
+have to pass. Wrong bodies without that line are tried by the prover (tools/wrong_bodies.py).
 
-Each edit is applied to the source in Rattle, and both texts are written as Rust by tools/plain_rust.py. A body that differs becomes
+Each edit is applied to the source in Rattle, and both texts are written as Rust by tools/plain_rust.py. A body that
+differs becomes
 
     { match crate::rattle::mutants::active(FUNCTION) { 17 => { .. } 18 => { .. } _ => { the right body } } }
 
-under `cfg(mutants)`; the environment variable MUTANT says which is active. An edit that changes anything but bodies fails the run.
+under `cfg(mutants)`; the environment variable MUTANT says which is active. An edit that changes anything but bodies
+fails the run.
 """
 import argparse
 import json
@@ -47,7 +50,8 @@ class Body:
 
 
 class Mutant:
-    """A wrong body: its crate, its file, the text of that, and the test that has to fail; or a right body, which the test has to pass."""
+    """A wrong body: its crate, its file, the text of that, and the test that has to fail; or a right body, which the
+    test has to pass."""
 
     def __init__(self, crate, path, right=None):
         self.crate, self.path, self.is_right = crate, path, bool(right)
@@ -173,15 +177,18 @@ class Build:
 
     def at_fault(self, errors):
         """Returns the numbers of the wrong bodies in which errors of rustc are."""
-        spans = [(it["file_name"].partition("mutants/proved/")[2], it["line_start"]) for error in errors for it in error["spans"]]
-        return {number for path, line in spans for first, last, number in self.arms.get(path, []) if first <= line <= last}
+        spans = [(it["file_name"].partition("mutants/proved/")[2], it["line_start"]) for error in errors
+                 for it in error["spans"]]
+        return {number for path, line in spans for first, last, number in self.arms.get(path, [])
+                if first <= line <= last}
 
 
 def cargo(*words):
     """Runs cargo with the wrong bodies, and returns its messages."""
     flags = {"RUSTFLAGS": "--cfg mutants --cap-lints allow", "CARGO_TARGET_DIR": f"{RUST}/target/mutants/built",
              "CARGO_PROFILE_TEST_OPT_LEVEL": "1"}
-    done = subprocess.run(["cargo", *words, "--offline", "--message-format=json"], cwd=RUST, env={**os.environ, **flags},
+    done = subprocess.run(["cargo", *words, "--offline", "--message-format=json"], cwd=RUST,
+                          env={**os.environ, **flags},
                           stdout=subprocess.PIPE, stderr=subprocess.DEVNULL, text=True, check=False)
     return [json.loads(it) for it in done.stdout.splitlines()]
 
@@ -196,7 +203,8 @@ def compiled(mutants):
     faults = build.faults + [it.said("rustc refuses it") for it in mutants if it.number in wrong]
     if errors and not wrong:
         faults += [it["rendered"] for it in errors[:3]]
-    return next((it["executable"] for it in told if it["reason"] == "compiler-artifact" and it.get("executable")), None), faults
+    built = [it["executable"] for it in told if it["reason"] == "compiler-artifact" and it.get("executable")]
+    return next(iter(built), None), faults
 
 
 def module_of(row):
@@ -206,10 +214,13 @@ def module_of(row):
 
 def run(program, test, mutant, seconds):
     """Runs one test with a wrong body, and returns how it failed, or None if it passed, and what it printed."""
-    command = ["prlimit", f"--as={MEMORY}", program, test, "--exact", "--include-ignored", "--test-threads=1", "--nocapture"]
+    command = ["prlimit", f"--as={MEMORY}", program, test, "--exact", "--include-ignored", "--test-threads=1",
+               "--nocapture"]
     try:
-        done = subprocess.run(command, env={**os.environ, "MUTANT": str(mutant), "RUST_BACKTRACE": "0"}, timeout=seconds, check=False,
-                              stdin=subprocess.DEVNULL, stdout=subprocess.PIPE, stderr=subprocess.PIPE, text=True, errors="replace")
+        done = subprocess.run(command, env={**os.environ, "MUTANT": str(mutant), "RUST_BACKTRACE": "0"},
+                              timeout=seconds, check=False,
+                              stdin=subprocess.DEVNULL, stdout=subprocess.PIPE, stderr=subprocess.PIPE, text=True,
+                              errors="replace")
     except subprocess.TimeoutExpired:
         return "it doesn't end", ""
     if done.returncode == 0 and "1 passed" in done.stdout:
@@ -228,11 +239,13 @@ def timed(program, test):
 
 
 def judged(program, mutants, jobs):
-    """Yields for each wrong body with a row whether its test fails with it and passes without it, and a line about it."""
+    """Yields for each wrong body with a row whether its test fails with it and passes without it, and a line about
+    it."""
     with ThreadPoolExecutor(jobs) as pool:
         rows = sorted({it.row for it in mutants})
         right = dict(zip(rows, pool.map(lambda row: timed(program, module_of(row)), rows)))
-        ends = pool.map(lambda it: run(program, module_of(it.row), it.number, SECONDS + TIMES * right[it.row][0])[0], mutants)
+        ends = pool.map(lambda it: run(program, module_of(it.row), it.number, SECONDS + TIMES * right[it.row][0])[0],
+                        mutants)
         for it, end in zip(mutants, ends):
             if right[it.row][2]:
                 yield False, it.said(f"{it.row} fails with the right bodies too: {right[it.row][2]}")
@@ -241,9 +254,11 @@ def judged(program, mutants, jobs):
 
 
 def found_rows(program, mutants):
-    """Writes the quickest test that fails into the file of each wrong body, and yields the wrong bodies that none finds."""
+    """Writes the quickest test that fails into the file of each wrong body, and yields the wrong bodies that none
+    finds."""
     listed = subprocess.run([program, "--list"], stdout=subprocess.PIPE, text=True, check=True).stdout
-    names = [it.split(": ")[0] for it in listed.splitlines() if it.endswith(": test") and re.match("(proved|inside)_tests::", it)]
+    names = [it.split(": ")[0] for it in listed.splitlines() if it.endswith(": test")
+             and re.match("(proved|inside)_tests::", it)]
     tests = {name: timed(program, name) for name in names}
     reached = {name: set(re.findall(r"(?m)^reached (\d+)$", it[1])) for name, it in tests.items()}
     for mutant in mutants:
@@ -259,9 +274,12 @@ def found_rows(program, mutants):
 
 
 PLAIN = "const A: u64 = 1;\n\npub struct S {\n    a: u64,\n}\n\nimpl S {\n    #[inline]\n    pub fn f(&self) -> u64 {\n        self.a\n    }\n\n    fn g() {}\n}\n\nfn f(x: u64) -> u64 {\n    x\n}\n"
-TRIED = [("self.a", "self.a + 1", ["f"]), ("    x\n", "    x + A\n", ["f"]), ("A: u64 = 1", "A: u64 = 2", None), ("a: u64", "a: u32", None),
-         ("fn f(x", "fn h(x", None), ("fn g() {}\n", "fn g() {}\n\n    fn h() {}\n", None), ("#[inline]", "#[cold]", None),
-         ("self.a\n    }\n\n    fn g() {}", "self.a * 2\n    }\n\n    fn g() { let _ = A; }", ["f", "g"]), ("self.a", "self.a", [])]
+TRIED = [("self.a", "self.a + 1", ["f"]), ("    x\n", "    x + A\n", ["f"]), ("A: u64 = 1", "A: u64 = 2", None),
+         ("a: u64", "a: u32", None),
+         ("fn f(x", "fn h(x", None), ("fn g() {}\n", "fn g() {}\n\n    fn h() {}\n", None),
+         ("#[inline]", "#[cold]", None),
+         ("self.a\n    }\n\n    fn g() {}", "self.a * 2\n    }\n\n    fn g() { let _ = A; }", ["f", "g"]),
+         ("self.a", "self.a", [])]
 
 
 def self_test():
@@ -291,10 +309,12 @@ def main():
     if not has_cargo():
         print("left out: the wrong bodies that a test refuses (no cargo 1.88 or newer)")
         return 0
-    mutants = [Mutant(crate, path) for crate in flags.crates or CRATES for path in sorted(Path(TOP, "crates", crate, "wrong").glob("*.edit"))]
+    mutants = [Mutant(crate, path) for crate in flags.crates or CRATES
+               for path in sorted(Path(TOP, "crates", crate, "wrong").glob("*.edit"))]
     mutants = [it for it in mutants if bool(it.row) != flags.find]
     if not flags.find:
-        mutants += [Mutant(crate, Path(TOP, "crates", crate, "wrong", f"{name}.edit"), texts) for crate, name, *texts in RIGHT]
+        mutants += [Mutant(crate, Path(TOP, "crates", crate, "wrong", f"{name}.edit"), texts)
+                    for crate, name, *texts in RIGHT]
     program, faults = compiled(mutants)
     passed = 0
     if program and flags.find:

@@ -1,11 +1,12 @@
 #!/usr/bin/env python3
 """Writes docs/CALLS.md and docs/DEFINITIONS.md, and the figures of README's table of times.
 
-A line of CALLS has a public call as it is declared, the first sentence of its doc comment with its preconditions unless `cargo doc` has a
-call of that name, and the bound on the reads of the counted form, which shares the line. `tools/definitions.py` writes DEFINITIONS.
+A line of CALLS has a public call as it is declared, the first sentence of its doc comment with its preconditions unless
+`cargo doc` has a call of that name, and the bound on the reads of the counted form, which shares the line.
+`tools/definitions.py` writes DEFINITIONS.
 
-A row of a table of PERFORMANCE is read if its first cell is a call, such as `rank1` or `FastRmq::range_min`, or a call and what its time
-is for, such as "`iter1`, a place". Nothing is measured.
+A row of a table of PERFORMANCE is read if its first cell is a call, such as `rank1` or `FastRmq::range_min`, or a call
+and what its time is for, such as "`iter1`, a place". Nothing is measured.
 
 It also lists the names that the facade exports, and the calls of its types, that are neither in the table of our own names in
 docs/DIFFERENCES.md nor among those of vers-vecs (tools/original_names.txt), and the names in the first that aren't our own. Counted forms
@@ -23,7 +24,8 @@ from sources import TOP, public_functions, read, read_crate, write_or_check
 PAGE, DIFFERENCES, FACADE = "docs/CALLS.md", "docs/DIFFERENCES.md", "crates/vers_vecs/src/lib.rt"
 ORIGINAL = "tools/original_names.txt"
 SOURCE, README = "docs/PERFORMANCE.md", "README.md"
-# The tables that are read: the heading, the type that it times where rows don't say it, over which data, and the times' column.
+# The tables that are read: the heading, the type that it times where rows don't say it, over which data, and the times'
+# column.
 BITS = "Beside the original, in time"
 SECTIONS = (
     (BITS, "RsVec", "2^20 bits, half ones", "2^20 bits, 50%"),
@@ -66,8 +68,8 @@ def with_figures(text, found):
     return re.sub(r"(?m)^(\| `\w+`, `\w+` \| [^|\n]* \|).*$", lambda row: row[1] + rows[row[1]], text)
 
 
-CRATES = """vers_bits vers_tally vers_rank vers_sorted vers_rmq vers_trees vers_wavelet vers_saved postings text_index vers_words
-    vers_engine vers_cli vers_texts vers_files"""
+CRATES = """vers_bits vers_tally vers_rank vers_sorted vers_rmq vers_trees vers_wavelet vers_saved postings text_index
+    vers_words vers_engine vers_cli vers_texts vers_files"""
 # The crates whose calls the Rust crate has under the same names.
 IN_RUST = "vers_bits vers_rank vers_sorted vers_rmq vers_trees vers_wavelet vers_saved postings text_index".split()
 
@@ -96,13 +98,15 @@ def call_with_comment(function, counted, is_in_rust):
     said = [] if is_in_rust else [first_sentence(function)]
     said += [f"requires {', '.join(conditions)}"] if conditions and not is_in_rust else []
     said += [f"reads {', '.join(bounds)}"] if bounds else []
-    return "\n".join([*(f"// {it}" for it in textwrap.wrap("; ".join(said), 117)), declaration(function)])
+    declared = textwrap.wrap(declaration(function), 120, subsequent_indent="    ")
+    return "\n".join([*(f"// {it}" for it in textwrap.wrap("; ".join(said), 117)), *declared])
 
 
 def section(title, functions, in_rust):
     """Returns the calls of one owner, of which `in_rust` are calls of the Rust crate."""
     by_name = {it.name: it for it in functions}
-    shown = [it for it in functions if not it.name.endswith("_counted") or it.name.removesuffix("_counted") not in by_name]
+    shown = [it for it in functions if not it.name.endswith("_counted")
+             or it.name.removesuffix("_counted") not in by_name]
     lines = [call_with_comment(it, by_name.get(f"{it.name}_counted", it), it.name in in_rust) for it in shown]
     return "\n".join([f"## {title}", "", "```text", *lines, "```"])
 
@@ -117,7 +121,8 @@ def page(top):
         for it in sorted(public_functions(read_crate(top, crate)), key=lambda it: (it.source.path, it.first)):
             if not it.trait and not it.is_declared_by_trait and it.source.module != "laws":
                 groups[owner(it)].append(it)
-        parts += [section(f"`{crate}::{name}`", of, in_rust if crate in IN_RUST else ()) for name, of in sorted(groups.items())]
+        parts += [section(f"`{crate}::{name}`", of, in_rust if crate in IN_RUST else ())
+                  for name, of in sorted(groups.items())]
     return "\n\n".join(parts) + "\n"
 
 
@@ -132,7 +137,7 @@ def misplaced_names(top):
         types.update(re.findall(r"\w+", names))
         own.update(set(re.findall(r"\w+", names)) - original.get(crate, set()))
     for crate in CRATES.split():
-        # the bodies of all walks stand in `vers_tally`, and their calls are those of the iterators
+        # the bodies of all walks are in `vers_tally`, and their calls are those of the iterators
         known = original.get(crate) or set().union(*original.values())
         for it in public_functions(read_crate(top, crate)):
             if it.holder in types and not it.name.endswith("_counted") and it.name not in known | {it.holder}:

@@ -1,12 +1,12 @@
 #!/usr/bin/env python3
 """Writes the proved sources as a crate of plain Rust, or compares the stored files with what it writes.
 
-    python3 tools/plain_rust.py                writes rust/src/proved, rust/src/proved_tests, rust/src/contracts.rs and rust/src/definitions.md
-    python3 tools/plain_rust.py --check        compares these, and rust/guards.txt with the sources (see tools/rust_contracts.py)
+    tools/plain_rust.py                writes proved, proved_tests, contracts.rs and definitions.md in rust/src
+    tools/plain_rust.py --check        compares these, and rust/guards.txt with the sources (tools/rust_contracts.py)
     python3 tools/plain_rust.py --self-test    tries forms that it has to write, and forms that it has to refuse
 
-The script reads a text as tokens, balanced brackets and items. It leaves out what is ghost, replaces the paths and words that its tables
-list, and keeps all else as it is, comments included. It refuses every form that no table names.
+The script reads a text as tokens, balanced brackets and items. It leaves out what is ghost, replaces the paths and
+words that its tables list, and keeps all else as it is, comments included. It refuses every form that no table names.
 """
 import os
 import re
@@ -19,9 +19,10 @@ from sources import read as read_text
 
 RUST = "rust/src"
 # The crates: each becomes a module of `proved`, and each crate of tests a module of `proved_tests`.
-CRATES = "vers_bits vers_tally vers_rank vers_sorted vers_rmq vers_wavelet vers_trees postings text_index vers_saved".split()
-TESTS = """test_alloc vers_bits_tests vers_rank_tests vers_sorted_tests vers_rmq_tests vers_wavelet_tests vers_trees_tests postings_tests
-text_index_tests vers_saved_tests""".split()
+CRATES = """vers_bits vers_tally vers_rank vers_sorted vers_rmq vers_wavelet vers_trees postings text_index
+vers_saved""".split()
+TESTS = """test_alloc vers_bits_tests vers_rank_tests vers_sorted_tests vers_rmq_tests vers_wavelet_tests
+vers_trees_tests postings_tests text_index_tests vers_saved_tests""".split()
 # A file that uses raw pointers in Rattle. Its Rust form is written by hand.
 BY_HAND = {"test_alloc/mod.rs"}
 
@@ -46,17 +47,18 @@ USES = {
     "vers_engine::Source": HERE + "io::Source",
 }
 # Paths that mean the same in both languages.
-SAME = """std::marker::PhantomData std::ops::Range std::ops::Bound std::mem std::mem::replace std::mem::size_of std::io std::io::Read
-std::io::Write std::fmt std::hash::Hash std::hash::Hasher std::hash::BuildHasher std::hash::BuildHasherDefault std::error::Error""".split()
+SAME = """std::marker::PhantomData std::ops::Range std::ops::Bound std::mem std::mem::replace std::mem::size_of std::io
+std::io::Read std::io::Write std::fmt std::hash::Hash std::hash::Hasher std::hash::BuildHasher
+std::hash::BuildHasherDefault std::error::Error""".split()
 USES.update({it: it for it in SAME})
 
-# Methods that the proved sources call and don't define. Those of Rust's own types are assumed to mean the same in both languages; the
-# support module has the others.
-METHODS = set("""all any as_arrays as_mut_slice at capacity checked_add checked_mul checked_sub clear copy_from_slice copy_to_slice div_ceil
-extend_from_slice is_err is_none is_some is_sorted_by leading_zeros map map_err ok partition_point push push_reserved read_once
-reserve_exact resize rev reverse rotate_left saturating_add saturating_mul saturating_sub simd_ge simd_ne sort_unstable
-sort_unstable_by_key split_first to_array to_bitmask to_le_bytes trailing_ones trailing_zeros unwrap unwrap_or wrapping_mul wrapping_sub
-write_once write_str write_usize""".split())
+# Methods that the proved sources call and don't define. Those of Rust's own types are assumed to mean the same in both
+# languages; the support module has the others.
+METHODS = set("""all any as_arrays as_mut_slice at capacity checked_add checked_mul checked_sub clear copy_from_slice
+copy_to_slice div_ceil extend_from_slice is_err is_none is_some is_sorted_by leading_zeros map map_err ok
+partition_point push push_reserved read_once reserve_exact resize rev reverse rotate_left saturating_add saturating_mul
+saturating_sub simd_ge simd_ne sort_unstable sort_unstable_by_key split_first to_array to_bitmask to_le_bytes
+trailing_ones trailing_zeros unwrap unwrap_or wrapping_mul wrapping_sub write_once write_str write_usize""".split())
 
 KEPT_ATTRIBUTES = {"inline", "cfg", "test"}
 DROPPED_ATTRIBUTES = {"tactic"}
@@ -66,7 +68,8 @@ GHOST_MACROS = {"prove", "prove_eq", "prove_ne"}
 HANDLED_MACROS = {"assert", "assert_eq", "assert_ne"}
 CLAUSES = {"requires", "ensures"}
 # Words that no written file may have.
-REFUSED = CLAUSES | {"ghost", "Model", "Drop", "unsafe", "macro_rules", "extern", "async", "dyn", "static_assert", "Box", "Rc", "Cell"}
+REFUSED = CLAUSES | {"ghost", "Model", "Drop", "unsafe", "macro_rules", "extern", "async", "dyn", "static_assert",
+                     "Box", "Rc", "Cell"}
 
 PRELUDE = "use crate::rattle::prelude::*;"
 NOTE = """//! Written by tools/plain_rust.py from the proved sources: not to be edited.
@@ -102,7 +105,8 @@ class Token:
 
     def written(self):
         """Returns the text that the token was read from."""
-        return self.text if self.inner is None else self.text + "".join(it.written() for it in self.inner) + CLOSING[self.text]
+        return self.text if self.inner is None else self.text + "".join(it.written()
+                                                                        for it in self.inner) + CLOSING[self.text]
 
     def is_blank(self):
         return self.kind in ("space", "comment")
@@ -147,19 +151,23 @@ def real(tokens):
 
 
 def let_else(tokens):
-    """Returns a statement `let .. else ..` as the `match` that an older rustc knows, or None if the tokens aren't one."""
+    """Returns a statement `let .. else ..` as the `match` that an older rustc knows, or None if the tokens aren't
+    one."""
     words = real(tokens)
     if len(words) < 7 or words[-3].text != "else" or not words[-2].opens("{") or not words[1].text[0].isupper():
         return None
     name, value = words[2].written()[1:-1], tokens[tokens.index(words[3]) + 1:tokens.index(words[-3])]
-    if not re.fullmatch(r"(mut )?\w+|\(\w+(, \w+)*\)", name) or words[1].text not in ("Some", "Ok") or words[3].text != "=":
+    if not re.fullmatch(r"(mut )?\w+|\(\w+(, \w+)*\)",
+                        name) or words[1].text not in ("Some", "Ok") or words[3].text != "=":
         raise Refused(f"line {words[0].line}: a pattern of another form before `else`")
     bound = name.replace("mut ", "")
-    return f"let {name} = match{''.join(it.written() for it in value)}{{ {words[1].text}({bound}) => {bound}, _ => {words[-2].written()} }};"
+    matched = "".join(it.written() for it in value)
+    return f"let {name} = match{matched}{{ {words[1].text}({bound}) => {bound}, _ => {words[-2].written()} }};"
 
 
 def arrays(words):
-    """Returns how a type that is a slice of arrays is written, with its last token, or None if the words don't begin one."""
+    """Returns how a type that is a slice of arrays is written, with its last token, or None if the words don't begin
+    one."""
     life = words[1:2] and words[1].kind == "life"
     if words[0].text != "&" or len(words) < 2 + life or not words[1 + life].opens("["):
         return None
@@ -169,8 +177,9 @@ def arrays(words):
 
 
 def older(tokens, chunked):
-    """Returns tokens without the forms that the oldest rustc lacks: `let .. else`, `as_chunks`, and the slices of arrays that it makes. The names
-    of these are added to a set: an entry of one is borrowed by a call, for as long as the items are."""
+    """Returns tokens without the forms that the oldest rustc lacks: `let .. else`, `as_chunks`, and the slices of
+    arrays that it makes. The names of these are added to a set: an entry of one is borrowed by a call, for as long as
+    the items are."""
     out, k = [], 0
     while k < len(tokens):
         end, it, text = k + 1, tokens[k], None
@@ -213,10 +222,11 @@ class Writer:
         while self.out and self.out[-1].isspace():
             self.out.pop()
 
-    # What stands in bodies, types and values.
+    # What bodies, types and values contain.
 
     def code(self, tokens):
-        """Writes code: as it is, but for paths, bounds by Drop, macros with a handle, and the forms that the oldest rustc lacks."""
+        """Writes code: as it is, but for paths, bounds by Drop, macros with a handle, and the forms that the oldest
+        rustc lacks."""
         tokens = older(tokens, self.chunked)
         places = [k for k, it in enumerate(tokens) if not it.is_blank()]
         order = {k: n for n, k in enumerate(places)}
@@ -284,7 +294,7 @@ class Writer:
             self.refuse(name, f"the macro {name.text}!")
 
     def root(self, it, second, third):
-        """Returns what stands for the first word of a path."""
+        """Returns the translation of the first word of a path."""
         if it.text == "crate":
             return module_of(self.crate)
         if it.text in CRATES + TESTS and it.text != self.crate:
@@ -311,7 +321,8 @@ class Writer:
 
     @staticmethod
     def ends(tokens, start, k, fields):
-        """Returns whether an item ends at a token: by a semicolon or a body, a field by a comma, and an attribute of the file by itself."""
+        """Returns whether an item ends at a token: by a semicolon or a body, a field by a comma, and an attribute of
+        the file by itself."""
         it, before = tokens[k], real(tokens[start:k])
         if [t.text for t in before] == ["#", "!"]:
             return it.opens("[")
@@ -322,7 +333,8 @@ class Writer:
         if not it.opens("{"):
             return False
         words = [t.text for t in before if t.kind == "word"]
-        if next((w for w in words if w != "pub"), "") in ("use", "ghost", "const", "static", "type") and "fn" not in words:
+        if next((w for w in words if w != "pub"), "") in ("use", "ghost", "const", "static",
+                                                          "type") and "fn" not in words:
             return False
         last = before[-2] if before[-1].kind == "word" and before[-1].text not in CLAUSES else before[-1]
         return last.text not in CLAUSES
@@ -404,7 +416,7 @@ class Writer:
         return tokens
 
     def use(self, tokens):
-        """Writes a `use`, by the list of what stands for std."""
+        """Writes a `use`, by the list of translations of std."""
         text = re.sub(r"\s+", " ", "".join(it.written() for it in tokens))
         public, path = re.fullmatch(r"(pub(?:\([^)]*\))? )?use ([^;]*);", text).groups("")
         if path.split("::")[0] not in ("std", "core", "alloc", "vers_engine"):
@@ -454,7 +466,8 @@ class Writer:
         return self.put("}")
 
     def signature(self, tokens):
-        """Writes a signature, and returns the name by which a test is given the runtime, which it makes itself in Rust."""
+        """Writes a signature, and returns the name by which a test is given the runtime, which it makes itself in
+        Rust."""
         flat = re.sub(r"\s+", " ", "".join(it.written() for it in tokens)).strip()
         if "fmt::Write" in flat:
             if flat != "fn fmt<W: fmt::Write>(&self, f: &mut fmt::Formatter<W>) -> fmt::Result":
@@ -476,7 +489,8 @@ class Writer:
         lines[at:at] = ["", PRELUDE]
         text = re.sub(r"\{\n\n+", "{\n", re.sub(r"\n{3,}", "\n\n", "\n".join(lines)))
         for test in SLOW.get(self.name, ()):
-            text, count = re.subn(rf"(?m)^#\[test\]\n(?=fn {test}\()", "#[test]\n#[ignore = \"slow without optimization\"]\n", text)
+            text, count = re.subn(rf"(?m)^#\[test\]\n(?=fn {test}\()",
+                                  "#[test]\n#[ignore = \"slow without optimization\"]\n", text)
             if count != 1:
                 raise Refused(f"{self.name}: no test {test}")
         return re.sub(r"\{\n\s*\}", "{}", text).strip("\n") + "\n"
@@ -514,7 +528,8 @@ def written_of(crates):
 
 
 def written(top):
-    """Returns all files that the script writes, by their paths in the folder of the crate's sources, and the faults that it met."""
+    """Returns all files that the script writes, by their paths in the folder of the crate's sources, and the faults
+    that it met."""
     files, faults = pages(top, f"{top}/{RUST}", CRATES)
     for folder, crates in (("proved", CRATES), ("proved_tests", TESTS)):
         texts, wrong = written_of(crates)
@@ -524,8 +539,10 @@ def written(top):
 
 
 def stored(folder):
-    """Returns the files of the folders that the script alone writes, by their paths in the folder of the crate's sources."""
-    paths = [os.path.join(at, name) for it in ("proved", "proved_tests") for at, _, names in os.walk(f"{folder}/{it}") for name in names]
+    """Returns the files of the folders that the script alone writes, by their paths in the folder of the crate's
+    sources."""
+    paths = [os.path.join(at, name) for it in ("proved", "proved_tests") for at, _, names in os.walk(f"{folder}/{it}")
+             for name in names]
     return {os.path.relpath(it, folder) for it in paths} - {f"proved_tests/{it}" for it in BY_HAND}
 
 
@@ -581,7 +598,8 @@ def main():
     files, faults = written(TOP)
     faults += [f"{it} is written from nothing" for it in sorted(stored(folder) - set(files))]
     if sys.argv[1:] == ["--check"]:
-        faults += [f"{it} is not what is written" for it in files if not os.path.exists(f"{folder}/{it}") or read_text(f"{folder}/{it}") != files[it]]
+        faults += [f"{it} is not what is written" for it in files if not os.path.exists(f"{folder}/{it}")
+                   or read_text(f"{folder}/{it}") != files[it]]
         faults += guard_faults(TOP, folder, CRATES)
     elif not faults:
         write_files(folder, files)

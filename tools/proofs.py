@@ -1,9 +1,10 @@
 #!/usr/bin/env python3
 """Proves crates with those below them, two side by side on four processors: proofs.py CRATE..
 
-Each crate begins once those below it are proved, and a library that is built as it stands, by this script or by `rt ci`, is passed over. Standard
-error tells of each. A library is built as `rt ci` builds it: the crates above read what it says, and not its proofs. A static library is built into
-`out`. A program is built and linked, and its file `out/NAME.built` is then as old as the beginning of the run.
+Each crate begins once those below it are proved, and a library whose build is newer than its sources, by this script or
+by `rt ci`, is passed over. Standard error tells of each. A library is built as `rt ci` builds it: the crates above read
+what it says, and not its proofs. A static library is built into `out`. A program is built and linked, and its file
+`out/NAME.built` is then as old as the beginning of the run.
 """
 import contextlib
 import os
@@ -24,8 +25,10 @@ from sources import TOP, read, write_files
 
 PARTS = ("src", "specs", "proofs")
 TARGET = "x86_64-unknown-linux-gnu"
-# What a check says of a fault or of a goal that isn't proved: where it stands, in which function, and what is to be shown there.
-REASON = re.compile(r"^((note: )?(\./)?(src|specs|proofs)/\S+:\d+:\d+: .*|fn (?!.*: (proved|no proof: it calls)).*|note: `.* must prove: .*)", re.M)
+# What a check says of a fault or of a goal that isn't proved: where it stands, in which function, and what is to be
+# shown there.
+REASON = re.compile(
+    r"^((note: )?(\./)?(src|specs|proofs)/\S+:\d+:\d+: .*|fn (?!.*: (proved|no proof: it calls)).*|note: `.* must prove: .*)", re.M)
 
 
 class Failure(Exception):
@@ -65,30 +68,35 @@ class Crates:
         return [it for it in self.lines[name].partition(":")[2].split() if it in self.lines]
 
     def below(self, name):
-        """Returns the libraries below a crate, each after those that it stands on."""
+        """Returns the libraries below a crate, each after those that it depends on."""
         return list(dict.fromkeys(it for use in self.uses(name) for it in [*self.below(use), use]))
 
     def is_built(self, name):
-        """Returns whether a library is built as it stands, after those that it uses."""
+        """Returns whether the build of a library is newer than its sources and than the libraries that it uses."""
         built, *below = (Path(self.built(it)) for it in [name, *self.uses(name)])
         texts = (file for part in PARTS for file in Path(self.folder(name), part).rglob("*"))
         parts = [Path(self.top, "crates.txt"), *below, *texts]
-        return all(map(Path.is_dir, [built, *below])) and all(it.stat().st_mtime <= built.stat().st_mtime for it in parts)
+        return all(map(Path.is_dir, [built, *below])) and all(it.stat().st_mtime <= built.stat().st_mtime
+                                                              for it in parts)
 
     def command(self, verb, name):
-        """Returns the command that checks or builds a crate in its folder, over the libraries below it as they were built."""
+        """Returns the command that checks or builds a crate in its folder, over the libraries below it as they were
+        built."""
         kit, uses, below = toolchain(), self.lines[name].partition(":")[2], self.below(name)
         libraries = {it: self.built(it) if it in below else f"{kit}/rlibs/{it}.rlib" for it in ["std", *uses.split()]}
         return [
-            *(f"{kit}/bin/rattle", verb, "--crate-name", name, "src/main.rt" if self.is_program(name) else "src/lib.rt"),
+            *(f"{kit}/bin/rattle", verb, "--crate-name", name, "src/main.rt" if self.is_program(name)
+              else "src/lib.rt"),
             *(it for library in libraries.items() for it in ("--extern", "=".join(library))),
-            *(it for folder in [f"{kit}/rlibs", *(os.path.dirname(self.built(it)) for it in below)] for it in ("-L", f"dependency={folder}")),
+            *(it for folder in [f"{kit}/rlibs", *(os.path.dirname(self.built(it)) for it in below)]
+              for it in ("-L", f"dependency={folder}")),
             *("--antt-project", f"{kit}/rattle/logic/antt-project.json", "--logic-built", f"{kit}/logic_built"),
             *(("--crate-type", "staticlib") if self.is_static(name) else ()),
         ]
 
     def building(self, name, jobs):
-        """Returns the commands that prove a crate and build it: a library for those above it, a static library, or a program, which is linked."""
+        """Returns the commands that prove a crate and build it: a library for those above it, a static library, or a
+        program, which is linked."""
         kit, out = toolchain(), f"{self.folder(name)}/out"
         build, compiler = [*self.command("build", name), "--jobs", str(jobs)], ["--toolchain", f"{kit}/toolchain"]
         if self.is_program(name):
@@ -149,17 +157,20 @@ class Commands:
 
 
 def longest_ways(crates, asked):
-    """Returns of each crate how long the longest way up is, in bytes of proofs, and 200,000 a crate for what one process reads and writes."""
+    """Returns of each crate how long the longest way up is, in bytes of proofs, and 200,000 a crate for what one
+    process reads and writes."""
     ways = {}
     for name in reversed(list(TopologicalSorter({it: crates.uses(it) for it in asked}).static_order())):
-        files = (f"{folder}/{file}" for part in PARTS for folder, _, files in os.walk(f"{crates.folder(name)}/{part}") for file in files)
-        ways[name] = 200_000 + sum(map(os.path.getsize, files)) + max((ways[it] for it in asked if name in crates.uses(it)), default=0)
+        files = (f"{folder}/{file}" for part in PARTS for folder, _, files in os.walk(f"{crates.folder(name)}/{part}")
+                 for file in files)
+        ways[name] = 200_000 + sum(map(os.path.getsize, files)) + max((ways[it] for it in asked
+                                                                       if name in crates.uses(it)), default=0)
     return ways
 
 
 def prove_all(crates, names, commands, tell):
-    """Proves crates with those below them, half as many at a time as there are processors, and tells the name of each. Of two, that with the shorter
-    way up yields."""
+    """Proves crates with those below them, half as many at a time as there are processors, and tells the name of each.
+    Of two, that with the shorter way up yields."""
     asked = {it for name in names for it in [*crates.below(name), name]}
     ways, order, running = longest_ways(crates, asked), TopologicalSorter({it: crates.uses(it) for it in asked}), {}
     order.prepare()
@@ -176,7 +187,7 @@ def prove_all(crates, names, commands, tell):
 
 
 def prove(crates, name, niceness, commands):
-    """Proves a crate and builds it, unless it is a library that is built as it stands."""
+    """Proves a crate and builds it, unless it is a library whose build is up to date."""
     if crates.is_built(name):
         return
     began, built = time.time(), Path(crates.built(name))
@@ -192,7 +203,7 @@ def prove(crates, name, niceness, commands):
 
 
 def prove_below(crates, name, commands):
-    """Proves the libraries below a crate, unless they are built as they stand."""
+    """Proves the libraries below a crate, unless their builds are up to date."""
     if not all(map(crates.is_built, crates.below(name))):
         prove_all(crates, crates.uses(name), commands, lambda name: None)
 
@@ -213,8 +224,9 @@ def main():
     try:
         tell("proving the crates, those below first; this takes some minutes the first time")
         prove_all(crates, names, commands, lambda name: tell(
-            f"{name} is proved by {commands.seconds[name, 'proof']:.0f} processor seconds, after {(time.time() - began) / 60:.1f} minutes"
-            if (name, "proof") in commands.seconds else f"{name} is built as it stands"))
+            f"{name} is proved by {commands.seconds[name, 'proof']:.0f} processor seconds, "
+            f"after {(time.time() - began) / 60:.1f} minutes"
+            if (name, "proof") in commands.seconds else f"{name} is up to date"))
     except Failure as failure:
         tell(failure)
         return 1

@@ -1,18 +1,20 @@
 #!/usr/bin/env python3
-"""Checks the crate of plain Rust: that its written files are what the sources say, tests, lints, pages, package, and checksums.
+"""Checks the crate of plain Rust: that its written files are what the sources say, tests, lints, pages, package, and
+checksums.
 
     python3 tools/rust_checks.py           every check below
     python3 tools/rust_checks.py --quick   the tests and the lints alone
 
-- The tests, in debug with overflow checks: those of the crate, the proved crates' own, and the examples of the documentation. The crate's
-  own again with every feature that changes code.
+- The tests, in debug with overflow checks: those of the crate, the proved crates' own, and the examples of the
+  documentation. The crate's own again with every feature that changes code.
 - clippy and rustdoc without a warning; every link of the pages leads somewhere.
 - rustc 1.63, the oldest that the crate promises, if it is Debian's.
-- A program that takes the crate by cargo from this repository, with the example of the crate's page; the feature `serde`.
+- A program that takes the crate by cargo from this repository, with the example of the crate's page; the feature
+  `serde`.
 - The package builds from its own archive.
 - The checksums of the benchmark are those of the Rattle program's stored run, here and on aarch64 under qemu.
 
-It names each check that it leaves out for want of a tool. The last line is "N passed, M failed".
+It names each check that it leaves out because a tool is missing. The last line is "N passed, M failed".
 """
 import os
 import re
@@ -31,7 +33,7 @@ FEATURES = "unchecked,simd,mem_dbg,bp_u16_lookup"
 ARM = "aarch64-unknown-linux-gnu"
 # Debian's compiler.
 RUSTC, CARGO = "/usr/bin/rustc", "/usr/bin/cargo"
-# An empty crate in the place of serde, for what cargo asks the registry.
+# An empty crate instead of serde, for what cargo asks the registry.
 NO_SERDE = f'patch.crates-io.serde.path="{RUST}/serde/stand_in"'
 
 
@@ -46,7 +48,8 @@ class Checks:
         print(f"{what}: {' '.join(command)}", flush=True)
         done = subprocess.run(command, cwd=cwd, env={**os.environ, **(env or {})}, stdin=subprocess.DEVNULL,
                               stdout=subprocess.PIPE, stderr=subprocess.STDOUT, text=True, check=False)
-        counts = [[int(it) for it in found] for found in re.findall(r"test result: \w+\. (\d+) passed; (\d+) failed", done.stdout)]
+        counts = [[int(it) for it in found]
+                  for found in re.findall(r"test result: \w+\. (\d+) passed; (\d+) failed", done.stdout)]
         is_ok = done.returncode == 0 and wanted in done.stdout
         self.passed += sum(it[0] for it in counts) or int(is_ok)
         self.failed += sum(it[1] for it in counts) or int(not is_ok)
@@ -99,40 +102,50 @@ def user(checks, name, dependencies, path, text):
 
 
 def check_git(checks):
-    """Builds a program that takes the crate from this repository by cargo alone, with the example of the crate's page."""
-    told = subprocess.run(["git", "-C", TOP, "rev-parse", "--is-shallow-repository"], capture_output=True, text=True, check=False).stdout
+    """Builds a program that takes the crate from this repository by cargo alone, with the example of the crate's
+    page."""
+    told = subprocess.run(["git", "-C", TOP, "rev-parse", "--is-shallow-repository"], capture_output=True, text=True,
+                          check=False).stdout
     if told.strip() != "false":
         return checks.leave_out("a program that takes the crate by git", "no whole repository")
     example = re.search(r"(?ms)^```rust\n(.*?)^```", read(f"{RUST}/README.md"))[1]
     program = f"fn main() {{\n{example}\nprintln!(\"done\");\n}}\n"
     folder = user(checks, "program", f'vers-vecs = {{ git = "file://{TOP}" }}\n', "src/main.rs", program)
     env = {"CARGO_HOME": f"{checks.folder}/cargo", "CARGO_TARGET_DIR": f"{checks.folder}/program_target"}
-    return checks.run("a program that takes the crate by git", ["cargo", "run", "--quiet"], cwd=folder, env=env, wanted="done\n")
+    return checks.run("a program that takes the crate by git", ["cargo", "run", "--quiet"], cwd=folder, env=env,
+                      wanted="done\n")
 
 
 def check_serde(checks):
-    """Tests the feature `serde`, with the features of the original that change nothing, over Debian's serde and bincode."""
+    """Tests the feature `serde`, with the features of the original that change nothing, over Debian's serde and
+    bincode."""
     if not all(glob(f"{REGISTRY}/{it}-1*") for it in ("serde", "bincode")):
         return checks.leave_out("the feature serde", f"no serde and bincode in {REGISTRY}")
     crate = f'vers-vecs = {{ path = "{RUST}", features = ["serde", "simd", "mem_dbg", "bp_u16_lookup"] }}'
-    folder = user(checks, "forms", f'{crate}\nserde = "1"\nbincode = "1"\n', "tests/forms.rs", read(f"{RUST}/serde/forms.rs"))
+    folder = user(checks, "forms", f'{crate}\nserde = "1"\nbincode = "1"\n', "tests/forms.rs",
+                  read(f"{RUST}/serde/forms.rs"))
     sources = ('source.crates-io.replace-with="debian"', f'source.debian.directory="{REGISTRY}"')
     command = ["cargo", "test", "--quiet", *(word for it in sources for word in ("--config", it))]
-    return checks.run("the feature serde", command, cwd=folder, env={"CARGO_TARGET_DIR": f"{checks.folder}/forms_target"})
+    return checks.run("the feature serde", command, cwd=folder,
+                      env={"CARGO_TARGET_DIR": f"{checks.folder}/forms_target"})
 
 
 def check_arm(checks):
-    """Builds the benchmark's driver over the crate for aarch64, and compares its checksums under qemu. (Threads hang in some emulators, so the
-    tests, which start some, are not run there.)"""
-    missing = [it for it in ("qemu-aarch64", "aarch64-linux-gnu-gcc", CARGO) if not shutil.which(it)] or ([] if has_arm() else [f"std for {ARM}"])
+    """Builds the benchmark's driver over the crate for aarch64, and compares its checksums under qemu. (Threads hang in
+    some emulators, so the tests, which start some, are not run there.)"""
+    missing = [it for it in ("qemu-aarch64", "aarch64-linux-gnu-gcc", CARGO)
+               if not shutil.which(it)] or ([] if has_arm() else [f"std for {ARM}"])
     if missing:
         return checks.leave_out("aarch64", f"no {', '.join(missing)}")
-    shutil.copytree(f"{TOP}/bench/original", f"{checks.folder}/driver", ignore=shutil.ignore_patterns("target", "Cargo.lock"))
+    shutil.copytree(f"{TOP}/bench/original", f"{checks.folder}/driver",
+                    ignore=shutil.ignore_patterns("target", "Cargo.lock"))
     env = {"RUSTC": RUSTC, f"CARGO_TARGET_{ARM.upper().replace('-', '_')}_LINKER": "aarch64-linux-gnu-gcc"}
-    build = [CARGO, "build", "--release", "--quiet", "--offline", "--target", ARM, "--config", f'patch.crates-io.vers-vecs.path="{RUST}"']
+    build = [CARGO, "build", "--release", "--quiet", "--offline", "--target", ARM, "--config",
+             f'patch.crates-io.vers-vecs.path="{RUST}"']
     checks.run("aarch64", build, env=env, cwd=f"{checks.folder}/driver")
     program = f"{checks.folder}/driver/target/{ARM}/release/bench_original"
-    command = [sys.executable, "bench/compare.py", "--checksums", "--program", program, "--under", "qemu-aarch64 -L /usr/aarch64-linux-gnu"]
+    command = [sys.executable, "bench/compare.py", "--checksums", "--program", program, "--under",
+               "qemu-aarch64 -L /usr/aarch64-linux-gnu"]
     return checks.run("checksums on aarch64", command, cwd=TOP)
 
 

@@ -1,10 +1,11 @@
-"""Writes what the pages of the Rust crate say of contracts, and compares the list of its guarded calls with the sources.
+"""Writes what the pages of the Rust crate say of contracts, and compares the list of its guarded calls with the
+sources.
 
-- `contracts.rs` has the macro `contract!`: `contract!(RsVec::rank1)` is the text of that function's contract as its source has it, with a
-  link to the definition of each word. It has the functions that the facade cites.
+- `contracts.rs` has the macro `contract!`: `contract!(RsVec::rank1)` is the text of that function's contract as its
+  source has it, with a link to the definition of each word. It has the functions that the facade cites.
 - `definitions.md` is the part of docs/DEFINITIONS.md that these links lead to.
-- `rust/guards.txt` has a row for each call of a proved function with a precondition: the file and the function of the facade, the proved
-  function, its precondition, and the text in the facade's function that establishes it.
+- `rust/guards.txt` has a row for each call of a proved function with a precondition: the file and the function of the
+  facade, the proved function, its precondition, and the text in the facade's function that establishes it.
 """
 import os
 import re
@@ -20,7 +21,8 @@ IMPORT = re.compile(r"\bghost use Rattle\.(\w+)\.specs\.[\w.]+\.\{([^}]*)\}")
 CALL = re.compile(r"(?P<receiver>(?:<?[$\w]+(?:::<\w+>)?(?:\(\))?>?(?:\.|::))+)(?P<name>[a-z]\w*)(?:::<[^<>]*>)?\(")
 HEAD = re.compile(r"^( *)(?:pub(?:\([a-z]+\))? )?(?:const )?fn (\w+)")
 BRACKETS, PLAIN = r"^\((.*)\)$", r"\1"
-# A function of the facade with a contract, and its parameters. Besides those that the contract speaks of it may have these.
+# A function of the facade with a contract, and its parameters. Besides those that the contract speaks of it may have
+# these.
 SHOWN = re.compile(r"#\[doc = contract!\((\w+::\w+)\)\]\n(?:\s*(?:#\[.*\]|///.*)\n)*\s*(?:pub )?fn \w+(?:<[^(]*>)?\(([^)]*)\)")
 ADDED = {"tally", "other"}
 ADDS = "AddsAtMost tally.old tally.new "
@@ -91,17 +93,20 @@ def contract_of(function, counted, definitions):
 
 
 def pages(top, folder, crates):
-    """Returns the texts of the two files that the script writes for the facade in a folder, by their paths there, and the faults met."""
+    """Returns the texts of the two files that the script writes for the facade in a folder, by their paths there, and
+    the faults met."""
     definitions, known = Definitions(top, crates), {}
     for crate in crates:
         for it in public_functions(read_crate(top, crate)):
             known.setdefault(it.full_name, it)
     said = {it for _, text in facade_files(folder) for it in CITED.findall(text)}
-    # a macro's variable stands for any name
+    # a macro's variable matches any name
     forms = [re.sub(r"\$\w+", r"\\w+", it) for it in said]
     cited = sorted({name for name in known if any(re.fullmatch(it, name) for it in forms)})
-    arms, faults = [], [f"the facade cites the contract of {it}, which is no public function" for it in sorted(said - set(cited)) if "$" not in it]
-    for name, shown in [found for _, text in facade_files(folder) for found in SHOWN.findall(text) if found[0] in known]:
+    arms, faults = [], [f"the facade cites the contract of {it}, which is no public function"
+                        for it in sorted(said - set(cited)) if "$" not in it]
+    for name, shown in [found for _, text in facade_files(folder) for found in SHOWN.findall(text)
+                        if found[0] in known]:
         others = set(re.findall(r"(\w+):(?!:)", shown)) - ADDED - {it for it, _ in known[name].parameters}
         faults += [f"the contract of {name}, which the facade shows, has no parameter `{it}`" for it in sorted(others)]
     for it in [known[name] for name in cited]:
@@ -137,8 +142,10 @@ class FacadeFile:
             self.fields[field].add(type_)
 
     def types_of(self, receiver, others):
-        """Returns the proved types that a receiver may have, none for the facade's own values; `others` are all files of the facade."""
-        path, field = re.fullmatch(r"(?:proved|mask)::(\w+)(?:::<.*>)?::", receiver), re.fullmatch(r"(?:\w+\.)+(\w+)\.", receiver)
+        """Returns the proved types that a receiver may have, none for the facade's own values; `others` are all files
+        of the facade."""
+        path, field = re.fullmatch(r"(?:proved|mask)::(\w+)(?:::<.*>)?::",
+                                   receiver), re.fullmatch(r"(?:\w+\.)+(\w+)\.", receiver)
         found = {path[1]} if path else set()
         if field:
             found = self.fields.get(field[1]) or set().union(*(it.fields.get(field[1], set()) for it in others))
@@ -146,7 +153,8 @@ class FacadeFile:
         return set().union(*(it.types for it in others)) if is_open else found
 
     def calls(self, conditions, others):
-        """Yields for each call with a precondition the name of its function, the text of that, the callee's name, and what it requires."""
+        """Yields for each call with a precondition the name of its function, the text of that, the callee's name, and
+        what it requires."""
         for at, line in enumerate(self.lines):
             for call in CALL.finditer(line):
                 required = conditions.of(self.types_of(call["receiver"], others), call["name"])
@@ -158,26 +166,31 @@ class FacadeFile:
                 yield callee, text, callee, required
 
     def written_calls(self):
-        """Yields for each call that a macro of the file writes of a proved function the text of the macro with its use, and the callee's name."""
+        """Yields for each call that a macro of the file writes of a proved function the text of the macro with its use,
+        and the callee's name."""
         for macro, pattern, body in re.findall(r"(?ms)^macro_rules! (\w+) \{\n +\((.*?)\) => \{\n(.*?)^\}", self.code):
             called = set(re.findall(r"(?:self\.\w+\.|proved::\w+::)\$(\w+)\(", body))
             names = re.findall(r"\$(\w+):ident", pattern.split("$($arg")[0].split("($arg")[0].split(": $first")[0])
             for use in re.findall(rf"(?ms)^{macro}! \{{(.*?)^\}}", self.code):
                 for item in re.sub(r'"[^"]*"', "", use).split(";"):
                     words = re.findall(r"\w+", re.split(r"[(:]", item)[0])
-                    yield from ((body + use, word) for name, word in zip(names[-len(words):] if len(names) > len(words) else names, words) if name in called)
+                    yield from ((body + use, word)
+                                for name, word in zip(names[-len(words):] if len(names) > len(words) else names, words)
+                                if name in called)
 
     def function_at(self, at):
         """Returns the name of the function in which a line is, and its text."""
         margin = len(self.lines[at]) - len(self.lines[at].lstrip())
-        first = next(k for k in range(at, -1, -1) if HEAD.match(self.lines[k]) and len(HEAD.match(self.lines[k])[1]) <= margin)
+        first = next(k for k in range(at, -1, -1) if HEAD.match(self.lines[k])
+                     and len(HEAD.match(self.lines[k])[1]) <= margin)
         indent, name = HEAD.match(self.lines[first]).groups()
         end = next(k for k in range(at, len(self.lines)) if self.lines[k].startswith(indent + "}"))
         return name, "\n".join(self.lines[first:end])
 
 
 def guard_faults(top, folder, crates):
-    """Yields a line for each call with a precondition that the list lacks, and for each row of the list that is not so."""
+    """Yields a line for each call with a precondition that the list lacks, and for each row of the list that is not
+    so."""
     conditions, found = Conditions(top, crates), {}
     files = [FacadeFile(*it) for it in facade_files(folder)]
     for file in files:
@@ -195,19 +208,26 @@ def guard_faults(top, folder, crates):
             yield f"{GUARDS}: {callee}, which {function} calls, requires {facts}"
         elif guard not in body:
             yield f"{GUARDS}: {function} of {path} has no `{guard}`"
-    yield from (f"{GUARDS}: no row for {name} of {path}, which calls {callee}" for path, name, callee in sorted(set(found) - listed))
+    yield from (f"{GUARDS}: no row for {name} of {path}, which calls {callee}"
+                for path, name, callee in sorted(set(found) - listed))
 
 
 # Faults that are planted: the file of the crate, what is written for what, and what has to be said.
 PLANTS = (
     ("guards.txt", "bit_vec/mod.rs | BitVec::flip_bit |", "# ", "no row for flip_bit of bit_vec/mod.rs"),
-    ("guards.txt", "| BitVec::flip_bit | requires { place < length self.old }", "| BitVec::flip_bit | requires { place ≤ length self.old }", "flip_bit, which"),
-    ("src/bit_vec/mod.rs", "assert!(len <= WORD_SIZE,", "assert!(true,", "append_bits of bit_vec/mod.rs has no `assert!(len <= WORD_SIZE,`"),
-    ("src/bit_vec/mod.rs", "    pub fn count_ones(&self)", "    fn word(&self) -> u64 {\n        self.bits.limb(7)\n    }\n\n    pub fn count_ones(&self)",
+    ("guards.txt", "| BitVec::flip_bit | requires { place < length self.old }",
+     "| BitVec::flip_bit | requires { place ≤ length self.old }", "flip_bit, which"),
+    ("src/bit_vec/mod.rs", "assert!(len <= WORD_SIZE,", "assert!(true,",
+     "append_bits of bit_vec/mod.rs has no `assert!(len <= WORD_SIZE,`"),
+    ("src/bit_vec/mod.rs", "    pub fn count_ones(&self)",
+     "    fn word(&self) -> u64 {\n        self.bits.limb(7)\n    }\n\n    pub fn count_ones(&self)",
      "no row for word of bit_vec/mod.rs, which calls limb"),
-    ("src/trees/bp.rs", "    depth_counted, depth(node", "    relative, depth(node", "no row for relative of trees/bp.rs"),
-    ("src/bit_vec/fast_rs_vec.rs", "fn rank1(&self, place: usize)", "fn rank1(&self, pos: usize)", "RsVec::rank1, which the facade shows, has no parameter `pos`"),
-    ("src/bit_vec/fast_rs_vec.rs", "contract!(RsVec::rank1)", "contract!(RsVec::rank2)", "the contract of RsVec::rank2, which is no public function"),
+    ("src/trees/bp.rs", "    depth_counted, depth(node", "    relative, depth(node",
+     "no row for relative of trees/bp.rs"),
+    ("src/bit_vec/fast_rs_vec.rs", "fn rank1(&self, place: usize)", "fn rank1(&self, pos: usize)",
+     "RsVec::rank1, which the facade shows, has no parameter `pos`"),
+    ("src/bit_vec/fast_rs_vec.rs", "contract!(RsVec::rank1)", "contract!(RsVec::rank2)",
+     "the contract of RsVec::rank2, which is no public function"),
 )
 
 

@@ -1,10 +1,11 @@
-"""Reads the sources of a crate, in the layout of `rt fmt`: its functions with their heads, clauses and bodies, and its structs.
+"""Reads the sources of a crate, in the layout of `rt fmt`: its functions with their heads, clauses and bodies, and its
+structs.
 
-In that layout the body of a function is opened by a line as far in as the function's first line, and closed by the next brace
-that stands alone as far in. A wrong body is a file FUNCTION--WHAT-IS-WRONG.edit: a line 'file: src/..', pairs of lines
-'old: TEXT' and 'new: TEXT', and a line 'goal: FUNCTION GOAL'. Each TEXT is one line, and the old one stands once in the file. FUNCTION
-is the one that is changed, or a closure in it, as a check names it below the crate, and GOAL is what the body breaks. That line is
-behind '# ' in the wrong bodies that `rt` reads as well.
+In that layout the body of a function is opened by a line as far in as the function's first line, and closed by the next
+brace on its own line as far in. A wrong body is a file FUNCTION--WHAT-IS-WRONG.edit: a line 'file: src/..', pairs of
+lines 'old: TEXT' and 'new: TEXT', and a line 'goal: FUNCTION GOAL'. Each TEXT is one line, and the old one stands once
+in the file. FUNCTION is the one that is changed, or a closure in it, as a check names it below the crate, and GOAL is
+what the body breaks. That line is behind '# ' in the wrong bodies that `rt` reads as well.
 """
 import os
 import re
@@ -27,8 +28,9 @@ ROW = re.compile(r"(?m)^row: (\S+)$")
 # The oldest cargo by which the tests of the Rust crate and the library in C are built. (The crate itself needs 1.63.)
 NEW_CARGO = (1, 88)
 PARAMETER = re.compile(r"(?:mut )?(\w+): ((?:[^,<()\[]|<[^<>]*(?:<[^<>]*>[^<>]*)*>|\([^()]*\)|\[[^\[\]]*\])+)")
-# A wrong body: the function that it changes, what the lines of that become, the name under which it is tried, and the goal that it breaks,
-# with the names that a check has for the function of that goal, below the crate, and whether all goals are tried as for the right body.
+# A wrong body: the function that it changes, what the lines of that become, the name under which it is tried, and the
+# goal that it breaks, with the names that a check has for the function of that goal, below the crate, and whether all
+# goals are tried as for the right body.
 Edit = namedtuple("Edit", "name file function lines called path goal is_auto")
 
 
@@ -50,7 +52,8 @@ def closed(found, leads):
 
 
 def split_owner(owner):
-    """Returns the type and the trait that the head of an impl names, or a trait itself and none, without their generics."""
+    """Returns the type and the trait that the head of an impl names, or a trait itself and none, without their
+    generics."""
     words = re.sub(r"\bwhere\b.*", "", owner.replace("->", "")).split("{")[0]
     while (shorter := re.sub(r"<[^<>]*>", "", words)) != words:
         words = shorter
@@ -66,10 +69,12 @@ def above(lines, at):
 
 
 class Function:
-    """A function: the head of its impl or trait and the line of that, its first line, the first of its body and its last, and parts of its text."""
+    """A function: the head of its impl or trait and the line of that, its first line, the first of its body and its
+    last, and parts of its text."""
 
     def __init__(self, source, owner, owned_at, first, body, last):
-        self.source, self.owner, self.owned_at, self.first, self.body, self.last = source, owner, owned_at, first, body, last
+        self.source, self.owner, self.owned_at = source, owner, owned_at
+        self.first, self.body, self.last = first, body, last
         lines = source.lines[first : last + 1]
         self.has_body, self.text, self.where = body is not None, "\n".join(lines), f"{source.path}:{first + 1}"
         declared, inside = self.text, ""
@@ -81,7 +86,8 @@ class Function:
         self.declared, self.code = declared.rstrip("{; \n"), bare(inside)
         self.head = " ".join(re.split(r"\n\s*(?:requires|ensures|where|ghost)\b", self.declared)[0].split())
         self.name = HEAD.match(self.text)[1]
-        # the type that it belongs to, or the trait that declares it; and the trait that its impl is of: past a path, and before bounds
+        # the type that it belongs to, or the trait that declares it; and the trait that its impl is of: past a path,
+        # and before bounds
         named = (re.findall(r"\w+", it if "::" in it else it.split(":")[0]) for it in split_owner(owner))
         self.holder, self.trait = ((it or [""])[-1] for it in named)
         self.full_name = f"{self.holder}::{self.name}" if owner else self.name
@@ -100,7 +106,8 @@ class Function:
 
     @cached_property
     def tactics(self):
-        """The paths of the lemmas that tactics use in it, and of the definitions that they open: those that the nearest attribute names."""
+        """The paths of the lemmas that tactics use in it, and of the definitions that they open: those that the nearest
+        attribute names."""
         places = [self.first, self.owned_at] if self.owner else [self.first]
         said = [" ".join(above(self.source.lines, at)[1]) for at in places]
         nearest = next((it for it in said if "#[tactic(" in it), "")
@@ -129,7 +136,8 @@ class Source:
         for at, line in enumerate(self.lines):
             if OWNER.match(line):
                 rest = self.lines[at:]
-                owner, owned_at = " ".join(rest[: next(i for i, it in enumerate(rest, 1) if it.endswith(("{", "}")))]), at
+                owner, owned_at = " ".join(rest[: next(i for i, it in enumerate(rest, 1)
+                                                       if it.endswith(("{", "}")))]), at
             elif line == "}":
                 owner = ""
             if HEAD.match(line):
@@ -137,7 +145,8 @@ class Source:
         return found
 
     def span(self, at):
-        """Returns the first line of the body of the function that begins at a line, or None for none, and its last line."""
+        """Returns the first line of the body of the function that begins at a line, or None for none, and its last
+        line."""
         indent, depth = re.match(" *", self.lines[at])[0], 0
         for body, line in enumerate(self.lines[at:], at):
             depth += line.count("{") - line.count("}")
@@ -183,9 +192,11 @@ def by_path(sources):
 
 
 def full_names(sources):
-    """Returns the names that a check has, below the crate, for its functions that have a body, but for the methods of traits."""
+    """Returns the names that a check has, below the crate, for its functions that have a body, but for the methods of
+    traits."""
     homes, names = [(name, source) for source in sources for name, *_ in source.structs], set()
-    for function in [it for source in sources for it in source.functions if it.has_body and not it.trait and not it.is_declared_by_trait]:
+    for function in [it for source in sources for it in source.functions if it.has_body and not it.trait
+                     and not it.is_declared_by_trait]:
         # a method goes by the module of its type
         found = [home for name, home in homes if name == function.holder] if function.owner else [function.source]
         home = function.source if function.source in found else next(iter(found), None)
@@ -207,7 +218,8 @@ def edited(text, edit):
 
 
 def load_edit(name, text, sources):
-    """Returns a wrong body with the function that it changes, or raises a `ValueError` that says why it can't be tried."""
+    """Returns a wrong body with the function that it changes, or raises a `ValueError` that says why it can't be
+    tried."""
     whole, file = text, next(iter(re.findall(r"(?m)^file: ?(.*?) *$", text)), "")
     if file not in sources:
         raise ValueError(f"there is no file {file} in the crate")
@@ -218,7 +230,7 @@ def load_edit(name, text, sources):
         raise ValueError("it changes nothing, or the number of lines")
     within = [it for it in sources[file].functions if it.has_body and it.body <= changed[0] and changed[-1] <= it.last]
     if not within:
-        raise ValueError(f"it lies in no body of one function of {file}")
+        raise ValueError(f"it changes no body of one function of {file}")
     if not name.startswith(f"{within[0].name}--"):
         raise ValueError(f"its name doesn't begin with `{within[0].name}--`, for the function that it changes")
     goal = re.search(r"(?m)^(?:# )?goal: (\S+) (\S+)( by auto)?$", whole)
@@ -227,7 +239,8 @@ def load_edit(name, text, sources):
     if goal and within[0].name not in goal[1].split("::"):
         raise ValueError(f"its goal is none of `{within[0].name}`")
     path, broken, is_auto = (goal[1].split("::"), goal[2], bool(goal[3])) if goal else ([], "", False)
-    return Edit(name, file, within[0], lines[within[0].first : within[0].last + 1], within[0].name, path, broken, is_auto)
+    return Edit(name, file, within[0], lines[within[0].first : within[0].last + 1], within[0].name, path, broken,
+                is_auto)
 
 
 def public_files(sources):
@@ -242,10 +255,14 @@ def public_files(sources):
 
 
 def public_functions(sources):
-    """Yields a library's functions that can be called from outside: by their module, or by that of their type or trait."""
+    """Yields a library's functions that can be called from outside: by their module, or by that of their type or
+    trait."""
     public = public_files(sources)
-    exported = set(re.findall(r"\w+", " ".join(it for source in public for it in re.findall(r"\bpub use ([^;]*);", source.text))))
-    named = [(name, source) for source in sources for name in re.findall(r"(?m)^pub (?:struct|enum|trait) (\w+)", source.text)]
+    exported = set(re.findall(r"\w+",
+                              " ".join(it for source in public
+                                       for it in re.findall(r"\bpub use ([^;]*);", source.text))))
+    named = [(name, source) for source in sources
+             for name in re.findall(r"(?m)^pub (?:struct|enum|trait) (\w+)", source.text)]
     shown = {name for name, source in named if source in public or name in exported}
     for function in [it for source in sources for it in source.functions]:
         is_free = not function.owner and (function.source in public or function.name in exported)
@@ -257,7 +274,8 @@ def has_cargo():
     """Returns whether cargo is there, as new as the tests of the Rust crate need it."""
     if not shutil.which("cargo"):
         return False
-    found = re.search(r"cargo (\d+)\.(\d+)", subprocess.run(["cargo", "--version"], stdout=subprocess.PIPE, text=True, check=False).stdout)
+    found = re.search(r"cargo (\d+)\.(\d+)",
+                      subprocess.run(["cargo", "--version"], stdout=subprocess.PIPE, text=True, check=False).stdout)
     return bool(found) and (int(found[1]), int(found[2])) >= NEW_CARGO
 
 

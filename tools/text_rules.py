@@ -1,23 +1,26 @@
 #!/usr/bin/env python3
 """Rules over the text of the repository that no contract states.
 
-- What may not stand in a text, by the rows of `PATTERNS`: public items without a doc comment and module files that don't say what
-  they are, labels of papers and paths of one machine, phrases that are not plain English, sources of 800 lines, their lines past
-  120 columns, but for imports, attributes and texts, and values that are dropped, but for a mention for the prover, of a field
-  (`&self.len`) or of a length (`high.len()`).
-- Functions stay below 60 lines, but for tests. `crates.txt` lists the folders of `crates/`. Links of documents lead somewhere.
-- Each word of a crate's `specs/` that the contract of a public function cites stands in `docs/DEFINITIONS.md`, in backticks.
-- Of the proofs of a crate below, a crate imports the page of laws (`PublicLaws`) alone, or one that its `proofs/Lib.antt`
-  passes on under another name, and of its `specs/inside` nothing.
-- What only proofs need stands in `specs/inside`: no public contract and no other page of `specs/` cites a word of it.
+- What a text may not contain, by the rows of `PATTERNS`: public items without a doc comment and module files that don't
+  say what they are, labels of papers and paths of one machine, sources of 800 lines, lines past 120 columns, and values
+  that are dropped, except a mention for the prover of a field (`&self.len`) or of a length (`high.len()`).
+- No text of `PLAIN`, the kinds of files that are clean of them, has one of the `PHRASES`, which are not plain English.
+- Functions have at most 60 lines, except tests. `crates.txt` lists the folders of `crates/`. Links of documents lead to
+  a file, and to a heading or an anchor of it.
+- `docs/DEFINITIONS.md` has, in backticks, each word of a crate's `specs/` that the contract of a public function cites.
+- A crate imports no proofs of a crate below it but the page of laws (`PublicLaws`), or one that its `proofs/Lib.antt`
+  passes on under another name, and nothing of its `specs/inside`.
+- What only proofs need is in `specs/inside`: no public contract and no other page of `specs/` cites a word of it.
 - The page of layouts ends with the stored run of the program whose values it draws (`DRAWN`).
-- What is said to stand on the contracts of another part of its crate imports nothing of that part's inside: `ON_CONTRACTS`.
+- Proofs that depend only on the contracts of another part of their crate import nothing of that part's inside
+  (`ON_CONTRACTS`).
 
-Exit status 1 where a rule is broken, with a line for each place. `--self-test` breaks each rule in a text that was read.
+Exits with status 1 if a rule is broken, and prints a line for each position. `--self-test` breaks each rule in a text
+that was read.
 
-`--wrong-bodies` lists the public functions that compute something and that no wrong body reaches: no edit of the crate's `wrong/`
-or `must-fail/` changes them, or a function of the crate that they name. A body computes something unless it is empty, reads a
-field, wraps its argument, or hands its arguments on to one call.
+`--wrong-bodies` lists the public functions that compute something and that no wrong body reaches: no edit of the
+crate's `wrong/` or `must-fail/` changes them, or a function of the crate that they name. A body computes something
+unless it is empty, reads a field, wraps its argument, or passes its arguments to one call.
 """
 import contextlib
 import os
@@ -32,17 +35,40 @@ from sources import TOP, Source, by_path, closed, line_of, load_edit, public_fun
 DEFINITIONS = "docs/DEFINITIONS.md"
 DRAWN = "docs/LAYOUTS.md", "crates/vers_layouts/stdout"
 TEXTS = re.compile(r".*\.(?:md|rt|antt|edit|py|sh|txt)|(?:.*/)?(?:test|vers|run|stdout)")
-# between two words of a phrase may stand the end of a line and the marks of a comment
-GAP = r"(?:\s|//[/!]?)+"
-# the files, what may not stand there, and what is said of it with the groups that were found
+# between two words of a phrase there may be the end of a line and the marks of a comment
+GAP = r"(?:\s|//[/!]?|#)+"
+# the files that are clean of all phrases, and those whose lines have at most 120 columns
+PLAIN = r"tools/(?!text_rules)\w+\.py|bindings/\w+\.py|test|package|vers|docs/DEFINITIONS\.md"
+WRAPPED = r"(?:tools|bindings)/\w+\.py|test|package|docs/(?:CALLS|DEFINITIONS)\.md"
+# the files, a phrase that isn't plain English, and what to write instead
+PHRASES = (
+    (rf".*\.(?:md|rt)|{PLAIN}", "want of memory", "out of memory"),
+    # `at the most recent` is plain
+    (rf".*\.(?:md|rt)|{PLAIN}", r"at the most(?! \w+[ae]nt\b)", "at most"),
+    (PLAIN, "let go", "drop"),
+    (PLAIN, "(?:is|are|was|were) told", "returns, prints"),
+    (PLAIN, "hand(?:s|ed)? on", "passes, forwards"),
+    (PLAIN, "in the stead|in (?:the )?place of", "instead of"),
+    (PLAIN, r"wanted (?:was|were|are)|wanted is(?! not None)", "target: .."),
+    (PLAIN, "so many", "n"),
+    (PLAIN, "for want of", "without"),
+    (PLAIN, "stands? (?:alone|apart|at|behind|beside|for|in|on|so|there)", "is, depends on, means"),
+    (PLAIN, "lies? (?:at|between|beside|in|on|up)", "is"),
+    (PLAIN, "comes? to lie", "is placed"),
+    (PLAIN, "as (?:it|they) stands?", "unchanged"),
+    (PLAIN, "just where", "exactly if"),
+    (PLAIN, "a further", "another"),
+)
+# the files, what they may not contain, and the message with the groups that were found
 PATTERNS = (
     (r".*(?<!_rules\.py)", r"(?<![\w-])[DFRTW][12]?\d(?![\w-])|(?<![\w./-])/(?:work|opt|tmp|home|root|srv)/",
      "cites {0}, which the repository doesn't hold"),
-    (r".*\.(?:md|rt)", rf"(?i)\bwant{GAP}of{GAP}memory\b", "says `want of memory`; write `out of memory`"),
-    # `at the most recent` is plain
-    (r".*\.(?:md|rt)", rf"(?i)\bat{GAP}the{GAP}most\b(?!{GAP}\w+[ae]nt\b)", "says `at the most`; write `at most`"),
+    *((files, rf"(?i)\b(?:{words.replace(' ', GAP)})\b", f"says `{words}`; write `{instead}`")
+      for files, words, instead in PHRASES),
     (r"crates/\w+/src/.*\.rt", r"\A(?:.*\n){800}", "has more than 800 lines"),
     (r".*\.rt", r'(?m)^(?! *(?:(?:ghost )?use |#\[))[^"\n]{121,}$', "has more than 120 columns"),
+    # a table, or a long text, needs more
+    (WRAPPED, r"""(?m)^(?!\||.*["'][^\n]{60,}["'])[^\n]{121,}$""", "has more than 120 columns"),
     (r"crates/\w+/src/.*(?<!/main)\.rt", r"\A(?!//!)", "the first line doesn't say what the module is"),
     (r"crates/\w+/src/.*(?<!/main)\.rt", r"(?m)^(?! *(?:///|#\[)).*\n(?: *#\[.*\n)*"
      r" *pub (?:const )?(?:unsafe )?(fn|struct|enum|trait|const|static|type) (\w+)", "{1} {2} has no doc comment"),
@@ -51,35 +77,40 @@ PATTERNS = (
 )
 PASSES_ON = re.compile(r"(?:[\w.:&*]+(?:::<\w+>)?(?:\([\w\s,&.*]*\)|\{\w+\})?)?")
 SPECS = re.compile(r"\bghost use Rattle\.(?!std\b)\w+\.specs\.(?!declared\b)([\w.]+)\.\{([^}]*)\}")
-LINK = re.compile(r"\]\(([^)#:\s]+)(?:#[^)]*)?\)")
+LINK = re.compile(r"\]\(([^)#:\s]*)(?:#([^)\s]*))?\)")
+HEADING = re.compile(r"(?m)^#+ (.*)$")
 READ_ONCE = lru_cache(maxsize=None)(Source)
 PASSED_ON = re.compile(r"(?m)^pub use Rattle\.\w+\.proofs\.PublicLaws as (\w+)$")
 FOREIGN = re.compile(r"\b(\w+)(?:\.|::)(proofs|specs)(?:\.|::)(\w+)(?:(?:\.|::)(\w+))?")
-# proofs that stand on the contracts of a part of their own crate, and the files of that part's inside
+# proofs that depend only on the contracts of a part of their own crate, and the files of that part's inside
 ON_CONTRACTS = {
-    "crates/vers_sorted/proofs/SparseBits.antt": {"Holds", "Packed", "Buckets", "Makes", "Split", "Scans", "Aheads", "inside"},
+    "crates/vers_sorted/proofs/SparseBits.antt": {"Holds", "Packed", "Buckets", "Makes", "Split", "Scans", "Aheads",
+                                                  "inside"},
     "crates/vers_rmq/proofs/Blocks.antt": {"Tables"},
     "crates/vers_rmq/proofs/Names.antt": {"Tables"},
 }
 
 
 def imported_insides(path, text, pages):
-    """Yields a line for each import of what a crate, or a part of it, keeps to itself; `pages` are each crate's pages of laws."""
+    """Yields a line for each import of what a crate, or a part of it, keeps to itself; `pages` are each crate's pages
+    of laws."""
     own = path.split("/")[1]
     for found in FOREIGN.finditer(text):
         crate, folder, name, part = found.groups()
         line = f"{path}:{line_of(text, found.start())}"
         if crate == own and name == "inside" and re.fullmatch(rf"crates/{own}/specs/\w+\.antt", path):
-            yield f"{line}: a word of public contracts stands on `{folder}.{name}.{part}`, which only proofs need"
+            yield f"{line}: a word of public contracts depends on `{folder}.{name}.{part}`, which only proofs need"
         elif crate in pages and crate != own:
             if name == "inside" or folder == "proofs" and name not in pages[crate]:
-                yield f"{line}: imports `{folder}.{name}` of {crate}; allowed: `PublicLaws`, and `specs` that aren't inside"
+                allowed = "`PublicLaws`, and `specs` that aren't inside"
+                yield f"{line}: imports `{folder}.{name}` of {crate}; allowed: {allowed}"
         elif crate in (own, "crate") and {name, part} & ON_CONTRACTS.get(path, set()):
-            yield f"{line}: imports `{part or name}`, and is said to stand on contracts alone"
+            yield f"{line}: imports `{part or name}`, and may depend only on contracts"
 
 
 def undefined(sources, defined):
-    """Yields a line for each word of `specs/` that a public contract cites, and that isn't defined or is of `specs/inside`."""
+    """Yields a line for each word of `specs/` that a public contract cites, and that isn't defined or is of
+    `specs/inside`."""
     for function in public_functions(sources):
         said = f"{function.where}: {function.full_name} cites"
         cited = set(re.findall(r"(?<![\w.])\w+", " ".join(fact for _, fact in function.clauses)))
@@ -123,14 +154,33 @@ def crates_of(texts):
     return found
 
 
+def anchors_of(text):
+    """Returns the anchors of a page: those of its headings, as GitHub makes them, and its own."""
+    text = re.sub(r"(?ms)^```.*?^```$", "", text)
+    headings = [re.sub(r"[^\w\- ]", "", re.sub(r"\]\([^)]*\)", "", it)).lower().replace(" ", "-")
+                for it in HEADING.findall(text)]
+    repeated = (f"{it}-{headings[:at].count(it)}" for at, it in enumerate(headings) if it in headings[:at])
+    return {*headings, *repeated, *re.findall(r'<a (?:id|name)="([^"]*)"', text)}
+
+
+def is_target(path, text, link, anchor):
+    """Returns whether a link of a page leads to a file or folder, and its anchor to an anchor of a page."""
+    target = os.path.normpath(f"{TOP}/{os.path.dirname(path)}/{link}")
+    if not os.path.exists(target):
+        return False
+    return not (anchor and (not link or link.endswith(".md"))) or anchor in anchors_of(read(target) if link else text)
+
+
 @lru_cache(maxsize=None)
 def text_faults(path, text):
     """Returns what is broken in one text."""
-    found = [(it, said) for files, pattern, said in PATTERNS if re.fullmatch(files, path) for it in re.finditer(pattern, text)]
+    found = [(it, said) for files, pattern, said in PATTERNS if re.fullmatch(files, path)
+             for it in re.finditer(pattern, text)]
     links = LINK.findall(text) if path.endswith(".md") else []
     return [
         *(f"{path}:{line_of(text, it.end())}: {said.format(it[0], *it.groups())}" for it, said in found),
-        *(f"{path}: the link {it} leads nowhere" for it in links if not os.path.exists(f"{TOP}/{os.path.dirname(path)}/{it}")),
+        *(f"{path}: the link {it}{anchor and '#'}{anchor} leads nowhere" for it, anchor in links
+          if not is_target(path, text, it, anchor)),
     ]
 
 
@@ -161,7 +211,8 @@ CHUNKS = "    /// Returns the number of chunks of bits loaded.\n"
 BREAKS = {
     "has no doc comment": (TALLY, CHUNKS, ""),
     "doesn't say what the module is": (TALLY, "//! Counters", "// Counters"),
-    "reaches Tally::add_chunk": ("crates/vers_tally/wrong/add_chunk--a-chunk-wraps-at-the-greatest.edit", "old: ", "was: "),
+    "reaches Tally::add_chunk": ("crates/vers_tally/wrong/add_chunk--a-chunk-wraps-at-the-greatest.edit", "old: ",
+                                 "was: "),
     "Tally::chunks has 63 lines": (TALLY, "        self.chunks\n", "        self.chunks\n" + "\n" * 60),
     "has more than 800 lines": (TALLY, "//! Counters", "\n" * 800),
     "has more than 120 columns": (TALLY, "self.chunks\n", f"self.chunks{' ' * 120}\n"),
@@ -170,16 +221,22 @@ BREAKS = {
     "cites /srv/": ("README.md", "# ", "# In /srv/kit "),
     "cites `no_reads`": (DEFINITIONS, "no_reads", "none_read"),
     "cites `less`": (TALLY, "no_reads, one_more", "less as no_reads, one_more"),
-    "imports `proofs.Own` of vers_bits": (f"{RANK}proofs/Names.antt", "vers_bits.proofs.PublicLaws", "vers_bits.proofs.Own"),
-    "imports `proofs.TreesLaws` of vers_vecs": ("crates/vers_vecs/proofs/Lib.antt", "PublicLaws as Trees", "Own as Trees"),
+    "imports `proofs.Own` of vers_bits": (f"{RANK}proofs/Names.antt", "vers_bits.proofs.PublicLaws",
+                                          "vers_bits.proofs.Own"),
+    "imports `proofs.TreesLaws` of vers_vecs": ("crates/vers_vecs/proofs/Lib.antt", "PublicLaws as Trees",
+                                                "Own as Trees"),
     "imports `specs.inside` of vers_tally": (f"{RANK}src/fast_rs_vec.rt", "specs.Reads", "specs.inside.Reads"),
-    "stands on `specs.inside.Queries`": (f"{RANK}specs/Rows.antt", "rank.specs.Queries", "rank.specs.inside.Queries"),
+    "depends on `specs.inside.Queries`": (f"{RANK}specs/Rows.antt", "rank.specs.Queries", "rank.specs.inside.Queries"),
     "cites `no_reads` of `specs/inside`": (TALLY, "vers_tally.specs.Reads", "vers_tally.specs.inside.Reads"),
     "drops `self.chunks()`": (TALLY, "        self.chunks\n", "        let _ = self.chunks();\n        self.chunks\n"),
     "imports `Tables`": (MINIMA, "rmq.proofs.Minima", "rmq.specs.inside.Tables"),
     "its end isn't": (DRAWN[1], "bits", "bit"),
-    "leads nowhere": ("README.md", "docs/PROVED.md", "docs/NONE.md"),
-    "says `at the most`": ("README.md", "# ", "# At\nthe most "),
+    "docs/NONE.md leads nowhere": ("README.md", "docs/PROVED.md", "docs/NONE.md"),
+    "docs/PROVED.md#none leads nowhere": ("README.md", "docs/PROVED.md", "docs/PROVED.md#none"),
+    "says `at the most": ("README.md", "# ", "# At\nthe most "),
+    "says `so many`": ("test", '"""Checks', '"""Checks so\n# many'),
+    "tools/sources.py:1: has more than 120": ("tools/sources.py", '"""Reads', f'"""{"Reads " * 30}'),
+    "CALLS.md:1: has more than 120": ("docs/CALLS.md", "# Calls", f"# Calls{' and' * 40}"),
     "says `want of memory`": (TALLY, CHUNKS, f"    /// None for want\n    /// of memory.\n{CHUNKS}"),
 }
 

@@ -1,16 +1,19 @@
 #!/usr/bin/env python3
-"""Tries by the prover the wrong bodies that no test refuses (tools/mutants.py), many at a time: wrong_bodies.py [--jobs N] [--most N] [--anew] [--right] [--self-test] [CRATE..]
+"""Tries the wrong bodies that no test refuses (tools/mutants.py) by the prover, many at a time:
 
-Functions are proved against the contracts of those that they call, so a wave puts many wrong bodies into one copy of a crate, and
-checks once. Each stands behind the right one in a function with a name of its own, but for methods of traits: these are changed, at most
-one body each. Of each function only the goal is tried that its wrong body breaks. A function that isn't tried has a hole for its proof: what
-its contract says is taken as proved. docs/GATE.md has what a line tells of each, as
-`refused NAME in FUNCTION: GOAL`, and which of these fail the run. The last line is 'N passed, M failed'. What was refused is kept in the
-user's folder for such files, by the sums of all that a try reads, and not tried again while these are the same; --anew tries all.
-The libraries below a crate are taken as `rt ci` has built them; those that aren't built as they stand are proved first.
+    tools/wrong_bodies.py [--jobs N] [--most N] [--anew] [--right] [--self-test] [CRATE..]
 
---right tries the right bodies in place of the wrong ones, at the same goals and by the same tactics, and keeps nothing: each has to be
-proved there. So what refuses a wrong body accepts the right one. A goal that the right body doesn't have is told `gone`, and passes.
+A check proves each function against the contracts of those that it calls. So a wave puts many wrong bodies into one
+copy of a crate, each next to the right one in a function with a name of its own, and checks once. It changes methods of
+traits, at most one body each. A wave tries only the goal that the wrong body breaks, and only for functions with wrong
+bodies: it assumes the contracts of the others. docs/GATE.md explains what a line says, such as `refused NAME in
+FUNCTION: GOAL`, and which of them fail the run. The last line is 'N passed, M failed'. The user's cache folder keeps
+each refusal by the sums of all that the try read, and a later run doesn't try it again; --anew tries all. It takes the
+libraries below a crate as `rt ci` has built them, and first proves those whose sources changed since.
+
+--right tries the right bodies instead of the wrong ones, at the same goals and by the same tactics, and keeps nothing:
+each has to be proved there. So what refuses a wrong body accepts the right one. A goal that the right body doesn't have
+passes as `gone`.
 """
 import argparse
 import contextlib
@@ -43,7 +46,7 @@ ANSWER = re.compile(r"(?:--.*\n)*(pub )?(\S+)\s*:\s")
 NAMED = """use Rattle.std.proofs.Common.{arith as tried-arith}
 use Rattle.std.proofs.lemmas.Grind.{common_steps as tried-steps}
 """
-# The proof of a function that isn't tried: what its contract says is taken as it stands.
+# The proof of a function that isn't tried: its contract is assumed.
 HOLE = """use Rattle.{crate}.proofs.{place}.Statement.{{statement}}
 
 pub {name}_spec : {{M : Type 1}} → statement M
@@ -58,10 +61,11 @@ Report = namedtuple("Report", "functions answers errors end")
 def report_of(said):
     """Reads what a check printed."""
     functions, answers, errors = {}, defaultdict(list), []
-    # (a name that isn't there stands in a line of its own)
+    # (a name that isn't there is on its own line)
     for line in re.sub(r"(: (?:record|module) `\S+`)\n\s+", r"\1 ", said).split("\n"):
         told = re.match(r"fn (\S+): (.*)", line)
-        answer = re.match(r"(?:note: )?(?:\./)?proofs/(\S+)/(?:Answers|Invariants|Proof)\.antt:\d+:\d+: error: (.*)", line)
+        answer = re.match(r"(?:note: )?(?:\./)?proofs/(\S+)/(?:Answers|Invariants|Proof)\.antt:\d+:\d+: error: (.*)",
+                          line)
         error = re.match(r"(?:\./)?(src/\S+?\.rt):(\d+):\d+: error.*", line)
         if told and functions.get(told[1], "no holes") == "no holes":
             functions[told[1]] = told[2]
@@ -84,7 +88,8 @@ def told_of(edit, report):
         return Told("gone" if is_gone else "refused", name, answer if is_gone else answer[:160])
     if searched and goal in searched[1]:
         return Told("refused", name, searched[1])
-    if not about and (searched or re.search(r"^(no holes|depends on a hole|not proved)|`#\[tactic\(none\)\]` leaves", said)):
+    if not about and (searched
+                      or re.search(r"^(no holes|depends on a hole|not proved)|`#\[tactic\(none\)\]` leaves", said)):
         return Told("proved", name, f"{goal}: it holds with this body")
     return Told("untold", name, said) if said.startswith("could not tell") else None
 
@@ -96,7 +101,8 @@ def is_refused(name, report):
 
 
 def renamed(path, old, new):
-    """Returns the names of a function with another one for that which is changed: the last, or for a closure the one that it is in."""
+    """Returns the names of a function with another one for that which is changed: the last, or for a closure the one
+    that it is in."""
     at = path.index(old, path.index("fn")) if "fn" in path else len(path) - 1
     return [*path[:at], new, *path[at + 1 :]]
 
@@ -115,7 +121,8 @@ class Tried:
         self.folder, self.below = crates.folder(name), crates.below(name)
         self.sources = by_path(read_crate(crates.top, name))
         self.names = full_names(self.sources.values())
-        self.proofs = {os.path.relpath(it, self.folder): read(it) for it in sorted(Path(self.folder, "proofs").rglob("*.antt"))}
+        self.proofs = {os.path.relpath(it, self.folder): read(it)
+                       for it in sorted(Path(self.folder, "proofs").rglob("*.antt"))}
         paths = [str(it) for part in ("must-fail", "wrong") for it in sorted(Path(self.folder, part).glob("*.edit"))]
         paths = [it for it in paths if name not in CRATES or not ROW.search(read(it))]
         self.files = {Path(path).stem: path for path in paths}
@@ -135,10 +142,12 @@ class Tried:
         return {name: sum_of(base, read(path)) for name, path in self.files.items()}
 
     def load(self, name):
-        """Returns a wrong body by its name, under the name that its function has in a wave: its own in a trait's methods, and where lemmas name it."""
+        """Returns a wrong body by its name, under the name that its function has in a wave: its own in a trait's
+        methods, and where lemmas name it."""
         edit = load_edit(name, read(self.files[name]), self.sources)
         function, at = edit.function, ".".join(["", "proofs", *edit.path, ""])
-        is_named = any(at in text for path, text in self.proofs.items() if not path.startswith(f"{'/'.join(['proofs', *edit.path])}/"))
+        is_named = any(at in text for path, text in self.proofs.items()
+                       if not path.startswith(f"{'/'.join(['proofs', *edit.path])}/"))
         if self.is_right:
             edit = edit._replace(lines=function.source.lines[function.first : function.last + 1])
         if function.trait or function.is_declared_by_trait or is_named:
@@ -159,18 +168,22 @@ class Tried:
                 text[first - len(it.function.above[1]) : end] = body
             else:
                 text[end:end] = ["", *body]
-            was, now = ("/".join(["proofs", *path]) for path in (renamed(it.path, it.called, it.function.name), it.path))
+            was, now = ("/".join(["proofs", *path])
+                        for path in (renamed(it.path, it.called, it.function.name), it.path))
             for path in [path for path in self.proofs if os.path.dirname(path) == was]:
-                proofs[f"{now}{path.removeprefix(was)}"] = self.proofs[path].replace(f"{was}/".replace("/", "."), f"{now}/".replace("/", "."))
+                names = (f"{folder}/".replace("/", ".") for folder in (was, now))
+                proofs[f"{now}{path.removeprefix(was)}"] = self.proofs[path].replace(*names)
             if not it.is_auto:
                 proofs[f"{now}/Answers.antt"] = self.answered(it, proofs.get(f"{now}/Answers.antt", ""))
         return {**proofs, **{path: "\n".join(lines) for path, lines in files.items()}}
 
     def answered(self, edit, text):
-        """Returns the written answer of the goal that a wrong body breaks, with what it cites, or one by tactics where there is none."""
+        """Returns the written answer of the goal that a wrong body breaks, with what it cites, or one by tactics where
+        there is none."""
         blocks = [(ANSWER.match(it), it) for it in re.split(r"\n\n+", text)]
         own = next((it for found, it in blocks if found and found[2] == edit.goal), "")
-        text = "\n\n".join(it for found, it in blocks if not found or not found[1] or found[2] in re.findall(r"[^\s(){},;.]+", own))
+        text = "\n\n".join(it for found, it in blocks if not found or not found[1]
+                           or found[2] in re.findall(r"[^\s(){},;.]+", own))
         if own:
             return text
         goals = f"Rattle.{self.name}.proofs.{'.'.join(edit.path)}.Goals"
@@ -180,14 +193,16 @@ class Tried:
         uses = [NAMED, *([] if known else [f"use {goals} as goal\n"])]
         for path, name in named.items():
             first, *between, last = path.split("::")
-            uses.append(f"use {'.'.join(['Rattle', self.name if first == 'crate' else first, *between])}.{{{last} as {name}}}\n")
+            module = ".".join(["Rattle", self.name if first == "crate" else first, *between])
+            uses.append(f"use {module}.{{{last} as {name}}}\n")
         tactic = f"grind ({', '.join(['tried-arith', 'tried-steps', *(named[it] for it in lemmas)])})"
         unfolding = f"unfolding {' '.join(named[it] for it in opened)}\n" if opened else ""
-        return f"{''.join(uses)}{text}\npub {edit.goal} : {known[1] if known else 'goal'}.{edit.goal}\n{unfolding}{edit.goal} = {tactic}\n"
+        answer = f"pub {edit.goal} : {known[1] if known else 'goal'}.{edit.goal}\n{unfolding}{edit.goal} = {tactic}\n"
+        return f"{''.join(uses)}{text}\n{answer}"
 
     def try_wave(self, wave):
-        """Checks each of these wrong bodies in a copy of the crate in which all else is taken to be proved, and returns what the check said and the
-        files of the wave."""
+        """Checks each of these wrong bodies in a copy of the crate in which all else is taken to be proved, and returns
+        what the check said and the files of the wave."""
         files, tried = self.written(wave), {name_of(it) for it in wave}
         holes = {f"proofs/{name.replace('::', '/')}": name.split("::") for name in self.names - tried}
         proofs = {path: text for path, text in self.proofs.items() if os.path.dirname(path) not in holes}
@@ -198,7 +213,8 @@ class Tried:
                 shutil.copytree(f"{self.folder}/{part}", f"{room}/{part}")
             write_files(room, {**proofs, **files})
             only = [it for name in sorted(tried) for it in ("--only", name)]
-            said, _ = self.commands.run((self.name, "waves"), [*self.crates.command("check", self.name), "--allow-holes", *only], room)
+            said, _ = self.commands.run((self.name, "waves"),
+                                        [*self.crates.command("check", self.name), "--allow-holes", *only], room)
             return report_of(said), files
 
 
@@ -208,11 +224,13 @@ def sum_of(*texts):
 
 
 def dealt(left, most):
-    """Returns wrong bodies in waves: none larger than the bound, none with two of one name, and all of about one size."""
+    """Returns wrong bodies in waves: none larger than the bound, none with two of one name, and all of about one
+    size."""
     times = Counter((it.function, it.called) for it in left)
     waves = [[] for _ in range(max(-(-len(left) // most), *times.values()))]
     for edit in sorted(left, key=lambda it: (-times[it.function, it.called], it.file, it.function.first)):
-        free = [it for it in waves if (edit.function, edit.called) not in {(other.function, other.called) for other in it}]
+        free = [it for it in waves
+                if (edit.function, edit.called) not in {(other.function, other.called) for other in it}]
         min(free, key=len).append(edit)
     return waves
 
@@ -220,7 +238,8 @@ def dealt(left, most):
 def settled(wave, report, files, commands):
     """Returns what a wave told of its wrong bodies, by their names; nothing of those that wait for a later wave."""
     told = {}
-    written = {path: Source("", path, text).functions for path, text in files.items() if report.errors and path.endswith(".rt")}
+    written = {path: Source("", path, text).functions for path, text in files.items() if report.errors
+               and path.endswith(".rt")}
     for edit in wave:
         lines = set()
         for it in written.get(edit.file, []):
@@ -229,10 +248,12 @@ def settled(wave, report, files, commands):
         error = next((it[2] for it in report.errors if it[0] == edit.file and it[1] in lines), None)
         it = Told("bad", edit.called, error) if error else told_of(edit, report)
         if it or len(wave) == 1:
-            told[edit.name] = it or Told("untold", edit.called, report.functions.get("::".join(edit.path)) or report.end)
+            told[edit.name] = it or Told("untold", edit.called, report.functions.get("::".join(edit.path))
+                                         or report.end)
     changed = {it.called for it in wave}
     for name in [it for it in report.functions if not changed & set(it.split("::")) and is_refused(it, report)]:
-        commands.fail(f"{name} is refused and no body of the wave is in it, so the wave shows nothing: {report.functions[name]}")
+        commands.fail(f"{name} is refused and no body of the wave is in it, so the wave shows nothing: "
+                      f"{report.functions[name]}")
     return told
 
 
@@ -296,7 +317,7 @@ def tell(crate, edit, told):
 
 
 def self_test(flags):
-    """Tries planted bodies of each kind, and returns whether each was told as what it is."""
+    """Tries planted bodies of each kind, and returns whether each was reported as what it is."""
     with tempfile.TemporaryDirectory(prefix="wrong-bodies-") as top:
         write_files(top, wrong_plants.FILES)
         told = try_crates(Crates(top), flags, Commands(flags.jobs))["small"]
