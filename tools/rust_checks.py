@@ -3,7 +3,7 @@
 checksums.
 
     python3 tools/rust_checks.py           every check below
-    python3 tools/rust_checks.py --quick   the tests and the lints alone
+    python3 tools/rust_checks.py --quick   only the tests without further features, and the lints
 
 - The tests, in debug with overflow checks: those of the crate, the proved crates' own, and the examples of the
   documentation. The crate's own again with every feature that changes code.
@@ -66,10 +66,12 @@ class Checks:
         self.left_out.append(f"{what} ({why})")
 
 
-def check_tests(checks):
+def check_tests(checks, is_quick):
     """Runs the tests, and those of the crate itself with other features."""
     checks.cargo("tests", ["test", "--quiet"])
-    checks.cargo(f"tests with {FEATURES}", ["test", "--quiet", "--features", FEATURES, "--test", "*"])
+    if is_quick:
+        return checks.leave_out(f"tests with {FEATURES}", "quick")
+    return checks.cargo(f"tests with {FEATURES}", ["test", "--quiet", "--features", FEATURES, "--test", "*"])
 
 
 def check_lints(checks):
@@ -162,9 +164,10 @@ def main(arguments):
         return 0
     with tempfile.TemporaryDirectory(prefix="rust-") as folder:
         checks = Checks(folder)
-        check_tests(checks)
+        is_quick = "--quick" in arguments
+        check_tests(checks, is_quick)
         check_lints(checks)
-        if "--quick" not in arguments:
+        if not is_quick:
             check_pages(checks)
             check_oldest(checks)
             check_git(checks)
