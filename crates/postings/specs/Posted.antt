@@ -1,4 +1,4 @@
--- Documents in ascending order, each with a cost, and what is asked of them.
+-- Documents in ascending order, each with a cost, and their queries.
 use Rattle.std.specs.Prelude.{◌≡◌, ℕ, ◌+◌, ◌*◌, ◌==◌, ◌&&◌, ◌≤◌, All, Bool, List, length, slice_index, filter, nat_le, Option, option_map, if◌then◌else◌}
 use Rattle.std.specs.List.{list_any, range_with_len}
 use Rattle.std.specs.List.Sorted.{IsStrictlyIncreasing}
@@ -6,7 +6,7 @@ use Rattle.vers_rmq.specs.Minima.{first_least_of}
 use Rattle.vers_sorted.specs.Layout.{select_calls, member_reads, search_reads}
 use Rattle.vers_tally.specs.Reads.{Reads, digits, plus, times}
 
--- documents, and the cost of each, at the same place
+-- documents, and the cost of each at the same position
 pub record Posted : Type 0 where
   pub documents : List ℕ
   pub costs : List ℕ
@@ -21,7 +21,7 @@ pub record ArePaired (posted : Posted) : Type 0 where
 unfoldable pub is_among : List ℕ → ℕ → Bool
 is_among documents d = list_any (λ m. m == d) documents
 
--- the places of the documents from one number to another, both included
+-- the positions of the documents from one number to another, both included
 unfoldable pub places_between : List ℕ → ℕ → ℕ → List ℕ
 places_between documents from to =
     filter (λ i. nat_le from (slice_index documents i) && nat_le (slice_index documents i) to) (range_with_len 0 (length documents))

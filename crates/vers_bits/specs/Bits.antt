@@ -1,5 +1,5 @@
--- Lists of bits: their numbers, their counts, and the places of their ones and zeros.
--- These are the words that the contracts of every crate of the library are written in.
+-- Lists of bits: their numbers, their counts, and the positions of their ones and zeros.
+-- The contracts of every crate of the library use these words.
 use Rattle.std.specs.Prelude.{ℕ, ◌+◌, ◌*◌, ◌/◌, ◌%◌, ◌==◌, ◌&&◌, Bool, false, not, List, [], ◌∷◌, map, length, take, drop, count_by, filter, find, flat_map, slice_index_or, nat_lt, nat_le, Option, None, Some, if◌then◌else◌}
 use Rattle.std.specs.List.{range_with_len, last_or}
 use Rattle.std.specs.Int.{bit_at, div_ceil}
@@ -17,7 +17,7 @@ number (bit ∷ bits) = bit_value bit + 2 * number bits
 unfoldable pub low_bits : ℕ → ℕ → List Bool
 low_bits v k = map (λ i. bit_at v i == 1) (range_with_len 0 k)
 
--- whether x is a one, where ones are asked for, or a zero, where zeros are
+-- whether x equals `bit`
 abbrev pub is_bit : Bool → Bool → Bool
 is_bit bit x = if bit then x else not x
 

@@ -67,7 +67,7 @@ abbrev pub SelectFindsNumber : Type 0
 SelectFindsNumber = (bit : Bool) (bits : List Bool) (r : ℕ) → r < count bit bits (length bits)
     → (count bit bits (select bit bits r) ≡ r) × (is_bit bit (slice_index_or bits (select bit bits r) false) ≡ true)
 
--- p is the first place at or after i that holds a one (or zero), or the length where there is none
+-- p is the first position from i whose bit equals `bit`, or the length if there is none
 pub record IsNextPlace (bit : Bool) (bits : List Bool) (i p : ℕ) : Type 0 where
   pub from : i ≤ p
   pub within : p ≤ length bits

@@ -1,4 +1,4 @@
--- What a query answers: a status, and a number where something was found.
+-- The answer to a query: a status, and a number if it found something.
 use Rattle.std.specs.Prelude.{◌≡◌, ◌⊎◌, ℕ, Bool, Option, Some, None, ◌==◌, if◌then◌else◌}
 use Rattle.vers_bits.specs.Bits.{bit_value}
 use Rattle.vers_c.specs.declared.answer.Answer.{Answer}
@@ -15,11 +15,11 @@ absent = record { status = 1; value = 0 }
 abbrev pub unknown : Answer
 unknown = record { status = 2; value = 0 }
 
--- nothing is held
+-- the handle is empty
 abbrev pub vacant : Answer
 vacant = record { status = 3; value = 0 }
 
--- the arguments are not those of a query that can be asked
+-- the arguments are not those of a known query
 abbrev pub refused : Answer
 refused = record { status = 4; value = 0 }
 
@@ -32,11 +32,11 @@ found_or_absent None = absent
 abbrev pub decided : Bool → Answer
 decided b = found (bit_value b)
 
--- an answer under a condition, refused where it is not met
+-- an answer with a precondition, refused if it fails
 abbrev pub answer_if : Bool → Answer → Answer
 answer_if condition answer = if condition then answer else refused
 
--- the number of an answer, or another one where nothing was found
+-- the number of an answer, or another one if the query found nothing
 abbrev pub value_or : ℕ → Answer → ℕ
 value_or other answer = if answer.status == 0 then answer.value else other
 

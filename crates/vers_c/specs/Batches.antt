@@ -4,7 +4,7 @@ use Rattle.vers_c.specs.declared.answer.Answer.{Answer}
 use Rattle.vers_c.specs.declared.asked.Ask.{Ask}
 use Rattle.vers_c.specs.Answers.{value_or}
 
--- the answer to a number and two more; `other` where there is none
+-- the answer to a number and two more; `other` if there is none
 abbrev pub answered : (ℕ → ℕ → ℕ → Answer) → ℕ → ℕ → ℕ → ℕ → ℕ
 answered answers other b c a = value_or other (answers a b c)
 
@@ -16,6 +16,6 @@ row_answered answers other ask = record { a = answered answers other ask.b ask.c
 abbrev pub asked : (ℕ → ℕ → ℕ → Answer) → Ask → Answer
 asked answers ask = answers ask.a ask.b ask.c
 
--- a row with the answer to its numbers, where `ask` says which these are and `told` puts a number into a row
+-- a row with the answer to its numbers: `ask` selects the numbers and `told` stores the answer
 abbrev pub told_row : {R : Type 0} → (ℕ → ℕ → R → Ask) → (R → ℕ → R) → (ℕ → ℕ → ℕ → Answer) → ℕ → ℕ → ℕ → R → R
 told_row ask told answers other b c row = told row (value_or other (asked answers (ask b c row)))

@@ -28,7 +28,7 @@ bits_answer bits Select0 a b c = found (select false bits a)
 bits_answer bits Select1 a b c = found (select true bits a)
 bits_answer bits _ a b c = unknown
 
--- the query for the place of a zero or of a one by its number
+-- the query for the position of a zero or of a one by its number
 abbrev pub select_query : Bool → Query
 select_query false = Select0
 select_query true = Select1

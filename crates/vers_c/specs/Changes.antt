@@ -23,11 +23,11 @@ abbrev pub changed_if : Structure → Option Change → ℕ → ℕ → Option S
 changed_if held None a b = None
 changed_if held (Some change) a b = structure_changed held change a b
 
--- the change of a code, which is its place in the table
+-- the change of a code, which is its index in the table
 abbrev pub changed_by_code : Structure → ℕ → ℕ → ℕ → Option Structure
 changed_by_code held code a b = changed_if held (slice_get CHANGES code) a b
 
--- the same of a handle, which may hold nothing
+-- the same for a handle, which may be empty
 abbrev pub contents_changed : Option Structure → ℕ → ℕ → ℕ → Option (Option Structure)
 contents_changed None code a b = None
 contents_changed (Some held) code a b = option_map Some (changed_by_code held code a b)
@@ -46,12 +46,12 @@ change_status held change a b = 2
 abbrev pub coded_status : Structure → ℕ → ℕ → ℕ → ℕ
 coded_status held code a b = change_status held (slice_get CHANGES code) a b
 
--- the same of a handle, which may hold nothing
+-- the same for a handle, which may be empty
 abbrev pub changed_status : Option Structure → ℕ → ℕ → ℕ → ℕ
 changed_status None code a b = 3
 changed_status (Some held) code a b = coded_status held code a b
 
--- what is wanted was done where the status is 0, and else nothing was
+-- the change was made if the status is 0, otherwise nothing changed
 pub record IsChanged {X : Type 0} (wanted : Option X) (before after : X) (status : ℕ) : Type 0 where
   pub done : status ≡ 0 → wanted ≡ Some after
   pub left : status ≢ 0 → after ≡ before

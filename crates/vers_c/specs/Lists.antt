@@ -1,4 +1,4 @@
--- Lists that are made of what is held.
+-- Lists that are made from the structure of a handle.
 use Rattle.std.specs.Prelude.{Option, Some, None}
 use Rattle.postings.specs.Posted.{common}
 use Rattle.vers_c.specs.Structures.{Structure, Documents, PlainNumbers}
@@ -8,7 +8,7 @@ abbrev pub common_of : Structure → Structure → Option Structure
 common_of (Documents one) (Documents other) = Some (PlainNumbers (common one.documents other.documents))
 common_of one other = None
 
--- the same of two handles, which may hold nothing
+-- the same for two handles, which may be empty
 abbrev pub contents_common : Option Structure → Option Structure → Option Structure
 contents_common (Some one) (Some other) = common_of one other
 contents_common one other = None

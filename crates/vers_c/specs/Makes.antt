@@ -11,7 +11,7 @@ use Rattle.vers_c.specs.Structures.{Structure, SparseBits, SortedMembers, Symbol
 abbrev pub sorted_made : List ℕ → Option Structure
 sorted_made numbers = if each_next nat_le numbers then Some (SortedMembers numbers) else None
 
--- of the places of ones, which have to ascend strictly and to lie below the length
+-- from the positions of ones, which have to ascend strictly and to be less than the length
 abbrev pub sparse_made : List ℕ → ℕ → Option Structure
 sparse_made ones len =
     if each_next nat_lt ones && list_all (λ place. nat_lt place len) ones then Some (SparseBits (ones_at ones len)) else None
@@ -27,25 +27,25 @@ posted_made documents costs =
     then Some (Documents (record { documents = documents; costs = costs }))
     else None
 
--- the status of a build: of a handle that holds something, and of what can't be made
+-- the status of a build: for a handle that is not empty, and for what can't be made
 abbrev pub made_status : Option Structure → Option Structure → ℕ
 made_status (Some held) wanted = 5
 made_status None None = 4
 made_status None (Some made) = 0
 
--- the handle holds what is wanted where the status is 0, and else it is as it was
+-- the handle has the new structure if the status is 0, otherwise it is unchanged
 pub record IsMade (wanted before after : Option Structure) (status : ℕ) : Type 0 where
   pub made : status ≡ 0 → after ≡ wanted
   pub left : status ≢ 0 → after ≡ before
   pub told : IsToldAs (made_status before wanted) status
 
--- the status of one owner more: of what a handle holds, in another handle
+-- the status of sharing the structure of a handle with another handle
 abbrev pub shared_status : Option Structure → Option Structure → ℕ
 shared_status None before = 3
 shared_status (Some held) (Some other) = 5
 shared_status (Some held) None = 0
 
--- the other handle holds the same where the status is 0, and else it is as it was
+-- the other handle has the same structure if the status is 0, otherwise it is unchanged
 pub record IsShared (held before after : Option Structure) (status : ℕ) : Type 0 where
   pub made : status ≡ 0 → after ≡ held
   pub left : status ≢ 0 → after ≡ before

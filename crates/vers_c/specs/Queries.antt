@@ -1,4 +1,4 @@
--- The queries of what a handle holds, by their codes.
+-- The queries of a handle's structure, by their codes.
 use Rattle.std.specs.Prelude.{ℕ, ◌==◌, Option, Some, None, slice_get, if◌then◌else◌}
 use Rattle.vers_c.specs.declared.answer.Answer.{Answer}
 use Rattle.vers_c.specs.declared.query.Query.{Query}
@@ -13,7 +13,7 @@ use Rattle.vers_c.specs.SymbolsAnswers.{symbols_answer}
 use Rattle.vers_c.specs.TextAnswers.{text_answer}
 use Rattle.vers_c.specs.TreeAnswers.{tree_answer}
 
--- the query of a code, which is its place in the table, unless there is none
+-- the query of a code, which is its index in the table, unless there is none
 abbrev pub query_of : ℕ → Option Query
 query_of code = slice_get QUERIES code
 
@@ -40,12 +40,12 @@ answer_of held (Some query) a b c = structure_answer held query a b c
 abbrev pub coded_answer : Structure → ℕ → ℕ → ℕ → ℕ → Answer
 coded_answer held code a b c = answer_of held (query_of code) a b c
 
--- the same of a handle, which may hold nothing
+-- the same for a handle, which may be empty
 abbrev pub contents_answer : Option Structure → ℕ → ℕ → ℕ → ℕ → Answer
 contents_answer None code a b c = vacant
 contents_answer (Some held) code a b c = coded_answer held code a b c
 
--- a query of what a handle holds
+-- a query of a handle's structure
 abbrev pub contents_asked : Option Structure → Query → ℕ → ℕ → ℕ → Answer
 contents_asked None query a b c = vacant
 contents_asked (Some held) query a b c = structure_answer held query a b c
@@ -54,7 +54,7 @@ contents_asked (Some held) query a b c = structure_answer held query a b c
 abbrev pub batch_status : Structure → ℕ → ℕ
 batch_status held code = if (coded_answer held code 0 0 0).status == 2 then 2 else 0
 
--- the same of a handle, which may hold nothing
+-- the same for a handle, which may be empty
 abbrev pub contents_status : Option Structure → ℕ → ℕ
 contents_status None code = 3
 contents_status (Some held) code = batch_status held code

@@ -1,4 +1,4 @@
--- The saved form of what is held.
+-- The saved form of a handle's structure.
 use Rattle.std.specs.Prelude.{◌≡◌, ◌≢◌, ◌↔◌, ◌⊎◌, ℕ, List, length, Option, Some, None, IsSome, slice_get, option_map}
 use Rattle.std.specs.Option.{option_and_then}
 use Rattle.vers_bits.specs.Bits.{limbs, pack}
@@ -29,7 +29,7 @@ form_of (Documents posted) = Some (saved_postings posted)
 form_of (IndexedText text) = None
 form_of (PlainNumbers numbers) = None
 
--- the same of a handle, which may hold nothing
+-- the same for a handle, which may be empty
 abbrev pub contents_form : Option Structure → Option (List ℕ)
 contents_form held = option_and_then form_of held
 
@@ -47,7 +47,7 @@ HasForm (Documents posted) = IsWhole POSTING_LISTS (length posted.documents) 128
 HasForm (IndexedText text) = ⊥
 HasForm (PlainNumbers numbers) = ⊥
 
--- the same of a handle, which may hold nothing
+-- the same for a handle, which may be empty
 abbrev pub ContentsHaveForm : Option Structure → Type 0
 ContentsHaveForm None = ⊥
 ContentsHaveForm (Some held) = HasForm held
@@ -78,7 +78,7 @@ saved_kind kind.Fast = BLOCK_VALUES
 saved_kind kind.Binary = TABLE_VALUES
 saved_kind kind.Postings = POSTING_LISTS
 
--- the status of a fault of loading; a reader's never comes, since bytes are read
+-- the status of a load error; a read never fails, since the source is memory
 abbrev pub fault_as : LoadError → ℕ
 fault_as Memory = 6
 fault_as TooShort = 8
@@ -101,12 +101,12 @@ abbrev pub bytes_status : Option Kind → List ℕ → ℕ
 bytes_status None bytes = 2
 bytes_status (Some kind) bytes = tested (fault_of (saved_kind kind) bytes)
 
--- the status of a load by the code of a kind into a handle, which has to hold nothing
+-- the status of a load by the code of a kind into a handle, which has to be empty
 abbrev pub load_status : Option Structure → ℕ → List ℕ → ℕ
 load_status (Some held) code bytes = 5
 load_status None code bytes = bytes_status (slice_get KINDS code) bytes
 
--- the handle holds a structure of the kind of that code, of which the bytes are the saved form, where the status is 0, and else it is as it was
+-- the handle has the structure whose saved form the bytes are, of the kind of that code, if the status is 0, otherwise it is unchanged
 pub record IsLoaded (code : ℕ) (bytes : List ℕ) (before after : Option Structure) (status : ℕ) : Type 0 where
   pub told : IsToldAs (load_status before code bytes) status
   pub held : status ≡ 0 → IsSome after
@@ -114,7 +114,7 @@ pub record IsLoaded (code : ℕ) (bytes : List ℕ) (before after : Option Struc
   pub form : status ≡ 0 → contents_form after ≡ Some bytes
   pub left : status ≢ 0 → after ≡ before
 
--- the saved form of what is held is written over as many bytes where the status is 0, and else they are as they were: nothing is held, there is no form, it has another length, or there is no memory
+-- the bytes are the saved form of the structure if the status is 0, otherwise they are unchanged: the handle is empty, there is no saved form, it has another length, or an allocation failed
 pub record IsSaved (held : Option Structure) (before after : List ℕ) (status : ℕ) : Type 0 where
   pub saved : status ≡ 0 → contents_form held ≡ Some after
   pub left : status ≢ 0 → after ≡ before

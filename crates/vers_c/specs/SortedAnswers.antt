@@ -10,13 +10,13 @@ use Rattle.vers_c.specs.declared.query.Query.{Query}
 use Rattle.vers_c.specs.declared.query.Query.TheVariants.{Len, Get, HeapSize, Rank, Has, Predecessor, Successor, Delta}
 use Rattle.vers_c.specs.Answers.{found, found_or_absent, decided, unknown}
 
--- the query for a member
+-- the query for an element
 abbrev pub member_query : Member → Query
 member_query At = Get
 member_query Before = Predecessor
 member_query After = Successor
 
--- the member that is looked for by a number
+-- the element that a number names
 abbrev pub member_found : Member → List ℕ → ℕ → Option ℕ
 member_found At members number = slice_get members number
 member_found Before members number = greatest_not_above members number

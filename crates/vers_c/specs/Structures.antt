@@ -1,4 +1,4 @@
--- What a handle holds, as the plain list that it stands for.
+-- The structure of a handle, as the plain list that it represents.
 use Rattle.std.specs.Prelude.{ℕ, Bool, List, Option, Some, None, if◌then◌else◌}
 use Rattle.vers_wavelet.specs.Symbols.{Symbols}
 use Rattle.postings.specs.Posted.{Posted}
@@ -35,6 +35,6 @@ structure_of (kept.Posted posted) = Documents posted
 structure_of (kept.Text text) = IndexedText text
 structure_of (kept.Numbers numbers) = PlainNumbers numbers.items
 
--- what a handle holds, if anything
+-- the structure of a handle, if it is not empty
 abbrev pub contents : VersHandle → Option Structure
 contents handle = if handle.is_built then Some (structure_of handle.held.value.value) else None

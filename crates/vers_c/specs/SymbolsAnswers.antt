@@ -13,7 +13,7 @@ use Rattle.vers_c.specs.Answers.{found, found_or_absent, unknown}
 abbrev pub if_numbers : Symbols → Option ℕ → Answer
 if_numbers symbols found = found_or_absent (as_word symbols.width found)
 
--- what queries of symbols at places, and of places of symbols, find
+-- what queries for symbols at positions, and for positions of symbols, find
 abbrev pub found_of_symbols : Symbols → SymbolsQuery → ℕ → ℕ → ℕ → Option ℕ
 found_of_symbols symbols RankOf a b c = rank_before symbols a b
 found_of_symbols symbols SelectOf a b c = place_from symbols 0 a b

@@ -10,7 +10,7 @@ use Rattle.vers_c.specs.declared.query.Query.TheVariants.{Len, HeapSize, Width, 
 use Rattle.vers_c.specs.Answers.{found, unknown, vacant}
 use Rattle.vers_c.specs.Structures.{Structure, IndexedText, PlainNumbers}
 
--- of symbols of a width, with one place kept for each so many, of which there have to be some
+-- from symbols of a width, with a distance between samples that is not 0
 abbrev pub text_made : List ℕ → ℕ → ℕ → Option Structure
 text_made symbols width step =
     if is_text width symbols && not (step == 0) then Some (IndexedText (record { width = width; items = symbols; step = step })) else None
@@ -23,22 +23,22 @@ text_answer text Step a b c = found text.step
 text_answer text HeapSize a b c = found (min (text_size text) 18446744073709551615)
 text_answer text _ a b c = unknown
 
--- how many places of a text a pattern has
+-- how many occurrences a pattern has in a text
 abbrev pub pattern_count : Structure → List ℕ → Answer
 pattern_count (IndexedText text) pattern = found (length (places_of text.items pattern))
 pattern_count held pattern = unknown
 
--- the same of a handle, which may hold nothing
+-- the same for a handle, which may be empty
 abbrev pub contents_count : Option Structure → List ℕ → Answer
 contents_count None pattern = vacant
 contents_count (Some held) pattern = pattern_count held pattern
 
--- the places of a pattern in a text, ascending, as plain numbers
+-- the occurrences of a pattern in a text, ascending, as plain numbers
 abbrev pub pattern_places : Structure → List ℕ → Option Structure
 pattern_places (IndexedText text) pattern = Some (PlainNumbers (places_of text.items pattern))
 pattern_places held pattern = None
 
--- the symbols of a text from one place up to another, as plain numbers, where it has such places
+-- the symbols of a text from one position to before another, as plain numbers, if it has these positions
 abbrev pub piece : Structure → ℕ → ℕ → Option Structure
 piece (IndexedText text) from to = if nat_le from to && nat_le to (length text.items) then Some (PlainNumbers (slice_range text.items from to)) else None
 piece held from to = None

@@ -15,7 +15,7 @@ use Rattle.vers_c.specs.declared.query.TreeQuery.{TreeQuery}
 use Rattle.vers_c.specs.declared.query.TreeQuery.TheVariants.{Size, IsBalanced, Excess, Close, Open, Enclose, NodeHandle, FwdSearch, BwdSearch}
 use Rattle.vers_c.specs.Answers.{found, found_or_absent, decided, answer_if, unknown}
 
--- of any parentheses. A signed number stands for itself as 64 bits
+-- from any parentheses. A signed number is passed as its 64 bits
 abbrev pub any_tree_answer : List Bool → TreeQuery → ℕ → ℕ → Answer
 any_tree_answer bits Size a b = found (count true bits (length bits))
 any_tree_answer bits IsBalanced a b = decided (are_balanced bits)

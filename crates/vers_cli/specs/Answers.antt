@@ -7,7 +7,7 @@ use Rattle.vers_cli.specs.Name.{name_of}
 use Rattle.vers_cli.specs.Holding.{Holding, Nothing}
 use Rattle.vers_cli.specs.Rules.{reply_to, holding_after_name}
 
--- the reply of a line, and what is held after it, by its words
+-- the reply to a line, and the structure after it, by the words of the line
 abbrev pub replies_by_the_rules : Replying Holding
 replies_by_the_rules = record {
   reply_to = λ held word arguments. reply_to held (name_of word) arguments;
@@ -22,11 +22,11 @@ by_the_rules = answering_by replies_by_the_rules
 abbrev pub answer_to : Holding → List ℕ → List ℕ
 answer_to held line = by_the_rules.answer_to held line
 
--- what is held after a line
+-- the structure after a line
 abbrev pub holding_after : Holding → List ℕ → Holding
 holding_after held line = by_the_rules.holding_after held line
 
--- the answers of the lines in their order, where this is held before them
+-- the answers to the lines in order, beginning with the given structure
 abbrev pub answers_to : Holding → List (List ℕ) → List ℕ
 answers_to held lines = answers_of by_the_rules held lines
 

@@ -23,7 +23,7 @@ bits_found bits Select0 r = Some (select false bits r)
 bits_found bits Select1 r = Some (select true bits r)
 bits_found bits _ n = None
 
--- the query lines, where these bits are held
+-- the query lines for these bits
 abbrev pub bits_reply : List Bool → Query → List (List ℕ) → PlainReply
 bits_reply bits Len arguments = if_well_formed (no_arguments arguments) (λ _. Number (length bits))
 bits_reply bits Get arguments = if_well_formed (one_number arguments) (λ place. number_or_absent (option_map bit_value (slice_get bits place)))

@@ -1,4 +1,4 @@
--- The lines of balanced parentheses: what is asked of the nodes of the forest that they write down.
+-- The lines of balanced parentheses: queries for the nodes of their forest.
 use Rattle.std.specs.Prelude.{ℕ, Bool, ◌&&◌, List, reverse, if◌then◌else◌}
 use Rattle.vers_bits.specs.Bits.{bit_value}
 use Rattle.vers_trees.specs.Balance.{are_balanced, has_node}
@@ -16,7 +16,7 @@ use Rattle.vers_cli.specs.declared.name.ForestQuery.TheVariants as asked
 use Rattle.vers_cli.specs.declared.name.WalkQuery.{WalkQuery}
 use Rattle.vers_cli.specs.declared.name.WalkQuery.TheVariants.{Children, RevChildren, SubtreeIter, SubtreePostIter}
 
--- the reply of a query under a condition, which is refused where it is not met
+-- the reply to a query with a precondition, refused if it fails
 abbrev pub reply_if : Bool → PlainReply → PlainReply
 reply_if condition reply = if condition then reply else Refused
 
@@ -31,7 +31,7 @@ walk_of F SubtreePostIter v = subtree_post F v
 abbrev pub all_nodes_reply : List Bool → PlainReply
 all_nodes_reply bits = reply_if (are_balanced bits) (Numbers (postorder (forest_of bits)))
 
--- a query for the node that stands so to a node
+-- a query for a relative of a node
 abbrev pub relative_reply : List Bool → Relative → ℕ → PlainReply
 relative_reply bits which v = reply_if (has_node bits v) (number_or_absent (relative (forest_of bits) which v))
 
@@ -52,12 +52,12 @@ abbrev pub is_ancestor_reply : List Bool → ℕ → ℕ → PlainReply
 is_ancestor_reply bits a v =
     reply_if (has_node bits a && has_node bits v) (Number (bit_value (is_ancestor (forest_of bits) a v)))
 
--- the ancestor of a node that is so many levels up
+-- the ancestor of a node n levels up
 abbrev pub level_ancestor_reply : List Bool → ℕ → ℕ → PlainReply
 level_ancestor_reply bits v levels =
     reply_if (has_node bits v) (number_or_absent (level_ancestor (forest_of bits) v levels))
 
--- the query lines that balanced parentheses alone have, where these parentheses are held
+-- the query lines that only balanced parentheses have, for these parentheses
 abbrev pub forest_reply : List Bool → ForestQuery → List (List ℕ) → PlainReply
 forest_reply bits asked.DfsPostIter arguments = if_well_formed (no_arguments arguments) (λ _. all_nodes_reply bits)
 forest_reply bits (asked.Relative which) arguments = if_well_formed (one_number arguments) (λ v. relative_reply bits which v)

@@ -1,4 +1,4 @@
--- What is held between lines, as the plain list, and the lines of each structure. A further one adds a clause to each of the
+-- The current structure between lines, as a plain list, and the lines of each structure. Another structure adds a clause to each of the
 -- first five definitions.
 use Rattle.std.specs.Prelude.{ℕ, Bool, false, true, List, length}
 use Rattle.vers_wavelet.specs.Symbols.{Symbols}
@@ -85,7 +85,7 @@ is_accepted Malformed = false
 is_accepted Inadmissible = false
 is_accepted (Accepted new) = true
 
--- what is held after a load line gives this: as before, unless it is accepted
+-- the structure after a load line with this outcome: unchanged unless the line is accepted
 abbrev pub held_after : {H : Type 0} → H → Loading H → H
 held_after held Malformed = held
 held_after held Inadmissible = held

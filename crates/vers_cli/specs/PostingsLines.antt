@@ -16,7 +16,7 @@ use Rattle.vers_cli.specs.declared.name.Query.TheVariants.{Len, Rank, Contains, 
 abbrev pub posted_first : ℕ → ℕ → Posted → Posted
 posted_first document cost others = record { documents = document ∷ others.documents; costs = cost ∷ others.costs }
 
--- numbers read as a document and its cost in turn; None where the last document has no cost
+-- numbers read as pairs of a document and its cost; `None` if the last document has no cost
 abbrev pub posted_of : List ℕ → Option Posted
 posted_of [] = Some (record { documents = []; costs = [] })
 posted_of (document ∷ []) = None
@@ -26,12 +26,12 @@ posted_of (document ∷ cost ∷ more) = option_map (posted_first document cost)
 abbrev pub are_admitted : List ℕ → Bool
 are_admitted documents = each_next nat_lt documents && nat_le (length documents) MAX_LEN
 
--- how many documents there are, where they ascend strictly
+-- how many documents there are, if they ascend strictly
 abbrev pub rising_count : Option Posted → Option ℕ
 rising_count None = None
 rising_count (Some posted) = if each_next nat_lt posted.documents then Some (length posted.documents) else None
 
--- documents with their costs, where the documents are admitted
+-- documents with their costs, if the documents are admitted
 abbrev pub if_admitted : Posted → Option Posted
 if_admitted posted = if are_admitted posted.documents then Some posted else None
 
@@ -60,7 +60,7 @@ postings_found posted Rank d = Some (below posted.documents d)
 postings_found posted Next d = least_not_below posted.documents d
 postings_found posted _ d = None
 
--- the query lines, where these documents and costs are held
+-- the query lines for these documents and costs
 abbrev pub postings_reply : Posted → Query → List (List ℕ) → PlainReply
 postings_reply posted Len arguments = if_well_formed (no_arguments arguments) (λ _. Number (length posted.documents))
 postings_reply posted Contains arguments = if_well_formed (one_number arguments) (λ d. Number (bit_value (is_among posted.documents d)))

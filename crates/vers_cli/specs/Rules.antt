@@ -14,7 +14,7 @@ use Rattle.vers_cli.specs.declared.name.Name.TheVariants as name
 use Rattle.vers_cli.specs.Name.{name_of}
 use Rattle.vers_cli.specs.Holding.{Holding, length_of, loaded, query_reply, held_after}
 
--- the reply of a load line: the length where it is accepted
+-- the reply to a load line: the length if it is accepted
 abbrev pub load_reply : Loading Holding → PlainReply
 load_reply Malformed = BadLine
 load_reply Inadmissible = Refused
@@ -26,13 +26,13 @@ reply_to held None arguments = BadLine
 reply_to held (Some (name.Load line)) arguments = load_reply (loaded line arguments)
 reply_to held (Some (name.Query line)) arguments = query_reply held line arguments
 
--- what is held after a line whose first word is this name, or none
+-- the structure after a line whose first word is this name, or none
 abbrev pub holding_after_name : Holding → Option Name → List (List ℕ) → Holding
 holding_after_name held None arguments = held
 holding_after_name held (Some (name.Load line)) arguments = held_after held (loaded line arguments)
 holding_after_name held (Some (name.Query line)) arguments = held
 
--- what a line gives whose first word is this name, or none, where it is to be a load line
+-- the outcome of a line whose first word is this name, or none, read as a load line
 abbrev pub named_loaded : Option Name → List (List ℕ) → Loading Holding
 named_loaded None arguments = Malformed
 named_loaded (Some (name.Load line)) arguments = loaded line arguments

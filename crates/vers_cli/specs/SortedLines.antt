@@ -14,7 +14,7 @@ abbrev pub sorted_loaded : Option (List ℕ) → Loading (List ℕ)
 sorted_loaded None = Malformed
 sorted_loaded (Some numbers) = if each_next nat_le numbers then Accepted numbers else Inadmissible
 
--- whether a number may stand before the next one, where numbers ascend, strictly or not
+-- whether a number may precede the next one in numbers that ascend, strictly or not
 abbrev pub in_order : Bool → ℕ → ℕ → Bool
 in_order true = nat_lt
 in_order false = nat_le
@@ -38,7 +38,7 @@ sorted_found members Successor v = least_not_below members v
 sorted_found members Delta place = delta members place
 sorted_found members _ n = None
 
--- the query lines, where these members are held
+-- the query lines for these elements
 abbrev pub sorted_reply : List ℕ → Query → List (List ℕ) → PlainReply
 sorted_reply members Len arguments = if_well_formed (no_arguments arguments) (λ _. Number (length members))
 sorted_reply members Get arguments = if_well_formed (one_number arguments) (λ place. number_or_absent (slice_get members place))

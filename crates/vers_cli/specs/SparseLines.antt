@@ -11,7 +11,7 @@ use Rattle.vers_words.specs.Reply.{PlainReply, WrongStructure, Number, Numbers, 
 use Rattle.vers_cli.specs.declared.name.Query.{Query}
 use Rattle.vers_cli.specs.declared.name.Query.TheVariants.{Len, Get, Rank0, Rank1, Select1, Iter1}
 
--- the load line `sparse LEN p ..`, for its numbers: the places have to ascend strictly, below LEN
+-- the load line `sparse LEN p ..`, for its numbers: the positions have to ascend strictly, below LEN
 abbrev pub sparse_loaded : Option (List ℕ) → Loading (List Bool)
 sparse_loaded None = Malformed
 sparse_loaded (Some []) = Malformed
@@ -25,7 +25,7 @@ sparse_found bits Rank1 place = Some (count true bits place)
 sparse_found bits Select1 r = Some (select true bits r)
 sparse_found bits _ n = None
 
--- the query lines, where these bits are held
+-- the query lines for these bits
 abbrev pub sparse_reply : List Bool → Query → List (List ℕ) → PlainReply
 sparse_reply bits Len arguments = if_well_formed (no_arguments arguments) (λ _. Number (length bits))
 sparse_reply bits Get arguments = if_well_formed (one_number arguments) (λ place. number_or_absent (option_map bit_value (slice_get bits place)))

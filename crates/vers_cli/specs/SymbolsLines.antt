@@ -35,12 +35,12 @@ abbrev pub all_listed : Symbols → AllQuery → List ℕ
 all_listed symbols IterU64 = symbols.items
 all_listed symbols IterSortedU64 = by_size symbols.items
 
--- a query of a symbol: how many of the first i places hold it, and the place of its occurrence i
+-- a query for a symbol: how many of the first i positions have it, and the position of its occurrence i
 abbrev pub symbol_found : Symbols → SymbolQuery → ℕ → ℕ → Option ℕ
 symbol_found symbols RankU64 i s = rank_before symbols i s
 symbol_found symbols SelectU64 i s = place_from symbols 0 i s
 
--- a query of a range: its first, last and middle member by size, of two in the middle the lower one
+-- a query for a range: its least, greatest and middle element by size, the lower one of two in the middle
 abbrev pub range_found : Symbols → RangeQuery → ℕ → ℕ → Option ℕ
 range_found symbols RangeMinU64 a b = kth_by_size (range_members symbols.items a b) 0
 range_found symbols RangeMaxU64 a b = kth_by_size (range_members symbols.items a b) (b - a - 1)
@@ -70,7 +70,7 @@ range_reply symbols query a b = found_reply symbols (range_found symbols query a
 abbrev pub within_reply : Symbols → WithinQuery → ℕ → ℕ → ℕ → PlainReply
 within_reply symbols query a b n = found_reply symbols (within_found symbols query a b n)
 
--- the query lines, where these symbols are held
+-- the query lines for these symbols
 abbrev pub symbols_reply : Symbols → Query → List (List ℕ) → PlainReply
 symbols_reply symbols asked.Len arguments = if_well_formed (no_arguments arguments) (λ _. Number (length symbols.items))
 symbols_reply symbols (asked.Symbols (All query)) arguments = if_well_formed (no_arguments arguments) (λ _. all_reply symbols query)

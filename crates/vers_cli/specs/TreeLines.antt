@@ -24,7 +24,7 @@ abbrev pub tree_loaded : Option (List Bool) → Loading (List Bool)
 tree_loaded None = Malformed
 tree_loaded (Some bits) = if nat_le (length bits) MAX_LEN then Accepted bits else Inadmissible
 
--- the place of the first bit
+-- the position of the first bit
 abbrev pub first_place : List Bool → Option ℕ
 first_place [] = None
 first_place (bit ∷ bits) = Some 0
@@ -36,11 +36,11 @@ whole_reply bits Root = number_or_absent (first_place bits)
 whole_reply bits IsBalanced = Number (bit_value (are_balanced bits))
 whole_reply bits DfsIter = Numbers (places true bits)
 
--- the excess past the bit at a place that the list has
+-- the excess past the bit at a position of the list
 abbrev pub excess_reply : List Bool → ℕ → PlainReply
 excess_reply bits i = if nat_lt i (length bits) then Signed (excess bits (i + 1)) else Refused
 
--- a query of a place
+-- a query for a position
 abbrev pub place_reply : List Bool → PlaceQuery → ℕ → PlainReply
 place_reply bits Excess i = excess_reply bits i
 place_reply bits Close i = number_or_absent (first_rise_after bits i (negsuc 0))
@@ -48,12 +48,12 @@ place_reply bits Open i = number_or_absent (last_rise_before bits i (negsuc 0))
 place_reply bits Enclose i = number_or_absent (enclosing bits i)
 place_reply bits NodeHandle i = Number (select true bits i)
 
--- a search from a place for where the excess has risen by r
+-- a search from a position for where the excess has risen by r
 abbrev pub search_reply : List Bool → SearchQuery → ℕ → ℤ → PlainReply
 search_reply bits FwdSearch i r = number_or_absent (first_rise_after bits i r)
 search_reply bits BwdSearch i r = number_or_absent (last_rise_before bits i r)
 
--- the query lines, where these parentheses are held
+-- the query lines for these parentheses
 abbrev pub tree_reply : List Bool → Query → List (List ℕ) → PlainReply
 tree_reply bits (Tree (Whole query)) arguments = if_well_formed (no_arguments arguments) (λ _. whole_reply bits query)
 tree_reply bits (Tree (Place query)) arguments = if_well_formed (one_number arguments) (λ i. place_reply bits query i)

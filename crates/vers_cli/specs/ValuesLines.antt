@@ -14,7 +14,7 @@ abbrev pub values_loaded : Option (List ℕ) → Loading (List ℕ)
 values_loaded None = Malformed
 values_loaded (Some values) = if nat_le (length values) MAX_LEN then Accepted values else Inadmissible
 
--- the query lines, where these values are held
+-- the query lines for these values
 abbrev pub values_reply : List ℕ → Query → List (List ℕ) → PlainReply
 values_reply values Len arguments = if_well_formed (no_arguments arguments) (λ _. Number (length values))
 values_reply values RangeMin arguments =

@@ -5,12 +5,12 @@ use Rattle.vers_engine.specs.declared.engine.RunError.{RunError}
 use Rattle.vers_engine.specs.declared.engine.RunError.TheVariants.{Read, Write, Memory}
 use Rattle.vers_engine.specs.Lines.{whole_lines, lines_of}
 
--- how lines are answered: the answer of a line, and what is held after it, by what is held before it
+-- how lines are answered: the answer to a line, and the structure after it, by the structure before it
 pub record Answering (H : Type 0) : Type 0 where
   pub answer_to : H → List ℕ → List ℕ
   pub holding_after : H → List ℕ → H
 
--- what is held after the lines
+-- the structure after the lines
 abbrev pub held_after : {H : Type 0} → Answering H → H → List (List ℕ) → H
 held_after by held [] = held
 held_after by held (line ∷ lines) = held_after by (by.holding_after held line) lines

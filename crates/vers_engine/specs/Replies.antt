@@ -10,12 +10,12 @@ pub record Replying (H : Type 0) : Type 0 where
   pub reply_to : H → List ℕ → List (List ℕ) → PlainReply
   pub holding_after : H → List ℕ → List (List ℕ) → H
 
--- the answer of a line of these words: nothing where there are no words, else the reply and the end of its line
+-- the answer to a line of these words: nothing if there are none, otherwise the reply and the end of its line
 unfoldable pub answer_to_words : {H : Type 0} → Replying H → H → List (List ℕ) → List ℕ
 answer_to_words by held [] = []
 answer_to_words by held (word ∷ arguments) = reply_text (by.reply_to held word arguments) ++ 10 ∷ []
 
--- what is held after a line of these words
+-- the structure after a line of these words
 unfoldable pub holding_after_words : {H : Type 0} → Replying H → H → List (List ℕ) → H
 holding_after_words by held [] = held
 holding_after_words by held (word ∷ arguments) = by.holding_after held word arguments

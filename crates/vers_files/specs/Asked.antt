@@ -1,4 +1,4 @@
--- What is written of answers, where something is held at first.
+-- The answers of a run that begins with a structure.
 use Rattle.std.specs.Prelude.{ℕ, List, Option, Result}
 use Rattle.std.specs.Io.KnownBytes.{Appends, Consumes}
 use Rattle.vers_engine.specs.declared.engine.RunError.{RunError}

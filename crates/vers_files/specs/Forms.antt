@@ -1,4 +1,4 @@
--- The saved form of what the program holds, and the fault of a file that is none. A further structure adds a clause to each of
+-- The saved form of the current structure, and the error in a file that is none. Another structure adds a clause to each of
 -- these definitions.
 use Rattle.std.specs.Prelude.{ℕ, ◌==◌, ◌≡◌, List, [], length, codes, slice_index, Option, Some, IfSome, ◌⊎◌, if◌then◌else◌}
 use Rattle.vers_bits.specs.Bits.{limbs, pack}
@@ -33,7 +33,7 @@ HasForm (TreeHeld bits) = IsWhole (tree_kind 512) (length bits) 512 (limbs bits)
 HasForm (SymbolsHeld symbols) = IsWhole SYMBOL_LISTS (length symbols.items) symbols.width (limbs (pack symbols.items symbols.width))
 HasForm (PostingsHeld posted) = IsWhole POSTING_LISTS (length posted.documents) 128 (posting_words posted)
 
--- the kind of lists that has this number, or that of bits where none has
+-- the kind of lists that has this number, or that of bits if none has
 abbrev pub kind_numbered : ℕ → Kind
 kind_numbered number =
     if number == SORTED then SORTED_LISTS

@@ -22,7 +22,7 @@ SaysWhy Refused loading = loading ≡ Inadmissible
 SaysWhy NoForm loading = (held : Holding) × (loading ≡ Accepted held) × ¬ HasForm held
 SaysWhy _ loading = ⊤
 
--- how a save of a line ends, where that of its list ends like this
+-- how a save of a line ends if the save of its list ends like this
 abbrev pub line_saved : Result (Unit {0}) SaveError → Result (Unit {0}) SaveFault
 line_saved (Ok u) = Ok u
 line_saved (Err error.NoForm) = Err NoForm

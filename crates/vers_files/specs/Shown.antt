@@ -1,4 +1,4 @@
--- What is told of a list that a file holds.
+-- The description of a list in a file.
 use Rattle.std.specs.Prelude.{ℕ, List, codes}
 use Rattle.vers_cli.specs.Holding.{Holding, Nothing, BitsHeld, SortedHeld, SparseHeld, ValuesHeld, TreeHeld, SymbolsHeld, PostingsHeld}
 

@@ -1,4 +1,4 @@
--- Files that are asked as texts.
+-- Files that are queried as texts.
 use Rattle.std.specs.Prelude.{◌≡◌, ◌<◌, ℕ, ⊤, List, length, codes, Option}
 use Rattle.vers_wavelet.specs.Symbols.{Symbols}
 use Rattle.text_index.specs.Makers.{IsSymbolWidth}

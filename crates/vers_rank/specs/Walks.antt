@@ -1,9 +1,9 @@
--- Walks over the places of the ones (or zeros) of an indexed list, by chunks of 16 bits.
+-- Iterators over the positions of the ones (or zeros) of an indexed list, by chunks of 16 bits.
 use Rattle.std.specs.Prelude.{ℕ, ◌*◌, List, Bool}
 use Rattle.vers_bits.specs.Bits.{block_count}
 use Rattle.vers_tally.specs.Reads.{Reads, no_reads}
 
--- the list of bits, the places of it that are still to come, and how many chunks are still to be loaded
+-- the list of bits, its positions that are still to come, and how many chunks are still to be loaded
 pub record ChunksOf : Type 0 where
   pub bits : List Bool
   pub left : List ℕ

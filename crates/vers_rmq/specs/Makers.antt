@@ -1,4 +1,4 @@
--- What a maker over an iterator says where it is refused.
+-- The errors of makers over iterators.
 use Rattle.std.specs.Prelude.{◌≡◌, ℕ, ◌<◌, ◌≤◌, ◌⊎◌, List, length, Option}
 use Rattle.std.specs.Iterator.{Drains}
 use Rattle.vers_bits.specs.Makers.{StopsAt}

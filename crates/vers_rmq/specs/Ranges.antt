@@ -1,4 +1,4 @@
--- The ends of a range as places of a list.
+-- The ends of a range as positions of a list.
 use Rattle.std.specs.Prelude.{ℕ, ◌-◌, ◌^◌, ◌<◌, ◌≤◌, min}
 use Rattle.std.specs.declared.ops.Bound.{Bound}
 use Rattle.std.specs.Range.Bound.{start_index, end_index}

@@ -11,7 +11,7 @@ use Rattle.vers_saved.specs.declared.fault.LoadError.{LoadError}
 use Rattle.vers_saved.specs.declared.fault.LoadError.TheVariants.{TooShort, NotOurs, OtherVersion, OtherKind, BadLength, BadSum, BadPadding, NotAscending}
 use Rattle.vers_saved.specs.Format.{words_of, saved_size, check_sum}
 
--- the fault of the first test that fails, or None where all of them hold
+-- the error of the first test that fails, or `None` if all pass
 abbrev pub first_failing : List (Bool × LoadError) → Option LoadError
 first_failing [] = None
 first_failing (t ∷ tests) = if t.0 then first_failing tests else Some t.1
@@ -20,19 +20,19 @@ first_failing (t ∷ tests) = if t.0 then first_failing tests else Some t.1
 abbrev pub takes_width : Kind → ℕ → Bool
 takes_width kind width = nat_le kind.least_width width && nat_le width kind.greatest_width
 
--- whether a list of that kind may have so many items
+-- whether a list of that kind may have that many elements
 abbrev pub takes_count : Kind → ℕ → Bool
 takes_count kind count = nat_le kind.least_count count && nat_le count kind.greatest_count
 
--- how many bits an item has: as many as the kind says, or where it says none, the width
+-- how many bits an element has: the number of the kind, or the width if the kind has none
 abbrev pub item_bits : Kind → ℕ → ℕ
 item_bits kind width = if kind.item_bits == 0 then width else kind.item_bits
 
--- the words that hold n bits, of all words of a form
+-- the words of n bits, of all words of a saved form
 abbrev pub words_among : ℕ → List ℕ → List ℕ
 words_among n words = take (limb_count n) (drop 5 words)
 
--- whether the word that the last of n bits lies in holds no one past them
+-- whether the word of the last of n bits has no one past it
 unfoldable pub is_padded : ℕ → List ℕ → Bool
 is_padded n words = (n % 64 == 0) || nat_lt (slice_index words (limb_count n + 4)) (2 ^ (n % 64))
 
@@ -40,21 +40,21 @@ is_padded n words = (n % 64 == 0) || nat_lt (slice_index words (limb_count n + 4
 unfoldable pub is_summed : ℕ → List ℕ → Bool
 is_summed n words = slice_index words (limb_count n + 5) == check_sum (take (limb_count n + 5) words)
 
--- whether a word stands in an order to the next one
+-- whether a word is in an order with the next one
 abbrev pub stands : Order → (ℕ → ℕ → Bool)
 stands Any = λ before next. true
 stands Ascending = nat_le
 stands Rising = nat_lt
 stands HalfRising = nat_lt
 
--- the words that have to stand in an order: none, all of them, or the first half
+-- the words that have to be in an order: none, all of them, or the first half
 abbrev pub ordered_words : Order → List ℕ → List ℕ
 ordered_words Any words = []
 ordered_words Ascending words = words
 ordered_words Rising words = words
 ordered_words HalfRising words = take (length words / 2) words
 
--- whether words stand in an order, each of them to the next one
+-- whether each of the words is in an order with the next one
 abbrev pub in_order : Order → List ℕ → Bool
 in_order order words = each_next (stands order) (ordered_words order words)
 

@@ -52,7 +52,7 @@ saved_size n = 8 * (limb_count n + 6)
 abbrev pub saved_bits : List Bool → List ℕ
 saved_bits bits = saved BITS (length bits) 1 (limbs bits)
 
--- the saved form of an ascending list: each member as a word
+-- the saved form of an ascending list: each element as a word
 abbrev pub saved_sorted : List ℕ → List ℕ
 saved_sorted members = saved SORTED (length members) 64 members
 
@@ -60,7 +60,7 @@ saved_sorted members = saved SORTED (length members) 64 members
 abbrev pub saved_symbols : ℕ → List ℕ → List ℕ
 saved_symbols width items = saved SYMBOLS (length items) width (limbs (pack items width))
 
--- the words of a list of bits with few ones: the places of the ones, and the length
+-- the words of a sparse list of bits: the positions of the ones, and the length
 abbrev pub sparse_words : List Bool → List ℕ
 sparse_words bits = places true bits ++ length bits ∷ []
 

@@ -1,4 +1,4 @@
--- What a saved form of a kind holds.
+-- The content of a saved form of a kind.
 use Rattle.std.specs.Prelude.{min, max, ◌≡◌, ℕ, ◌-◌, ◌*◌, ◌%◌, ◌^◌, ◌<◌, ◌&&◌, ◌⊎◌, Bool, true, nat_le, List, length, slice_index}
 use Rattle.vers_bits.specs.Bits.{limb_count}
 use Rattle.vers_bits.specs.declared.bit_vec.TheConstants.{MAX_LEN}
@@ -8,7 +8,7 @@ use Rattle.vers_saved.specs.declared.kind.TheConstants.{PARENTHESES}
 use Rattle.vers_trees.specs.declared.trees.bp.TheConstants.{MAX_BLOCK_SIZE}
 use Rattle.vers_saved.specs.Faults.{takes_width, takes_count, item_bits, in_order}
 
--- the last of n bits ends a word, or the word that it lies in holds no one past it
+-- the last of n bits ends a word, or its word has no one past it
 abbrev pub EndsPadded : ℕ → List ℕ → Type 0
 EndsPadded n words = (n % 64 ≡ 0) ⊎ (slice_index words (limb_count n - 1) < 2 ^ (n % 64))
 

@@ -1,4 +1,4 @@
--- What holds of sums of words, and of saved forms.
+-- The laws of sums of words and of saved forms.
 use Rattle.std.specs.Prelude.{◌≡◌, ℕ, ◌*◌, ◌^◌, ◌<◌, ◌≤◌, ◌++◌, ◌∷◌, true, All, List, length, None}
 use Rattle.std.specs.List.Sorted.{IsNonDecreasing}
 use Rattle.vers_bits.specs.Bits.{count}

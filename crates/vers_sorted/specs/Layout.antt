@@ -7,7 +7,7 @@ use Rattle.vers_sorted.specs.Ones.{ones_at}
 use Rattle.vers_tally.specs.Reads.{Reads, times, digits}
 pub use Rattle.vers_tally.specs.Reads.{clog}
 
--- the first and the last member, 0 of the empty list
+-- the first and the last element, 0 for the empty list
 abbrev pub first_of : List ℕ → ℕ
 first_of members = slice_index members 0
 
@@ -15,11 +15,11 @@ first_of members = slice_index members 0
 abbrev pub last_of : List ℕ → ℕ
 last_of members = slice_index members (length members - 1)
 
--- how many bits a low part has, of n members of which the last lies u above the first
+-- how many bits a low part has, for n elements whose last is u above the first
 unfoldable pub width : ℕ → ℕ → ℕ
 width n u = max (clog (max u 2)) (clog (n + 2)) - clog (max n 2)
 
--- the same of the members themselves
+-- the same for the elements themselves
 unfoldable pub low_width : List ℕ → ℕ
 low_width members = width (length members) (last_of members - first_of members)
 
@@ -30,19 +30,19 @@ high_of members v = (v - first_of members) / 2 ^ low_width members
 unfoldable pub low_of : List ℕ → ℕ → ℕ
 low_of members v = (v - first_of members) % 2 ^ low_width members
 
--- how many bits the high parts take: a one for each member, and a zero for each high part up to one past the last member's
+-- how many bits the high parts take: a one for each element, and a zero for each high part up to one past the last element's
 unfoldable pub high_length : List ℕ → ℕ
 high_length members = if length members == 0 then 0 else 2 + length members + high_of members (last_of members)
 
--- where the one of member i stands among the high parts
+-- the position of the one of element i in the high parts
 abbrev pub high_place : List ℕ → ℕ → ℕ
 high_place members i = high_of members (slice_index members i) + i + 1
 
--- the high parts: a one for each member
+-- the high parts: a one for each element
 unfoldable pub high_parts : List ℕ → List Bool
 high_parts members = ones_at (map (high_place members) (range_with_len 0 (length members))) (high_length members)
 
--- the low parts, one after another: the low digits of how far each member lies above the first
+-- the low parts, one after another: the low digits of each element less the first
 unfoldable pub low_parts : List ℕ → List Bool
 low_parts members = pack (map (λ m. m - first_of members) members) (low_width members)
 

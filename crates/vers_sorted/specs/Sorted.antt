@@ -1,4 +1,4 @@
--- Ascending lists of numbers, and what is asked of them.
+-- Ascending lists of numbers, and their queries.
 use Rattle.std.specs.Prelude.{ℕ, ◌-◌, ◌==◌, ◌&&◌, Bool, true, List, [], ◌∷◌, count_by, filter, find, slice_get, slice_index, nat_lt, nat_le, Option, None, option_map, if◌then◌else◌}
 use Rattle.std.specs.List.{last_or}
 

@@ -9,7 +9,7 @@ use Rattle.vers_texts.specs.Rules.{replies_by_the_rules}
 abbrev pub by_the_rules : Answering (Option (List ℕ))
 by_the_rules = answering_by replies_by_the_rules
 
--- the answers of the lines in their order, where this text is held before them
+-- the answers to the lines in order, beginning with the given text
 abbrev pub answers_to : Option (List ℕ) → List (List ℕ) → List ℕ
 answers_to held lines = answers_of by_the_rules held lines
 

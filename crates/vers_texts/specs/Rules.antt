@@ -21,7 +21,7 @@ reply_to held (Some name.Text) arguments = text_reply (all_numbers arguments)
 reply_to None (Some (name.Query query)) arguments = WrongStructure
 reply_to (Some text) (Some (name.Query query)) arguments = query_reply text query arguments
 
--- the text that is held after a line whose first word is this name, or none
+-- the text after a line whose first word is this name, or none
 abbrev pub holding_after_name : Option (List ℕ) → Option Name → List (List ℕ) → Option (List ℕ)
 holding_after_name held None arguments = held
 holding_after_name held (Some name.Text) arguments = held_after_text held (all_numbers arguments)

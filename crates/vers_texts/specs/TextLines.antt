@@ -13,17 +13,17 @@ text_reply None = BadLine
 text_reply (Some []) = BadLine
 text_reply (Some (width ∷ symbols)) = if is_text width symbols then Number (length symbols) else Refused
 
--- the text that is held after that line: as before, unless it is accepted
+-- the text after that line: unchanged unless the line is accepted
 abbrev pub held_after_text : Option (List ℕ) → Option (List ℕ) → Option (List ℕ)
 held_after_text held None = held
 held_after_text held (Some []) = held
 held_after_text held (Some (width ∷ symbols)) = if is_text width symbols then Some symbols else held
 
--- the reply of a query of the symbols from one place on, before another
+-- the reply to a query for the symbols from one position to before another
 abbrev pub piece_reply : List ℕ → ℕ → ℕ → PlainReply
 piece_reply text from to = if nat_le from to && nat_le to (length text) then Numbers (slice_range text from to) else Absent
 
--- the reply of a query line, where this text is held
+-- the reply to a query line for this text
 abbrev pub query_reply : List ℕ → Query → List (List ℕ) → PlainReply
 query_reply text Len arguments = if_well_formed (no_arguments arguments) (λ nothing. Number (length text))
 query_reply text Count arguments = if_well_formed (all_numbers arguments) (λ pattern. Number (length (places_of text pattern)))

@@ -1,4 +1,4 @@
--- What a table of bytes of parentheses holds: the sums that are met along a byte's eight bits, from one of its ends.
+-- The content of a table of bytes of parentheses: the sums along a byte's eight bits, from one of its ends.
 use Rattle.std.specs.Prelude.{◌≡◌, ◌≢◌, ℕ, ◌+◌, ◌-◌, ◌*◌, ◌/◌, ◌%◌, ◌^◌, ◌<◌, ◌≤◌, ◌⊎◌, Bool, true, false, List, length, ℤ, pos, ◌+ℤ◌, ◌-ℤ◌, ◌≤ℤ◌}
 use Rattle.vers_bits.specs.Bits.{number}
 use Rattle.vers_trees.specs.Excess.{excess}
@@ -13,7 +13,7 @@ abbrev pub sum_along : (from_end : Bool) → List Bool → ℕ → ℤ
 sum_along false bits n = excess bits n
 sum_along true bits n = excess bits (8 - n) -ℤ excess bits 8
 
--- the place of the bit at which a step is made
+-- the position of the bit of a step
 abbrev pub place_along : (from_end : Bool) → ℕ → ℕ
 place_along false step = step
 place_along true step = 7 - step
@@ -25,11 +25,11 @@ greatest_in entry = entry % 32
 abbrev pub least_in : ℕ → ℕ
 least_in entry = entry / 32 % 32
 
--- the place that an entry has for the sum that is x, plus 8
+-- the position that an entry has for the sum that is x, plus 8
 abbrev pub place_in : ℕ → ℕ → ℕ
 place_in entry x = entry / 2 ^ (10 + 3 * x) % 8
 
--- p is the first place met, within n steps, past which the sum, plus 8, is x
+-- p is the first position, within n steps, past which the sum, plus 8, is x
 pub record IsFirstMet (from_end : Bool) (bits : List Bool) (n x p : ℕ) : Type 0 where
   pub step : ℕ
   pub within : step < n

@@ -1,4 +1,4 @@
--- The excess along a list of parentheses, where a one opens and a zero closes, and where it rises by a number.
+-- The excess along a list of parentheses (a one opens and a zero closes), and where it rises by a number.
 use Rattle.std.specs.Ordering.{int_eq}
 use Rattle.std.specs.List.{range_with_len, last_or}
 use Rattle.std.specs.Prelude.{if◌then◌else◌, ℕ, ◌+◌, ◌-◌, Bool, true, false, nat_lt, List, [], length, filter, find, slice_index_or, ℤ, pos, negsuc, ◌+ℤ◌, ◌-ℤ◌, Option, None}
@@ -13,7 +13,7 @@ unfoldable pub first_rise_after : List Bool → ℕ → ℤ → Option ℕ
 first_rise_after bits i r =
     find (λ j. int_eq (excess bits (j + 1)) (excess bits (i + 1) +ℤ r)) (range_with_len (i + 1) (length bits - (i + 1)))
 
--- the places before i, and none where the list has no place i
+-- the positions before i, and none if the list has no position i
 abbrev pub places_below : List Bool → ℕ → List ℕ
 places_below bits i = if nat_lt i (length bits) then range_with_len 0 i else []
 

@@ -15,7 +15,7 @@ text (tree X Y) = true ∷ (text X ++ false ∷ text Y)
 abbrev pub moved : ℕ → ℕ × ℕ → ℕ × ℕ
 moved n p = (n + p.0, n + p.1)
 
--- where each tree opens and closes, in the order in which they open
+-- the positions that open and close each tree, in preorder
 abbrev pub pairs : Forest → List (ℕ × ℕ)
 pairs none = []
 pairs (tree X Y) =

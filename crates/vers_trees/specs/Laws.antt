@@ -5,14 +5,14 @@ use Rattle.vers_trees.specs.Forest.{Forest, text, pairs, IsBalanced, forest_of}
 use Rattle.vers_trees.specs.Layout.{block_count, node_count}
 use Rattle.vers_trees.specs.Nodes.{parent}
 
--- j is a place after i, past which the excess is r more than past i, and the first such
+-- j is the first position after i past which the excess is r more than past i
 pub record IsFirstRiseAfter (bits : List Bool) (i : ℕ) (r : ℤ) (j : ℕ) : Type 0 where
   pub after : i < j
   pub inside : j < length bits
   pub sum : excess bits (j + 1) ≡ excess bits (i + 1) +ℤ r
   pub first : (k : ℕ) → i < k → k < j → excess bits (k + 1) ≢ excess bits (i + 1) +ℤ r
 
--- j is a place before i, before which the excess is r more than before i, and the last such
+-- j is the last position before i before which the excess is r more than before i
 pub record IsLastRiseBefore (bits : List Bool) (i : ℕ) (r : ℤ) (j : ℕ) : Type 0 where
   pub before : j < i
   pub inside : i < length bits

@@ -3,7 +3,7 @@ use Rattle.std.specs.Prelude.{◌≡◌, ℕ, List, map, take, length, slice_get
 use Rattle.vers_trees.specs.Forest.{Forest}
 use Rattle.vers_trees.specs.Nodes.{level}
 
--- the handles met name the first members of the level of depth d, and `next` names the member after them, if there is one
+-- the handles yielded so far name the first nodes of the level of depth d, and `next` names the node after them, if there is one
 pub record IsAlongLevel {H : Type 0} (place : H → ℕ) (F : Forest) (d : ℕ) (met : List H) (next : Option H) : Type 0 where
   pub first : map place met ≡ take (length met) (level F d)
   pub then : option_map place next ≡ slice_get (level F d) (length met)

@@ -1,4 +1,4 @@
--- The nodes of an ordered forest, each named by the place where its tree opens, and how they stand to each other.
+-- The nodes of an ordered forest, each named by the position that opens its tree, and their relations.
 use Rattle.std.specs.Prelude.{ℕ, ◌+◌, ◌==◌, Bool, ◌&&◌, nat_lt, nat_le, nat_eq, List, map, length, filter, find, count_by, slice_get, Contains, Option, Some, None, unwrap_or, option_map}
 use Rattle.std.specs.List.{last_or}
 use Rattle.std.specs.Option.{option_eq}
@@ -12,7 +12,7 @@ nodes F = map (λ p. p.0) (pairs F)
 abbrev pub IsNode : Forest → ℕ → Type 0
 IsNode F v = Contains (nodes F) v
 
--- the place where the tree that opens at v closes, and v itself where none opens there
+-- the position that closes the tree opened at v, and v itself if none opens there
 unfoldable pub closing : Forest → ℕ → ℕ
 closing F v = unwrap_or (option_map (λ p. p.1) (find (λ p. p.0 == v) (pairs F))) v
 

@@ -3,7 +3,7 @@ use Rattle.std.specs.Prelude.{ℕ, ◌+◌, List, [], ◌∷◌, ◌++◌, map, 
 use Rattle.vers_trees.specs.Forest.{Forest, none, tree, text, moved}
 use Rattle.vers_trees.specs.Nodes.{is_ancestor}
 
--- where each tree opens and closes, in the order in which they close
+-- the positions that open and close each tree, in postorder
 abbrev pub pairs_by_closing : Forest → List (ℕ × ℕ)
 pairs_by_closing none = []
 pairs_by_closing (tree X Y) =

@@ -1,4 +1,4 @@
--- Documents that stand one after another in one text.
+-- Documents, one after another, in one text.
 use Rattle.std.specs.Prelude.{ℕ, ◌+◌, ◌<◌, ◌≤◌, List, length, slice_index}
 
 -- the bytes at which documents start, ascending, and the byte at which the text ends

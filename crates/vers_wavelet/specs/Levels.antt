@@ -9,49 +9,49 @@ use Rattle.vers_bits.specs.Bits.{bit_value, count}
 abbrev pub digit : ℕ → ℕ → Bool
 digit s i = bit_at s i == 1
 
--- where the places that hold the bit begin in the next level
+-- where the positions that have the bit begin in the next level
 abbrev pub start : Bool → List Bool → ℕ
 start bit l = cond bit (count false l (length l)) 0
 
--- where the places from place i on that hold the bit begin in the next level
+-- where the positions from position i that have the bit begin in the next level
 unfoldable pub next : Bool → List Bool → ℕ → ℕ
 next bit l i = start bit l + count bit l i
 
--- the symbol at a place
+-- the symbol at a position
 unfoldable pub value : List (List Bool) → ℕ → ℕ
 value [] i = 0
 value (l ∷ ls) i = bit_value (slice_index_or l i false) * 2 ^ length ls + value ls (next (slice_index_or l i false) l i)
 
--- the symbols at the first n places
+-- the symbols at the first n positions
 unfoldable pub values : List (List Bool) → ℕ → List ℕ
 values ls n = map (value ls) (range_with_len 0 n)
 
--- all levels have n places
+-- all levels have n positions
 abbrev pub Even : List (List Bool) → ℕ → Type 0
 Even ls n = All (λ l. length l ≡ n) ls
 
--- all levels have n places, and no levels have none
+-- all levels have n positions, and no levels have none
 pub record AreLevels (ls : List (List Bool)) (n : ℕ) : Type 0 where
   pub even : Even ls n
   pub none : length ls ≡ 0 → n ≡ 0
   pub bounded : n ≤ 18446744073709551552
   pub narrow : length ls ≤ 65535
 
--- below the last level, where the places from place i on that hold s begin
+-- below the last level, where the positions from position i that have s begin
 unfoldable pub way : List (List Bool) → ℕ → ℕ → ℕ
 way [] s i = i
 way (l ∷ ls) s i = way ls s (next (digit s (length ls)) l i)
 
--- how many of the first n places pass the test
+-- how many of the first n positions pass the test
 abbrev pub hits : (ℕ → Bool) → ℕ → ℕ
 hits q zero = 0
 hits q (suc n) = hits q n + cond (q n) 1 0
 
--- how many of the first n places hold a symbol below y
+-- how many of the first n positions have a symbol less than y
 unfoldable pub under : List (List Bool) → ℕ → ℕ → ℕ
 under ls y n = hits (λ p. nat_lt (value ls p) y) n
 
--- how many of the first n places hold the symbol s
+-- how many of the first n positions have the symbol s
 unfoldable pub equal : List (List Bool) → ℕ → ℕ → ℕ
 equal ls s n = hits (λ p. nat_eq (value ls p) s) n
 

@@ -1,4 +1,4 @@
--- What is found of a symbol that a number stands for.
+-- Queries for a symbol that a number names.
 use Rattle.std.specs.Prelude.{ℕ, ◌%◌, ◌^◌, ◌&&◌, nat_le, nat_lt, List, length, slice_get, Option, Some, None, if◌then◌else◌}
 use Rattle.vers_wavelet.specs.Symbols.{Symbols, occurrences}
 
@@ -10,17 +10,17 @@ low_bits_of symbols s = s % 2 ^ symbols.width
 abbrev pub places_of : Symbols → ℕ → ℕ → ℕ → List ℕ
 places_of symbols a b s = occurrences symbols.items a b (low_bits_of symbols s)
 
--- how many of the first `end` places hold a symbol, where there are so many
+-- how many of the first `end` positions have a symbol, if there are that many
 abbrev pub rank_before : Symbols → ℕ → ℕ → Option ℕ
 rank_before symbols end s = if nat_le end (length symbols.items) then Some (length (places_of symbols 0 end s)) else None
 
--- how many places of a range hold a symbol; the range begins at a place, and ends neither before that nor past the last one
+-- how many positions of a range have a symbol; the range begins at a position and ends between it and the length
 abbrev pub rank_between : Symbols → ℕ → ℕ → ℕ → Option ℕ
 rank_between symbols a b s =
     if nat_lt a (length symbols.items) && (nat_le b (length symbols.items) && nat_le a b)
     then Some (length (places_of symbols a b s))
     else None
 
--- the place of occurrence r of a symbol, among those from place o on
+-- the position of occurrence r of a symbol, among those from position o
 abbrev pub place_from : Symbols → ℕ → ℕ → ℕ → Option ℕ
 place_from symbols o r s = slice_get (places_of symbols o (length symbols.items) s) r

@@ -1,4 +1,4 @@
--- Lists of symbols: where a symbol stands in a range of them, and the members of a range by size.
+-- Lists of symbols: the occurrences of a symbol in a range, and the elements of a range by size.
 -- A symbol is a number; a range from a to b has the members at the places from a on, before b.
 use Rattle.std.specs.Prelude.{ℕ, zero, suc, ◌+◌, ◌-◌, ◌*◌, ◌<◌, ◌≤◌, ◌==◌, Bool, true, false, List, [], ◌∷◌, length, slice_index, slice_get, slice_range, filter, find, map, count_by, min, nat_lt, nat_le, All, Contains, Option, None, if◌then◌else◌}
 use Rattle.std.specs.Int.{bit_at}
@@ -15,12 +15,12 @@ pub record Symbols : Type 0 where
 unfoldable pub occurrences : List ℕ → ℕ → ℕ → ℕ → List ℕ
 occurrences items a b s = filter (λ p. slice_index items p == s) (range_with_len a (b - a))
 
--- the number that the k lowest digits of s make where they are read from the lowest to the highest
+-- the number of the k lowest digits of s in reverse order
 unfoldable pub turned : ℕ → ℕ → ℕ
 turned zero s = 0
 turned (suc k) s = 2 * turned k s + bit_at s k
 
--- how many symbols come before each s where symbols are put in the order of their digits from the lowest to the highest: equal ones are gathered there
+-- how many symbols precede s in the order of their reversed digits, which gathers equal symbols
 abbrev pub gathered_before : Symbols → ℕ → ℕ
 gathered_before symbols s = count_by (λ y. nat_lt (turned symbols.width y) (turned symbols.width s)) symbols.items
 
@@ -32,7 +32,7 @@ gathered symbols place s = gathered_before symbols s + length (occurrences symbo
 abbrev pub BeginsInside : ℕ → ℕ → List ℕ → Type 0
 BeginsInside a b items = (a < length items) × (b ≤ length items) × (a ≤ b)
 
--- a number among the members of an ascending list, before the first that is not below it
+-- a number inserted into an ascending list, before the first element that is at least it
 abbrev pub placed : ℕ → List ℕ → List ℕ
 placed x [] = x ∷ []
 placed x (y ∷ ys) = if nat_le x y then x ∷ y ∷ ys else y ∷ placed x ys
@@ -58,7 +58,7 @@ greatest_up_to items s = last_or None (filter (λ y. nat_le y s) (by_size items)
 unfoldable pub least_from : List ℕ → ℕ → Option ℕ
 least_from items s = find (λ y. nat_le s y) (by_size items)
 
--- the least member that is not below s, or, where `up` is false, the greatest that is not above it
+-- the least element that is at least s, or, if `up` is false, the greatest that is at most s
 abbrev pub nearest : (up : Bool) → List ℕ → ℕ → Option ℕ
 nearest true items s = least_from items s
 nearest false items s = greatest_up_to items s
@@ -67,24 +67,24 @@ nearest false items s = greatest_up_to items s
 unfoldable pub as_word : (width : ℕ) → Option ℕ → Option ℕ
 as_word width symbol = if nat_le width 64 then symbol else None
 
--- x is member i of the list by size, from 0, equal ones counted: at most i members are below x, and more than i are not above x
+-- x is element i of the list by size, from 0, counting duplicates: at most i elements are less than x, and more than i are at most x
 pub record IsKth (items : List ℕ) (i x : ℕ) : Type 0 where
   pub less : count_by (λ y. nat_lt y x) items ≤ i
   pub more : i < count_by (λ y. nat_le y x) items
 
--- x is the greatest member of the list that is not above s
+-- x is the greatest element of the list that is at most s
 pub record IsPredecessor (items : List ℕ) (s x : ℕ) : Type 0 where
   pub member : Contains items x
   pub within : x ≤ s
   pub greatest : All (λ y. y ≤ s → y ≤ x) items
 
--- x is the least member of the list that is not below s
+-- x is the least element of the list that is at least s
 pub record IsSuccessor (items : List ℕ) (s x : ℕ) : Type 0 where
   pub member : Contains items x
   pub within : s ≤ x
   pub least : All (λ y. s ≤ y → x ≤ y) items
 
--- the members of a list in ascending order where that is asked, and else as they stand
+-- the elements of a list in ascending order if the flag asks for it, otherwise in their order
 abbrev pub ordered : Bool → List ℕ → List ℕ
 ordered ascending items = if ascending then by_size items else items
 

@@ -1,4 +1,4 @@
--- The arguments of a line: its words after the first. None where they are malformed.
+-- The arguments of a line: its words after the first. `None` if they are malformed.
 use Rattle.std.specs.Prelude.{ℕ, ℤ, Bool, ◌||◌, ◌==◌, List, [], ◌∷◌, map, Option, Some, None, option_map, option_and_then, if◌then◌else◌}
 use Rattle.std.specs.List.{list_all}
 use Rattle.vers_words.specs.Text.{number_of, signed_number_of}

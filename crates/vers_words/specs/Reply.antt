@@ -49,7 +49,7 @@ abbrev pub number_or_refused : Option ℕ → PlainReply
 number_or_refused None = Refused
 number_or_refused (Some n) = Number n
 
--- the reply of a query whose arguments these are, `BadLine` where they are malformed
+-- the reply to a query with these arguments, `BadLine` if they are malformed
 abbrev pub if_well_formed : {X : Type 0} → Option X → (X → PlainReply) → PlainReply
 if_well_formed None reply = BadLine
 if_well_formed (Some arguments) reply = reply arguments

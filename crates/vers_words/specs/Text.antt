@@ -1,5 +1,5 @@
--- Words and numbers of a text. A text is a list of bytes: 32 stands between words, and 13 may stand
--- at the end of a line.
+-- Words and numbers of a text. A text is a list of bytes: 32 separates words, and 13 may end
+-- a line.
 use Rattle.std.specs.Prelude.{ℕ, ◌^◌, ℤ, pos, neg_ℤ, Bool, true, false, ◌&&◌, ◌==◌, not, nat_le, nat_lt, List, [], ◌∷◌, filter, length, Option, Some, None, option_and_then, if◌then◌else◌}
 use Rattle.std.specs.List.{slice_split, list_all}
 use Rattle.std.specs.Char.{is_ascii_digit}
@@ -25,7 +25,7 @@ number_of word =
     then Some (digits_value 10 word)
     else None
 
--- a number, or what is as far below 0, where 64 bits with a sign hold it
+-- a number, or its negation, if it fits in 64 bits with a sign
 abbrev pub with_sign : Bool → ℕ → Option ℤ
 with_sign false n = if nat_lt n (2 ^ 63) then Some (pos n) else None
 with_sign true n = if nat_le n (2 ^ 63) then Some (neg_ℤ (pos n)) else None
