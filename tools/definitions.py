@@ -1,7 +1,7 @@
 """Writes docs/DEFINITIONS.md: the words of `specs/` that public contracts cite, each with its comment there.
 
-A word is shown with the parameters of its definition. Its comment is the lines `-- ..` right above it.
-`missing_comments` lists the cited words that have none.
+A word is shown with the parameters of its definition. Its comment is the lines `-- ..` right above it, which
+tools/text_rules.py requires.
 """
 import os
 import re
@@ -68,17 +68,9 @@ def cited_words(top):
     return found
 
 
-def missing_comments(top, cited):
-    """Yields a line for each word that a public contract cites and that has no comment."""
-    for crate in TITLES:
-        for file, name, _, comment in declared_words(top, crate):
-            if name in cited[crate] and not comment:
-                yield f"crates/{crate}/specs/{file}.antt: `{name}` has no comment, and a public contract cites it"
-
-
-def page(top, cited):
+def page(top):
     """Returns the text of the page."""
-    parts = [read(f"{top}/{PAGE}").split("\n\n## ")[0]]
+    cited, parts = cited_words(top), [read(f"{top}/{PAGE}").split("\n\n## ")[0]]
     for crate, title in TITLES.items():
         parts.append(f"## {title} (`crates/{crate}/specs`)")
         rows = defaultdict(list)

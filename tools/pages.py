@@ -147,9 +147,8 @@ def misplaced_names(top):
 
 
 if __name__ == "__main__":
-    cited = definitions.cited_words(TOP)
-    faults = [*misplaced_names(TOP), *definitions.missing_comments(TOP, cited)]
-    print("".join(f"{it}\n" for it in faults), end="", file=sys.stderr)
+    misplaced = list(misplaced_names(TOP))
+    print("".join(f"{it}\n" for it in misplaced), end="", file=sys.stderr)
     readme = with_figures(read(f"{TOP}/{README}"), figures(TOP))
-    pages = {PAGE: page(TOP), definitions.PAGE: definitions.page(TOP, cited), README: readme}
-    sys.exit(write_or_check(pages, "tools/pages.py") or bool(faults))
+    pages = {PAGE: page(TOP), definitions.PAGE: definitions.page(TOP), README: readme}
+    sys.exit(write_or_check(pages, "tools/pages.py") or bool(misplaced))

@@ -65,6 +65,7 @@ PATTERNS = (
      "cites {0}, which the repository doesn't hold"),
     *((files, rf"(?i)\b(?:{words.replace(' ', GAP)})\b", f"says `{words}`; write `{instead}`")
       for files, words, instead in PHRASES),
+    (r"docs/DEFINITIONS\.md", r"(?m)^- `(\w+)[^`]*`:$", "`{1}` has no comment in `specs/`"),
     (r"crates/\w+/src/.*\.rt", r"\A(?:.*\n){800}", "has more than 800 lines"),
     (r".*\.rt", r'(?m)^(?! *(?:(?:ghost )?use |#\[))[^"\n]{121,}$', "has more than 120 columns"),
     # a table, or a long text, needs more
@@ -220,6 +221,7 @@ BREAKS = {
     "cites F7": ("README.md", "# ", "# As F7 says "),
     "cites /srv/": ("README.md", "# ", "# In /srv/kit "),
     "cites `no_reads`": (DEFINITIONS, "no_reads", "none_read"),
+    "`number` has no comment": (DEFINITIONS, "`number`: the", "`number`:\nthe"),
     "cites `less`": (TALLY, "no_reads, one_more", "less as no_reads, one_more"),
     "imports `proofs.Own` of vers_bits": (f"{RANK}proofs/Names.antt", "vers_bits.proofs.PublicLaws",
                                           "vers_bits.proofs.Own"),
