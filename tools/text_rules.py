@@ -36,9 +36,10 @@ DEFINITIONS = "docs/DEFINITIONS.md"
 DRAWN = "docs/LAYOUTS.md", "crates/vers_layouts/stdout"
 TEXTS = re.compile(r".*\.(?:md|rt|antt|edit|py|sh|txt)|(?:.*/)?(?:test|vers|run|stdout)")
 # between two words of a phrase there may be the end of a line and the marks of a comment
-GAP = r"(?:\s|//[/!]?|#)+"
+GAP = r"(?:\s|//[/!]?|#|--)+"
 # the files that are clean of all phrases, and those whose lines have at most 120 columns
-PLAIN = r"tools/(?!text_rules)\w+\.py|bindings/\w+\.py|test|package|vers|docs/DEFINITIONS\.md"
+PLAIN = (r"tools/(?!text_rules)\w+\.py|bindings/\w+\.py|test|package|vers|docs/DEFINITIONS\.md"
+         r"|crates/\w+/specs/.*\.antt")
 WRAPPED = r"(?:tools|bindings)/\w+\.py|test|package|docs/(?:CALLS|DEFINITIONS)\.md"
 # the files, a phrase that isn't plain English, and what to write instead
 PHRASES = (

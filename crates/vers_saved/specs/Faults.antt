@@ -81,7 +81,7 @@ body_tests order n words =
     ∷ (in_order order (words_among n words), NotAscending)
     ∷ []
 
--- the tests of so many bytes that hold these words, in their order, each with the fault where it fails
+-- the tests of a number of bytes with these words, in order, each with the error if it fails
 abbrev pub tests_of : Kind → ℕ → List ℕ → List (Bool × LoadError)
 tests_of kind size words =
     (nat_le 48 size, TooShort)

@@ -81,7 +81,7 @@ pub answer-places_2_1_2 : answer_to held_21212 (codes "places 2 1 2") ≡ ended 
 unfolding answer_to_words number_of places_of stands_at begins_with digits
 answer-places_2_1_2 = refl
 
--- the pattern without symbols stands at the text's end too, and a symbol that is too wide stands nowhere
+-- the empty pattern occurs at the text's end too, and a symbol that is too wide does not occur
 pub answer-places_of_none : answer_to held_21212 (codes "places") ≡ ended (codes "0 1 2 3 4 5")
 unfolding answer_to_words places_of stands_at begins_with digits
 answer-places_of_none = refl

@@ -47,7 +47,7 @@ TakesOrFails {H} by (Err e) held pending bytes text new rest =
     → (lines : List (List ℕ)) × (after : List ℕ)
     × IsSplit 10 (read ++ bytes) lines after × FailsAt by start e lines (answers ++ text)
 
--- a session took so many of the bytes and answered by the text, or found no memory on the way
+-- a session took n of the bytes and answered with the text, or an allocation failed
 abbrev pub TakesSome : {H E : Type 0} → Answering H → Result ℕ E → H → List ℕ → List ℕ → List ℕ → H → List ℕ → Type 0
 TakesSome by (Ok taken) held pending bytes text new rest = TakesOrFails by (Ok tt) held pending (take taken bytes) text new rest
 TakesSome by (Err e) held pending bytes text new rest = TakesOrFails by (Err Memory) held pending bytes text new rest

@@ -26,7 +26,7 @@ pub record IsMarked (bit : Bool) (bits : List Bool) (k word lo hi : ℕ) : Type 
   pub sound : (i : ℕ) → i < 64 → bit_at word i ≡ 1 → 64 * k + i < length bits → IsWithin bit bits lo hi (64 * k + i)
   pub complete : (i : ℕ) → i < 64 → IsWithin bit bits lo hi (64 * k + i) → bit_at word i ≡ 1
 
--- the ones of the word are the places of the limb from number next on, and those up to number edge stand in the limb's block; a reader of which the edge is 0 has read nothing
+-- the ones of the word are the limb's positions from number next, and those up to number edge are in the limb's block; a reader whose edge is 0 has read nothing
 pub record IsReading (bit : Bool) (bits : List Bool) (reader : Reader) : Type 0 where
   pub before : count bit bits (64 * reader.limb) ≤ reader.next
   pub after : reader.next ≤ count bit bits (64 * reader.limb + 64)
@@ -34,7 +34,7 @@ pub record IsReading (bit : Bool) (bits : List Bool) (reader : Reader) : Type 0 
   pub marks : 0 < reader.edge → IsMarked bit bits reader.limb reader.word reader.next (count bit bits (length bits))
   pub in_block : reader.edge ≤ count bit bits (BLOCK * (reader.limb / 8) + BLOCK)
 
--- the ones of the word are the places of the limb below number next, and those from number edge on stand in the limb's block
+-- the ones of the word are the limb's positions below number next, and those from number edge are in the limb's block
 pub record IsReadingBack (bit : Bool) (bits : List Bool) (reader : Reader) : Type 0 where
   pub inside : 64 * reader.limb ≤ length bits
   pub before : count bit bits (64 * reader.limb) ≤ reader.next

@@ -3,7 +3,7 @@ use Rattle.std.specs.Prelude.{◌≡◌, ℕ, List, slice_index, nat_le, if◌th
 use Rattle.vers_rmq.specs.declared.rmq.least.PlacedItem.{PlacedItem}
 use Rattle.vers_rmq.specs.Minima.{IsFirstLeast}
 
--- the candidate stands at the first place of a least item from i to j, and has that item
+-- the candidate is at the first position of a least element from i to j, and has that element
 pub record IsLeastItem (items : List ℕ) (i j : ℕ) (candidate : PlacedItem) : Type 0 where
   pub place : IsFirstLeast items i j candidate.place
   pub item : candidate.value ≡ slice_index items candidate.place

@@ -16,7 +16,7 @@ pub record JoinFits (x y : Node) : Type 0 where
   pub least : y.least ≤ℤ y.greatest → FitsSigned w64 (x.total +ℤ y.least)
   pub greatest : y.least ≤ℤ y.greatest → FitsSigned w64 (x.total +ℤ y.greatest)
 
--- r lies between the least and the greatest excess
+-- r is between the least and the greatest excess
 pub record IsInRange (x : Node) (r : ℤ) : Type 0 where
   pub low : x.least ≤ℤ r
   pub high : r ≤ℤ x.greatest
