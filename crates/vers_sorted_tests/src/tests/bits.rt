@@ -1,4 +1,4 @@
-//! Sparse lists of bits, and what is asked of them.
+//! Sparse lists of bits, and their queries.
 ghost use Rattle.std.specs.Prelude.{◌≡◌, nat_lt, IsTrue};
 ghost use Rattle.std.specs.List.{list_all};
 ghost use Rattle.std.specs.List.Sorted.{IsStrictlyIncreasing};
@@ -7,21 +7,21 @@ use std::alloc::{AllocError, Allocator};
 use vers_sorted::sparse::SparseRSVec;
 use vers_tally::tally::Tally;
 
-// Whether the numbers ascend strictly.
+// Returns true if the numbers ascend strictly.
 fn is_rising(numbers: &[u64]) -> bool
     ensures { IsTrue result → IsStrictlyIncreasing numbers.now }
 {
     numbers.is_sorted_by(|one, next| *one < *next)
 }
 
-// Whether all numbers are below `limit`.
+// Returns true if all numbers are below `limit`.
 fn are_below(numbers: &[u64], limit: u64) -> bool
     ensures { result ≡ list_all (λ n. nat_lt n limit) numbers.now }
 {
     numbers.iter().all(|number| *number < limit)
 }
 
-/// The list of `len` bits with ones at the places, or of none where there is no such list.
+/// Returns the list of `len` bits with ones at the positions, or an empty list if there is no such list.
 pub fn bits_of<A: Allocator + Copy>(
     alloc: A,
     ones: &[u64],
@@ -33,7 +33,7 @@ pub fn bits_of<A: Allocator + Copy>(
     SparseRSVec::new(alloc, &[], 0)
 }
 
-/// What is asked of a sparse list.
+/// The queries of a sparse list.
 #[derive(Clone, Copy, Drop)]
 pub enum Query {
     Len,
@@ -49,7 +49,7 @@ pub enum Query {
     Iter1(usize),
 }
 
-// A truth value as a number.
+// Returns a boolean as a number.
 fn as_number(bit: Option<bool>) -> Option<u64> {
     match bit {
         Some(bit) => Some(u64::from(bit)),
@@ -57,8 +57,8 @@ fn as_number(bit: Option<bool>) -> Option<u64> {
     }
 }
 
-/// The answer of one query, a truth value as 1 or 0. An unchecked one is asked only where its
-/// condition holds; `Iter1` asks the iterator over the ones for its item of that number.
+/// Returns the answer of one query, a boolean as 1 or 0. An unchecked one is called only if its precondition
+/// holds; `Iter1` takes the item of that number of the iterator over the ones.
 pub fn answer<A: Allocator + Copy>(bits: &SparseRSVec<A>, query: Query) -> Option<u64> {
     match query {
         Query::Len => Some(bits.len()),
@@ -85,7 +85,7 @@ pub fn answer<A: Allocator + Copy>(bits: &SparseRSVec<A>, query: Query) -> Optio
     }
 }
 
-/// The answer of the counted form of a query. A query that has none is asked as it is.
+/// Returns the answer of the counted form of a query, or of its plain form if it has none.
 pub fn counted<A: Allocator + Copy>(bits: &SparseRSVec<A>, query: Query) -> Option<u64> {
     let mut tally = Tally::new();
     match query {
