@@ -1,4 +1,4 @@
-//! Makers and clones, each of their requests for memory refused in turn, of lists of every length.
+//! Constructors and clones, each of their requests for memory refused in turn, of lists of every length.
 use crate::tests::makers::{Method, has_numbers, has_symbols, of_bits, of_numbers, packed};
 use crate::tests::numbers::{Falling, WIDTH, falling_numbers, symbols_of};
 use crate::tests::walks::{Owned, Walk, goes_on};
@@ -12,18 +12,18 @@ use vers_wavelet::wavelet::{
     WaveletIter, WaveletMatrix, WaveletNumIter, WaveletSortedIter, WaveletSortedNumIter,
 };
 
-/// The allocator of a try.
+/// The allocator of a trial.
 pub type Heap = Refusing<Global>;
 
 /// Lengths at and around the ends of limbs, and one past a block.
 pub const LENGTHS: [usize; 8] = [0, 1, 2, 63, 64, 65, 130, 513];
 
-// The numbers as lists of bits, one after another.
+// Returns the numbers as lists of bits, one after another.
 fn bits_of<A: Allocator + Copy>(alloc: A, numbers: &[u64]) -> Result<BitVec<A>, GrowError> {
     BitVec::pack_sequence_u64(alloc, numbers, WIDTH as usize)
 }
 
-/// A walk over the symbols of numbers, as lists of bits.
+/// Returns a walk over the symbols of numbers, as lists of bits.
 pub fn walk_over<A: Allocator + Copy>(
     alloc: A,
     numbers: &[u64],
@@ -34,7 +34,7 @@ pub fn walk_over<A: Allocator + Copy>(
     }
 }
 
-/// The same by size.
+/// Returns the same walk, ascending.
 pub fn sorted_walk_over<A: Allocator + Copy>(
     alloc: A,
     numbers: &[u64],
@@ -45,7 +45,7 @@ pub fn sorted_walk_over<A: Allocator + Copy>(
     }
 }
 
-/// A walk over the symbols of numbers, as numbers. There is always one.
+/// Returns a walk over the symbols of numbers, as numbers. There is always one.
 pub fn number_walk_over<A: Allocator + Copy>(
     alloc: A,
     numbers: &[u64],
@@ -56,7 +56,7 @@ pub fn number_walk_over<A: Allocator + Copy>(
     }
 }
 
-/// The same by size.
+/// Returns the same walk, ascending.
 pub fn sorted_number_walk_over<A: Allocator + Copy>(
     alloc: A,
     numbers: &[u64],
@@ -67,7 +67,7 @@ pub fn sorted_number_walk_over<A: Allocator + Copy>(
     }
 }
 
-// A maker of the symbols of numbers, or of their bits.
+// A constructor of the symbols of numbers, or of their bits.
 #[derive(Drop)]
 struct OfNumbers<'a, 'b> {
     heap: &'a Heap,
@@ -133,14 +133,14 @@ impl<'a> Tried<BitVec<&'a Heap>> for OfNumbers<'a, '_> {
     }
 }
 
-// Whether a clone has the numbers.
+// Checks whether a clone has the numbers.
 impl<'a> Check<WaveletMatrix<&'a Heap>> for OfNumbers<'a, '_> {
     fn is_right(&self, symbols: &mut WaveletMatrix<&'a Heap>) -> bool {
         has_numbers(symbols, WIDTH, self.numbers)
     }
 }
 
-/// A plain list of what a walk has left, and whether its items are given memory.
+/// A plain list of what a walk has left, and whether its items can be allocated.
 #[derive(Drop)]
 pub struct Going<'a, B: Allocator> {
     pub heap: &'a Refusing<B>,
@@ -157,10 +157,10 @@ impl<W: Walk, B: Allocator> Check<W> for Going<'_, B> {
     }
 }
 
-// How many bits symbols have that are no numbers.
+// The width of symbols that don't fit in a word.
 const WIDE: u16 = 65;
 
-// So many symbols that are no numbers.
+// Symbols that don't fit in a word.
 #[derive(Drop)]
 struct Wide<'a> {
     heap: &'a Heap,
@@ -188,7 +188,7 @@ impl<'a> Making for OfWideBits<'a, '_> {
     }
 
     fn is_right(&self, symbols: &WaveletMatrix<&'a Heap>) -> bool {
-        // The symbols that are read take memory too.
+        // The symbols that are read are allocated too.
         self.heap.allow_all();
         has_symbols(symbols, self.count, WIDE)
     }
@@ -281,7 +281,7 @@ impl Trial<Global> for Call {
         }
     }
 
-    // Each takes memory, for the list of levels at least.
+    // Each allocates, for the list of levels at least.
     fn takes_memory(self, _: usize) -> bool {
         true
     }
