@@ -13,7 +13,8 @@
   compile.
 - The package for pkg-config leads to header and library.
 - Python's tests pass, with each Python that is there, also from an installed wheel; its examples too, on Dask's workers.
-- The package for Python says in one line what it wants where there is no library, and its source distribution makes a wheel.
+- The package for Python says in one line what it needs if there is no library, and its source distribution makes a
+  wheel.
 - Each program of each page README.md was run, and printed what the page says.
 
 It names what it leaves out because a tool is missing. The last line is "N passed, M failed".
@@ -309,7 +310,8 @@ def check_python(checks, library):
     modules = modules_of(checks)
     for python, test in itertools.product(modules, ("test_vers.py", "test_habits.py")):
         checks.run(f"Python by {python}", [python, os.path.join(PY, "tests", test)], env=environment)
-    having = {name: next((it for it in modules if name in modules[it]), None) for name in ("mypy", "pip", "distributed")}
+    having = {name: next((it for it in modules if name in modules[it]), None)
+              for name in ("mypy", "pip", "distributed")}
     for name in GALLERY:
         checks.run("example", [sys.executable, os.path.join(PY, "examples", f"{name}.py")], env=environment)
     if having["distributed"]:

@@ -70,10 +70,11 @@ LEFT_OUT = (
 )
 HEAD = """# Names
 
-The name of each call in C, C++, Rust and Python. `bindings/names.py` writes this page from [CALLS](../docs/CALLS.md), and
-fails if a call has neither a name nor a reason, or a binding lacks a name. Rust's names are those of the crate
-[rust](../rust); in Python `[]` is an index, and `()` the class. `each` takes the name of a query. Calls with one name in
-all languages are listed above each table: in C with the prefix, and without `_u64` except in Rust.
+The name of each call in C, C++, Rust and Python. `bindings/names.py` writes this page from
+[CALLS](../docs/CALLS.md), and fails if a call has neither a name nor a reason, or a binding lacks a name. Rust's names
+are those of the crate [rust](../rust); in Python `[]` is an index, and `()` the class. `each` takes the name of a
+query. Calls with one name in all languages are listed above each table: in C with the prefix, and without `_u64`
+except in Rust.
 """
 
 

@@ -8,9 +8,9 @@ A line of CALLS has a public call as it is declared, the first sentence of its d
 A row of a table of PERFORMANCE is read if its first cell is a call, such as `rank1` or `FastRmq::range_min`, or a call
 and what its time is for, such as "`iter1`, a place". Nothing is measured.
 
-It also lists the names that the facade exports, and the calls of its types, that are neither in the table of our own names in
-docs/DIFFERENCES.md nor among those of vers-vecs (tools/original_names.txt), and the names in the first that aren't our own. Counted forms
-and laws are all our own.
+It also lists the names that the facade exports, and the calls of its types, that are neither in the table of our own
+names in docs/DIFFERENCES.md nor among those of vers-vecs (tools/original_names.txt), and the names in the first that
+aren't our own. Counted forms and laws are all our own.
 """
 import re
 import sys
@@ -130,7 +130,8 @@ def misplaced_names(top):
     """Yields a line for each name of our own that the table lacks, and for each one there that isn't our own."""
     ours = read(f"{top}/{DIFFERENCES}").partition("\n## Names of our own\n")[2]
     listed = {name for row in re.findall(r"(?m)^\| (`.*?) \|", ours) for name in re.findall(r"`([^`]*)`", row)}
-    original = {crate: set(names.split()) for crate, names in re.findall(r"(?m)^(\w+):$((?:\n  .*)+)", read(f"{top}/{ORIGINAL}"))}
+    lists = re.findall(r"(?m)^(\w+):$((?:\n  .*)+)", read(f"{top}/{ORIGINAL}"))
+    original = {crate: set(names.split()) for crate, names in lists}
     facade = re.sub(r"(?s)pub mod laws \{.*?\n\}", "", read(f"{top}/{FACADE}"))
     own, types = set(), {"BothEnds", "MadeEnds", "ListEnds"}
     for crate, names in re.findall(r"pub use (\w+)::[\w:]*?\{?\s*(\w+(?:,\s*\w+)*),?\s*\}?;", facade):

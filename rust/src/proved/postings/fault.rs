@@ -4,16 +4,16 @@ use crate::rattle::prelude::*;
 
 use crate::rattle::AllocError;
 
-/// Why a list of documents was not made. The first that applies is told.
+/// Why a list of documents was not made: the first reason that applies.
 #[derive(Clone, Copy, PartialEq, Eq, Debug)]
 pub enum PostingsError {
-    /// There are not as many costs as documents.
+    /// The number of costs differs from the number of documents.
     LengthMismatch,
     /// There are more than `MAX_LEN` documents.
     TooLong,
-    /// A document is not greater than the one before it.
+    /// A document is not above the previous one.
     NotAscending,
-    /// The allocator has no memory.
+    /// The allocator refused a request.
     Memory,
 }
 

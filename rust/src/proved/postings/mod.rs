@@ -1,5 +1,5 @@
-//! Lists of documents, each with a cost: which documents there are, where they stand, the cheapest
-//! of a range, and the documents that two lists share.
+//! Lists of documents, each with a cost: membership, rank, the cheapest document of a range, and the documents
+//! common to two lists.
 
 use crate::rattle::prelude::*;
 

@@ -1,4 +1,4 @@
-//! The list of documents and its maker.
+//! The list of documents and its constructor.
 
 use crate::rattle::prelude::*;
 
@@ -9,17 +9,17 @@ use crate::proved::vers_rmq::rmq::fast_rmq::{FastRmq, MAX_LEN};
 use crate::proved::vers_sorted::elias_fano::EliasFanoVec;
 use crate::proved::vers_sorted::order::is_strictly_ascending;
 
-/// Documents, each a number, and a cost of each. Contracts see a `Postings` as the list of its
-/// documents, which ascend and differ, and the list of their costs.
+/// Documents, each a number, with a cost each. Contracts see a `Postings` as the list of its documents, which
+/// ascend strictly, and the list of their costs.
 ///
-/// The documents are kept in high and low parts, and the costs with what finds the least of a range.
+/// It stores the documents in high and low parts, and the costs with an index for range minimum queries.
 pub struct Postings<A: Allocator + Copy> {
     pub(crate) documents: EliasFanoVec<A>,
     pub(crate) costs: FastRmq<A>,
 }
 
 impl<A: Allocator + Copy> Clone for Postings<A> {
-    /// A second value of the same documents and costs.
+    /// Returns a copy of the documents and costs.
     fn clone(&self) -> Result<Self, AllocError> {
         let costs = self.costs.clone()?;
         let (documents, costs) = second_beside(&self.documents, costs)?;
@@ -28,8 +28,8 @@ impl<A: Allocator + Copy> Clone for Postings<A> {
 }
 
 impl<A: Allocator + Copy> Postings<A> {
-    /// The documents with their costs. Faults are tested in the order of `PostingsError`, and before
-    /// memory is asked for. The costs are dropped on a fault.
+    /// Returns the documents with their costs. Errors: tested in the order of `PostingsError`, and before any
+    /// allocation, but for `Memory`. The costs are dropped on error.
     pub fn from_sorted(documents: &[u64], costs: Vec<u64, A>) -> Result<Self, PostingsError> {
         check(documents, costs.as_slice())?;
         let alloc = *costs.allocator();
@@ -38,32 +38,32 @@ impl<A: Allocator + Copy> Postings<A> {
         Ok(Postings { documents, costs })
     }
 
-    /// The documents, as the ascending list that keeps them.
+    /// Returns the documents, as the ascending list that stores them.
     #[inline]
     pub fn documents(&self) -> &EliasFanoVec<A> {
         &self.documents
     }
 
-    /// The cost of each document, at the document's place.
+    /// Returns the cost of each document, at the document's position.
     #[inline]
     pub fn costs(&self) -> &[u64] {
         self.costs.as_slice()
     }
 
-    /// How many documents there are.
+    /// Returns the number of documents.
     #[inline]
     pub fn len(&self) -> usize {
         self.documents.len()
     }
 
-    /// Whether there are no documents.
+    /// Returns true if there are no documents.
     #[inline]
     pub fn is_empty(&self) -> bool {
         self.documents.is_empty()
     }
 }
 
-// Tests whether documents and costs can be kept, in the order of `PostingsError`.
+// Tests whether the list can be made, in the order of `PostingsError`.
 fn check(documents: &[u64], costs: &[u64]) -> Result<(), PostingsError> {
     if documents.len() != costs.len() {
         return Err(PostingsError::LengthMismatch);
@@ -77,7 +77,7 @@ fn check(documents: &[u64], costs: &[u64]) -> Result<(), PostingsError> {
     Ok(())
 }
 
-// A list of documents beside what else is made, which is dropped where memory is refused.
+// Returns a list of documents together with another part, which is dropped on error.
 fn documents_beside<A: Allocator + Copy, C: Sized>(
     alloc: A,
     documents: &[u64],
@@ -86,7 +86,7 @@ fn documents_beside<A: Allocator + Copy, C: Sized>(
     Ok((EliasFanoVec::from_slice(alloc, documents)?, costs))
 }
 
-// A second list of documents beside what else is made, which is dropped where memory is refused.
+// Returns a copy of a list of documents together with another part, which is dropped on error.
 fn second_beside<A: Allocator + Copy, C: Sized>(
     documents: &EliasFanoVec<A>,
     costs: C,

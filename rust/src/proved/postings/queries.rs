@@ -1,4 +1,4 @@
-//! What is asked of a list of documents.
+//! Queries of a list of documents.
 
 use crate::rattle::prelude::*;
 
@@ -9,51 +9,51 @@ use crate::proved::vers_sorted::elias_fano::EliasFanoVec;
 use crate::proved::vers_tally::tally::Tally;
 
 impl<A: Allocator + Copy> Postings<A> {
-    /// Whether a document is in the list.
+    /// Returns true if a document is in the list.
     #[inline]
     pub fn contains(&self, document: u64) -> bool {
         self.documents.has(document)
     }
 
-    /// The same as `contains`, by one search among the documents.
+    /// Returns `contains(document)`. Reads at most what one search among the documents does.
     #[inline(always)]
     pub fn contains_counted(&self, document: u64, tally: &mut Tally) -> bool {
         self.documents.has_counted(document, tally)
     }
 
-    /// How many documents are below a number.
+    /// Returns the number of documents below a number.
     #[inline]
     pub fn rank(&self, document: u64) -> u64 {
         self.documents.rank(document)
     }
 
-    /// The same as `rank`, by one search among the documents.
+    /// Returns `rank(document)`. Reads at most what one search among the documents does.
     #[inline(always)]
     pub fn rank_counted(&self, document: u64, tally: &mut Tally) -> u64 {
         self.documents.rank_counted(document, tally)
     }
 
-    /// The first document that is not below a number. None where there is none.
+    /// Returns the first document that is at least a number, or `None` if there is none.
     #[inline]
     pub fn next_at_least(&self, document: u64) -> Option<u64> {
         self.documents.successor(document)
     }
 
-    /// The same as `next_at_least`, by one search among the documents.
+    /// Returns `next_at_least(document)`. Reads at most what one search among the documents does.
     #[inline(always)]
     pub fn next_at_least_counted(&self, document: u64, tally: &mut Tally) -> Option<u64> {
         self.documents.successor_counted(document, tally)
     }
 
-    /// The first document of least cost among those from one number to another, both included. None
-    /// where there is none.
+    /// Returns the first document of least cost among those from `from` to `to`, both included. `None` if there
+    /// is none.
     #[inline]
     pub fn cheapest(&self, from: u64, to: u64) -> Option<u64> {
         let mut tally = Tally::new();
         self.cheapest_counted(from, to, &mut tally)
     }
 
-    /// The same as `cheapest`, by two searches among the documents, at most 18 costs and one
+    /// Returns `cheapest(from, to)`. Reads at most what two searches among the documents do, 18 costs and one
     /// document.
     #[inline(always)]
     pub fn cheapest_counted(&self, from: u64, to: u64, tally: &mut Tally) -> Option<u64> {
@@ -66,13 +66,15 @@ impl<A: Allocator + Copy> Postings<A> {
         self.documents.get_counted(place, tally)
     }
 
-    /// The documents that another list has too, ascending. Memory is that of this list.
+    /// Returns the documents that are in both lists, ascending, in this list's allocator. Errors: `AllocError`
+    /// if the allocator refuses a request.
     pub fn intersect(&self, other: &Postings<A>) -> Result<Vec<u64, A>, AllocError> {
         let mut tally = Tally::new();
         self.intersect_counted(other, &mut tally)
     }
 
-    /// The same as `intersect`, by one search in the longer list for each document of the shorter.
+    /// Returns `intersect(other)`. Reads at most what one search in the longer list does for each document of
+    /// the shorter.
     pub fn intersect_counted(
         &self,
         other: &Postings<A>,
@@ -83,7 +85,7 @@ impl<A: Allocator + Copy> Postings<A> {
     }
 }
 
-// Two lists, the shorter first.
+// Returns two lists, the shorter first.
 #[inline(always)]
 fn by_length<'a, A: Allocator + Copy>(
     one: &'a EliasFanoVec<A>,
@@ -96,7 +98,7 @@ fn by_length<'a, A: Allocator + Copy>(
     }
 }
 
-// How many documents are not above a number, by one search.
+// Returns the number of documents that are at most a number, by one search.
 #[inline(always)]
 fn up_to<A: Allocator + Copy>(documents: &EliasFanoVec<A>, to: u64, tally: &mut Tally) -> usize {
     match to.checked_add(1) {
@@ -105,7 +107,7 @@ fn up_to<A: Allocator + Copy>(documents: &EliasFanoVec<A>, to: u64, tally: &mut 
     }
 }
 
-// The documents of the shorter list that the longer has too, in one walk along the shorter.
+// Returns the documents of the shorter list that are in the longer one too, in one walk along the shorter.
 #[inline(always)]
 fn common_documents<A: Allocator + Copy>(
     alloc: A,

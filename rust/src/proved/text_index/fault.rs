@@ -4,18 +4,18 @@ use crate::rattle::prelude::*;
 
 use crate::rattle::AllocError;
 
-/// Why a text was not indexed. The first that applies is told.
+/// Why a text was not indexed: the first reason that applies.
 #[derive(Clone, Copy, PartialEq, Eq, Debug)]
 pub enum TextError {
-    /// Symbols have no bits, or more than 16.
+    /// The width of the symbols is 0 or above 16.
     WidthOutOfRange,
-    /// One place is to be kept for each 0 places.
+    /// The step of the samples is 0.
     NoStep,
     /// There are more than `MAX_LEN` symbols.
     TooLong,
-    /// A symbol has more bits than were told.
+    /// A symbol exceeds the given width.
     WideSymbol,
-    /// The allocator has no memory.
+    /// The allocator refused a request.
     Memory,
 }
 

@@ -2,10 +2,10 @@
 
 use crate::rattle::prelude::*;
 
-/// The places by suffix are the one list of all places in which each suffix comes before those that begin at later
-/// ones.
+/// The suffix array is the only list of all positions in which each suffix precedes those that begin at later
+/// entries.
 pub fn suffixes_have_one_order() {}
 
-/// Before a symbol and then a pattern come the empty suffix, those that begin with a lesser symbol, and as many as the
-/// times that the symbol stands before a suffix that comes before the pattern.
+/// The row of a symbol followed by a pattern is 1 for the empty suffix, plus the number of lesser symbols, plus
+/// the occurrences of the symbol before suffixes that precede the pattern.
 pub fn patterns_are_found_backwards() {}

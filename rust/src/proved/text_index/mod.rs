@@ -1,5 +1,5 @@
-//! Texts of symbols, in which patterns are found: how many places a pattern has, by one walk down the levels for each
-//! of its symbols, and where they are.
+//! Texts of symbols with pattern search: counting the occurrences of a pattern, by one descent through the
+//! levels for each of its symbols, and locating them.
 
 use crate::rattle::prelude::*;
 

@@ -1,4 +1,4 @@
-//! The list of bits.
+//! Lists of bits.
 
 use crate::rattle::prelude::*;
 
@@ -23,15 +23,15 @@ mod words;
 /// The greatest length of a list of bits.
 pub const MAX_LEN: usize = usize::MAX - 63;
 
-/// A list of bits, with no memory beside its limbs of 64 bits. Bit `p` is bit `p % 64` of limb
-/// `p / 64`, the least significant first. Contracts see a `BitVec` as the list of its bits.
+/// A list of bits, stored in limbs of 64 bits and nothing else. Bit `p` is bit `p % 64` of limb `p / 64`, least
+/// significant first. Contracts see a `BitVec` as the list of its bits.
 pub struct BitVec<A: Allocator + Copy> {
     data: Vec<u64, A>,
     len: usize,
 }
 
 impl<A: Allocator + Copy> PartialEq for BitVec<A> {
-    /// Whether both lists have the same bits.
+    /// Returns true if both lists have the same bits.
     fn eq(&self, other: &BitVec<A>) -> bool {
         self.len() == other.len() && are_same(self.limbs(), other.limbs())
     }
@@ -40,7 +40,7 @@ impl<A: Allocator + Copy> PartialEq for BitVec<A> {
 impl<A: Allocator + Copy> Eq for BitVec<A> {}
 
 impl<A: Allocator + Copy> Hash for BitVec<A> {
-    /// Feeds the length, then each limb.
+    /// Feeds the length, then each limb, to the hasher.
     fn hash<H: Hasher>(&self, state: &mut H) {
         state.write_usize(self.len());
         for limb in self.limbs() {
@@ -50,7 +50,7 @@ impl<A: Allocator + Copy> Hash for BitVec<A> {
 }
 
 impl<A: Allocator + Copy> Clone for BitVec<A> {
-    /// A second list of the same bits.
+    /// Returns a copy of the list.
     fn clone(&self) -> Result<Self, AllocError> {
         let data = Vec::from_slice(*self.data.allocator(), self.data.as_slice())?;
         Ok(BitVec {
@@ -61,7 +61,7 @@ impl<A: Allocator + Copy> Clone for BitVec<A> {
 }
 
 impl<A: Allocator + Copy> BitVec<A> {
-    /// The empty list, which takes no memory.
+    /// Returns the empty list, which allocates nothing.
     pub fn new(alloc: A) -> Self {
         BitVec {
             data: Vec::new(alloc),
@@ -69,17 +69,17 @@ impl<A: Allocator + Copy> BitVec<A> {
         }
     }
 
-    /// How many bits the list has.
+    /// Returns the number of bits.
     pub fn len(&self) -> usize {
         self.len
     }
 
-    /// Whether the list has no bits.
+    /// Returns true if the list is empty.
     pub fn is_empty(&self) -> bool {
         self.len() == 0
     }
 
-    /// Whether the bit at a place is a one. None for a place that the list doesn't have.
+    /// Returns true if the bit at `place` is a one, or `None` if `place` is out of bounds.
     pub fn is_bit_set(&self, place: usize) -> Option<bool> {
         if place >= self.len() {
             return None;
@@ -87,7 +87,7 @@ impl<A: Allocator + Copy> BitVec<A> {
         Some((self.data[place / 64] >> (place % 64)) & 1 == 1)
     }
 
-    /// The bit at a place, 1 or 0. None for a place that the list doesn't have.
+    /// Returns the bit at `place`, 1 or 0, or `None` if `place` is out of bounds.
     pub fn get(&self, place: usize) -> Option<u64> {
         if place >= self.len() {
             return None;
@@ -95,53 +95,54 @@ impl<A: Allocator + Copy> BitVec<A> {
         Some((self.data[place / 64] >> (place % 64)) & 1)
     }
 
-    /// Whether the bit at a place that the list has is a one.
+    /// Returns true if the bit at `place` is a one. Precondition: `place` is below the length.
     pub fn is_bit_set_unchecked(&self, place: usize) -> bool {
         (self.data[place / 64] >> (place % 64)) & 1 == 1
     }
 
-    /// The bit at a place that the list has, 1 or 0.
+    /// Returns the bit at `place`, 1 or 0. Precondition: `place` is below the length.
     pub fn get_unchecked(&self, place: usize) -> u64 {
         u64::from(self.is_bit_set_unchecked(place))
     }
 
-    /// Limb number `k`: the 64 bits from place `64 * k` on, the first as the least significant
-    /// one, with zeros past the length. The limb has at least one bit of the list.
+    /// Returns limb `k`: the 64 bits from position `64 * k`, least significant first, with zeros past the
+    /// length. Precondition: limb `k` contains at least one bit of the list.
     pub fn limb(&self, k: usize) -> u64 {
         self.data[k]
     }
 
-    /// Returns block number `k` of 8 limbs each, from limb `8 * k` on, with zeros past the length. None if
-    /// the list has fewer limbs.
+    /// Returns block `k` of 8 limbs, from limb `8 * k`, with zeros past the length. `None` if the list has
+    /// fewer limbs.
     #[inline(always)]
     pub fn limb_block(&self, k: usize) -> Option<&[u64; 8]> {
         let (blocks, _) = self.limbs().as_arrays::<8>();
         blocks.get(k)
     }
 
-    // All limbs.
+    // Returns all limbs.
     fn limbs(&self) -> &[u64] {
         known_words(self.data.as_slice())
     }
 
-    /// How many ones the list has.
+    /// Returns the number of ones.
     pub fn count_ones(&self) -> u64 {
-        // The limbs are few enough for their ones to be counted.
+        // There are few enough limbs for their ones to be counted.
         let _ = self.len();
         ones_of(self.limbs())
     }
 
-    /// How many zeros the list has.
+    /// Returns the number of zeros.
     pub fn count_zeros(&self) -> u64 {
         self.len() as u64 - self.count_ones()
     }
 
-    /// How many bytes the limbs take.
+    /// Returns the number of bytes that the limbs take.
     pub fn heap_size(&self) -> usize {
         8 * self.data.len()
     }
 
-    /// The number of the bits from `place` on, `n` of them. None where there are not so many, or `n` is 0 or above 64.
+    /// Returns the `n` bits from position `place` as a number. `None` if there are fewer, or `n` is 0 or above
+    /// 64.
     pub fn get_bits(&self, place: usize, n: usize) -> Option<u64> {
         let len = self.len();
         if n == 0 || n > 64 || place > len || n > len - place {
@@ -150,24 +151,25 @@ impl<A: Allocator + Copy> BitVec<A> {
         Some(self.get_bits_unchecked(place, n))
     }
 
-    /// The number of the bits from `place` on, `n` of them: 0 where `n` is 0.
+    /// Returns the `n` bits from position `place` as a number: 0 if `n` is 0. Precondition: `n` is at most 64,
+    /// and `place + n` at most the length.
     pub fn get_bits_unchecked(&self, place: usize, n: usize) -> u64 {
-        // A place below the length is below `MAX_LEN`.
+        // A position below the length is below `MAX_LEN`.
         let _ = self.len();
         if n == 0 {
             return 0;
         }
-        // The limb of the last bit is the next one, or the first again, of which nothing is kept:
-        // with no branch on the place, which would often be guessed wrong.
+        // The limb of the last bit is the next one, or the first again, of which no bit is kept: no branch
+        // depends on the position, which would often be mispredicted.
         let first = self.limb(place / 64) >> (place % 64);
         let last = self.limb((place + n - 1) / 64) << 1 << (63 - place % 64);
         (first | last) & (u64::MAX >> (64 - n))
     }
 
-    /// Element `index` of the list as numbers of `n` bits each, one after another. None where the
-    /// list has no such element, or `n` is 0 or above 64.
+    /// Returns element `index` of the list, read as packed elements of `n` bits. `None` if there is no such
+    /// element, or `n` is 0 or above 64.
     pub fn unpack_element(&self, index: usize, n: usize) -> Option<u64> {
-        // A product past the machine's numbers is past `MAX_LEN`, and so past the length.
+        // A product that overflows exceeds `MAX_LEN`, and so the length.
         let _ = self.len();
         match index.checked_mul(n) {
             Some(place) => self.get_bits(place, n),
@@ -175,21 +177,21 @@ impl<A: Allocator + Copy> BitVec<A> {
         }
     }
 
-    /// Element `index` of the list as numbers of `n` bits each, one after another, which the list
-    /// has: 0 where `n` is 0.
+    /// Returns element `index` of the list, read as packed elements of `n` bits: 0 if `n` is 0. Precondition:
+    /// `n` is at most 64, and the list has the element.
     pub fn unpack_element_unchecked(&self, index: usize, n: usize) -> u64 {
-        // A place below the length is below `MAX_LEN`.
+        // A position below the length is below `MAX_LEN`.
         let _ = self.len();
         self.get_bits_unchecked(index * n, n)
     }
 
-    /// A copy of the allocator.
+    /// Returns a copy of the allocator.
     pub fn allocator(&self) -> A {
         *self.data.allocator()
     }
 }
 
-// The same words. Its contract tells a caller's proof that each of them has 64 bits.
+// Returns the same words. The contract adds that each of them has 64 bits.
 fn known_words(words: &[u64]) -> &[u64] {
     words
 }

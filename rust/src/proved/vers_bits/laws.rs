@@ -1,12 +1,12 @@
-//! Laws over the definitions, which hold of every list of bits. Each function does nothing:
-//! its contract is the law, and its proof is checked with the crate.
+//! Laws over the definitions, which hold for every list of bits. Each function does nothing: its contract is
+//! the law, and its proof is checked with the crate.
 
 use crate::rattle::prelude::*;
 
-/// Equal lists are fed to a hasher alike, so that they hash equally.
+/// Equal lists feed the same input to a hasher, so they hash equally.
 pub fn equal_lists_hash_equally() {}
 
-/// After a split, the first list with the second appended is the old one.
+/// After a split, the first list with the second appended is the original one.
 pub fn split_lists_join() {}
 
 /// The low `k` bits of a number are `k` bits.
@@ -15,20 +15,22 @@ pub fn low_bits_are_as_many() {}
 /// The low `k` bits of a number make the number modulo `2 ^ k`.
 pub fn low_bits_are_the_rest() {}
 
-/// What a number has above its low `k` bits leaves these as they are.
+/// The digits of a number above its low `k` bits don't change these.
 pub fn low_bits_leave_out_the_others() {}
 
-/// The low `j + k` bits of a number are its low `j` bits, and then the low `k` bits of the number
-/// divided by `2 ^ j`.
+/// The low `j + k` bits of a number are its low `j` bits, then the low `k` bits of the number divided by `2 ^ j`.
 pub fn low_bits_go_on() {}
 
-/// A list of bits follows from its number and its length.
+/// A list of bits is determined by its number and its length.
 pub fn bits_follow_from_number() {}
+
+/// The number of a list of bits is the sum of `2 ^ i` over the positions `i` of its ones.
+pub fn number_is_sum_of_powers() {}
 
 /// Element `e` of a packed list of 1 to 64 bits an item is item `e` modulo `2 ^ k`.
 pub fn packed_elements_are_items() {}
 
-/// Bit `p` of two lists combined bit by bit is what both bits `p` make.
+/// Bit `p` of two lists combined bit by bit is the combination of both bits `p`.
 pub fn zipped_bits_are_combined() {}
 
 /// The mask by the or of limbs is the or of the bits.
@@ -40,47 +42,44 @@ pub fn mask_of_and_is_and() {}
 /// The mask by the xor of limbs is the xor of the bits.
 pub fn mask_of_xor_is_xor() {}
 
-/// Each of the first places holds a zero or a one: the counts of both add up to the number of
-/// places, or to the length.
+/// Each position has a zero or a one: the counts of both add up to the number of positions, or to the length.
 pub fn zeros_and_ones_add_up() {}
 
-/// The place of one (or zero) number `r` holds it, and `r` of them stand before.
+/// The position of one (or zero) `r` has that bit, and `r` of them precede it.
 pub fn select_finds_number() {}
 
-/// To select what the count up to a place gave is to go on to the first one (or zero) at or after
-/// the place, or to the length.
+/// Selecting the rank of a position gives the first one (or zero) at or after the position, or the length.
 pub fn select_of_count_is_next() {}
 
-/// More places hold no fewer ones (or zeros).
+/// Ranks are monotone: more positions contain no fewer ones (or zeros).
 pub fn counts_grow() {}
 
-/// The count up to a later place is the count up to an earlier one, and that of the places between
-/// them.
+/// The rank of a later position is the rank of an earlier one plus the count between them.
 pub fn counts_of_spans_add_up() {}
 
-/// A count is at most the number of places, and at most the length.
+/// A rank is at most the position, and at most the length.
 pub fn counts_are_few() {}
 
-/// Past the last one (or zero), to select gives the length.
+/// Selecting past the last one (or zero) gives the length.
 pub fn select_past_last_is_length() {}
 
-/// The neighbour above a place holds a one (or zero), and no place between them does. Where there is
-/// no neighbour, no place above does.
+/// The successor of a position is a one (or zero), and no position between them is. If there is no successor,
+/// no later position is.
 pub fn none_up_to_neighbour() {}
 
-/// The neighbour below a place holds a one (or zero), and no place between them does. Where there is
-/// no neighbour, no place below does.
+/// The predecessor of a position is a one (or zero), and no position between them is. If there is no
+/// predecessor, no earlier position is.
 pub fn none_down_to_neighbour() {}
 
-/// Calls of `next`, `next_back`, `nth` and `nth_back` in any mixture pass each item of the list
-/// once: those passed from the front, those left, and those passed from the back make up the list.
+/// Calls of `next`, `next_back`, `nth` and `nth_back` in any order pass each item of the list once: the items
+/// passed from the front, those left, and those passed from the back make up the list.
 pub fn both_ends_pass_each_item_once<T>() {}
 
-/// An iterator that has ended stays ended, whatever is asked of it.
+/// An iterator that has ended stays ended, whatever is called.
 pub fn ended_iterators_stay_ended<T>() {}
 
-/// What the trait says of `next` is what the iterators of this library say of `nth(0)`.
+/// The trait's contract of `next` equals this library's contract of `nth(0)`.
 pub fn next_is_nth_of_zero<T>() {}
 
-/// What the trait says of `next_back` is what the iterators of this library say of `nth_back(0)`.
+/// The trait's contract of `next_back` equals this library's contract of `nth_back(0)`.
 pub fn next_back_is_nth_back_of_zero<T>() {}

@@ -1,4 +1,4 @@
-//! Lists of bits in limbs of 64, and the words that all contracts of the library are written in.
+//! Lists of bits in limbs of 64, and the definitions that all contracts of the library use.
 
 use crate::rattle::prelude::*;
 

@@ -1,33 +1,31 @@
-//! Iterators that take items from both ends: the steps that all of them share.
+//! Double-ended iterators: the steps that all of them share.
 
 use crate::rattle::prelude::*;
 
-/// The places from one up to another that an iterator has still to pass, none where `to` isn't
-/// above `from`. An iterator over a list keeps a span of the list's places, and reads an item at
-/// each place that the span gives.
+/// The range of positions that an iterator has yet to pass, empty if `to` is at most `from`. An iterator over a
+/// list keeps a span of positions, and reads an item at each position that the span returns.
 #[derive(Clone, Copy)]
 pub struct Span {
-    /// The first place.
+    /// The first position.
     pub from: usize,
-    /// The place after the last one.
+    /// The position after the last one.
     pub to: usize,
 }
 
 impl Span {
-    /// The places below `len`.
+    /// Returns the positions below `len`.
     #[inline]
     pub fn below(len: usize) -> Span {
         Span { from: 0, to: len }
     }
 
-    /// How many places are left.
+    /// Returns the number of positions left.
     #[inline]
     pub fn len(&self) -> usize {
         self.to.saturating_sub(self.from)
     }
 
-    /// Drops `n` places from the front and gives the next. Drops all where no more than `n` are
-    /// left.
+    /// Skips `n` positions from the front and returns the next. Skips all if at most `n` are left.
     #[inline]
     pub fn nth(&mut self, n: usize) -> Option<usize> {
         if n >= self.len() {
@@ -39,8 +37,7 @@ impl Span {
         Some(place)
     }
 
-    /// Drops `n` places from the back and gives the next. Drops all where no more than `n` are
-    /// left.
+    /// Skips `n` positions from the back and returns the next. Skips all if at most `n` are left.
     #[inline]
     pub fn nth_back(&mut self, n: usize) -> Option<usize> {
         if n >= self.len() {

@@ -7,12 +7,12 @@ use crate::rattle::AllocError;
 use crate::rattle::Allocator;
 use crate::proved::vers_bits::bit_vec::BitVec;
 
-// The ones of a limb.
+// Returns the number of ones in a limb.
 fn ones_of_limb<A: Allocator + Copy>(bits: &BitVec<A>, k: usize) -> usize {
     bits.limb(k).count_ones() as usize
 }
 
-// The zeros of a block.
+// Returns the number of zeros in a block.
 fn zeros_of_block<A: Allocator + Copy>(bits: &BitVec<A>, block: usize) -> usize {
     let len = bits.len();
     let mut ones: usize = 0;
@@ -22,8 +22,8 @@ fn zeros_of_block<A: Allocator + Copy>(bits: &BitVec<A>, block: usize) -> usize 
     (len - BLOCK * block).min(BLOCK) - ones
 }
 
-// Adds the entry of a block, and that of its superblock if it is the first there. Returns the zeros before the
-// superblock.
+// Appends the entry of a block, and that of its superblock if the block is the first there. Returns the zeros
+// before the superblock.
 fn add_entry<A: Allocator + Copy>(
     bits: &BitVec<A>,
     block: usize,
@@ -42,7 +42,7 @@ fn add_entry<A: Allocator + Copy>(
     Ok(base)
 }
 
-/// Adds the entries of each block, and returns the number of zeros.
+/// Appends the entries of each block, and returns the number of zeros.
 pub fn add_entries<A: Allocator + Copy>(
     bits: &BitVec<A>,
     blocks: &mut Vec<u16, A>,
@@ -60,7 +60,7 @@ pub fn add_entries<A: Allocator + Copy>(
     Ok(zeros)
 }
 
-// The places before a superblock that hold the bit.
+// Returns the number of positions before a superblock that have the bit.
 fn count_before<A: Allocator + Copy>(
     bits: &BitVec<A>,
     superblocks: &[u64],
@@ -72,7 +72,7 @@ fn count_before<A: Allocator + Copy>(
     if bit { SUPERBLOCK * s - zeros } else { zeros }
 }
 
-// Sample number `j`, found from an earlier one.
+// Returns sample `j`, searching from an earlier one.
 fn next_sample<A: Allocator + Copy>(
     bits: &BitVec<A>,
     superblocks: &[u64],
@@ -89,7 +89,7 @@ fn next_sample<A: Allocator + Copy>(
     s
 }
 
-/// The first `n` samples of a bit.
+/// Returns the first `n` samples of a bit.
 pub fn samples<A: Allocator + Copy>(
     bits: &BitVec<A>,
     superblocks: &[u64],

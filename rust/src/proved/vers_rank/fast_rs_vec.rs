@@ -1,4 +1,4 @@
-//! The list of bits with ranks and selects.
+//! Lists of bits with rank and select.
 
 use crate::rattle::prelude::*;
 
@@ -24,27 +24,26 @@ use crate::rattle::Allocator;
 use crate::proved::vers_bits::bit_vec::{BitVec, MAX_LEN};
 use crate::proved::vers_tally::tally::{BlockEntries, CountedBits, SuperblockEntries, Tally, Uncounted};
 
-/// How many bits a limb has.
+/// The number of bits in a limb.
 const LIMB: usize = 64;
 
-/// How many bits a block has.
+/// The number of bits in a block.
 pub(crate) const BLOCK: usize = 512;
 
-/// How many bits a superblock has, and how many ones or zeros lie between two select samples.
+/// The number of bits in a superblock, and of ones or zeros between two select samples.
 pub(crate) const SUPERBLOCK: usize = 8192;
 
-/// How many blocks a superblock has.
+/// The number of blocks in a superblock.
 pub(crate) const BLOCKS: usize = SUPERBLOCK / BLOCK;
 
-/// A list of bits that counts its ones and zeros and finds their places. Contracts see it as the
-/// list of its bits.
+/// A list of bits with rank and select. Contracts see it as the list of its bits.
 ///
-/// Beside the bits it keeps 2 bytes a block of 512 bits (the zeros of its superblock before it),
-/// 8 bytes a superblock of 8192 bits (the zeros before it), and samples: for each 8192 ones and
-/// for each 8192 zeros the superblock in which they are reached.
+/// In addition to the bits it stores 2 bytes per block of 512 bits (the zeros of its superblock before it), 8
+/// bytes per superblock of 8192 bits (the zeros before it), and samples: for every 8192nd one and every 8192nd
+/// zero, its superblock.
 ///
-/// Each query has a form `_counted`, which counts its reads in a `Tally`; the plain form is that
-/// one with a counter of its own.
+/// Each query has a form `_counted`, which counts its reads in a `Tally`; the plain form passes a counter of
+/// its own.
 pub struct RsVec<A: Allocator + Copy> {
     bits: CountedBits<A>,
     blocks: BlockEntries<A>,
@@ -55,7 +54,7 @@ pub struct RsVec<A: Allocator + Copy> {
 }
 
 impl<A: Allocator + Copy> Clone for RsVec<A> {
-    /// A second list of the same bits, with a copy of the index.
+    /// Returns a copy of the list and its index.
     fn clone(&self) -> Result<Self, AllocError> {
         let bits = self.bits.as_bit_vec(Uncounted).clone()?;
         let alloc = bits.allocator();
@@ -75,8 +74,8 @@ impl<A: Allocator + Copy> Clone for RsVec<A> {
 }
 
 impl<A: Allocator + Copy> RsVec<A> {
-    /// The same bits, with ranks and selects. `AllocError` only where a request for memory was
-    /// refused. The list is dropped then.
+    /// Returns the same bits, with rank and select. Errors: `AllocError` only if the allocator refuses a
+    /// request; the list is then dropped.
     pub fn from_bit_vec(bits: BitVec<A>) -> Result<Self, AllocError> {
         let alloc = bits.allocator();
         let mut blocks = Vec::new(alloc);
@@ -95,36 +94,36 @@ impl<A: Allocator + Copy> RsVec<A> {
         })
     }
 
-    /// The bits alone. Takes no memory.
+    /// Returns the bits without the index. Allocates nothing.
     pub fn into_bit_vec(self) -> BitVec<A> {
         self.bits.into_bit_vec(Uncounted)
     }
 
-    /// How many bits the list has.
+    /// Returns the number of bits.
     #[inline]
     pub fn len(&self) -> usize {
         self.bits.len()
     }
 
-    /// Whether the list has no bits.
+    /// Returns true if the list is empty.
     #[inline]
     pub fn is_empty(&self) -> bool {
         self.len() == 0
     }
 
-    /// How many zeros the list has, which reads none.
+    /// Returns the number of zeros. Reads nothing.
     #[inline]
     pub fn zeros(&self) -> usize {
         self.zeros
     }
 
-    /// How many ones the list has, which reads none.
+    /// Returns the number of ones. Reads nothing.
     #[inline]
     pub fn ones(&self) -> usize {
         self.bits.len() - self.zeros
     }
 
-    /// The bytes that the bits and their index take, beside those of the `RsVec` itself.
+    /// Returns the number of bytes that the bits and their index take, in addition to the `RsVec` itself.
     pub fn heap_size(&self) -> usize {
         8 * self.bits.len().div_ceil(64)
             + 2 * self.blocks.len()
@@ -133,43 +132,44 @@ impl<A: Allocator + Copy> RsVec<A> {
             + 8 * self.one_samples.len()
     }
 
-    /// The bit at a place, 1 or 0. None for a place that the list doesn't have.
+    /// Returns the bit at `place`, 1 or 0, or `None` if `place` is out of bounds.
     #[inline]
     pub fn get(&self, place: usize) -> Option<u64> {
         let mut tally = Tally::new();
         self.get_counted(place, &mut tally)
     }
 
-    /// The same as `get`, by one data word.
+    /// Returns `get(place)`. Reads at most one data word.
     #[inline(always)]
     pub fn get_counted(&self, place: usize, tally: &mut Tally) -> Option<u64> {
         tally.add_rank_call();
         self.bits.get(place, tally)
     }
 
-    /// The bit at a place of the list, 1 or 0.
+    /// Returns the bit at `place`, 1 or 0. Precondition: `place` is below the length.
     #[inline]
     pub fn get_unchecked(&self, place: usize) -> u64 {
         let mut tally = Tally::new();
         u64::from(self.is_one_counted(place, &mut tally))
     }
 
-    /// Whether the bit at a place of the list is a one, by one data word.
+    /// Returns true if the bit at `place` is a one. Reads one data word. Precondition: `place` is below the
+    /// length.
     #[inline(always)]
     pub fn is_one_counted(&self, place: usize, tally: &mut Tally) -> bool {
         tally.add_rank_call();
         self.bits.is_one(place, tally)
     }
 
-    /// The number of the `n` bits from `place` on; 0 for no bits. None where there are not so
-    /// many, or `n` is above 64.
+    /// Returns the `n` bits from position `place` as a number; 0 if `n` is 0. `None` if there are fewer, or `n`
+    /// is above 64.
     #[inline]
     pub fn get_bits(&self, place: usize, n: usize) -> Option<u64> {
         let mut tally = Tally::new();
         self.get_bits_counted(place, n, &mut tally)
     }
 
-    /// The same as `get_bits`, by at most two data words.
+    /// Returns `get_bits(place, n)`. Reads at most two data words.
     #[inline(always)]
     pub fn get_bits_counted(&self, place: usize, n: usize, tally: &mut Tally) -> Option<u64> {
         tally.add_rank_call();
@@ -183,7 +183,8 @@ impl<A: Allocator + Copy> RsVec<A> {
         self.bits.get_bits(place, n, tally)
     }
 
-    /// The number of `n` bits of the list from `place` on; 0 for no bits.
+    /// Returns the `n` bits from position `place` as a number; 0 if `n` is 0. Precondition: `n` is at most 64,
+    /// and `place + n` at most the length.
     #[inline]
     pub fn get_bits_unchecked(&self, place: usize, n: usize) -> u64 {
         let mut tally = Tally::new();
@@ -192,7 +193,7 @@ impl<A: Allocator + Copy> RsVec<A> {
 }
 
 impl<A: Allocator + Copy> From<RsVec<A>> for BitVec<A> {
-    /// The bits alone. Takes no memory.
+    /// Returns the bits without the index. Allocates nothing.
     fn from(indexed: RsVec<A>) -> Self {
         indexed.into_bit_vec()
     }

@@ -1,25 +1,25 @@
-//! The entries of the 16 blocks of a superblock, looked at at once by lanes.
+//! The entries of the 16 blocks of a superblock, compared at once by lanes.
 
 use crate::rattle::prelude::*;
 
 use crate::rattle::lanes::*;
 
-/// From where on a difference of numbers of a superblock went round the end of the numbers.
+/// The least difference of numbers of a superblock that has wrapped around.
 pub(crate) const FAR_BELOW: u16 = 0x8000;
 
-/// How many places of a superblock stand before each of its blocks.
+/// The number of positions of a superblock before each of its blocks.
 const STARTS: [u16; 16] = [
     0, 512, 1024, 1536, 2048, 2560, 3072, 3584, 4096, 4608, 5120, 5632, 6144, 6656, 7168, 7680,
 ];
 
-// A block of a superblock, and the number in it that a number of the superblock is.
+// A block of a superblock, and the number within it of a number in the superblock.
 #[derive(Clone, Copy)]
 pub(crate) struct FoundBlock {
     pub(crate) block: u16,
     pub(crate) rest: u16,
 }
 
-// The last of the 16 blocks of a superblock before which at most `r` places hold the bit, by the
+// Returns the last of the 16 blocks of a superblock before which at most `r` positions have the bit, by the
 // zeros before each.
 #[inline(always)]
 pub(crate) fn last_up_to(zeros: u16x16, bit: bool, r: u16) -> FoundBlock {
@@ -31,8 +31,8 @@ pub(crate) fn last_up_to(zeros: u16x16, bit: bool, r: u16) -> FoundBlock {
     }
 }
 
-// How far the number of places before each block that hold the bit lies below `r`: round the end of
-// the numbers where it passes `r`.
+// Returns `r` minus the number of positions before each block that have the bit, wrapping around if that
+// exceeds `r`.
 #[inline(always)]
 fn differences(zeros: u16x16, bit: bool, r: u16) -> u16x16 {
     if bit {
@@ -41,7 +41,7 @@ fn differences(zeros: u16x16, bit: bool, r: u16) -> u16x16 {
     u16x16::splat(r) - zeros
 }
 
-// How many of 16 differences went round the end of the numbers.
+// Returns how many of 16 differences wrapped around.
 #[inline(always)]
 fn far_below(below: u16x16) -> u16 {
     let far = below.simd_ge(u16x16::splat(FAR_BELOW)).to_bitmask();

@@ -7,11 +7,10 @@ use crate::rattle::AllocError;
 use crate::rattle::Allocator;
 use crate::proved::vers_bits::bit_vec::BitVec;
 
-/// Beside the bits, the entries and the samples of an index take at most 56 bytes for each
-/// superblock of 8192 bits, and 32 more.
+/// The entries and the samples of an index take at most 56 bytes for each superblock of 8192 bits, and 32 more.
 pub fn index_is_small() {}
 
-/// Makes an indexed list and takes it apart again: the bits come back as they were.
+/// Makes an indexed list and takes it apart again: returns the same bits.
 pub fn bits_come_back<A: Allocator + Copy>(bits: BitVec<A>) -> Result<BitVec<A>, AllocError> {
     let indexed = RsVec::from_bit_vec(bits)?;
     Ok(indexed.into_bit_vec())

@@ -1,4 +1,4 @@
-//! Lists of bits that answer how many ones or zeros stand before a place, and where they stand.
+//! Lists of bits with rank (how many ones or zeros precede a position) and select (where they are).
 
 use crate::rattle::prelude::*;
 

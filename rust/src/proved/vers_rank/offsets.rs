@@ -4,11 +4,11 @@ use crate::rattle::prelude::*;
 
 use crate::rattle::lanes::*;
 
-/// How many bits a chunk has, and how many offsets a buffer has room for.
+/// The number of bits in a chunk, and the capacity of an offset buffer.
 pub(crate) const CHUNK: usize = 16;
 
-/// Puts the offsets of the ones of 16 bits into a buffer, the highest first, by lanes: 8 for each
-/// byte, those of the low byte over what the high byte doesn't need. Returns how many there are.
+/// Puts the offsets of the ones of 16 bits into a buffer, the highest first, by lanes: 8 for each byte, those
+/// of the low byte over what the high byte doesn't need. Returns their number.
 #[inline(always)]
 pub(crate) fn put_offsets(bits: u16, offsets: &mut [u8; CHUNK]) -> u32 {
     if bits == 0 {
@@ -28,20 +28,20 @@ fn put_lanes(offsets: &mut [u8; CHUNK], from: usize, lanes: u8x8) {
     lanes.copy_to_slice(&mut offsets[from..]);
 }
 
-// The offsets of the ones of a byte, the highest first, as lanes.
+// Returns the offsets of the ones of a byte, the highest first, as lanes.
 #[inline(always)]
 fn offsets_in_byte(byte: usize) -> u8x8 {
     lanes_from(&OFFSETS, 8 * byte)
 }
 
-// The 8 numbers from a place on, as lanes.
+// Returns the 8 numbers from a position on, as lanes.
 #[inline(always)]
 fn lanes_from(numbers: &[u8], from: usize) -> u8x8 {
     u8x8::from_slice(&numbers[from..])
 }
 
-/// Puts the offsets of the ones among the `n` lowest bits of a word into a buffer, the highest
-/// first, one by one: the plain form, for the last bits of a list. Returns how many there are.
+/// Puts the offsets of the ones among the `n` lowest bits of a word into a buffer, the highest first, one by
+/// one: the plain form, for the last bits of a list. Returns their number.
 pub(crate) fn put_offsets_plainly(word: u64, n: usize, offsets: &mut [u8; CHUNK]) -> u32 {
     let mut held: u32 = 0;
     let mut i = n;

@@ -2,10 +2,10 @@
 
 use crate::rattle::prelude::*;
 
-// A byte 1 for each byte of a word.
+// The byte 1, repeated in each byte of a word.
 const EACH_BYTE: u64 = 0x0101_0101_0101_0101;
 
-// For each byte of a word, how many ones it has.
+// Returns, in each byte of a word, its number of ones.
 #[inline(always)]
 fn ones_of_bytes(word: u64) -> u64 {
     let pairs = word - (word >> 1 & 0x5555_5555_5555_5555);
@@ -13,38 +13,38 @@ fn ones_of_bytes(word: u64) -> u64 {
     (fours + (fours >> 4)) & 0x0f0f_0f0f_0f0f_0f0f
 }
 
-// For each byte of a word, how many ones it and the bytes below have.
+// Returns, in each byte of a word, the number of ones in it and the bytes below.
 #[inline(always)]
 fn ones_through(word: u64) -> u64 {
     ones_of_bytes(word).wrapping_mul(EACH_BYTE)
 }
 
-/// How many of `n` bits are `bit`, where `ones` of them are ones.
+/// Returns how many of `n` bits are `bit`, if `ones` of them are ones.
 #[inline(always)]
 pub fn held_of(bit: bool, ones: usize, n: usize) -> usize {
     if bit { ones } else { n - ones }
 }
 
-/// How many bits of a word are `bit`.
+/// Returns how many bits of a word are `bit`.
 #[inline(always)]
 pub fn held_in_word(word: u64, bit: bool) -> usize {
     held_of(bit, word.count_ones() as usize, 64)
 }
 
-/// The place in a word of number `r` of the bits that are `bit`: its byte, and its place there,
-/// each by as many steps whatever the word holds.
+/// Returns the position in a word of occurrence `r` (from 0) of `bit`: its byte, and its position there, each
+/// in a fixed number of steps.
 #[inline(always)]
 pub fn place_in_word(word: u64, bit: bool, r: usize) -> usize {
     place_of_one(marks(bit, word), r)
 }
 
-/// The word in which the places that hold the bit are ones.
+/// Returns the word in which the positions that have the bit are ones.
 #[inline(always)]
 pub fn marks(bit: bool, word: u64) -> u64 {
     if bit { word } else { !word }
 }
 
-// The place in a word of number `r` of its ones.
+// Returns the position in a word of its one `r`.
 #[inline(always)]
 fn place_of_one(word: u64, r: usize) -> usize {
     let byte = byte_with(word, r);
@@ -52,8 +52,7 @@ fn place_of_one(word: u64, r: usize) -> usize {
     8 * byte + place_in_byte(word >> (8 * byte), r - before)
 }
 
-// The byte of number `r` of the ones: as many bytes stand before it as have, with the bytes below,
-// at most `r` ones.
+// Returns the byte of one `r`: the number of bytes that have, with the bytes below, at most `r` ones.
 #[inline(always)]
 fn byte_with(word: u64, r: usize) -> usize {
     let reached = (r as u64 * EACH_BYTE + 0x8080_8080_8080_8080 - ones_through(word))
@@ -61,27 +60,26 @@ fn byte_with(word: u64, r: usize) -> usize {
     reached.count_ones() as usize
 }
 
-// How many ones stand before a byte.
+// Returns the number of ones before a byte.
 #[inline(always)]
 fn ones_before(word: u64, byte: usize) -> usize {
     (ones_through(word) << 8 >> (8 * byte) & 0xff) as usize
 }
 
-// The place of number `r` of the ones, which lies in the lowest byte.
+// Returns the position of one `r`, which is in the lowest byte.
 #[inline(always)]
 fn place_in_byte(word: u64, r: usize) -> usize {
     let byte = (word & 0xff) as usize;
     place_at(8 * byte + r) as usize
 }
 
-// An entry of the table of places.
+// Returns an entry of the table of positions.
 #[inline(always)]
 fn place_at(i: usize) -> u8 {
     PLACES[i]
 }
 
-// At 8 times a byte and a number, the place in the byte of that number of its ones, or 0 where it has
-// no such one.
+// At 8 times a byte plus a number, the position in the byte of that one, or 0 if it has no such one.
 static PLACES: [u8; 2048] = [
     0, 0, 0, 0, 0, 0, 0, 0, 0, 0, 0, 0, 0, 0, 0, 0, 1, 0, 0, 0, 0, 0, 0, 0, 0, 1, 0, 0, 0, 0, 0, 0,
     2, 0, 0, 0, 0, 0, 0, 0, 0, 2, 0, 0, 0, 0, 0, 0, 1, 2, 0, 0, 0, 0, 0, 0, 0, 1, 2, 0, 0, 0, 0, 0,

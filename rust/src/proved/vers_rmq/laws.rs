@@ -3,9 +3,9 @@
 
 use crate::rattle::prelude::*;
 
-/// A range has one first least place: what both types answer is the same place.
+/// A range has one first least position, so both types return the same position.
 pub fn one_first_least() {}
 
-/// The least place of a range is its first place of a least item: no item of the range is below the
-/// one there, and those before it are above.
+/// The least position of a range is the first position of its least item: no item of the range is below the one
+/// there, and those before it are above.
 pub fn least_place_is_first() {}

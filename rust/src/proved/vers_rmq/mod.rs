@@ -1,4 +1,4 @@
-//! Range minima: the first place of a least item in any range of a list.
+//! Range minimum queries: the first position of a least item in any range of a list.
 
 use crate::rattle::prelude::*;
 

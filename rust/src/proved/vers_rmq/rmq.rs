@@ -1,4 +1,4 @@
-//! Range minima.
+//! Range minimum queries.
 
 use crate::rattle::prelude::*;
 pub mod binary_rmq;

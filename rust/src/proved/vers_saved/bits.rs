@@ -10,7 +10,7 @@ use crate::rattle::Allocator;
 use crate::proved::vers_bits::bit_vec::BitVec;
 use crate::proved::vers_rank::fast_rs_vec::RsVec;
 
-// The shape of a list of so many bits.
+// Returns the shape of a list of `count` bits.
 fn shape_of(count: usize) -> Shape {
     Shape {
         kind: BITS,
@@ -19,13 +19,13 @@ fn shape_of(count: usize) -> Shape {
     }
 }
 
-// The limb at a place.
+// Returns limb `k`.
 #[inline]
 pub(crate) fn limb_of<A: Allocator + Copy>(bits: &RsVec<A>, k: usize) -> u64 {
     let len = bits.len();
     let place = 64 * k;
     let left = len - place;
-    // Of a whole limb the compiler leaves no shift and no mask.
+    // For a whole limb the compiler removes shift and mask.
     if left < 64 {
         bits.get_bits_unchecked(place, left)
     } else {

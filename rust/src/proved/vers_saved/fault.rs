@@ -4,11 +4,11 @@ use crate::rattle::prelude::*;
 
 use crate::rattle::AllocError;
 
-/// Why bytes were not loaded. Tests are made in this order, but for those of the length, which come
-/// again where the head is whole: see `fault_of`.
+/// Why bytes were not loaded. The tests are made in this order, except those of the length, which are repeated
+/// if the head is complete: see `fault_of`.
 #[derive(Clone, Copy, PartialEq, Eq, Debug)]
 pub enum LoadError {
-    /// The bytes are fewer than a head and a sum take, or than the head says.
+    /// There are fewer bytes than a head and a sum take, or than the head says.
     TooShort,
     /// The bytes do not begin as a saved form does.
     NotOurs,
@@ -16,17 +16,17 @@ pub enum LoadError {
     OtherVersion,
     /// The list is of another kind, or its items or blocks have another size.
     OtherKind,
-    /// A list of this kind has no such length, or the bytes are more than the head says.
+    /// A list of this kind can't have that length, or there are more bytes than the head says.
     BadLength,
-    /// The sum is not that of the words before it.
+    /// The checksum is not that of the words before it.
     BadSum,
     /// The last word of the items has a one past the end of the list.
     BadPadding,
-    /// The numbers do not ascend as those of this kind do.
+    /// The numbers do not ascend as this kind requires.
     NotAscending,
-    /// The allocator has no memory.
+    /// The allocator refused a request.
     Memory,
-    /// The reader answered an error, an interruption too.
+    /// The reader returned an error, which may be an interruption.
     Read,
 }
 
@@ -39,12 +39,12 @@ impl From<AllocError> for LoadError {
 /// Why a list was not saved.
 #[derive(Clone, Copy, PartialEq, Eq, Debug)]
 pub enum SaveError {
-    /// The list has no saved form: its symbols have no bits or more than 64, or its items are too
-    /// many. Nothing was written.
+    /// The list has no saved form: its symbols have 0 bits or more than 64, or it has too many items. Nothing
+    /// was written.
     NoForm,
-    /// The allocator has no memory. Nothing was written.
+    /// The allocator refused a request. Nothing was written.
     Memory,
-    /// The writer answered an error, or took no byte of a piece that has some.
+    /// The writer returned an error, or took no byte of a nonempty piece.
     Write,
 }
 

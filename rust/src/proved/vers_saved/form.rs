@@ -1,4 +1,4 @@
-//! The saved form of any list: a head, words and a sum.
+//! The saved form of any list: a head, words and a checksum.
 
 use crate::rattle::prelude::*;
 
@@ -12,17 +12,17 @@ use crate::rattle::AllocError;
 use crate::rattle::Allocator;
 use crate::proved::vers_bits::bit_vec::{BitVec, MAX_LEN};
 
-/// How many words a head has.
+/// The number of words in a head.
 pub(crate) const HEAD: usize = 5;
 
-/// What a list is, beside its words: of what kind, how many items it has, and of what width.
+/// The shape of a list: its kind, its number of items and their width.
 #[derive(Clone, Copy)]
 pub struct Shape {
     /// The number of its kind.
     pub kind: u64,
-    /// How many items it has.
+    /// The number of its items.
     pub count: usize,
-    /// The width of its items, or the size of a tree's blocks.
+    /// The width of its items, or the block size of a tree.
     pub width: usize,
 }
 
@@ -51,14 +51,14 @@ pub(crate) fn put_head<B: Allocator>(out: &mut Vec<u8, B>, shape: Shape) -> u64 
     put_summed(out, sum, shape.count as u64)
 }
 
-/// What the head of a form says: the shape of the list, and how many bits its items have.
+/// The contents of a head: the shape of the list, and the number of bits of its items.
 #[derive(Clone, Copy)]
 pub(crate) struct Head {
     pub(crate) shape: Shape,
     pub(crate) bits: usize,
 }
 
-// What the head of words says, where they are the saved form of a list of that kind.
+// Returns the head of words, if they are the saved form of a list of that kind.
 pub(crate) fn head_of<W: Words>(kind: &Kind, words: &W) -> Result<Head, LoadError> {
     if words.word(0) != MAGIC {
         return Err(LoadError::NotOurs);
@@ -91,8 +91,8 @@ pub(crate) fn head_of<W: Words>(kind: &Kind, words: &W) -> Result<Head, LoadErro
     Ok(Head { shape, bits })
 }
 
-// The tests of what comes after a head that says `n` bits, of as many words as they fill, where those before the
-// last one have this sum.
+// Tests the part after a head that says `n` bits, of as many words as they fill, if `sum` is the sum of the
+// words before the last one.
 fn test_summed<W: Words>(order: Order, n: usize, sum: u64, words: &W) -> Result<(), LoadError> {
     if words.word(n.div_ceil(64) + FRAME - 1) != sum {
         return Err(LoadError::BadSum);
@@ -106,14 +106,14 @@ fn test_summed<W: Words>(order: Order, n: usize, sum: u64, words: &W) -> Result<
     Ok(())
 }
 
-// The same tests, with the sum.
+// Makes the same tests, and computes the sum.
 pub(crate) fn test_body<W: Words>(order: Order, n: usize, words: &W) -> Result<(), LoadError> {
     let sum = sum_before(n.div_ceil(64) + FRAME - 1, words);
     test_summed(order, n, sum, words)
 }
 
-// The words that hold `n` bits, of words that pass these tests. They are copied in the same pass in which they are
-// summed; where there is no memory for them, they are tested all the same.
+// Returns the words of `n` bits, if they pass these tests. One pass copies and sums them; if the allocator
+// refuses memory for the copy, it still tests them.
 fn tested_words<W: Words, A: Allocator>(
     alloc: A,
     order: Order,
@@ -129,7 +129,7 @@ fn tested_words<W: Words, A: Allocator>(
     Ok(kept)
 }
 
-// What the head of bytes says, where they are as many as it says. Their faults are then those of what comes after it.
+// Returns the head of bytes, if there are as many as it says. Their errors are then those of the part after it.
 fn test_bytes(kind: &Kind, bytes: &[u8]) -> Result<Head, LoadError> {
     let (chunks, _) = bytes.as_arrays::<8>();
     if chunks.len() < FRAME {
@@ -147,13 +147,13 @@ fn test_bytes(kind: &Kind, bytes: &[u8]) -> Result<Head, LoadError> {
     Ok(head)
 }
 
-/// A shape, and the words that hold its items.
+/// A shape, and the words of its items.
 pub(crate) struct Form<A: Allocator> {
     pub(crate) shape: Shape,
     pub(crate) words: Vec<u64, A>,
 }
 
-// The shape and the words that the bytes are the saved form of, of a list of that kind.
+// Returns the shape and the words of the saved form in `bytes`, of a list of that kind.
 pub(crate) fn form_of<A: Allocator>(
     alloc: A,
     kind: Kind,
@@ -168,13 +168,13 @@ pub(crate) fn form_of<A: Allocator>(
     })
 }
 
-// The words, taken out of a vector.
+// Takes the words out of a vector.
 pub(crate) fn taken<A: Allocator + Copy>(held: &mut Vec<u64, A>) -> Vec<u64, A> {
     let alloc = *held.allocator();
     std::mem::replace(held, Vec::new(alloc))
 }
 
-// The first `len` bits that words hold, which are no more than so many need.
+// Returns the first `len` bits of words, of which there are no more than these bits need.
 fn first_bits<A: Allocator + Copy>(len: usize, words: Vec<u64, A>) -> BitVec<A> {
     let mut bits = BitVec::from_vec(words).unwrap();
     let past = bits.len() - len;
@@ -182,7 +182,7 @@ fn first_bits<A: Allocator + Copy>(len: usize, words: Vec<u64, A>) -> BitVec<A> 
     bits
 }
 
-// The bits of the items that words hold, of a list of that kind and shape.
+// Returns the bits of the items in words, of a list of that kind and shape.
 pub(crate) fn bits_of<A: Allocator + Copy>(kind: &Kind, of: Shape, words: Vec<u64, A>) -> BitVec<A> {
     first_bits(of.count * kind.bits_of_item(of.width), words)
 }

@@ -13,15 +13,15 @@ use std::io;
 use crate::proved::vers_bits::bit_vec::MAX_LEN;
 use crate::rattle::io::Source;
 
-/// How many bytes are read or written at once at most.
+/// The greatest number of bytes read or written at once.
 pub(crate) const BLOCK: usize = 65536;
 
-// One read into a block, behind the bytes that were read before.
+// Reads once into a block, after the bytes that were read before.
 fn read_behind<R: Source>(reader: &mut R, block: &mut [u8], filled: usize) -> io::Result<usize> {
     reader.read_once(&mut block[filled..])
 }
 
-/// Reads until a block is full, or the reader ends. Answers how many bytes were read.
+/// Reads until a block is full, or the reader ends. Returns the number of bytes read.
 pub fn fill<R: Source>(reader: &mut R, block: &mut [u8]) -> Result<usize, LoadError> {
     let mut filled = 0;
     while filled < block.len() {
@@ -34,8 +34,8 @@ pub fn fill<R: Source>(reader: &mut R, block: &mut [u8]) -> Result<usize, LoadEr
     Ok(filled)
 }
 
-// Makes room for so many words more, and for as many as there are, but for no more than are missing. So
-// words are moved few times, and all of them take no more memory than they need.
+// Reserves room for `more` words, and for as many as there are, but at most for `missing`. So words are moved
+// few times, and the vector takes no more memory than all words need.
 fn make_room<A: Allocator>(
     words: &mut Vec<u64, A>,
     more: usize,
@@ -52,10 +52,10 @@ fn append_words<A: Allocator>(words: &mut Vec<u64, A>, chunks: Arrays<'_, u8, 8>
     words.extend(chunks.iter().map(|chunk| word_of(*chunk)))
 }
 
-// All items of a slice are bytes.
+// Shows that all items of a slice are bytes.
 fn are_bytes(items: &[u8]) {}
 
-// Appends the words of a piece of so many bytes, which a reader fills. TooShort where it ends before.
+// Appends the words of a piece of `size` bytes, which a reader fills. Errors: `TooShort` if it ends before.
 fn gather_piece<R: Source, A: Allocator>(
     reader: &mut R,
     piece: &mut [u8],
@@ -74,7 +74,7 @@ fn gather_piece<R: Source, A: Allocator>(
     Ok(())
 }
 
-// Appends words until there are so many. TooShort where the reader ends before.
+// Appends words until there are `count`. Errors: `TooShort` if the reader ends before.
 fn gather<R: Source, A: Allocator>(
     reader: &mut R,
     block: &mut [u8],
@@ -91,7 +91,7 @@ fn gather<R: Source, A: Allocator>(
     Ok(())
 }
 
-// BadLength where a reader has more bytes.
+// Tests that a reader has ended. Errors: `BadLength` if it has more bytes.
 fn test_end<R: Source>(reader: &mut R, block: &mut [u8]) -> Result<(), LoadError> {
     match reader.read_once(block) {
         Ok(0) => Ok(()),
@@ -100,7 +100,7 @@ fn test_end<R: Source>(reader: &mut R, block: &mut [u8]) -> Result<(), LoadError
     }
 }
 
-// The head of the form that a reader has. No word was gathered before.
+// Gathers the head of the form in a reader. No word was gathered before.
 fn gather_head<R: Source, A: Allocator>(
     kind: &Kind,
     reader: &mut R,
@@ -114,7 +114,7 @@ fn gather_head<R: Source, A: Allocator>(
     head_of(kind, words)
 }
 
-// The words of a head, taken off the words of which they are the first. One more word is left.
+// Removes a head from the words that begin with it, and returns it. One more word is left.
 fn cut_head<A: Allocator>(words: &mut Vec<u64, A>) -> [u64; HEAD] {
     let head = [words[0], words[1], words[2], words[3], words[4]];
     words[0] = words[5];
@@ -122,8 +122,8 @@ fn cut_head<A: Allocator>(words: &mut Vec<u64, A>) -> [u64; HEAD] {
     head
 }
 
-// The words after those of a head, up to the sum, of the form that a reader has. The head stands apart, and one
-// word after it was gathered.
+// Gathers the words after a head, up to the sum, of the form in a reader. The head is separate, and one word
+// after it was gathered.
 fn gather_body<R: Source, A: Allocator>(
     kind: &Kind,
     n: usize,
@@ -143,8 +143,8 @@ fn gather_body<R: Source, A: Allocator>(
     test_body(kind.order, n, &TwoParts { front: head, rest })
 }
 
-// The shape of the list that the bytes up to the end of a reader are the saved form of, of a list of that
-// kind. Its words are gathered, and none was before.
+// Returns the shape of the list whose saved form the rest of a reader is, of a list of that kind, and gathers
+// its words; none was gathered before.
 fn gather_form<R: Source, A: Allocator>(
     kind: &Kind,
     reader: &mut R,
@@ -160,8 +160,7 @@ fn gather_form<R: Source, A: Allocator>(
     Ok(said.shape)
 }
 
-// The shape and the words that the bytes up to the end of a reader are the saved form of, of a list
-// of that kind.
+// Returns the shape and the words of the saved form that the rest of a reader is, of a list of that kind.
 pub(crate) fn form_from<R: Source, A: Allocator + Copy>(
     alloc: A,
     kind: Kind,

@@ -1,37 +1,37 @@
-//! Kinds of lists that are saved.
+//! Kinds of lists that can be saved.
 
 use crate::rattle::prelude::*;
 
 use crate::proved::vers_bits::bit_vec::MAX_LEN;
 use crate::proved::vers_rmq::rmq::{binary_rmq, fast_rmq};
 
-/// The order that the words of a list stand in.
+/// The order of the words of a list.
 #[derive(Clone, Copy, PartialEq, Eq, Debug)]
 pub enum Order {
     /// Any order.
     Any,
-    /// No word is below the one before it.
+    /// No word is below the previous one.
     Ascending,
-    /// Each word is above the one before it.
+    /// Each word is above the previous one.
     Rising,
-    /// Each word of the first half is above the one before it.
+    /// Each word of the first half is above the previous one.
     HalfRising,
 }
 
-/// A kind of lists: what its saved forms have to meet.
+/// A kind of lists: the requirements on its saved forms.
 #[derive(Clone, Copy)]
 pub struct Kind {
-    /// The number that says the kind.
+    /// The number of the kind.
     pub number: u64,
     /// The least width of its items.
     pub least_width: u64,
     /// The greatest width of its items.
     pub greatest_width: u64,
-    /// How many bits an item has, or 0 where it has as many as its width says.
+    /// The number of bits of an item, or 0 if its width says it.
     pub item_bits: u64,
-    /// How many items a list has at least.
+    /// The least number of items of a list.
     pub least_count: u64,
-    /// How many items a list has at most.
+    /// The greatest number of items of a list.
     pub greatest_count: u64,
     /// The order of its words.
     pub order: Order,
@@ -59,17 +59,17 @@ pub const PARENTHESES: u64 = 6;
 pub const POSTINGS: u64 = 7;
 
 impl Kind {
-    // Whether a list of this kind may have that width.
+    // Returns true if a list of this kind may have that width.
     pub(crate) fn takes_width(&self, width: u64) -> bool {
         self.least_width <= width && width <= self.greatest_width
     }
 
-    // Whether a list of this kind may have so many items.
+    // Returns true if a list of this kind may have that many items.
     pub(crate) fn takes_count(&self, count: u64) -> bool {
         self.least_count <= count && count <= self.greatest_count
     }
 
-    // How many bits an item has.
+    // Returns the number of bits of an item.
     pub(crate) fn bits_of_item(&self, width: usize) -> usize {
         if self.item_bits == 0 {
             width
@@ -79,7 +79,7 @@ impl Kind {
     }
 }
 
-/// How many words a list has at most, where each item is one.
+/// The greatest number of words of a list in which each item is one.
 pub const GREATEST_WORDS: u64 = 288230376151711743;
 
 /// Lists of bits, which have one bit an item.
@@ -104,7 +104,7 @@ pub const SORTED_LISTS: Kind = Kind {
     order: Order::Ascending,
 };
 
-/// Lists of bits with few ones: the places of the ones, and the length.
+/// Lists of bits with few ones: the positions of the ones, and the length.
 pub const SPARSE_LISTS: Kind = Kind {
     number: SPARSE,
     least_width: 64,
@@ -115,7 +115,7 @@ pub const SPARSE_LISTS: Kind = Kind {
     order: Order::Rising,
 };
 
-/// Lists of numbers in any order, of which a sparse table finds least ones.
+/// Lists of numbers in any order, with range minima from a sparse table.
 pub const TABLE_VALUES: Kind = Kind {
     number: VALUES,
     least_width: 64,
@@ -126,7 +126,7 @@ pub const TABLE_VALUES: Kind = Kind {
     order: Order::Any,
 };
 
-/// Lists of numbers in any order, of which blocks find least ones.
+/// Lists of numbers in any order, with range minima from blocks.
 pub const BLOCK_VALUES: Kind = Kind {
     number: VALUES,
     least_width: 64,

@@ -3,8 +3,8 @@
 
 use crate::rattle::prelude::*;
 
-/// Where two lists of words differ in one word alone, their sums differ.
+/// If two lists of words differ in exactly one word, their sums differ.
 pub fn sum_tells_one_word() {}
 
-/// The form of each list that may be saved has no fault, and no other list has that form.
+/// The form of each list that may be saved has no error, and no other list has that form.
 pub fn forms_go_round() {}

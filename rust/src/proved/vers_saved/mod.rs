@@ -1,5 +1,4 @@
-//! Saved forms of the library's lists: bytes that say which list they are of, and that are refused
-//! where they are of none.
+//! Saved forms of the library's lists: bytes that identify their list. Other bytes are rejected.
 
 use crate::rattle::prelude::*;
 
@@ -27,8 +26,8 @@ pub const VERSION: u64 = 1;
 /// The sum of no words.
 pub const START: u64 = 0xcbf2_9ce4_8422_2325;
 
-/// What a sum is multiplied by.
+/// The factor of a sum.
 pub const FACTOR: u64 = 0x9e37_79b9_7f4a_7c15;
 
-/// By how many places a sum is turned.
+/// The number of bits by which a sum is rotated.
 pub const TURN: u32 = 29;

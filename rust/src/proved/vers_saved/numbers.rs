@@ -1,4 +1,4 @@
-//! Lists of numbers, saved as they are, each as a word.
+//! Lists of numbers, saved unchanged, each as a word.
 
 use crate::rattle::prelude::*;
 
@@ -11,7 +11,7 @@ use crate::proved::vers_rmq::rmq::binary_rmq::BinaryRmq;
 use crate::proved::vers_rmq::rmq::fast_rmq::FastRmq;
 use crate::proved::vers_sorted::elias_fano::{EliasFanoRefIter, EliasFanoVec};
 
-// The shape of so many words of a kind, one for each item.
+// Returns the shape of `count` words of a kind, one for each item.
 pub(crate) fn words_shape(kind: u64, count: usize) -> Shape {
     Shape {
         kind,
@@ -20,10 +20,10 @@ pub(crate) fn words_shape(kind: u64, count: usize) -> Shape {
     }
 }
 
-// All items of a slice are words.
+// Shows that all items of a slice are words.
 pub(crate) fn are_words(items: &[u64]) {}
 
-// All members of a list are words, since the last one is.
+// Shows that all members of a list are words, since the last one is.
 fn read_last<A: Allocator + Copy>(list: &EliasFanoVec<A>) {
     let count = list.len();
     if count == 0 {
@@ -32,7 +32,7 @@ fn read_last<A: Allocator + Copy>(list: &EliasFanoVec<A>) {
     let _last = list.get_unchecked(count - 1);
 }
 
-// Drops the first members that a walk has left, so many of them.
+// Skips the first `n` members that a walk has left.
 #[inline(always)]
 fn drop_first<A: Allocator + Copy>(members: &mut EliasFanoRefIter<'_, A>, n: usize) {
     if n > 0 {
@@ -40,7 +40,8 @@ fn drop_first<A: Allocator + Copy>(members: &mut EliasFanoRefIter<'_, A>, n: usi
     }
 }
 
-// The number that a walk gave, or where it gave none, that at a place of the others, which come after `count`.
+// Returns the number that a walk returned, or if it returned none, that at a position of the others, which come
+// after `count`.
 #[inline(always)]
 fn given_or(given: Option<u64>, others: &[u64], place: usize, count: usize) -> u64 {
     match given {
@@ -49,7 +50,7 @@ fn given_or(given: Option<u64>, others: &[u64], place: usize, count: usize) -> u
     }
 }
 
-// Copies the members that a walk has left, and then other numbers, from a place on.
+// Copies the members that a walk has left, and then other numbers, from a position on.
 pub(crate) fn copy_members<A: Allocator + Copy>(
     mut members: EliasFanoRefIter<'_, A>,
     others: &[u64],

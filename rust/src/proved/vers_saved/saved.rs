@@ -1,4 +1,4 @@
-//! What has a saved form: lists that are saved to bytes and loaded from them.
+//! `Saved`: lists that are saved to bytes and loaded from them.
 
 use crate::rattle::prelude::*;
 
@@ -9,19 +9,20 @@ use crate::proved::vers_saved::words::{FRAME, put_word};
 use crate::rattle::AllocError;
 use crate::rattle::Allocator;
 
-/// A list that has a saved form, by its words. A list of which `IsWhole` and `Fits` hold is loaded
-/// as it was saved.
+/// A list that has a saved form, by its words. A list that satisfies `IsWhole` and `Fits` is loaded as it was
+/// saved.
 pub trait Saved {
-    /// The kind of such lists.
+    /// Returns the kind of such lists.
     fn kind() -> Kind;
 
-    /// The shape of the list. None where a list of this kind may not have it.
+    /// Returns the shape of the list, or `None` if a list of this kind may not have it.
     fn shape(&self) -> Option<Shape>;
 
-    /// The word at a place, of a list that has a saved form.
+    /// Returns word `k`. Precondition: the list has a saved form, and `k` is below the number of words.
     fn word(&self, k: usize) -> u64;
 
-    /// Copies the words from a place on, as many as the slice has, of a list that has a saved form.
+    /// Copies the words from word `from` on, as many as the slice has. Precondition: the list has a saved form,
+    /// and has these words.
     fn copy_words(&self, from: usize, out: &mut [u64]) {
         for k in 0..out.len() {
             out[k] = self.word(from + k);
@@ -31,25 +32,26 @@ pub trait Saved {
 
 /// A list that is made of the words that it was saved by, in memory of an allocator `A`.
 pub trait Loaded<A: Allocator>: Saved + Sized {
-    /// The list of items that these words hold. The words are taken out of the vector.
+    /// Returns the list of the items in these words, which are taken out of the vector. Precondition: the words
+    /// are those of a list of that shape. Errors: `AllocError` if the allocator refuses a request.
     fn make(of: Shape, held: &mut Vec<u64, A>) -> Result<Self, AllocError>;
 }
 
-// How many words a list of that shape has.
+// Returns the number of words of a list of that shape.
 pub(crate) fn count_words<S: Saved>(list: &S, shape: Shape) -> usize {
     (shape.count * S::kind().bits_of_item(shape.width)).div_ceil(64)
 }
 
-/// How many bytes the saved form of a list has. None where the list has none.
+/// Returns the number of bytes of the saved form of a list, or `None` if it has none.
 pub fn saved_size<S: Saved>(list: &S) -> Option<usize> {
     let shape = list.shape()?;
     Some(8 * (count_words(list, shape) + FRAME))
 }
 
-// How many words are copied out of a list at once.
+// The number of words copied out of a list at once.
 pub(crate) const GROUP: usize = 512;
 
-// Appends `n` words of a list from a place on, for which there is room. Returns the sum with them mixed in.
+// Appends `n` words of a list from a position on, for which there is room. Returns the sum with them mixed in.
 pub(crate) fn put_group<S: Saved, B: Allocator>(
     out: &mut Vec<u8, B>,
     sum: u64,
@@ -63,7 +65,7 @@ pub(crate) fn put_group<S: Saved, B: Allocator>(
     put_words(out, sum, words)
 }
 
-// Appends the saved form of a list with that shape. Out of memory leaves the bytes as they were.
+// Appends the saved form of a list with that shape. On error the bytes are unchanged.
 fn append_saved<S: Saved, B: Allocator>(
     list: &S,
     shape: Shape,
@@ -82,7 +84,11 @@ fn append_saved<S: Saved, B: Allocator>(
     Ok(())
 }
 
-/// Appends the saved form of a list. A refusal leaves the bytes as they were.
+/// Appends the saved form of a list. On error the bytes are unchanged.
+///
+/// # Errors
+///
+/// `NoForm` if the list has no saved form; `Memory` if the allocator refuses a request.
 pub fn save_to_vec<S: Saved, B: Allocator>(list: &S, out: &mut Vec<u8, B>) -> Result<(), SaveError> {
     let shape = match list.shape() { Some(shape) => shape, _ => {
         return Err(SaveError::NoForm);
@@ -91,8 +97,11 @@ pub fn save_to_vec<S: Saved, B: Allocator>(list: &S, out: &mut Vec<u8, B>) -> Re
     Ok(())
 }
 
-/// The list that the bytes are the saved form of. A fault is that of the first test that fails, and
-/// Memory comes only where all of them hold.
+/// Returns the list whose saved form the bytes are.
+///
+/// # Errors
+///
+/// That of the first test that fails; `Memory` only if the bytes pass all tests.
 pub fn load_from_slice<S: Loaded<A>, A: Allocator>(alloc: A, bytes: &[u8]) -> Result<S, LoadError> {
     let Form { shape, mut words } = form_of(alloc, S::kind(), bytes)?;
     Ok(S::make(shape, &mut words)?)

@@ -1,4 +1,4 @@
-//! Lists of bits with few ones, saved by the places of the ones and the length.
+//! Lists of bits with few ones, saved by the positions of the ones and the length.
 
 use crate::rattle::prelude::*;
 

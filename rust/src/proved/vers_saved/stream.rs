@@ -12,7 +12,7 @@ use crate::rattle::Allocator;
 use crate::rattle::io::Sink;
 use crate::rattle::io::Source;
 
-// Writes a whole piece, or as much of it as the writer takes before a fault.
+// Writes a whole piece, or as much of it as the writer takes before an error.
 fn write_piece<W: Sink>(writer: &mut W, piece: &[u8]) -> Result<(), SaveError> {
     let mut rest = piece;
     while !rest.is_empty() {
@@ -25,7 +25,7 @@ fn write_piece<W: Sink>(writer: &mut W, piece: &[u8]) -> Result<(), SaveError> {
     Ok(())
 }
 
-// Writes what a buffer holds, where it has no room for a group of words and one more.
+// Flushes a buffer if it has no room for a group of words and one more.
 fn make_room<W: Sink, A: Allocator>(
     writer: &mut W,
     buffer: &mut Vec<u8, A>,
@@ -38,7 +38,7 @@ fn make_room<W: Sink, A: Allocator>(
     Ok(())
 }
 
-// Writes the saved form of a list with that shape, by a buffer.
+// Writes the saved form of a list with that shape, through a buffer.
 fn write_words<S: Saved, W: Sink, A: Allocator>(
     writer: &mut W,
     mut buffer: Vec<u8, A>,
@@ -60,8 +60,12 @@ fn write_words<S: Saved, W: Sink, A: Allocator>(
     write_piece(writer, buffer.as_slice())
 }
 
-/// Writes the saved form of a list, by blocks of 64 KiB. After a fault of the writer a beginning of
-/// it was written, and after another one nothing.
+/// Writes the saved form of a list, in blocks of 64 KiB.
+///
+/// # Errors
+///
+/// `NoForm` if the list has no saved form, and `Memory` if the allocator refuses a request: nothing was
+/// written. `Write` if the writer fails: a prefix of the form was written.
 pub fn save<S: Saved, A: Allocator, W: Sink>(
     alloc: A,
     list: &S,
@@ -76,8 +80,12 @@ pub fn save<S: Saved, A: Allocator, W: Sink>(
     write_words(writer, buffer, shape, list)
 }
 
-/// The list that the bytes up to the end of a reader are the saved form of. They are read by blocks of
-/// 64 KiB, and kept as words. Memory is asked for as bytes come, and no length in a head asks for more.
+/// Returns the list whose saved form the rest of a reader is. It is read in blocks of 64 KiB, and kept as
+/// words. Memory is allocated as bytes come, however great a length the head says.
+///
+/// # Errors
+///
+/// `Read` if the reader fails; `Memory` if the allocator refuses a request; otherwise the test that fails.
 pub fn load<S: Loaded<A>, A: Allocator + Copy, R: Source>(
     alloc: A,
     reader: &mut R,

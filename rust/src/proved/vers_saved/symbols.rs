@@ -10,10 +10,10 @@ use crate::rattle::Allocator;
 use crate::proved::vers_bits::bit_vec::{BitVec, MAX_LEN};
 use crate::proved::vers_wavelet::wavelet::{GetQuery, WaveletMatrix};
 
-/// How many symbols are read at once. Their bits fill as many words as a symbol has bits.
+/// The number of symbols read at once. Their bits fill as many words as a symbol has bits.
 const GROUP: usize = 64;
 
-// Asks for the symbols of a group.
+// Answers queries for the symbols of a group.
 fn ask_group<A: Allocator + Copy>(list: &WaveletMatrix<A>, group: usize, queries: &mut [GetQuery]) {
     for j in 0..GROUP {
         queries[j] = GetQuery::new(GROUP * group + j);
@@ -21,13 +21,13 @@ fn ask_group<A: Allocator + Copy>(list: &WaveletMatrix<A>, group: usize, queries
     list.get_u64_each(queries);
 }
 
-// The symbol that a query was answered, or 0 where there is none.
+// Returns the symbol in an answered query, or 0 if there is none.
 #[inline(always)]
 fn answer_of(queries: &[GetQuery], j: usize) -> u64 {
     queries[j].answer.unwrap_or(0)
 }
 
-// Reads the symbols of a group, where they aren't those of one that was read.
+// Reads the symbols of a group, unless they have been read.
 fn read_group<A: Allocator + Copy>(
     list: &WaveletMatrix<A>,
     known: usize,
@@ -44,13 +44,13 @@ fn read_group<A: Allocator + Copy>(
     }
 }
 
-// How many bits all symbols have.
+// Returns the number of bits of all symbols.
 fn count_bits<A: Allocator + Copy>(list: &WaveletMatrix<A>) -> usize {
     let width = list.bits_per_element();
     list.len() * width
 }
 
-// A number whose low digits are `n` of a symbol, and whose others are those of a word.
+// Returns a number whose low digits are `n` of a symbol, and whose others are those of a word.
 #[inline(always)]
 fn joined(symbol: u64, n: usize, word: u64) -> u64 {
     if n == 64 {
@@ -59,8 +59,8 @@ fn joined(symbol: u64, n: usize, word: u64) -> u64 {
     symbol % (1 << n) + (1 << n) * word
 }
 
-// The number of the bits of all symbols from place `64 * k` on, 64 of them or as many as there are. The symbols
-// of its group were read.
+// Returns the bits of all symbols from position `64 * k` on, 64 of them or as many as there are, as a number.
+// The symbols of its group were read.
 fn limb_of<A: Allocator + Copy>(list: &WaveletMatrix<A>, symbols: &[u64], k: usize) -> u64 {
     let width = list.bits_per_element();
     let from = 64 * k;
@@ -81,7 +81,7 @@ fn limb_of<A: Allocator + Copy>(list: &WaveletMatrix<A>, symbols: &[u64], k: usi
     word
 }
 
-// Copies the limbs of the bits of all symbols from a place on, as many as the slice has.
+// Copies the limbs of the bits of all symbols from a limb on, as many as the slice has.
 fn copy_limbs<A: Allocator + Copy>(list: &WaveletMatrix<A>, from: usize, out: &mut [u64]) {
     let width = list.bits_per_element();
     let mut symbols = [0; GROUP];
@@ -94,7 +94,7 @@ fn copy_limbs<A: Allocator + Copy>(list: &WaveletMatrix<A>, from: usize, out: &m
     }
 }
 
-// The numbers of so many bits each that a list of bits holds, one after another.
+// Returns the numbers of `width` bits each in a list of bits, one after another.
 fn unpacked<A: Allocator + Copy>(bits: &BitVec<A>, width: usize) -> Result<Vec<u64, A>, AllocError> {
     let count = bits.len() / width;
     let mut numbers = Vec::with_capacity(bits.allocator(), count)?;
@@ -104,16 +104,16 @@ fn unpacked<A: Allocator + Copy>(bits: &BitVec<A>, width: usize) -> Result<Vec<u
     Ok(numbers)
 }
 
-// The symbols that words hold.
+// Returns the symbols in words.
 fn symbols_of<A: Allocator + Copy>(of: Shape, words: Vec<u64, A>) -> Result<Vec<u64, A>, AllocError> {
     let bits = bits_of(&SYMBOL_LISTS, of, words);
     unpacked(&bits, of.width)
 }
 
-/// Up to this width symbols are counted by their prefixes, and wider ones sorted.
+/// The greatest width at which symbols are counted by their prefixes; wider ones are sorted.
 const COUNTED_WIDTH: u16 = 8;
 
-// The matrix of symbols of a width, by the maker that is faster there.
+// Returns the matrix of symbols of a width, by the constructor that is faster for it.
 fn matrix_of<A: Allocator + Copy>(
     alloc: A,
     symbols: &[u64],

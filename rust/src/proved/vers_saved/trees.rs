@@ -14,7 +14,7 @@ use crate::proved::vers_bits::bit_vec::BitVec;
 use crate::rattle::io::Source;
 use crate::proved::vers_trees::trees::bp::{BpTree, MAX_BLOCK_SIZE, MAX_LEN};
 
-/// The kind of the parentheses of trees whose blocks have so many bits.
+/// Returns the kind of the parentheses of trees with blocks of `size` bits.
 pub fn tree_kind(size: usize) -> Kind {
     Kind {
         number: PARENTHESES,
@@ -49,12 +49,12 @@ impl<const BLOCK_SIZE: usize, A: Allocator + Copy> Saved for BpTree<BLOCK_SIZE, 
     }
 }
 
-// The parentheses that words hold, of a tree whose blocks have `size` bits.
+// Returns the parentheses in words, of a tree with blocks of `size` bits.
 fn parentheses_of<A: Allocator + Copy>(size: usize, of: Shape, words: Vec<u64, A>) -> BitVec<A> {
     bits_of(&tree_kind(size), of, words)
 }
 
-// The tree of the parentheses that words hold. The words are taken out of the vector.
+// Returns the tree of the parentheses in words, which are taken out of the vector.
 fn tree_of<'a, const BLOCK_SIZE: usize, A: Allocator>(
     of: Shape,
     held: &mut Vec<u64, &'a A>,
@@ -72,8 +72,11 @@ impl<'a, const BLOCK_SIZE: usize, A: Allocator> Loaded<&'a A> for BpTree<BLOCK_S
     }
 }
 
-/// The parentheses that the bytes are the saved form of, of a tree whose blocks have `size` bits. A fault is that of
-/// the first test that fails, and Memory comes only where all of them hold.
+/// Returns the parentheses whose saved form the bytes are, of a tree with blocks of `size` bits.
+///
+/// # Errors
+///
+/// That of the first test that fails; `Memory` only if the bytes pass all tests.
 pub fn load_parentheses_from_slice<A: Allocator + Copy>(
     alloc: A,
     size: usize,
@@ -83,8 +86,11 @@ pub fn load_parentheses_from_slice<A: Allocator + Copy>(
     Ok(parentheses_of(size, shape, words))
 }
 
-/// The tree that the bytes are the saved form of, as `load_from_slice` of it. A fault is that of the first
-/// test that fails, and Memory comes only where all of them hold.
+/// Returns the tree whose saved form the bytes are, as `load_from_slice` does.
+///
+/// # Errors
+///
+/// That of the first test that fails; `Memory` only if the bytes pass all tests.
 pub fn load_tree_from_slice<'a, const BLOCK_SIZE: usize, A: Allocator>(
     alloc: &'a A,
     bytes: &[u8],
@@ -96,7 +102,7 @@ pub fn load_tree_from_slice<'a, const BLOCK_SIZE: usize, A: Allocator>(
     }
 }
 
-/// The tree that the bytes up to the end of a reader are the saved form of, as `load` of it.
+/// Returns the tree whose saved form the rest of a reader is, as `load` does.
 pub fn load_tree<'a, const BLOCK_SIZE: usize, A: Allocator, R: Source>(
     alloc: &'a A,
     reader: &mut R,

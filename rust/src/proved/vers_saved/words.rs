@@ -6,16 +6,16 @@ use crate::proved::vers_saved::kind::Order;
 use crate::proved::vers_saved::{FACTOR, START, TURN};
 use crate::rattle::Allocator;
 
-/// How many words a head and a sum have.
+/// The number of words in a head and a sum.
 pub(crate) const FRAME: usize = 6;
 
 /// Words, one after another.
 pub(crate) trait Words {
-    // The word at a place.
+    // Returns word `k`.
     fn word(&self, k: usize) -> u64;
 }
 
-/// Words that stand as bytes, eight for each.
+/// Words as bytes, eight for each.
 #[derive(Clone, Copy)]
 pub(crate) struct Chunks<'a> {
     pub(crate) chunks: Arrays<'a, u8, 8>,
@@ -54,13 +54,13 @@ impl<'a> Words for TwoParts<'a> {
     }
 }
 
-// A sum with one more word mixed in.
+// Returns a sum with one more word mixed in.
 #[inline(always)]
 pub(crate) fn mixed(sum: u64, word: u64) -> u64 {
     (sum ^ word).wrapping_mul(FACTOR).rotate_left(TURN)
 }
 
-// The word of eight bytes.
+// Returns the word of eight bytes.
 #[inline(always)]
 pub(crate) fn word_of(bytes: [u8; 8]) -> u64 {
     u64::from_le_bytes(bytes)
@@ -73,7 +73,7 @@ pub(crate) fn put_word<A: Allocator>(out: &mut Vec<u8, A>, word: u64) {
     out.extend_from_slice(&bytes).unwrap()
 }
 
-// The sum of the words before a place.
+// Returns the sum of the words before a position.
 pub(crate) fn sum_before<W: Words>(end: usize, words: &W) -> u64 {
     let mut sum = START;
     for k in 0..end {
@@ -82,7 +82,7 @@ pub(crate) fn sum_before<W: Words>(end: usize, words: &W) -> u64 {
     sum
 }
 
-// Copies the words that hold `n` bits, for which there is room. Returns the sum of the words before that of the form.
+// Copies the words of `n` bits, for which there is room. Returns the sum of the words before that of the form.
 pub(crate) fn copy_summed<W: Words, A: Allocator>(
     n: usize,
     words: &W,
@@ -97,12 +97,12 @@ pub(crate) fn copy_summed<W: Words, A: Allocator>(
     sum
 }
 
-// Whether the word that the last of `n` bits lies in holds no one past them.
+// Returns true if the word of the last of `n` bits has only zeros past them.
 pub(crate) fn is_padded<W: Words>(n: usize, words: &W) -> bool {
     n % 64 == 0 || words.word(n.div_ceil(64) + FRAME - 2) < 1 << (n % 64)
 }
 
-// Whether a word stands in an order to the next one.
+// Returns true if a word and the next one are in order.
 #[inline(always)]
 fn stands(order: Order, before: u64, next: u64) -> bool {
     match order {
@@ -112,7 +112,7 @@ fn stands(order: Order, before: u64, next: u64) -> bool {
     }
 }
 
-// How many of so many words have to stand in an order.
+// Returns how many of `count` words must be in order.
 fn count_ordered(order: Order, count: usize) -> usize {
     match order {
         Order::Any => 0,
@@ -121,7 +121,7 @@ fn count_ordered(order: Order, count: usize) -> usize {
     }
 }
 
-// Whether the words that hold `n` bits stand in an order.
+// Returns true if the words of `n` bits are in order.
 pub(crate) fn is_in_order<W: Words>(order: Order, n: usize, words: &W) -> bool {
     let end = count_ordered(order, n.div_ceil(64));
     let mut holds = true;

@@ -20,13 +20,12 @@ use crate::rattle::Allocator;
 use crate::proved::vers_rank::fast_rs_vec::RsVec;
 use crate::proved::vers_tally::tally::{CountedBits, Tally, Uncounted};
 
-/// An ascending list of numbers, equal ones allowed, in about two bits a member and as many more
-/// as a low part has. Contracts see an `EliasFanoVec` as the list of its members, and each query
-/// promises that it ascends.
+/// An ascending list of numbers, duplicates allowed, in about two bits per member plus the width of a low part.
+/// Contracts see an `EliasFanoVec` as the list of its members, and each query promises that it ascends.
 ///
-/// Each member is kept as how far it lies above the first. The lowest digits of that, as many of
-/// each member, stand one after another in a list of bits; the rest, the high part `h` of member
-/// `i`, is a one at place `h + i + 1` of a list of bits with ranks and selects.
+/// Each member is stored as its difference to the first. The low parts, the lowest digits of these differences,
+/// all of the same width, are stored one after another in a list of bits; the rest, the high part `h` of member
+/// `i`, is a one at position `h + i + 1` of a list of bits with rank and select.
 pub struct EliasFanoVec<A: Allocator + Copy> {
     high: RsVec<A>,
     low: CountedBits<A>,
@@ -37,7 +36,7 @@ pub struct EliasFanoVec<A: Allocator + Copy> {
 }
 
 impl<A: Allocator + Copy> Clone for EliasFanoVec<A> {
-    /// A second list of the same members.
+    /// Returns a copy of the list.
     fn clone(&self) -> Result<Self, AllocError> {
         let low = self.low.as_bit_vec(Uncounted).clone()?;
         let high = self.high.clone()?;
@@ -53,45 +52,44 @@ impl<A: Allocator + Copy> Clone for EliasFanoVec<A> {
 }
 
 impl<A: Allocator + Copy> EliasFanoVec<A> {
-    /// How many members the list has.
+    /// Returns the number of members.
     #[inline]
     pub fn len(&self) -> usize {
         self.len
     }
 
-    /// Whether the list has no members.
+    /// Returns true if the list is empty.
     #[inline]
     pub fn is_empty(&self) -> bool {
         self.len() == 0
     }
 
-    // The first member, 0 where there is none.
+    // Returns the first member, or 0 if there is none.
     #[inline(always)]
     fn first(&self) -> u64 {
         self.first
     }
 
-    // The last member, 0 where there is none.
+    // Returns the last member, or 0 if there is none.
     #[inline(always)]
     fn last(&self) -> u64 {
         self.last
     }
 
-    /// The bytes that the high parts with their index and the low parts take.
+    /// Returns the number of bytes that the high parts with their index and the low parts take.
     pub fn heap_size(&self) -> usize {
         let _ = self.high.len();
-        let _ = self.low.len();
-        self.high.heap_size() + self.low.as_bit_vec(Uncounted).heap_size()
+        self.high.heap_size() + 8 * self.low.len().div_ceil(64)
     }
 
-    /// The member at a place. None past the last.
+    /// Returns the member at position `i`, or `None` if `i` is out of bounds.
     #[inline]
     pub fn get(&self, i: usize) -> Option<u64> {
         let mut tally = Tally::new();
         self.get_counted(i, &mut tally)
     }
 
-    /// The member at a place of the list.
+    /// Returns the member at position `i`. Precondition: `i` is below the length.
     #[inline]
     pub fn get_unchecked(&self, i: usize) -> u64 {
         let _ = self.len();
@@ -99,55 +97,56 @@ impl<A: Allocator + Copy> EliasFanoVec<A> {
         self.member(i, &mut tally)
     }
 
-    /// The same as `get`.
+    /// Returns the member at position `i`, or `None` if `i` is out of bounds: `get(i)`.
     #[inline]
     pub fn select(&self, i: usize) -> Option<u64> {
-        self.get(i)
+        let mut tally = Tally::new();
+        self.select_counted(i, &mut tally)
     }
 
-    /// How far member `i` lies above the one before it, and the first member itself for 0. None
-    /// past the last.
+    /// Returns the difference between member `i` and the previous one, or the first member itself if `i` is 0.
+    /// `None` if `i` is out of bounds.
     #[inline]
     pub fn delta(&self, i: usize) -> Option<u64> {
         let mut tally = Tally::new();
         self.delta_counted(i, &mut tally)
     }
 
-    /// How many members are below `v`.
+    /// Returns the number of members below `v`.
     #[inline]
     pub fn rank(&self, v: u64) -> u64 {
         let mut tally = Tally::new();
         self.rank_counted(v, &mut tally)
     }
 
-    /// Whether a number is a member.
+    /// Returns true if `v` is a member.
     #[inline]
     pub fn has(&self, v: u64) -> bool {
         let mut tally = Tally::new();
         self.has_counted(v, &mut tally)
     }
 
-    /// The greatest member that is not above `v`. None where there is none.
+    /// Returns the greatest member that is at most `v`, or `None` if there is none.
     #[inline]
     pub fn predecessor(&self, v: u64) -> Option<u64> {
         let mut tally = Tally::new();
         self.predecessor_counted(v, &mut tally)
     }
 
-    /// The greatest member that is not above `v`, where there is one.
+    /// Returns the greatest member that is at most `v`. Precondition: there is one.
     #[inline]
     pub fn predecessor_unchecked(&self, v: u64) -> u64 {
         self.predecessor(v).unwrap()
     }
 
-    /// The least member that is not below `v`. None where there is none.
+    /// Returns the least member that is at least `v`, or `None` if there is none.
     #[inline]
     pub fn successor(&self, v: u64) -> Option<u64> {
         let mut tally = Tally::new();
         self.successor_counted(v, &mut tally)
     }
 
-    /// The least member that is not below `v`, where there is one.
+    /// Returns the least member that is at least `v`. Precondition: there is one.
     #[inline]
     pub fn successor_unchecked(&self, v: u64) -> u64 {
         self.successor(v).unwrap()

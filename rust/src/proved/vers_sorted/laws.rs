@@ -3,31 +3,37 @@
 
 use crate::rattle::prelude::*;
 
-/// No more members are below a number than there are.
+/// At most all members are below a number.
 pub fn below_is_at_most_all() {}
 
 /// No fewer members are below a greater number.
 pub fn below_rises() {}
 
-/// Of an ascending list, the members before place `below members v` are below `v`.
+/// The members of an ascending list before position `below members v` are below `v`.
 pub fn first_members_are_below() {}
 
-/// Of an ascending list, the members from place `below members v` on are not below `v`.
+/// The members of an ascending list from position `below members v` on are at least `v`.
 pub fn other_members_are_not_below() {}
 
-/// The least member that is not below `v` stands at place `below members v`. There is none where
-/// the list has no such place.
+/// The least member that is at least `v` is at position `below members v`. There is none if the list has no
+/// such position.
 pub fn least_not_below_is_next() {}
 
-/// The greatest member that is not above `v` is the last one below `v + 1`, where there is one.
+/// The greatest member that is at most `v` is the last one below `v + 1`, if there is one.
 pub fn greatest_not_above_is_last() {}
 
-/// Where no member is below `v + 1`, there is none that is not above `v`.
+/// In a sorted list, `greatest_not_above` is an element, not above `v`, and the greatest such element.
+pub fn greatest_not_above_is_greatest() {}
+
+/// In a sorted list, `least_not_below` is an element, not below `v`, and the least such element.
+pub fn least_not_below_is_least() {}
+
+/// If no member is below `v + 1`, none is at most `v`.
 pub fn none_below_none_not_above() {}
 
-/// `2 ^ clog n` is the least power of two that is not below `n`.
+/// `2 ^ clog n` is the least power of two that is at least `n`.
 pub fn clog_is_least() {}
 
-/// The high parts of `n` members have at most `2 + n + p` bits, where `p` is the least power of two
-/// that is below neither `n` nor 2.
+/// The high parts of `n` members have at most `2 + n + p` bits, where `p` is the least power of two that is at
+/// least `n` and at least 2.
 pub fn high_parts_are_few() {}

@@ -1,4 +1,4 @@
-//! Ascending lists of numbers in high and low parts, and sparse lists of bits on top of them.
+//! Ascending lists of numbers in high and low parts (Elias-Fano), and sparse lists of bits based on them.
 
 use crate::rattle::prelude::*;
 

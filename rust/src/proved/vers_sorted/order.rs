@@ -1,20 +1,20 @@
-//! What a caller tests of numbers of his own before he hands them to a maker.
+//! Tests of a constructor's preconditions on a caller's numbers.
 
 use crate::rattle::prelude::*;
 
-/// Whether the numbers ascend: no number is below the one before it. `EliasFanoVec::from_slice`
-/// asks for this.
+/// Returns true if the numbers ascend: no number is below the previous one. `EliasFanoVec::from_slice` requires
+/// this.
 pub fn is_ascending(numbers: &[u64]) -> bool {
     numbers.is_sorted_by(|one, next| *one <= *next)
 }
 
-/// Whether the numbers ascend strictly: each number is above the one before it. `SparseRSVec::new`
-/// asks for this.
+/// Returns true if the numbers ascend strictly: each number is above the previous one. `SparseRSVec::new`
+/// requires this.
 pub fn is_strictly_ascending(numbers: &[u64]) -> bool {
     numbers.is_sorted_by(|one, next| *one < *next)
 }
 
-/// Whether each number is below a limit. `SparseRSVec::new` asks for this of its length.
+/// Returns true if each number is below a limit. `SparseRSVec::new` requires this of its length.
 pub fn are_below(numbers: &[u64], limit: u64) -> bool {
     numbers.iter().all(|number| *number < limit)
 }

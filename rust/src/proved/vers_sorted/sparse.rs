@@ -8,15 +8,15 @@ use crate::rattle::Allocator;
 use crate::proved::vers_bits::bit_vec::BitVec;
 use crate::proved::vers_tally::tally::Tally;
 
-/// A list of bits that keeps only the places of its ones, as an ascending list: for bits of which
-/// few are ones. Contracts see a `SparseRSVec` as the list of its bits.
+/// A list of bits that stores only the positions of its ones, as an ascending list: for bits of which few are
+/// ones. Contracts see a `SparseRSVec` as the list of its bits.
 pub struct SparseRSVec<A: Allocator + Copy> {
     ones: EliasFanoVec<A>,
     len: u64,
 }
 
 impl<A: Allocator + Copy> Clone for SparseRSVec<A> {
-    /// A second list of the same bits.
+    /// Returns a copy of the list.
     fn clone(&self) -> Result<Self, AllocError> {
         let ones = self.ones.clone()?;
         Ok(SparseRSVec {
@@ -27,30 +27,30 @@ impl<A: Allocator + Copy> Clone for SparseRSVec<A> {
 }
 
 impl<A: Allocator + Copy> SparseRSVec<A> {
-    /// The list of `len` bits whose ones stand at the given places. `AllocError` only where a
-    /// request for memory was refused.
+    /// Returns the list of `len` bits with ones at the given positions. Precondition: these ascend strictly and
+    /// are below `len`. Errors: `AllocError` only if the allocator refuses a request.
     pub fn new(alloc: A, ones: &[u64], len: u64) -> Result<Self, AllocError> {
         Ok(SparseRSVec::from_sorted(EliasFanoVec::from_slice(alloc, ones)?, len))
     }
 
-    /// The list of `len` bits whose ones stand at the members of a list.
+    /// Returns the list of `len` bits with ones at the members of a list. Precondition: these ascend strictly
+    /// and are below `len`.
     pub fn from_sorted(ones: EliasFanoVec<A>, len: u64) -> Self {
         SparseRSVec { ones, len }
     }
 
-    /// The same bits as those of a list that keeps them all. `AllocError` only where a request for
-    /// memory was refused.
+    /// Returns the same bits in sparse form. Errors: `AllocError` only if the allocator refuses a request.
     pub fn from_bitvec(bits: &BitVec<A>) -> Result<Self, AllocError> {
         SparseRSVec::from_places(bits, true)
     }
 
-    /// The bits of another list with ones and zeros exchanged. `AllocError` only where a request
-    /// for memory was refused.
+    /// Returns the bits of another list with ones and zeros exchanged. Errors: `AllocError` only if the
+    /// allocator refuses a request.
     pub fn from_bitvec_inverted(bits: &BitVec<A>) -> Result<Self, AllocError> {
         SparseRSVec::from_places(bits, false)
     }
 
-    // The list with ones where another has `bit`.
+    // Returns the list with ones where another has `bit`.
     fn from_places(bits: &BitVec<A>, bit: bool) -> Result<Self, AllocError> {
         let ones = places_of(bits, bit)?;
         Ok(SparseRSVec {
@@ -59,32 +59,32 @@ impl<A: Allocator + Copy> SparseRSVec<A> {
         })
     }
 
-    /// How many bits the list has.
+    /// Returns the number of bits.
     #[inline]
     pub fn len(&self) -> u64 {
         self.len
     }
 
-    /// Whether the list has no bits.
+    /// Returns true if the list is empty.
     #[inline]
     pub fn is_empty(&self) -> bool {
         self.len() == 0
     }
 
-    /// The bytes that the list of the ones' places takes.
+    /// Returns the number of bytes that the list of the ones' positions takes.
     pub fn heap_size(&self) -> usize {
         let _ = &self.len;
         self.ones.heap_size()
     }
 
-    /// Whether the bit at a place is a one. None for a place that the list doesn't have.
+    /// Returns true if the bit at `place` is a one, or `None` if `place` is out of bounds.
     #[inline]
     pub fn is_set(&self, place: u64) -> Option<bool> {
         let mut tally = Tally::new();
         self.is_set_counted(place, &mut tally)
     }
 
-    /// The same as `is_set`, by the reads of one search among the places of the ones.
+    /// Returns `is_set(place)`. Reads at most what one search among the positions of the ones does.
     #[inline(always)]
     pub fn is_set_counted(&self, place: u64, tally: &mut Tally) -> Option<bool> {
         if place >= self.len() {
@@ -93,28 +93,28 @@ impl<A: Allocator + Copy> SparseRSVec<A> {
         Some(self.holds_one(place, tally))
     }
 
-    // Whether the bit at a place of the list is a one.
+    // Returns true if the bit at `place` is a one. Precondition: `place` is below the length.
     #[inline(always)]
     fn holds_one(&self, place: u64, tally: &mut Tally) -> bool {
         let _ = &self.len;
         self.ones.has_counted(place, tally)
     }
 
-    /// Whether the bit at a place of the list is a one.
+    /// Returns true if the bit at `place` is a one. Precondition: `place` is below the length.
     #[inline]
     pub fn is_set_unchecked(&self, place: u64) -> bool {
         let mut tally = Tally::new();
         self.holds_one(place, &mut tally)
     }
 
-    /// The bit at a place, 1 or 0. None for a place that the list doesn't have.
+    /// Returns the bit at `place`, 1 or 0, or `None` if `place` is out of bounds.
     #[inline]
     pub fn get(&self, place: u64) -> Option<u64> {
         let mut tally = Tally::new();
         self.get_counted(place, &mut tally)
     }
 
-    /// The same as `get`, by the reads of one search among the places of the ones.
+    /// Returns `get(place)`. Reads at most what one search among the positions of the ones does.
     #[inline(always)]
     pub fn get_counted(&self, place: u64, tally: &mut Tally) -> Option<u64> {
         if place >= self.len() {
@@ -123,20 +123,20 @@ impl<A: Allocator + Copy> SparseRSVec<A> {
         Some(u64::from(self.holds_one(place, tally)))
     }
 
-    /// The bit at a place of the list, 1 or 0.
+    /// Returns the bit at `place`, 1 or 0. Precondition: `place` is below the length.
     #[inline]
     pub fn get_unchecked(&self, place: u64) -> u64 {
         u64::from(self.is_set_unchecked(place))
     }
 
-    /// The place of one number `r`, counted from 0, or the length where there are no more.
+    /// Returns the position of one `r` (from 0), or the length if there are fewer.
     #[inline]
     pub fn select1(&self, r: usize) -> u64 {
         let mut tally = Tally::new();
         self.select1_counted(r, &mut tally)
     }
 
-    /// The same as `select1`, by the reads of one member of the places of the ones.
+    /// Returns `select1(r)`. Reads at most what one member of the positions of the ones does.
     #[inline(always)]
     pub fn select1_counted(&self, r: usize, tally: &mut Tally) -> u64 {
         let _ = &self.len;
@@ -146,42 +146,42 @@ impl<A: Allocator + Copy> SparseRSVec<A> {
         }
     }
 
-    /// How many ones stand below a place.
+    /// Returns the number of ones below `place`.
     #[inline]
     pub fn rank1(&self, place: u64) -> u64 {
         let mut tally = Tally::new();
         self.rank1_counted(place, &mut tally)
     }
 
-    /// The same as `rank1`, by the reads of one search among the places of the ones.
+    /// Returns `rank1(place)`. Reads at most what one search among the positions of the ones does.
     #[inline(always)]
     pub fn rank1_counted(&self, place: u64, tally: &mut Tally) -> u64 {
         let _ = &self.len;
         self.ones.rank_counted(place, tally)
     }
 
-    /// How many zeros stand below a place.
+    /// Returns the number of zeros below `place`.
     #[inline]
     pub fn rank0(&self, place: u64) -> u64 {
         let mut tally = Tally::new();
         self.rank0_counted(place, &mut tally)
     }
 
-    /// The same as `rank0`, by the reads of one search among the places of the ones.
+    /// Returns `rank0(place)`. Reads at most what one search among the positions of the ones does.
     #[inline(always)]
     pub fn rank0_counted(&self, place: u64, tally: &mut Tally) -> u64 {
         let ones = self.rank1_counted(place, tally);
         place.min(self.len()) - ones
     }
 
-    /// An iterator over the places of the ones.
+    /// Returns an iterator over the positions of the ones.
     pub fn iter1(&self) -> EliasFanoRefIter<'_, A> {
         let _ = &self.len;
         self.ones.iter()
     }
 }
 
-// The places of the ones or the zeros.
+// Returns the positions of the ones or the zeros.
 fn places_of<A: Allocator + Copy>(bits: &BitVec<A>, bit: bool) -> Result<Vec<u64, A>, AllocError> {
     let mut found = Vec::new(bits.allocator());
     for k in 0..bits.len().div_ceil(64) {
@@ -190,8 +190,7 @@ fn places_of<A: Allocator + Copy>(bits: &BitVec<A>, bit: bool) -> Result<Vec<u64
     Ok(found)
 }
 
-// Adds the places of the ones or the zeros of one limb to those of the limbs before it, from the
-// lowest up.
+// Appends the positions of the ones or the zeros of one limb to those of the limbs before it, ascending.
 fn push_places<A: Allocator + Copy>(
     found: &mut Vec<u64, A>,
     bits: &BitVec<A>,
@@ -212,7 +211,7 @@ fn push_places<A: Allocator + Copy>(
     Ok(())
 }
 
-// The word in which the ones or the zeros of a limb are ones.
+// Returns the word in which the ones or the zeros of a limb are ones.
 fn marks_of<A: Allocator + Copy>(bits: &BitVec<A>, bit: bool, k: usize) -> u64 {
     let limb = bits.limb(k);
     if bit { limb } else { !limb }

@@ -3,14 +3,14 @@
 
 use crate::rattle::prelude::*;
 
-/// What reads nothing adds nothing.
+/// Reading nothing adds nothing.
 pub fn reading_nothing_adds_nothing() {}
 
-/// Two stretches of reads, one after the other, add at most both bounds.
+/// Two sequences of reads, one after the other, add at most the sum of both bounds.
 pub fn bounds_add() {}
 
 /// A greater bound holds too.
 pub fn greater_bounds_hold() {}
 
-/// Half a number has a binary digit less.
+/// Half a number has one binary digit less.
 pub fn halving_takes_a_digit() {}

@@ -1,4 +1,4 @@
-//! One body for all iterators that take items from both ends, each of which takes memory.
+//! One implementation of all double-ended iterators whose items are allocated.
 
 use crate::rattle::prelude::*;
 
@@ -6,96 +6,95 @@ use crate::proved::vers_tally::tally::Tally;
 use crate::rattle::AllocError;
 use crate::proved::vers_bits::walk::Span;
 
-/// A list of items, each of which is made at its place, by a counter, where there is memory.
+/// A list of items, each of which is allocated at its position, with a counter.
 pub trait Maker: Sized {
     type Item;
 
-    /// How many items there are.
+    /// Returns the number of items.
     fn count_items(&self) -> usize;
 
-    /// The item at a place. A refusal leaves the maker with the same items.
+    /// Returns the item at position `i`. On error the maker has the same items. Precondition: `i` is below the
+    /// number of items.
     fn make_at(&mut self, i: usize, tally: &mut Tally) -> Result<Self::Item, AllocError>;
 }
 
-/// A maker of which a second takes no memory.
+/// A maker that is copied without allocating.
 pub trait BorrowingMaker: Maker {
-    /// A second maker of the same items.
+    /// Returns a copy of the maker.
     fn second(&self) -> Self;
 }
 
-/// A maker of which a second takes memory.
+/// A maker whose copy allocates.
 pub trait OwningMaker: Maker {
-    /// A second maker of the same items.
+    /// Returns a copy of the maker.
     fn second(&self) -> Result<Self, AllocError>;
 }
 
-/// An iterator over the items of a maker, from both ends. An item that is refused for memory
-/// counts as passed. Contracts see it as the items `left`, which are still to come, and the reads
-/// of a `step`, which making one of them adds at most.
+/// A double-ended iterator over the items of a maker. An item whose allocation fails counts as passed.
+/// Contracts see it as the items `left`, and the reads of a `step`, the bound on making one of them.
 pub struct MadeEnds<M: Maker> {
     maker: M,
     span: Span,
 }
 
 impl<M: Maker> MadeEnds<M> {
-    /// An iterator over all items of a maker.
+    /// Returns an iterator over all items of a maker.
     pub fn new(maker: M) -> Self {
         let span = Span::below(maker.count_items());
         MadeEnds { maker, span }
     }
 
-    /// How many items are left.
+    /// Returns the number of items left.
     #[inline]
     pub fn len(&self) -> usize {
         self.span.len()
     }
 
-    /// How many items are left, at least and at most, which are the same.
+    /// Returns the number of items left as both the lower and the upper bound.
     pub fn size_hint(&self) -> (usize, Option<usize>) {
         let len = self.len();
         (len, Some(len))
     }
 
-    /// How many items are left.
+    /// Returns the number of items left.
     pub fn count(self) -> usize {
         self.len()
     }
 
-    /// Drops `n` items and makes the next. Where no more than `n` are left, none is made and the
-    /// iterator has ended.
+    /// Skips `n` items and makes the next. If at most `n` are left, returns `None` and the iterator has ended.
     pub fn nth(&mut self, n: usize) -> Option<Result<M::Item, AllocError>> {
         let mut tally = Tally::new();
         self.nth_counted(n, &mut tally)
     }
 
-    /// Drops `n` items from the back and makes the next. Where no more than `n` are left, none is
-    /// made and the iterator has ended.
+    /// Skips `n` items from the back and makes the next. If at most `n` are left, returns `None` and the
+    /// iterator has ended.
     pub fn nth_back(&mut self, n: usize) -> Option<Result<M::Item, AllocError>> {
         let mut tally = Tally::new();
         self.nth_back_counted(n, &mut tally)
     }
 
-    /// The first of the items left, which is passed.
+    /// Makes the first of the items left, which is passed also on error. `None` if none is left.
     pub fn next(&mut self) -> Option<Result<M::Item, AllocError>> {
         self.nth(0)
     }
 
-    /// The last of the items left, which is passed.
+    /// Makes the last of the items left, which is passed also on error. `None` if none is left.
     pub fn next_back(&mut self) -> Option<Result<M::Item, AllocError>> {
         self.nth_back(0)
     }
 
-    /// The same as `next`, by the reads of one item.
+    /// Does what `next` does. Reads at most one item.
     pub fn next_counted(&mut self, tally: &mut Tally) -> Option<Result<M::Item, AllocError>> {
         self.nth_counted(0, tally)
     }
 
-    /// The same as `next_back`, by the reads of one item.
+    /// Does what `next_back` does. Reads at most one item.
     pub fn next_back_counted(&mut self, tally: &mut Tally) -> Option<Result<M::Item, AllocError>> {
         self.nth_back_counted(0, tally)
     }
 
-    /// The same as `nth`, by the reads of one item.
+    /// Does what `nth` does. Reads at most one item.
     pub fn nth_counted(
         &mut self,
         n: usize,
@@ -105,7 +104,7 @@ impl<M: Maker> MadeEnds<M> {
         Some(self.maker.make_at(i, tally))
     }
 
-    /// The same as `nth_back`, by the reads of one item.
+    /// Does what `nth_back` does. Reads at most one item.
     pub fn nth_back_counted(
         &mut self,
         n: usize,
@@ -115,14 +114,14 @@ impl<M: Maker> MadeEnds<M> {
         Some(self.maker.make_at(i, tally))
     }
 
-    /// The last item.
+    /// Returns the last item, or `None` if no item is left.
     pub fn last(mut self) -> Option<Result<M::Item, AllocError>> {
         self.nth_back(0)
     }
 }
 
 impl<M: BorrowingMaker> MadeEnds<M> {
-    /// A second iterator over what is left. Takes no memory.
+    /// Returns a second iterator over the items left. Allocates nothing.
     pub fn clone(&self) -> Self {
         MadeEnds {
             maker: self.maker.second(),
@@ -132,7 +131,7 @@ impl<M: BorrowingMaker> MadeEnds<M> {
 }
 
 impl<M: OwningMaker> Clone for MadeEnds<M> {
-    /// A second iterator over what is left, with a maker of its own.
+    /// Returns a second iterator over the items left, with a maker of its own.
     fn clone(&self) -> Result<Self, AllocError> {
         let maker = self.maker.second()?;
         Ok(MadeEnds {

@@ -1,4 +1,4 @@
-//! Counters of what a query reads, and vectors whose entries are read only with such a counter.
+//! Counters of the reads of a query, and vectors whose entries are read only with such a counter.
 
 use crate::rattle::prelude::*;
 

@@ -6,9 +6,9 @@ use crate::rattle::Allocator;
 use crate::rattle::lanes::*;
 use crate::proved::vers_bits::bit_vec::{BitVec, MAX_LEN};
 
-/// How many entries of each kind were read. Contracts see a `Tally` as a record of nine numbers.
-/// No call lowers a counter, and one that has reached its greatest value stays there. A counter
-/// is never copied, so that each read is counted once.
+/// A count of the entries read of each kind. Contracts see a `Tally` as a record of nine numbers. No call
+/// decreases a counter, and a counter that has reached its greatest value stays there. A counter is never
+/// copied, so that each read is counted once.
 pub struct Tally {
     data_words: u64,
     block_entries: u64,
@@ -22,7 +22,7 @@ pub struct Tally {
 }
 
 impl Tally {
-    /// A counter of no reads.
+    /// Returns a counter of no reads.
     #[inline]
     pub fn new() -> Tally {
         Tally {
@@ -38,55 +38,55 @@ impl Tally {
         }
     }
 
-    /// How many data words were read: limbs of 64 bits of a list of bits.
+    /// Returns the number of data words read: limbs of 64 bits of a list of bits.
     #[inline]
     pub fn data_words(&self) -> u64 {
         self.data_words
     }
 
-    /// How many block entries were read.
+    /// Returns the number of block entries read.
     #[inline]
     pub fn block_entries(&self) -> u64 {
         self.block_entries
     }
 
-    /// How many superblock entries and select samples were read.
+    /// Returns the number of superblock entries and select samples read.
     #[inline]
     pub fn superblock_entries(&self) -> u64 {
         self.superblock_entries
     }
 
-    /// How many low parts of sorted numbers were read.
+    /// Returns the number of low parts of sorted numbers read.
     #[inline]
     pub fn low_parts(&self) -> u64 {
         self.low_parts
     }
 
-    /// How many queries were asked of lists of bits with rank and select.
+    /// Returns the number of queries of lists of bits with rank and select.
     #[inline]
     pub fn rank_calls(&self) -> u64 {
         self.rank_calls
     }
 
-    /// How many items of a list of numbers were read.
+    /// Returns the number of items of a list of numbers read.
     #[inline]
     pub fn items(&self) -> u64 {
         self.items
     }
 
-    /// In how many blocks a scan was begun.
+    /// Returns the number of blocks in which a scan began.
     #[inline]
     pub fn blocks(&self) -> u64 {
         self.blocks
     }
 
-    /// How many nodes of a tree of excesses were read.
+    /// Returns the number of nodes of a tree of excesses read.
     #[inline]
     pub fn nodes(&self) -> u64 {
         self.nodes
     }
 
-    /// How many chunks of bits were loaded.
+    /// Returns the number of chunks of bits loaded.
     #[inline]
     pub fn chunks(&self) -> u64 {
         self.chunks
@@ -98,7 +98,7 @@ impl Tally {
         self.rank_calls = self.rank_calls.saturating_add(1);
     }
 
-    /// Counts a block in which a scan is begun.
+    /// Counts a block in which a scan begins.
     #[inline]
     pub fn add_block(&mut self) {
         self.blocks = self.blocks.saturating_add(1);
@@ -121,51 +121,51 @@ pub struct CountedBits<A: Allocator + Copy> {
 }
 
 impl<A: Allocator + Copy> CountedBits<A> {
-    /// The same bits, counted from here on. Takes no memory.
+    /// Returns the same bits, counted from here on. Allocates nothing.
     #[inline]
     pub fn new(bits: BitVec<A>) -> Self {
         CountedBits { bits }
     }
 
-    /// The same bits, no longer counted. Takes no memory.
+    /// Returns the same bits, no longer counted. Allocates nothing.
     #[inline]
     pub fn into_bit_vec(self, _whole: Uncounted) -> BitVec<A> {
         let CountedBits { bits } = self;
         bits
     }
 
-    /// The whole list, for clones, conversions and equality.
+    /// Returns the whole list, for clones, conversions and equality.
     #[inline]
     pub fn as_bit_vec(&self, _whole: Uncounted) -> &BitVec<A> {
         &self.bits
     }
 
-    /// How many bits the list has, which reads none.
+    /// Returns the number of bits. Reads nothing.
     #[inline]
     pub fn len(&self) -> usize {
         self.bits.len()
     }
 
-    /// Limb number `k`, one data word. The limb has at least one bit of the list.
+    /// Returns limb `k`. Reads one data word. Precondition: limb `k` contains at least one bit of the list.
     #[inline]
     pub fn limb(&self, k: usize, tally: &mut Tally) -> u64 {
         tally.data_words = tally.data_words.saturating_add(1);
         self.bits.limb(k)
     }
 
-    /// Returns block number `k` of 8 limbs each, from limb `8 * k` on, with zeros past the length: 8 data words,
-    /// even if the caller uses fewer. None, and nothing is read, if the list has fewer limbs.
+    /// Returns block `k` of 8 limbs, from limb `8 * k`, with zeros past the length. Reads 8 data words, even if
+    /// the caller uses fewer. `None`, and reads nothing, if the list has fewer limbs.
     #[inline(always)]
     pub fn block(&self, k: usize, tally: &mut Tally) -> Option<&[u64; 8]> {
         let block = self.bits.limb_block(k);
-        // With no branch, as in `get_bits`.
+        // No branch, as in `get_bits`.
         let reads = 8 * u64::from(block.is_some());
         tally.data_words = tally.data_words.saturating_add(reads);
         block
     }
 
-    /// The bit at a place, 1 or 0. Reads one data word, and none for a place that the list
-    /// doesn't have.
+    /// Returns the bit at `place`, 1 or 0. Reads one data word. `None`, and reads nothing, if `place` is out of
+    /// bounds.
     #[inline]
     pub fn get(&self, place: usize, tally: &mut Tally) -> Option<u64> {
         if place < self.bits.len() {
@@ -174,27 +174,28 @@ impl<A: Allocator + Copy> CountedBits<A> {
         self.bits.get(place)
     }
 
-    /// Whether the bit at a place of the list is a one, one data word.
+    /// Returns true if the bit at `place` is a one. Reads one data word. Precondition: `place` is below the
+    /// length.
     #[inline]
     pub fn is_one(&self, place: usize, tally: &mut Tally) -> bool {
         tally.data_words = tally.data_words.saturating_add(1);
         self.bits.is_bit_set(place).unwrap()
     }
 
-    /// The number of the `n` bits from `place` on. Reads two data words, the limb of the first bit
-    /// and that of the last: bits of one limb are read from it twice, and both reads count. None,
-    /// and nothing is read, where there are not so many bits, or `n` is 0 or above 64.
+    /// Returns the `n` bits from position `place` as a number. Reads two data words, the limb of the first bit
+    /// and that of the last: bits of one limb are read from it twice, and both reads count. `None`, and reads
+    /// nothing, if there are fewer bits, or `n` is 0 or above 64.
     #[inline(always)]
     pub fn get_bits(&self, place: usize, n: usize, tally: &mut Tally) -> Option<u64> {
         let number = self.bits.get_bits(place, n);
-        // With no branch, of which something would be left where the count is not asked for.
+        // No branch: some of it would remain if the count is unused.
         let reads = 2 * u64::from(number.is_some());
         tally.data_words = tally.data_words.saturating_add(reads);
         number
     }
 
-    /// The number of the `n` bits from `place` on, one low part whatever the number of its limbs; 0
-    /// for `n` 0, which counts as one too.
+    /// Returns the `n` bits from position `place` as a number, 0 if `n` is 0. Reads one low part, however many
+    /// limbs it spans, also if `n` is 0. Precondition: `n` is at most 64, and `place + n` at most the length.
     #[inline(always)]
     pub fn low_part(&self, place: usize, n: usize, tally: &mut Tally) -> u64 {
         tally.low_parts = tally.low_parts.saturating_add(1);
@@ -208,32 +209,33 @@ pub struct BlockEntries<A: Allocator + Copy> {
 }
 
 impl<A: Allocator + Copy> BlockEntries<A> {
-    /// The same entries, counted from here on. Takes no memory.
+    /// Returns the same entries, counted from here on. Allocates nothing.
     #[inline]
     pub fn new(entries: Vec<u16, A>) -> Self {
         BlockEntries { entries }
     }
 
-    /// How many entries there are, which reads none.
+    /// Returns the number of entries. Reads nothing.
     #[inline]
     pub fn len(&self) -> usize {
         self.entries.len()
     }
 
-    /// All entries, for clones, conversions and equality.
+    /// Returns all entries, for clones, conversions and equality.
     #[inline]
     pub fn as_slice(&self, _whole: Uncounted) -> &[u16] {
         self.entries.as_slice()
     }
 
-    /// Entry number `k`, one block entry.
+    /// Returns entry `k`. Reads one block entry. Precondition: `k` is below the number of entries.
     #[inline]
     pub fn read(&self, k: usize, tally: &mut Tally) -> u16 {
         tally.block_entries = tally.block_entries.saturating_add(1);
         self.entries[k]
     }
 
-    /// The 16 entries from number `k` on, as the lanes of a vector: 16 block entries.
+    /// Returns the 16 entries from entry `k` on, as the lanes of a vector. Reads 16 block entries.
+    /// Precondition: there are as many.
     #[inline(always)]
     pub fn read_16(&self, k: usize, tally: &mut Tally) -> u16x16 {
         tally.block_entries = tally.block_entries.saturating_add(16);
@@ -247,25 +249,25 @@ pub struct SuperblockEntries<A: Allocator + Copy> {
 }
 
 impl<A: Allocator + Copy> SuperblockEntries<A> {
-    /// The same entries, counted from here on. Takes no memory.
+    /// Returns the same entries, counted from here on. Allocates nothing.
     #[inline]
     pub fn new(entries: Vec<u64, A>) -> Self {
         SuperblockEntries { entries }
     }
 
-    /// How many entries there are, which reads none.
+    /// Returns the number of entries. Reads nothing.
     #[inline]
     pub fn len(&self) -> usize {
         self.entries.len()
     }
 
-    /// All entries, for clones, conversions and equality.
+    /// Returns all entries, for clones, conversions and equality.
     #[inline]
     pub fn as_slice(&self, _whole: Uncounted) -> &[u64] {
         self.entries.as_slice()
     }
 
-    /// Entry number `k`, one superblock entry.
+    /// Returns entry `k`. Reads one superblock entry. Precondition: `k` is below the number of entries.
     #[inline]
     pub fn read(&self, k: usize, tally: &mut Tally) -> u64 {
         tally.superblock_entries = tally.superblock_entries.saturating_add(1);
@@ -279,31 +281,31 @@ pub struct CountedItems<A: Allocator + Copy> {
 }
 
 impl<A: Allocator + Copy> CountedItems<A> {
-    /// The same numbers, counted from here on. Takes no memory.
+    /// Returns the same numbers, counted from here on. Allocates nothing.
     #[inline]
     pub fn new(numbers: Vec<u64, A>) -> Self {
         CountedItems { numbers }
     }
 
-    /// How many numbers there are, which reads none.
+    /// Returns the number of numbers. Reads nothing.
     #[inline]
     pub fn len(&self) -> usize {
         self.numbers.len()
     }
 
-    /// The list that holds all numbers, for callers that ask for a vector.
+    /// Returns the vector of all numbers, for callers that need a vector.
     #[inline]
     pub fn as_vec(&self, _whole: Uncounted) -> &Vec<u64, A> {
         &self.numbers
     }
 
-    /// All numbers, for clones, conversions and equality.
+    /// Returns all numbers, for clones, conversions and equality.
     #[inline]
     pub fn as_slice(&self, _whole: Uncounted) -> &[u64] {
         self.numbers.as_slice()
     }
 
-    /// Number `k` of the list, one item.
+    /// Returns number `k` of the list. Reads one item. Precondition: `k` is below the length.
     #[inline]
     pub fn read(&self, k: usize, tally: &mut Tally) -> u64 {
         tally.items = tally.items.saturating_add(1);
@@ -317,25 +319,25 @@ pub struct CountedNodes<N: Copy, A: Allocator + Copy> {
 }
 
 impl<N: Copy, A: Allocator + Copy> CountedNodes<N, A> {
-    /// The same nodes, counted from here on. Takes no memory.
+    /// Returns the same nodes, counted from here on. Allocates nothing.
     #[inline]
     pub fn new(entries: Vec<N, A>) -> Self {
         CountedNodes { entries }
     }
 
-    /// How many nodes there are, which reads none.
+    /// Returns the number of nodes. Reads nothing.
     #[inline]
     pub fn len(&self) -> usize {
         self.entries.len()
     }
 
-    /// All nodes, for clones.
+    /// Returns all nodes, for clones.
     #[inline]
     pub fn as_slice(&self, _whole: Uncounted) -> &[N] {
         self.entries.as_slice()
     }
 
-    /// Node number `k`, one node.
+    /// Returns node `k`. Reads one node. Precondition: `k` is below the number of nodes.
     #[inline]
     pub fn read(&self, k: usize, tally: &mut Tally) -> N {
         tally.nodes = tally.nodes.saturating_add(1);

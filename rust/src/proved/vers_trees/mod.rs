@@ -1,4 +1,4 @@
-//! Ordered trees as lists of parentheses: excess, searches for a place where it rises, balance.
+//! Ordered trees as lists of parentheses: excess, searches for a position where it rises, balance.
 
 use crate::rattle::prelude::*;
 

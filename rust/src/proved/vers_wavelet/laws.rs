@@ -3,58 +3,58 @@
 
 use crate::rattle::prelude::*;
 
-/// In ascending order members ascend.
+/// Sorted members ascend.
 pub fn sorted_members_ascend() {}
 
-/// Ascending order has the same members, each as often.
+/// Sorting keeps each member as often as it occurs.
 pub fn sorting_keeps_members() {}
 
-/// The member of a number by size is the one that at most so many members are below, and that more
-/// are not above: where a query gives the member of a number, no other number is it.
+/// The `i`-th smallest member is the one that at most `i` members are below and more than `i` are at most: no
+/// other number satisfies this.
 pub fn kth_by_size_is_kth() {}
 
-/// The member of a number by size is the item at that place in ascending order.
+/// The `i`-th smallest member is the item at position `i` in ascending order.
 pub fn kth_by_size_is_item() {}
 
-/// The greatest member up to a number is the predecessor: a member that is not above the number,
-/// and no such member is above it.
+/// The greatest member up to a number is the predecessor: a member that is at most the number, and no such
+/// member is above it.
 pub fn greatest_up_to_is_predecessor() {}
 
-/// There is a greatest member up to a number where some member is not above the number.
+/// There is a greatest member up to a number if some member is at most the number.
 pub fn some_members_are_up_to() {}
 
-/// The least member from a number on is the successor: a member that is not below the number, and no
-/// such member is below it.
+/// The least member from a number on is the successor: a member that is at least the number, and no such member
+/// is below it.
 pub fn least_from_is_successor() {}
 
-/// There is a least member from a number on where some member is not below the number.
+/// There is a least member from a number on if some member is at least the number.
 pub fn some_members_are_from() {}
 
-/// A range's member of a number is the one that at most so many of its members are below, and that
-/// more are not above. It is there where the range ends within the list and has so many places.
+/// A range's `i`-th smallest member is the one that at most `i` of its members are below and more than `i` are
+/// at most. It exists if the range ends within the list and has more than `i` positions.
 pub fn ranges_have_members() {}
 
-/// A range's greatest member up to a number is the predecessor among its members. It is there where
-/// the range lies within the list and some of its members are not above the number.
+/// A range's greatest member up to a number is the predecessor among its members. It exists if the range is
+/// within the list and some of its members are at most the number.
 pub fn ranges_have_predecessors() {}
 
-/// A range's least member from a number on is the successor among its members. It is there where the
-/// range lies within the list and some of its members are not below the number.
+/// A range's least member from a number on is the successor among its members. It exists if the range is within
+/// the list and some of its members are at least the number.
 pub fn ranges_have_successors() {}
 
-/// The members of a range that ends within the list are those at its places.
+/// The members of a range that ends within the list are those at its positions.
 pub fn ranges_inside_stay() {}
 
-/// Symbols of at most 64 bits are numbers of the machine.
+/// Symbols of at most 64 bits fit in a word.
 pub fn narrow_symbols_are_words() {}
 
-/// Symbols of more than 64 bits are no numbers of the machine.
+/// Symbols of more than 64 bits don't fit in a word.
 pub fn wide_symbols_are_no_words() {}
 
-/// A list has one member of each number by size, so that a quantile is one number.
+/// A list has only one `i`-th smallest member, so a quantile is one number.
 pub fn one_member_of_a_number() {}
 
-/// Quantiles in turn, one for each member, list the members in ascending order, equal ones too.
+/// The quantiles in turn, one for each member, are the members in ascending order, duplicates included.
 pub fn quantiles_list_members_by_size() {}
 
 /// Numbers of at most `k` digits, where `k` isn't 0, are their own low digits.

@@ -1,4 +1,4 @@
-//! Lists of symbols that count their members, find them and order them by their digits.
+//! Lists of symbols with rank, select and order statistics.
 
 use crate::rattle::prelude::*;
 

@@ -30,54 +30,52 @@ use crate::rattle::Allocator;
 use crate::proved::vers_bits::bit_vec::MAX_LEN;
 use crate::proved::vers_rank::fast_rs_vec::RsVec;
 
-/// A list of symbols, which are numbers of a width that all of them share. Contracts see the width
-/// and the list of numbers.
+/// A list of symbols, which are numbers of the same width. Contracts see the width and the list of numbers.
 ///
-/// It keeps a list of bits, with its index, for each digit of the symbols: the highest digit of each
-/// first, and each next digit after a stable sort by the digit before, zeros first. This is the
-/// wavelet matrix of Claude, Navarro and Ordóñez (Information Systems 47, 2015).
+/// It stores a list of bits, with its index, for each digit of the symbols: the highest digit of each first,
+/// and each next digit after a stable sort by the previous digit, zeros first. This is the wavelet matrix of
+/// Claude, Navarro and Ordóñez (Information Systems 47, 2015).
 ///
-/// A symbol is a `BitVec` of its bits, the lowest first; or, in the calls `_u64`, a number, of which
-/// the low digits count. Each query has a form `_counted`, which counts its reads in a `Tally`; the
-/// plain form is that one with a counter of its own. The forms `_unchecked` ask that what they are
-/// handed fits the list.
+/// A symbol is a `BitVec` of its bits, lowest first; or, in the functions `_u64`, a number, of which only the
+/// low bits count. Each query has a form `_counted`, which counts its reads in a `Tally`; the plain form passes
+/// a counter of its own. The forms `_unchecked` have preconditions on their arguments.
 pub struct WaveletMatrix<A: Allocator + Copy> {
     levels: Vec<RsVec<A>, A>,
     len: usize,
 }
 
 impl<A: Allocator + Copy> WaveletMatrix<A> {
-    /// How many symbols there are.
+    /// Returns the number of symbols.
     #[inline]
     pub fn len(&self) -> usize {
         self.len
     }
 
-    /// Whether there are no symbols.
+    /// Returns true if there are no symbols.
     #[inline]
     pub fn is_empty(&self) -> bool {
         self.len() == 0
     }
 
-    /// How many bits a symbol has: each is below two to that power.
+    /// Returns the number of bits of a symbol: each is below two to that power.
     #[inline]
     pub fn bits_per_element(&self) -> usize {
         self.levels().len()
     }
 
-    // Whether a symbol is a number of the machine.
+    // Returns true if a symbol fits in a word.
     #[inline(always)]
     pub(crate) fn fits_word(&self) -> bool {
         self.bits_per_element() <= 64
     }
 
-    // The lists of digits that make up the symbols.
+    // Returns the lists of digits that make up the symbols.
     #[inline(always)]
     fn levels(&self) -> &[RsVec<A>] {
         &self.levels
     }
 
-    /// The same as `bits_per_element`.
+    /// Returns the number of bits of a symbol: `bits_per_element()`.
     #[inline]
     pub fn bit_len(&self) -> u16 {
         self.bits_per_element() as u16

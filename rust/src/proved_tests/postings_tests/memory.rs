@@ -1,4 +1,4 @@
-//! The calls that take memory, each of their requests refused in turn, and the queries, which take none.
+//! The calls that allocate, each of their requests refused in turn, and the queries, which take none.
 
 use crate::rattle::prelude::*;
 use crate::proved_tests::postings_tests::shared::{Question, answer, counted_answer, posted};
@@ -14,7 +14,7 @@ use crate::proved::vers_tally::tally::Tally;
 
 type Heap = Refusing<Global>;
 
-// The first `n` even numbers.
+// Returns the first `n` even numbers.
 fn evens<A: Allocator + Copy>(alloc: A, n: usize) -> Result<Vec<u64, A>, AllocError> {
     let mut numbers = Vec::new(alloc);
     for k in 0..n as u64 {
@@ -23,7 +23,7 @@ fn evens<A: Allocator + Copy>(alloc: A, n: usize) -> Result<Vec<u64, A>, AllocEr
     Ok(numbers)
 }
 
-// Whether both forms of each question are answered as told.
+// Returns true if both forms of each query are answered as expected.
 fn answers_all<A: Allocator + Copy>(list: &Postings<A>, rows: &[(Question, Option<u64>)]) -> bool {
     for (question, wanted) in rows {
         if answer(list, *question) != *wanted || counted_answer(list, *question) != *wanted {
@@ -33,7 +33,8 @@ fn answers_all<A: Allocator + Copy>(list: &Postings<A>, rows: &[(Question, Optio
     true
 }
 
-// Whether a list of even numbers, each its own cost, knows number `k` and the odd number after it.
+// Returns true if a list of even numbers, each its own cost, answers about number `k` and the odd number after
+// it.
 fn knows_document<A: Allocator + Copy>(list: &Postings<A>, k: u64) -> bool {
     let document = k.wrapping_mul(2);
     let after = document.wrapping_add(1);
@@ -51,7 +52,7 @@ fn knows_document<A: Allocator + Copy>(list: &Postings<A>, k: u64) -> bool {
     answers_all(list, &rows)
 }
 
-// Whether a list has so many even numbers, each its own cost.
+// Returns true if a list has that many even numbers, each its own cost.
 fn has_evens<A: Allocator + Copy>(list: &Postings<A>, n: usize) -> bool {
     for k in 0..n as u64 {
         if !knows_document(list, k) {
@@ -98,7 +99,7 @@ impl<A: Allocator + Copy> Conversion<Vec<u64, A>> for EvenNumbers<'_> {
     }
 }
 
-// The call that finds what two lists share.
+// The call that intersects two lists.
 struct Shared<'a, A: Allocator + Copy> {
     call: Call,
     one: &'a Postings<A>,
@@ -127,8 +128,8 @@ impl<A: Allocator + Copy> Making for Shared<'_, A> {
     }
 }
 
-// What two lists share: all documents of the shorter, which has half of those of the longer. The memory of
-// the other list is refused throughout.
+// The intersection of two lists: all documents of the shorter, which has half of those of the longer. The
+// memory of the other list is refused throughout.
 #[derive(Clone, Copy)]
 struct Sharing<'a> {
     call: Call,
@@ -137,7 +138,7 @@ struct Sharing<'a> {
     shared: &'a [u64],
 }
 
-// What one list shares with another, whose memory `others` is.
+// Returns the intersection of one list with another, whose allocator is `others`.
 fn tried_with<B: Allocator, A: Allocator + Copy>(
     heap: &Refusing<B>,
     others: &Refusing<B>,
@@ -155,7 +156,7 @@ fn tried_with<B: Allocator, A: Allocator + Copy>(
     try_making(heap, &shared)
 }
 
-// The same of a list that is made in its memory, and of another.
+// Does the same for a list that is made in its memory, and of another.
 fn tried_one<B: Allocator, A: Allocator + Copy>(
     heap: &Refusing<B>,
     others: &Refusing<B>,
@@ -169,7 +170,7 @@ fn tried_one<B: Allocator, A: Allocator + Copy>(
     }
 }
 
-// The same of two lists that are made, each in its memory.
+// Does the same for two lists that are made, each in its memory.
 fn tried_both<B: Allocator, A: Allocator + Copy>(
     heap: &Refusing<B>,
     others: &Refusing<B>,
@@ -187,7 +188,7 @@ fn tried_sharing<'a>(heap: &'a Heap, others: &'a Heap, sharing: Sharing) -> Endi
     tried_both(heap, others, [heap, others], sharing)
 }
 
-// A call. The queries take no memory.
+// A call. The queries allocate nothing.
 #[derive(Clone, Copy)]
 enum Call {
     FromSorted,
@@ -198,7 +199,7 @@ enum Call {
     IntersectCounted,
 }
 
-// A call, and the memory of the other list where there is one.
+// A call, and the memory of the other list if there is one.
 #[derive(Clone, Copy)]
 struct CallIn {
     call: Call,
@@ -263,7 +264,7 @@ const CALLS: [Call; 6] = [
     Call::IntersectCounted,
 ];
 
-// The first length at which a call goes wrong, of all calls.
+// Returns the first length at which a call is wrong, of all calls.
 fn first_wrong(alloc: Global) -> Option<usize> {
     for call in CALLS {
         let wrong = first_wrong_trial(alloc, &LENGTHS, &[CallIn { call, alloc }]);

@@ -1,4 +1,4 @@
-//! All lists over a few documents beside plain lists, and what the counted calls read.
+//! All lists over a few documents compared with plain lists, and the reads of the counted calls.
 
 use crate::rattle::prelude::*;
 use crate::proved_tests::postings_tests::shared::{Question, answer, posted, share};
@@ -15,10 +15,10 @@ const DOCUMENTS: [u64; 6] = [0, 1, 7, 8, u64::MAX - 1, u64::MAX];
 // Their costs, some of them equal.
 const COSTS: [u64; 6] = [4, 2, 2, 9, 2, 4];
 
-// Numbers at the documents and beside them.
+// Numbers at the documents and next to them.
 const ASKED: [u64; 9] = [0, 1, 2, 6, 7, 8, 9, u64::MAX - 1, u64::MAX];
 
-// Those of six numbers whose bit of `chosen` is set.
+// Returns those of six numbers whose bit of `chosen` is set.
 fn chosen_of<A: Allocator + Copy>(
     alloc: A,
     numbers: &[u64; 6],
@@ -33,7 +33,7 @@ fn chosen_of<A: Allocator + Copy>(
     Ok(list)
 }
 
-// How many documents are below one.
+// Returns the number of documents below one.
 fn below(documents: &[u64], document: u64) -> u64 {
     let mut below = 0u64;
     for it in documents {
@@ -44,7 +44,7 @@ fn below(documents: &[u64], document: u64) -> u64 {
     below
 }
 
-// The first document that is not below one.
+// Returns the first document that is at least a number.
 fn first_at_least(documents: &[u64], document: u64) -> Option<u64> {
     for it in documents {
         if *it >= document {
@@ -54,7 +54,7 @@ fn first_at_least(documents: &[u64], document: u64) -> Option<u64> {
     None
 }
 
-// The first of the cheapest documents between two, these included.
+// Returns the first of the cheapest documents between two, these included.
 fn cheapest(documents: &[u64], costs: &[u64], from: u64, to: u64) -> Option<u64> {
     let mut best = None;
     let mut least = 0;
@@ -68,7 +68,7 @@ fn cheapest(documents: &[u64], costs: &[u64], from: u64, to: u64) -> Option<u64>
     best
 }
 
-// The plain answer: by looking at each document.
+// Returns the plain answer, by testing each document.
 fn plain_answer(documents: &[u64], costs: &[u64], question: Question) -> Option<u64> {
     match question {
         Question::Len => Some(documents.len() as u64),
@@ -83,7 +83,7 @@ fn plain_answer(documents: &[u64], costs: &[u64], question: Question) -> Option<
     }
 }
 
-// Whether a list answers questions as a plain one does.
+// Returns true if a list answers queries as a plain one does.
 fn answer_as_plain<A: Allocator + Copy>(
     list: &Postings<A>,
     documents: &[u64],
@@ -98,7 +98,7 @@ fn answer_as_plain<A: Allocator + Copy>(
     true
 }
 
-// Whether a list answers all questions as a plain one does.
+// Returns true if a list answers all queries as a plain one does.
 fn is_of<A: Allocator + Copy>(list: &Postings<A>, documents: &[u64], costs: &[u64]) -> bool {
     let mut is_right = true;
     for from in ASKED {
@@ -118,7 +118,7 @@ fn is_of<A: Allocator + Copy>(list: &Postings<A>, documents: &[u64], costs: &[u6
     is_right
 }
 
-// Whether the list of the chosen documents answers as a plain one does.
+// Returns true if the list of the chosen documents answers as a plain one does.
 fn chosen_is_right(alloc: Global, chosen: u64) -> Result<bool, PostingsError> {
     let documents = chosen_of(alloc, &DOCUMENTS, chosen)?;
     let costs = chosen_of(alloc, &COSTS, chosen)?;
@@ -128,7 +128,7 @@ fn chosen_is_right(alloc: Global, chosen: u64) -> Result<bool, PostingsError> {
     )
 }
 
-// The first choice of documents whose list is answered otherwise.
+// Returns the first choice of documents whose list has a wrong answer.
 fn wrong_choice(alloc: Global) -> Option<u64> {
     for chosen in 0..64 {
         if chosen_is_right(alloc, chosen) != Ok(true) {
@@ -144,13 +144,13 @@ fn all_lists_of_few_documents() {
     assert!(wrong_choice(rt.alloc()).is_none());
 }
 
-// The list of the chosen documents.
+// Returns the list of the chosen documents.
 fn chosen_list(alloc: Global, chosen: u64) -> Result<Postings<Global>, PostingsError> {
     let documents = chosen_of(alloc, &DOCUMENTS, chosen)?;
     posted(alloc, documents.as_slice(), documents.as_slice())
 }
 
-// Whether two lists share the documents that were chosen for both.
+// Returns true if two lists have in common the documents that were chosen for both.
 fn share_chosen(alloc: Global, one: u64, other: u64) -> Result<bool, PostingsError> {
     let wanted = chosen_of(alloc, &DOCUMENTS, one & other)?;
     asked_both(
@@ -160,7 +160,7 @@ fn share_chosen(alloc: Global, one: u64, other: u64) -> Result<bool, PostingsErr
     )
 }
 
-// The first two choices whose lists share others.
+// Returns the first two choices whose lists have others in common.
 fn wrong_choices(alloc: Global) -> Option<(u64, u64)> {
     for one in 0..64 {
         for other in 0..64 {
@@ -178,7 +178,7 @@ fn all_pairs_of_lists_share_what_both_have() {
     assert!(wrong_choices(rt.alloc()).is_none());
 }
 
-// The first `count` multiples of `step`, modulo `limit`.
+// Returns the first `count` multiples of `step`, modulo `limit`.
 fn multiples<A: Allocator + Copy>(
     alloc: A,
     count: u64,
@@ -193,7 +193,7 @@ fn multiples<A: Allocator + Copy>(
     Ok(numbers)
 }
 
-// Documents `step` apart, with costs below 101.
+// Returns documents `step` apart, with costs below 101.
 fn spread<A: Allocator + Copy>(
     alloc: A,
     count: u64,
@@ -207,7 +207,7 @@ fn spread<A: Allocator + Copy>(
 // The most low parts and queries of the high parts that a search among 1,000 documents reads.
 const SEARCH: u64 = 10 + 8;
 
-// Whether the queries of a list of 1,000 documents read within their bounds.
+// Returns true if the queries of a list of 1,000 documents read within their bounds.
 fn reads_are_few(list: &Postings<Global>) -> bool {
     let mut is_within = true;
     for document in 0..1000u64 {
@@ -229,7 +229,7 @@ fn queries_read_within_their_bounds() {
     assert!(matches!(is_within, Ok(true)));
 }
 
-// How many low parts two lists read for what they share, which is ten documents.
+// Returns the number of low parts that two lists read for their intersection, which has ten documents.
 fn reads_of_shared(one: &Postings<Global>, other: &Postings<Global>) -> Option<u64> {
     let mut tally = Tally::new();
     let found = asked(
@@ -246,8 +246,8 @@ fn is_at_most(reads: Result<Option<u64>, PostingsError>, most: u64) -> bool {
     }
 }
 
-// Whether two lists of so many documents, some steps apart, read no more than each document of the shorter one
-// asked of the longer.
+// Returns true if two lists of that many documents, some steps apart, read at most what a search in the longer
+// one does for each document of the shorter.
 fn few_are_read(alloc: Global, one: (u64, u64), other: (u64, u64)) -> bool {
     let reads = asked_both(
         spread(alloc, one.0, one.1),

@@ -32,7 +32,7 @@ const NO_ANSWERS: [(Question, Option<u64>); 6] = [
     (Question::Cheapest(0, 9), None),
 ];
 
-// The number of the first question that a list answers otherwise.
+// Returns the number of the first query that a list answers otherwise.
 fn wrong_answer(
     alloc: Global,
     documents: &[u64],
@@ -58,7 +58,7 @@ fn no_documents() {
     assert!(matches!(wrong_answer(rt.alloc(), &[], &[], &NO_ANSWERS), Ok(None)));
 }
 
-// Whether a list gives these documents and costs.
+// Returns true if a list has these documents and costs.
 fn gives(list: &Postings<Global>, documents: &[u64], costs: &[u64]) -> bool {
     for (place, document) in documents.iter().enumerate() {
         if list.documents().get(place) != Some(*document) {
@@ -78,7 +78,7 @@ fn documents_and_costs() {
     assert!(told == Ok(true));
 }
 
-// Documents, costs, and the fault that a maker tells of them.
+// Documents, costs, and the error of the constructor.
 type Fault<'a> = (&'a [u64], &'a [u64], Option<PostingsError>);
 
 const FAULTS: [Fault; 6] = [
@@ -90,7 +90,7 @@ const FAULTS: [Fault; 6] = [
     (&[0, u64::MAX], &[u64::MAX, 0], None),
 ];
 
-// The number of the first row of which a maker tells another one.
+// Returns the number of the first row of which the constructor returns another error.
 fn wrong_fault(alloc: Global, rows: &[Fault]) -> Option<usize> {
     for (row, (documents, costs, wanted)) in rows.iter().enumerate() {
         let fault = asked(posted(alloc, documents, costs), |_: &Postings<Global>| ()).err();
@@ -118,7 +118,7 @@ const PAIRS: [Pair; 5] = [
     (&[1, 3, 5], &[0, 2, 4, 6], &[]),
 ];
 
-// The number of the first pair that shares others, whichever is asked.
+// Returns the number of the first pair with another intersection, in either order.
 fn wrong_pair(alloc: Global, pairs: &[Pair]) -> Option<usize> {
     for (row, (one, other, wanted)) in pairs.iter().enumerate() {
         let shared = asked_both(

@@ -1,4 +1,4 @@
-//! Lists of documents and what is asked of them, as tests need them.
+//! Lists of documents and their queries, as tests need them.
 
 use crate::rattle::prelude::*;
 use crate::proved::postings::{Postings, PostingsError};
@@ -6,7 +6,7 @@ use crate::rattle::Allocator;
 use crate::proved_tests::test_alloc::asked;
 use crate::proved::vers_tally::tally::Tally;
 
-/// A list of these documents with these costs.
+/// Returns a list of these documents with these costs.
 pub fn posted<A: Allocator + Copy>(
     alloc: A,
     documents: &[u64],
@@ -16,7 +16,7 @@ pub fn posted<A: Allocator + Copy>(
     Postings::from_sorted(documents, costs)
 }
 
-/// A question to a list of documents. Truth values are answered as 1 and 0.
+/// A query of a list of documents. Booleans are answered as 1 and 0.
 #[derive(Clone, Copy)]
 pub enum Question {
     Len,
@@ -27,7 +27,7 @@ pub enum Question {
     Cheapest(u64, u64),
 }
 
-/// The answer of a list.
+/// Returns the answer of a list.
 pub fn answer<A: Allocator + Copy>(list: &Postings<A>, question: Question) -> Option<u64> {
     match question {
         Question::Len => Some(list.len() as u64),
@@ -39,7 +39,7 @@ pub fn answer<A: Allocator + Copy>(list: &Postings<A>, question: Question) -> Op
     }
 }
 
-/// The answer of the counted form of a question. One that has none is asked as it is.
+/// Returns the answer of the counted form of a query, or of its plain form if it has none.
 pub fn counted_answer<A: Allocator + Copy>(list: &Postings<A>, question: Question) -> Option<u64> {
     let mut tally = Tally::new();
     match question {
@@ -53,7 +53,7 @@ pub fn counted_answer<A: Allocator + Copy>(list: &Postings<A>, question: Questio
     }
 }
 
-/// Whether two lists share these documents.
+/// Returns true if two lists have these documents in common.
 pub fn share<A: Allocator + Copy>(one: &Postings<A>, other: &Postings<A>, wanted: &[u64]) -> bool {
     let is_wanted = asked(
         one.intersect(other),

@@ -1,11 +1,11 @@
-//! Questions about a value that was made, of which the caller holds nothing itself.
+//! Runs queries on a value, through a reference.
 //!
-//! A function that owns nested structures is slow to prove. These own a value of any type, so that a test
-//! makes a value in one call and asks it by a reference.
+//! A function that owns nested structures is slow to prove. These own a value of a generic type, so that a test
+//! makes a value in one call and queries it by a reference.
 
 use crate::rattle::prelude::*;
 
-/// What is asked of a value that was made; or why it was not made.
+/// Returns the result of `ask` for a value that was made, or the error if it was not made.
 pub fn asked<T: Sized, R, E, F: FnOnce(&T) -> R>(made: Result<T, E>, ask: F) -> Result<R, E> {
     match made {
         Ok(it) => Ok(ask(&it)),
@@ -13,7 +13,7 @@ pub fn asked<T: Sized, R, E, F: FnOnce(&T) -> R>(made: Result<T, E>, ask: F) -> 
     }
 }
 
-/// The same of a value that may change meanwhile.
+/// Does the same with a mutable reference.
 pub fn asked_mut<T: Sized, R, E, F: FnOnce(&mut T) -> R>(made: Result<T, E>, ask: F) -> Result<R, E> {
     match made {
         Ok(mut it) => Ok(ask(&mut it)),
@@ -21,7 +21,7 @@ pub fn asked_mut<T: Sized, R, E, F: FnOnce(&mut T) -> R>(made: Result<T, E>, ask
     }
 }
 
-/// The number of the first row, counted from 0, whose question is not answered as it says.
+/// Returns the number of the first row (from 0) whose query has another result than the row says.
 pub fn first_wrong<T, Q: Copy, R: PartialEq, F: Fn(&T, Q) -> R>(
     it: &T,
     rows: &[(Q, R)],
@@ -35,7 +35,7 @@ pub fn first_wrong<T, Q: Copy, R: PartialEq, F: Fn(&T, Q) -> R>(
     None
 }
 
-/// The same of two values.
+/// Does the same for two values.
 pub fn asked_both<T: Sized, U: Sized, R, E: Sized, F: FnOnce(&T, &U) -> R>(
     one: Result<T, E>,
     other: Result<U, E>,
@@ -46,7 +46,7 @@ pub fn asked_both<T: Sized, U: Sized, R, E: Sized, F: FnOnce(&T, &U) -> R>(
     Ok(ask(&one, &other))
 }
 
-/// The first length, and the number of the row that is wrong, of values that are made of each length.
+/// Returns the first length, and the number of the wrong row, of values made at each length.
 pub fn first_wrong_length<
     T: Sized,
     E: Sized,
@@ -61,7 +61,7 @@ pub fn first_wrong_length<
     Ok(None)
 }
 
-/// A call of a walk that takes an item, or asks how many are left.
+/// A step of a walk that takes an item, or returns the number left.
 #[derive(Clone, Copy)]
 pub enum Step {
     Next,
@@ -71,7 +71,7 @@ pub enum Step {
     Len,
 }
 
-/// The number of the first step of a walk, counted from 0, that does not give what its row says.
+/// Returns the number of the first step of a walk (from 0) that has another result than its row says.
 pub fn first_wrong_step<W, S: Copy, R: PartialEq, F: Fn(&mut W, S) -> R>(
     walk: &mut W,
     rows: &[(S, R)],

@@ -1,7 +1,7 @@
-//! Sizes that values tell, compared with the memory that they hold.
+//! The sizes that values report, compared with the memory that they use.
 //!
-//! A value is made over an allocator that counts bytes, and all else in other memory. What the value holds
-//! beside the size that it tells is what its vectors round up, and its own vectors of structs.
+//! A value is made with an allocator that counts bytes, and all else in other memory. The value uses more than
+//! it reports only for what its vectors round up, and for its own vectors of structs.
 
 use crate::rattle::prelude::*;
 
@@ -13,21 +13,21 @@ pub const SIZES: [usize; 15] = [
     0, 1, 15, 16, 17, 63, 64, 65, 511, 512, 513, 8191, 8192, 8193, 16385,
 ];
 
-/// What tells the size of a value.
+/// The reported size of a value.
 pub trait Size<T> {
-    /// How many bytes the lists of a value take.
+    /// Returns the number of bytes that the lists of a value take.
     fn bytes(&self, it: &T) -> usize;
 }
 
-/// How many bytes a value that was made, and then its clone, hold beside those that they tell.
+/// The number of bytes that a value, and then its clone, use in excess of what they report.
 #[derive(Clone, Copy, PartialEq, Eq, Debug)]
 pub struct Spare {
     pub made: usize,
     pub cloned: usize,
 }
 
-/// What a value and its clone hold, where nothing else is held. None where one of them is not made, or holds
-/// less than it tells.
+/// Returns the excess of a value and its clone, if nothing else is in use. `None` if one of them is not made,
+/// or uses less than it reports.
 pub fn spare_of<B: Allocator, T: Clone, X: Sized, S: Size<T>>(
     heap: &Refusing<B>,
     made: Result<T, X>,
@@ -50,15 +50,15 @@ pub fn spare_of<B: Allocator, T: Clone, X: Sized, S: Size<T>>(
 
 /// A way to make values of many lengths.
 pub trait Sizing<B: Allocator>: Copy {
-    /// Makes a value of a length over `heap`, and all else over `inner`. What the value and its clone hold
-    /// beside the size that they tell.
+    /// Makes a value of a length with `heap`, and all else with `inner`. Returns the excess of the value and
+    /// its clone over the sizes that they report.
     fn spare(self, inner: B, heap: &Refusing<B>, len: usize) -> Option<Spare>;
 
-    /// Whether a value of this length and its clone may hold so much.
+    /// Returns true if a value of this length and its clone may have that excess.
     fn is_allowed(self, len: usize, spare: Spare) -> bool;
 }
 
-// Whether a value of a length holds what it may, and gives all back.
+// Returns true if a value of a length has an allowed excess, and frees all its memory.
 fn is_sized<B: Allocator + Copy, S: Sizing<B>>(inner: B, sizing: S, len: usize) -> bool {
     let heap = Refusing::none(inner);
     match sizing.spare(inner, &heap, len) {
@@ -67,8 +67,8 @@ fn is_sized<B: Allocator + Copy, S: Sizing<B>>(inner: B, sizing: S, len: usize) 
     }
 }
 
-/// The first length, and the number of the first way there, counted from 0, of which a value holds more or
-/// less than it may.
+/// Returns the first length, and the number of the first way there (from 0), of which a value has an excess
+/// that is not allowed.
 pub fn first_wrong_size<B: Allocator + Copy, S: Sizing<B>>(
     inner: B,
     lengths: &[usize],

@@ -1,7 +1,7 @@
-//! Tries whose parts are the methods of a trait.
+//! Trials whose parts are the methods of a trait.
 //!
-//! A method is one function to the prover, where a closure or a function that is passed is four. So a call
-//! that is tried at many lengths implements these traits, and the functions beside each run its tries.
+//! A method is one function to the prover, whereas a closure or a function that is passed is four. So a call
+//! that is tested at many lengths implements these traits, and the functions next to them run its trials.
 
 use crate::rattle::prelude::*;
 
@@ -10,16 +10,16 @@ use crate::proved_tests::test_alloc::tries::{Ending, done_if, each_refused, out_
 use crate::rattle::AllocError;
 use crate::rattle::Allocator;
 
-/// A call that is tried on values of many lengths.
+/// A call that is tested on values of many lengths.
 pub trait Trial<B: Allocator>: Copy {
-    /// How a try ends that is told by `heap` which request is refused.
+    /// Runs a trial with `heap`, whose plan says which request is refused.
     fn run(self, heap: &Refusing<B>, len: usize) -> Ending;
 
-    /// Whether the call takes memory at a length.
+    /// Returns true if the call allocates at a length.
     fn takes_memory(self, len: usize) -> bool;
 }
 
-/// `each_refused` of a call at a length.
+/// Returns `each_refused` of a call at a length.
 pub fn requests<B: Allocator + Copy, C: Trial<B>>(
     inner: B,
     call: C,
@@ -28,7 +28,7 @@ pub fn requests<B: Allocator + Copy, C: Trial<B>>(
     each_refused(inner, |heap: &Refusing<B>| call.run(heap, len))
 }
 
-// Whether all tries at a length end as they have to, and the call takes memory just where it should.
+// Returns true if all trials at a length end as they must, and the call allocates exactly if it should.
 fn is_right_at<B: Allocator + Copy, C: Trial<B>>(inner: B, call: C, len: usize) -> bool {
     match requests(inner, call, len) {
         Ok(requests) => (requests > 0) == call.takes_memory(len),
@@ -36,7 +36,7 @@ fn is_right_at<B: Allocator + Copy, C: Trial<B>>(inner: B, call: C, len: usize) 
     }
 }
 
-/// The first length, and the number of the first call there, counted from 0, that goes wrong.
+/// Returns the first length, and the number of the first call there (from 0) that is wrong.
 pub fn first_wrong_trial<B: Allocator + Copy, C: Trial<B>>(
     inner: B,
     lengths: &[usize],
@@ -52,14 +52,14 @@ pub fn first_wrong_trial<B: Allocator + Copy, C: Trial<B>>(
     None
 }
 
-/// What a value has to be. A walk may be taken to its end by the check.
+/// A property of a value. The check may take a walk to its end.
 pub trait Check<T> {
-    /// Whether the value is right.
+    /// Returns true if the value is right.
     fn is_right(&self, it: &mut T) -> bool;
 }
 
-/// Tries `clone`. The value stays as it is, and a clone made once there is memory is right too. The value
-/// itself is checked last.
+/// Tests `clone`. The value is unchanged, and a clone made once there is memory is right too. The value itself
+/// is checked last.
 pub fn try_clone_checked<B: Allocator, T: Clone, X: Sized, C: Check<T>>(
     heap: &Refusing<B>,
     made: Result<T, X>,
@@ -80,7 +80,7 @@ pub fn try_clone_checked<B: Allocator, T: Clone, X: Sized, C: Check<T>>(
     }
 }
 
-/// Whether a value was made, and is right.
+/// Returns true if a value was made, and is right.
 pub fn is_made_right<T: Sized, X: Sized, C: Check<T>>(made: Result<T, X>, check: &C) -> bool {
     match made {
         Ok(mut it) => check.is_right(&mut it),
@@ -88,7 +88,7 @@ pub fn is_made_right<T: Sized, X: Sized, C: Check<T>>(made: Result<T, X>, check:
     }
 }
 
-/// Tries calls that take no memory, of a value that was made.
+/// Tests calls that allocate nothing, of a value that was made.
 pub fn try_use_checked<B: Allocator, T: Sized, X: Sized, C: Check<T>>(
     heap: &Refusing<B>,
     made: Result<T, X>,
@@ -101,13 +101,13 @@ pub fn try_use_checked<B: Allocator, T: Sized, X: Sized, C: Check<T>>(
     done_if(check.is_right(&mut it))
 }
 
-/// A try of a call that takes a value by reference.
+/// A trial of a call that takes a value by reference.
 pub trait Tried<T> {
-    /// How the try ends.
+    /// Runs the trial.
     fn tried(&self, it: &T) -> Ending;
 }
 
-/// How a try of a value that was made ends. It owns the value.
+/// Runs a trial of a value that was made. It owns the value.
 pub fn tried_on<T: Sized, X: Sized, C: Tried<T>>(made: Result<T, X>, call: &C) -> Ending {
     match made {
         Ok(it) => call.tried(&it),
@@ -121,17 +121,17 @@ pub trait Making {
 
     type Fault: PartialEq;
 
-    /// The fault where there is no memory.
+    /// Returns the error for a refused request.
     fn out_of_memory(&self) -> Self::Fault;
 
-    /// The call.
+    /// Calls it.
     fn make(&self) -> Result<Self::Made, Self::Fault>;
 
-    /// Whether what it made is right.
+    /// Returns true if what it made is right.
     fn is_right(&self, it: &Self::Made) -> bool;
 }
 
-/// Tries a maker. Once refused, it is called again with memory, and makes what an undisturbed call does.
+/// Tests a constructor. Once refused, it is called again with memory, and makes what an undisturbed call does.
 pub fn try_making<B: Allocator, C: Making>(heap: &Refusing<B>, making: &C) -> Ending {
     heap.start();
     match making.make() {
@@ -143,7 +143,7 @@ pub fn try_making<B: Allocator, C: Making>(heap: &Refusing<B>, making: &C) -> En
     }
 }
 
-// Whether a call makes what it should.
+// Returns true if a call makes what it should.
 fn is_made<C: Making>(making: &C) -> bool {
     match making.make() {
         Ok(it) => making.is_right(&it),
@@ -155,21 +155,21 @@ fn is_made<C: Making>(making: &C) -> bool {
 pub trait Edit<T> {
     type Fault: PartialEq;
 
-    /// The fault where there is no memory.
+    /// Returns the error for a refused request.
     fn out_of_memory(&self) -> Self::Fault;
 
-    /// The call.
+    /// Calls it.
     fn edit(&self, it: &mut T) -> Result<(), Self::Fault>;
 
-    /// Whether the value is as before.
+    /// Returns true if the value is unchanged.
     fn is_as_before(&self, it: &T) -> bool;
 
-    /// Whether the value is as the call leaves it.
+    /// Returns true if the value is as after the call.
     fn is_edited(&self, it: &T) -> bool;
 }
 
-/// Tries a call that changes a value. Where it is refused the value is as before, and the call made again
-/// with memory does what an undisturbed one does.
+/// Tests a call that changes a value. If it is refused the value is unchanged, and the call repeated with
+/// memory does what an undisturbed one does.
 pub fn try_edit<B: Allocator, T: Sized, X: Sized, C: Edit<T>>(
     heap: &Refusing<B>,
     made: Result<T, X>,
@@ -189,23 +189,23 @@ pub fn try_edit<B: Allocator, T: Sized, X: Sized, C: Edit<T>>(
     }
 }
 
-/// A call that takes a value and answers another one.
+/// A call that converts a value.
 pub trait Conversion<T> {
     type Made: Sized;
 
     type Refused;
 
-    /// The call.
+    /// Calls it.
     fn convert(&self, it: T) -> Result<Self::Made, Self::Refused>;
 
-    /// Whether what it answers is right.
+    /// Returns true if its result is right.
     fn is_right(&self, it: &Self::Made) -> bool;
 
-    /// Whether what a refusal answers is right.
+    /// Returns true if its error is right.
     fn is_kept(&self, refused: Self::Refused) -> bool;
 }
 
-/// Tries a call that takes a value and answers another one.
+/// Tests a call that converts a value.
 pub fn try_conversion<B: Allocator, T: Sized, X: Sized, C: Conversion<T>>(
     heap: &Refusing<B>,
     made: Result<T, X>,

@@ -1,8 +1,8 @@
-//! A call that takes memory, tried again and again with another of its requests refused.
+//! Tests of allocating calls, repeated with another of their requests refused.
 //!
-//! A try makes what the call needs with ample memory, starts the refusals, calls, and compares what
-//! stands then with what was promised. `each_refused` runs the tries; `try_make` and the functions beside
-//! it are their bodies, one for each way in which a call handles values.
+//! A trial makes what the call needs with ample memory, starts the refusals, calls, and compares the state with
+//! the contract. `each_refused` runs the trials; `try_make` and the functions next to it are their bodies, one
+//! for each way in which a call handles values.
 
 use crate::rattle::prelude::*;
 
@@ -16,21 +16,21 @@ pub const LENGTHS: [usize; 14] = [
     0, 1, 60, 63, 64, 65, 127, 128, 129, 130, 511, 512, 513, 8193,
 ];
 
-/// More tries than any call needs.
+/// More trials than any call needs.
 const MOST_TRIES: u64 = 1000;
 
-/// How a try ended.
+/// The result of a trial.
 #[derive(Clone, Copy, PartialEq, Eq, Debug)]
 pub enum Ending {
     /// The call succeeded, and what it made or left is right.
     Done,
-    /// The call answered that it is out of memory, and what it left is right.
+    /// The call returned out of memory, and what it left is right.
     OutOfMemory,
-    /// The call answered another fault, or made or left something wrong; or what it needs was not made.
+    /// The call returned another error, or made or left something wrong; or what it needs was not made.
     Wrong,
 }
 
-/// The ending of a call that succeeded.
+/// Returns the ending of a call that succeeded.
 pub fn done_if(is_right: bool) -> Ending {
     if is_right {
         Ending::Done
@@ -39,7 +39,7 @@ pub fn done_if(is_right: bool) -> Ending {
     }
 }
 
-/// The ending of a call that was refused.
+/// Returns the ending of a call that was refused.
 pub fn out_of_memory_if(is_right: bool) -> Ending {
     if is_right {
         Ending::OutOfMemory
@@ -48,10 +48,10 @@ pub fn out_of_memory_if(is_right: bool) -> Ending {
     }
 }
 
-/// Tries a call with its first request refused, then with its second, and so on, until a try ends with
-/// none refused. Answers how many requests that one made. A try with a request refused has to end as
-/// `OutOfMemory`, the last one as `Done`, and each gives all memory back. Err has the number of the first
-/// try that does not.
+/// Tests a call with its first request refused, then with its second, and so on, until a trial ends with none
+/// refused. Returns the number of requests of that trial. A trial with a request refused must end as
+/// `OutOfMemory`, the last one as `Done`, and each frees all memory. Errors: the number of the first trial that
+/// does not.
 pub fn each_refused<B: Allocator + Copy, F: Fn(&Refusing<B>) -> Ending>(
     inner: B,
     tried: F,
@@ -75,7 +75,7 @@ pub fn each_refused<B: Allocator + Copy, F: Fn(&Refusing<B>) -> Ending>(
     Err(MOST_TRIES)
 }
 
-/// Whether a call takes memory, where `each_refused` finds all its tries as they have to be.
+/// Returns true if a call allocates, or `None` if `each_refused` finds a wrong trial.
 pub fn takes_memory<B: Allocator + Copy, F: Fn(&Refusing<B>) -> Ending>(
     inner: B,
     tried: F,
@@ -86,8 +86,8 @@ pub fn takes_memory<B: Allocator + Copy, F: Fn(&Refusing<B>) -> Ending>(
     }
 }
 
-/// The number of the first call, counted from 0, whose tries don't all end as they have to, or that takes
-/// memory where it should take none, or none where it should take some.
+/// Returns the number of the first call (from 0) whose trials don't all end as they must, or that allocates
+/// exactly if it should not.
 pub fn first_wrong_call<
     B: Allocator + Copy,
     C: Copy,
@@ -103,7 +103,7 @@ pub fn first_wrong_call<
     None
 }
 
-/// Tries a maker. Once refused, it is called again with memory, and makes what an undisturbed call does.
+/// Tests a constructor. Once refused, it is called again with memory, and makes what an undisturbed call does.
 pub fn try_make<
     B: Allocator,
     T: Sized,
@@ -122,8 +122,8 @@ pub fn try_make<
     }
 }
 
-/// Tries a call that changes a value. Where it is refused the value is as before, and the call made again
-/// with memory does what an undisturbed one does.
+/// Tests a call that changes a value. If it is refused the value is unchanged, and the call repeated with
+/// memory does what an undisturbed one does.
 pub fn try_change<
     B: Allocator,
     T: Sized,
@@ -154,8 +154,8 @@ pub fn try_change<
     }
 }
 
-/// Tries `clone`. The value stays as it is, and a clone made once there is memory is right too. A walk
-/// may be taken to its end by `is_right`, which is asked last of the value itself.
+/// Tests `clone`. The value is unchanged, and a clone made once there is memory is right too. `is_right` may
+/// take a walk to its end, and is called last for the value itself.
 pub fn try_clone<B: Allocator, T: Clone, X: Sized, C: Fn(&mut T) -> bool>(
     heap: &Refusing<B>,
     made: Result<T, X>,
@@ -177,7 +177,7 @@ pub fn try_clone<B: Allocator, T: Clone, X: Sized, C: Fn(&mut T) -> bool>(
     }
 }
 
-/// Tries a call that takes a value and answers another one. `is_kept` is handed what a refusal answers.
+/// Tests a call that converts a value. `is_kept` takes its error.
 pub fn try_convert<
     B: Allocator,
     T: Sized,
@@ -201,7 +201,7 @@ pub fn try_convert<
     }
 }
 
-/// Tries calls that take no memory, of a value that was made: `each_refused` answers 0 requests then.
+/// Tests calls that allocate nothing, of a value that was made: `each_refused` then returns 0 requests.
 pub fn try_use<B: Allocator, T: Sized, X: Sized, U: FnOnce(&mut T) -> bool>(
     heap: &Refusing<B>,
     made: Result<T, X>,

@@ -1,5 +1,5 @@
-//! A text that is made and the queries that take memory, each of their requests refused in turn, and the other queries,
-//! which take none.
+//! The constructor of a text and its allocating queries, each of their requests refused in turn, and the other
+//! queries, which allocate nothing.
 
 use crate::rattle::prelude::*;
 use crate::proved_tests::text_index_tests::shared::{are_counted, are_first, are_plain, periodic};
@@ -49,7 +49,7 @@ fn tried(heap: &Heap, symbols: &[u64]) -> Ending {
     try_making(heap, &indexing)
 }
 
-// The maker of a text, and the calls that take memory.
+// The constructor of a text, and the calls that allocate.
 #[derive(Clone, Copy)]
 enum Call {
     Make,
@@ -76,7 +76,7 @@ fn cloned(heap: &Heap, symbols: &[u64]) -> Ending {
     try_clone_checked(heap, TextIndex::from_slice(heap, symbols, 2), &check)
 }
 
-// The call that gives back all symbols of a text.
+// The query that returns all symbols of a text.
 struct Extracting<'a, A: Allocator + Copy> {
     text: &'a TextIndex<A>,
     symbols: &'a [u64],
@@ -103,7 +103,7 @@ impl<A: Allocator + Copy> Making for Extracting<'_, A> {
     }
 }
 
-// A call that lists the places of a symbol in a text.
+// A call that lists the positions of a symbol in a text.
 struct Listing<'a, A: Allocator + Copy> {
     call: Call,
     text: &'a TextIndex<A>,
@@ -134,7 +134,7 @@ impl<A: Allocator + Copy> Making for Listing<'_, A> {
     }
 }
 
-// The same, of a text that is told later.
+// The same, of any text.
 struct Listed<'a, B: Allocator> {
     heap: &'a Refusing<B>,
     call: Call,
@@ -180,7 +180,7 @@ impl Trial<Global> for Call {
         }
     }
 
-    // A text without the symbol has no places to list, and the empty text no symbols.
+    // A text without the symbol has no positions to list, and the empty text no symbols.
     fn takes_memory(self, len: usize) -> bool {
         match self {
             Call::Make | Call::Clone => true,

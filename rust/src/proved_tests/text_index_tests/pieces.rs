@@ -1,4 +1,4 @@
-//! Pieces of a text beside those of its symbols.
+//! Extraction of pieces of a text, compared with its symbols.
 
 use crate::rattle::prelude::*;
 use crate::proved_tests::text_index_tests::shared::periodic;
@@ -8,10 +8,10 @@ use crate::proved_tests::test_alloc::asked;
 use crate::proved::text_index::{TextError, TextIndex};
 use crate::proved::vers_tally::tally::Tally;
 
-// Of how many places one is kept.
+// The step of the samples.
 const STEPS: [usize; 4] = [1, 3, 32, usize::MAX];
 
-// The symbols from one place up to another. None where there are no such places.
+// Returns the symbols from one position up to another. `None` if there are no such positions.
 fn piece(symbols: &[u64], from: usize, to: usize) -> Option<&[u64]> {
     if from > to || to > symbols.len() {
         return None;
@@ -19,7 +19,7 @@ fn piece(symbols: &[u64], from: usize, to: usize) -> Option<&[u64]> {
     Some(&symbols[from..to])
 }
 
-// Whether both forms of the call give a piece of the symbols.
+// Returns true if both forms of the call return a piece of the symbols.
 fn is_extracted<A: Allocator + Copy>(
     text: &TextIndex<A>,
     symbols: &[u64],
@@ -42,7 +42,7 @@ fn is_extracted<A: Allocator + Copy>(
     is_same && count == piece(symbols, from, to).unwrap_or(&[]).len()
 }
 
-// Whether a text gives all its pieces of some lengths, and none before or past its places.
+// Returns true if a text returns all its pieces of some lengths, and none before or past its positions.
 fn are_extracted<A: Allocator + Copy>(text: &TextIndex<A>, symbols: &[u64]) -> bool {
     let mut are_right = is_extracted(text, symbols, usize::MAX, usize::MAX);
     for from in 0..symbols.len().saturating_add(2) {
@@ -76,7 +76,7 @@ fn pieces_are_those_of_the_symbols() {
     assert!(are_right && pieces_are_right(rt.alloc(), 70, 32) == Ok(true));
 }
 
-// How many rank calls, numbers and kept rows a piece of ten symbols of three bits reads.
+// Returns the numbers of rank calls, numbers and sampled rows that a piece of ten symbols of three bits reads.
 fn reads_of_piece(text: &TextIndex<Global>) -> (u64, u64, u64) {
     let mut tally = Tally::new();
     if text.extract_counted(1000..1010, &mut tally).is_err() {

@@ -1,4 +1,4 @@
-//! Texts beside a plain scan, and what the counted calls read.
+//! Texts compared with a plain scan, and the reads of the counted calls.
 
 use crate::rattle::prelude::*;
 use crate::proved_tests::text_index_tests::shared::{are_counted, are_listed, periodic, scattered};
@@ -7,10 +7,10 @@ use crate::proved_tests::test_alloc::asked;
 use crate::proved::text_index::{TextError, TextIndex};
 use crate::proved::vers_tally::tally::Tally;
 
-// Of how many places one is kept.
+// The step of the samples.
 const STEPS: [usize; 4] = [1, 3, 32, usize::MAX];
 
-// Whether a text of these symbols answers queries of its patterns as a plain scan does.
+// Returns true if a text of these symbols answers queries of its patterns as a plain scan does.
 fn is_counted_plainly(alloc: Global, symbols: &[u64]) -> bool {
     let is_right = asked(
         TextIndex::from_slice(alloc, symbols, 2),
@@ -19,7 +19,7 @@ fn is_counted_plainly(alloc: Global, symbols: &[u64]) -> bool {
     is_right == Ok(true)
 }
 
-// Whether it lists their places so, with each step.
+// Returns true if it lists their positions so, with each step.
 fn is_listed_plainly(alloc: Global, symbols: &[u64]) -> bool {
     for step in STEPS {
         let is_right = asked(
@@ -87,14 +87,14 @@ fn periods_and_one_symbol() {
     assert!(are_right && periodic_is_right(rt.alloc(), 257, 1));
 }
 
-// How many rank calls and numbers a count of a pattern of five symbols of two bits reads.
+// Returns the numbers of rank calls and numbers that a count of a pattern of five symbols of two bits reads.
 fn reads_of_count(text: &TextIndex<Global>) -> (u64, u64) {
     let mut tally = Tally::new();
     text.count_counted(&[0, 0, 0, 0, 0], &mut tally);
     (tally.rank_calls(), tally.items())
 }
 
-// How many rank calls, numbers and kept places finding the last of its places reads.
+// Returns the numbers of rank calls, numbers and sampled positions that locating its last occurrence reads.
 fn reads_of_place(text: &TextIndex<Global>) -> (u64, u64, u64) {
     let mut tally = Tally::new();
     text.places(&[0, 0, 0, 0, 0]).next_back_counted(&mut tally);

@@ -5,7 +5,7 @@ use crate::rattle::Global;
 use crate::proved_tests::test_alloc::asked;
 use crate::proved::text_index::{TextError, TextIndex};
 
-// Symbols, their width, a pattern, and how many places it has.
+// Symbols, their width, a pattern, and its number of occurrences.
 type Row<'a> = (&'a [u64], u16, &'a [u64], usize);
 
 const ROWS: [Row; 13] = [
@@ -24,7 +24,7 @@ const ROWS: [Row; 13] = [
     (&[65535, 0, 65535], 16, &[u64::MAX], 0),
 ];
 
-// The number of the first row whose pattern has another number of places.
+// Returns the number of the first row whose pattern has another number of occurrences.
 fn wrong_row(alloc: Global, rows: &[Row]) -> Option<usize> {
     for (row, (symbols, width, pattern, wanted)) in rows.iter().enumerate() {
         let is_right = asked(
@@ -49,7 +49,7 @@ fn patterns_have_their_places() {
     assert!(wrong_row(rt.alloc(), &ROWS).is_none());
 }
 
-// Symbols of two bits, a pattern, and its places in the order of what the text goes on with from them.
+// Symbols of two bits, a pattern, and its positions in suffix-array order.
 type Places<'a> = (&'a [u64], &'a [u64], &'a [usize]);
 
 const PLACES: [Places; 6] = [
@@ -65,7 +65,7 @@ const PLACES: [Places; 6] = [
     (&[], &[], &[0]),
 ];
 
-// The number of the first row whose pattern has other places.
+// Returns the number of the first row whose pattern has other positions.
 fn wrong_places(alloc: Global, rows: &[Places]) -> Option<usize> {
     for (row, (symbols, pattern, wanted)) in rows.iter().enumerate() {
         let is_right = asked(
@@ -88,7 +88,7 @@ fn places_in_their_order() {
     assert!(wrong_places(rt.alloc(), &PLACES).is_none());
 }
 
-// Symbols, their width, the step, and the fault that a maker tells of them.
+// Symbols, their width, the step, and the error of the constructor.
 type Fault<'a> = (&'a [u64], u16, usize, Option<TextError>);
 
 const FAULTS: [Fault; 7] = [
@@ -101,7 +101,7 @@ const FAULTS: [Fault; 7] = [
     (&[0, 3], 2, usize::MAX, None),
 ];
 
-// The number of the first row of which a maker tells another one.
+// Returns the number of the first row of which the constructor returns another error.
 fn wrong_fault(alloc: Global, rows: &[Fault]) -> Option<usize> {
     for (row, (symbols, width, step, wanted)) in rows.iter().enumerate() {
         let made = TextIndex::with_step(alloc, symbols, *width, *step);

@@ -1,4 +1,4 @@
-//! Sizes that a text tells, compared with the memory that it and its clone hold.
+//! The sizes that a text reports, compared with the memory that it and its clone use.
 
 use crate::rattle::prelude::*;
 use crate::proved_tests::text_index_tests::shared::{periodic, scattered};
@@ -11,7 +11,7 @@ use crate::proved::vers_rank::fast_rs_vec::RsVec;
 
 type Heap = Refusing<Global>;
 
-// How many levels a text of symbols of two bits has.
+// The number of levels of a text of symbols of two bits.
 const LEVELS: usize = 2;
 
 // Lengths of texts at and around the ends of limbs and blocks.
@@ -20,7 +20,7 @@ const LENGTHS: [usize; 7] = [0, 1, 63, 64, 65, 511, 600];
 // The most bytes by which the vectors of a text that was made are rounded up.
 const ROUNDED: usize = 96;
 
-// The size that a text tells.
+// The size that a text reports.
 #[derive(Clone, Copy)]
 struct HeapSize;
 
@@ -30,13 +30,13 @@ impl<A: Allocator + Copy> Size<TextIndex<A>> for HeapSize {
     }
 }
 
-// A text with one place kept for each so many.
+// A text with the step of its samples.
 #[derive(Clone, Copy)]
 struct Kept {
     step: usize,
 }
 
-// A clone holds just what is told, and a vector of its levels.
+// A clone uses exactly what it reports, and a vector of its levels.
 impl Sizing<Global> for Kept {
     fn spare(self, inner: Global, heap: &Heap, len: usize) -> Option<Spare> {
         match periodic(inner, len, 3) {
@@ -67,11 +67,11 @@ fn sizes_told_are_held() {
 // Lengths of texts that are made, up to one whose vectors would show that they grow by doubling.
 const MADE: [usize; 7] = [0, 1, 2, 99, 100, 10_000, 100_000];
 
-// The same of texts with so many symbols that each takes long to make.
+// The same for texts of so many symbols that each takes long to make.
 const WIDE: [usize; 3] = [0, 100, 100_000];
 
-// The most bytes held while a text is made: 24 for each place and for each symbol that there may be, and some for each
-// level and the text.
+// Returns the most bytes in use while a text is made: 24 for each position and for each symbol that there may
+// be, and some for each level and the text.
 fn most_at_work(len: usize, width: u16) -> usize {
     let level: usize = 200;
     level
@@ -81,7 +81,7 @@ fn most_at_work(len: usize, width: u16) -> usize {
         .wrapping_add(400)
 }
 
-// Whether no more is held while a text is made.
+// Returns true if no more is in use while a text is made.
 fn is_made_within(inner: Global, len: usize, width: u16, step: usize) -> bool {
     let symbols = match scattered(inner, len, width) { Ok(symbols) => symbols, _ => {
         return false;
@@ -94,7 +94,7 @@ fn is_made_within(inner: Global, len: usize, width: u16, step: usize) -> bool {
     made == Ok(true) && heap.most_held_bytes() <= most_at_work(len, width)
 }
 
-// Whether that is so of texts of all lengths.
+// Returns true if that holds for texts of all lengths.
 fn are_made_within(inner: Global, lengths: &[usize], width: u16, step: usize) -> bool {
     for len in lengths {
         if !is_made_within(inner, *len, width, step) {

@@ -1,4 +1,4 @@
-//! Tests of lists of bits with ranks and selects, and of their iterators.
+//! Tests of lists of bits with rank and select, and of their iterators.
 
 use crate::rattle::prelude::*;
 

@@ -1,4 +1,4 @@
-//! What is asked stands in tables. Helpers over any allocator make the lists and ask them, by a trait
+//! The queries are in tables. Helpers with a generic allocator make the lists and query them, through a trait
 //! that both types have, and a test compares their answers.
 
 use crate::rattle::prelude::*;

@@ -1,5 +1,5 @@
-//! What is asked stands in tables. A test holds no list itself, which would be slow to prove: it hands what
-//! a maker answers to an owner of any type, and helpers over any allocator ask it by a reference.
+//! The queries are in tables. A test owns no list itself, which would be slow to prove: it passes the result of
+//! a constructor to an owner of a generic type, and helpers with a generic allocator query it by a reference.
 //! An `assert!` of an `==` is faster to prove than an `assert_eq!`, which prints both sides.
 
 use crate::rattle::prelude::*;

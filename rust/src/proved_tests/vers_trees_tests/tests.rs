@@ -1,7 +1,6 @@
-//! What is asked stands in tables. Helpers over any allocator and any block size make the trees and ask
-//! them, and a test compares their answers at seven block sizes, so that no test holds a tree itself,
-//! which would be slow to prove. An `assert!` of an `==` is faster to prove than an `assert_eq!`, which
-//! prints both sides.
+//! The queries are in tables. Helpers with a generic allocator and block size make the trees and query them,
+//! and a test compares their answers at seven block sizes, so that no test owns a tree itself, which would be
+//! slow to prove. An `assert!` of an `==` is faster to prove than an `assert_eq!`, which prints both sides.
 
 use crate::rattle::prelude::*;
 mod builders;

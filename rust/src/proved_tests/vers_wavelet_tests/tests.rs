@@ -1,6 +1,6 @@
-//! What is asked stands in tables. A test holds no matrix itself, which would be slow to prove: it hands what
-//! a maker answers to an owner of any type, and helpers over any allocator ask it by a reference.
-//! An `assert!` of an `==` is faster to prove than an `assert_eq!`, which prints both sides.
+//! The queries are in tables. A test owns no matrix itself, which would be slow to prove: it passes the result
+//! of a constructor to an owner of a generic type, and helpers with a generic allocator query it by a
+//! reference. An `assert!` of an `==` is faster to prove than an `assert_eq!`, which prints both sides.
 
 use crate::rattle::prelude::*;
 mod batches;

@@ -1,16 +1,16 @@
-//! What is asked of all words of a list: by chunks or lanes, and word by word at the end.
+//! Operations on all words of a list: by chunks or lanes, and word by word at the end.
 
 use crate::rattle::prelude::*;
 
 use crate::rattle::lanes::*;
 
-/// How many words are counted at once.
+/// The number of words counted at once.
 const CHUNK: usize = 4;
 
-/// How many words are compared at once.
+/// The number of words compared at once.
 const LANES: usize = 8;
 
-// How many ones the words have.
+// Returns the number of ones of the words.
 pub(super) fn ones_of(words: &[u64]) -> u64 {
     let (chunks, end) = words.as_arrays::<CHUNK>();
     let mut ones: u64 = 0;
@@ -23,14 +23,14 @@ pub(super) fn ones_of(words: &[u64]) -> u64 {
     ones
 }
 
-// How many ones a chunk has.
+// Returns the number of ones of a chunk.
 #[inline(always)]
 fn ones_of_chunk(chunk: &[u64; CHUNK]) -> u64 {
     let [a, b, c, d] = *chunk;
     u64::from(a.count_ones() + b.count_ones() + c.count_ones() + d.count_ones())
 }
 
-// Whether words are the same as others, which are as many.
+// Returns true if both slices are equal. Precondition: they have the same length.
 pub(super) fn are_same(words: &[u64], others: &[u64]) -> bool {
     let (chunks, end) = words.as_arrays::<LANES>();
     let (other_chunks, other_end) = others.as_arrays::<LANES>();
@@ -47,7 +47,7 @@ pub(super) fn are_same(words: &[u64], others: &[u64]) -> bool {
     true
 }
 
-// Whether two chunks are the same, by lanes.
+// Returns true if two chunks are equal, by lanes.
 #[inline(always)]
 fn agree(chunk: &[u64; LANES], other: &[u64; LANES]) -> bool {
     let lanes = u64x8::from_array(*chunk);

@@ -1,4 +1,4 @@
-//! Calls that change a list of bits in place, or split it, and take no memory but for a second half.
+//! Functions that change a list of bits in place or split it, and allocate only for a second half.
 
 use crate::rattle::prelude::*;
 
@@ -13,24 +13,24 @@ impl<A: Allocator + Copy> BitVec<A> {
         self.len = len;
     }
 
-    /// Drops the last `n` bits, or all where there are not so many.
+    /// Drops the last `n` bits, or all if there are fewer.
     pub fn drop_last(&mut self, n: usize) {
         let len = self.len();
         self.truncate(len.saturating_sub(n));
     }
 
-    /// Makes the bit at a place the other one.
+    /// Flips the bit at `place`. Precondition: `place` is below the length.
     pub fn flip_bit(&mut self, place: usize) {
         flip(&mut self.data, place);
     }
 
-    /// The same as `flip_bit`.
+    /// Flips the bit at `place`. Precondition: `place` is below the length.
     pub fn flip_bit_unchecked(&mut self, place: usize) {
         self.flip_bit(place);
     }
 
-    /// Makes the bit at a place a one where `value` is odd, and else a zero. OutOfRange for a
-    /// place that the list doesn't have, and the list is as it was.
+    /// Sets the bit at `place` to the lowest bit of `value`. Errors: `OutOfRange` if `place` is out of bounds;
+    /// the list is then unchanged.
     pub fn set(&mut self, place: usize, value: u64) -> Result<(), OutOfRange> {
         if place >= self.len() {
             return Err(OutOfRange);
@@ -39,13 +39,14 @@ impl<A: Allocator + Copy> BitVec<A> {
         Ok(())
     }
 
-    /// Makes the bit at a place that the list has a one where `value` is odd, and else a zero.
+    /// Sets the bit at `place` to the lowest bit of `value`. Precondition: `place` is below the length.
     pub fn set_unchecked(&mut self, place: usize, value: u64) {
         put_bit(&mut self.data, place, value % 2 == 1);
     }
 
-    /// The first `at` bits, and the others. At 0 and at the length one of the lists is empty, and the
-    /// call takes no memory. The list comes back as it was where there is no memory.
+    /// Returns the first `at` bits, and the others. If `at` is 0 or the length, one list is empty and the call
+    /// allocates nothing. If the allocator refuses a request, the error is the unchanged list. Precondition:
+    /// `at` is at most the length.
     pub fn split_at_unchecked(mut self, at: usize) -> Result<(Self, Self), Self> {
         let mut rest = BitVec::new(self.allocator());
         if at == self.len() {
@@ -61,9 +62,13 @@ impl<A: Allocator + Copy> BitVec<A> {
         Ok((self, rest))
     }
 
-    /// The first `at` bits, and the others. OutOfRange for an `at` above the length. At 0 and at the
-    /// length one of the lists is empty, and the call takes no memory. A refusal hands the list back
-    /// as it was.
+    /// Returns the first `at` bits, and the others. If `at` is 0 or the length, one list is empty and the call
+    /// allocates nothing.
+    ///
+    /// # Errors
+    ///
+    /// `OutOfRange` if `at` is above the length; `Memory` if the allocator refuses a request. The error
+    /// contains the unchanged list.
     pub fn split_at(self, at: usize) -> Result<(Self, Self), SplitError<A>> {
         if at > self.len() {
             return Err(SplitError {

@@ -1,4 +1,4 @@
-//! The faults of the calls on lists of bits.
+//! The errors of functions on lists of bits.
 
 use crate::rattle::prelude::*;
 
@@ -11,7 +11,7 @@ use std::fmt;
 /// Why a list of bits was not made, or did not grow.
 #[derive(Clone, Copy, PartialEq, Eq, Debug)]
 pub enum GrowError {
-    /// The allocator has no memory.
+    /// The allocator refused a request.
     Memory,
     /// The list would be longer than `MAX_LEN` bits.
     TooLong,
@@ -23,7 +23,7 @@ impl From<AllocError> for GrowError {
     }
 }
 
-/// A place lies past the end of the list.
+/// A position is past the end of the list.
 #[derive(Clone, Copy, PartialEq, Eq, Debug)]
 pub struct OutOfRange;
 
@@ -35,7 +35,7 @@ impl fmt::Display for OutOfRange {
 
 impl Error for OutOfRange {}
 
-/// Two lists of different lengths were to be masked.
+/// Two lists to be masked have different lengths.
 #[derive(Clone, Copy, PartialEq, Eq, Debug)]
 pub struct LengthMismatch;
 
@@ -50,13 +50,13 @@ impl Error for LengthMismatch {}
 /// Why a list was not split.
 #[derive(Clone, Copy, PartialEq, Eq, Debug)]
 pub enum SplitCause {
-    /// The place lies past the end of the list.
+    /// The position is past the end of the list.
     OutOfRange,
-    /// The allocator has no memory.
+    /// The allocator refused a request.
     Memory,
 }
 
-/// A list that was not split, as it was, and why.
+/// A list that was not split, unchanged, and the reason.
 pub struct SplitError<A: Allocator + Copy> {
     /// The list, unchanged.
     pub vec: BitVec<A>,

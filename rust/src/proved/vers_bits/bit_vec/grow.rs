@@ -1,4 +1,4 @@
-//! Calls that make a list of bits grow.
+//! Functions that append to a list of bits.
 
 use crate::rattle::prelude::*;
 
@@ -25,22 +25,28 @@ impl<'a, A: Allocator + Copy> AsList<A> for &'a BitVec<A> {
 }
 
 impl<A: Allocator + Copy> BitVec<A> {
-    /// Appends a bit. TooLong at the greatest length alone; memory may be wanted only where the
-    /// length is a multiple of 64. The list is as it was where the call is refused.
+    /// Appends a bit. Allocates only if the length is a multiple of 64. The list is unchanged on error.
+    ///
+    /// # Errors
+    ///
+    /// `TooLong` if the length is `MAX_LEN`; `Memory` if the allocator refuses a request.
     pub fn append(&mut self, bit: bool) -> Result<(), GrowError> {
         add_bit(&mut self.data, self.len, bit)?;
         self.len += 1;
         Ok(())
     }
 
-    /// Appends the lowest bit of a number: a one where the number is odd. Refusals as of `append`.
+    /// Appends the lowest bit of a number. Errors as for `append`.
     pub fn append_bit(&mut self, number: u64) -> Result<(), GrowError> {
         self.append(number % 2 == 1)
     }
 
-    /// Appends the low `len` bits of a number, the least significant first. TooLong where the list
-    /// would be longer than `MAX_LEN`. No bits, and bits that the last limb has room for, take no
-    /// memory. The list is as it was where the call is refused.
+    /// Appends the low `len` bits of a number, least significant first. Allocates nothing if `len` is 0 or the
+    /// last limb has room. The list is unchanged on error. Precondition: `len` is at most 64.
+    ///
+    /// # Errors
+    ///
+    /// `TooLong` if the list would exceed `MAX_LEN` bits; `Memory` if the allocator refuses a request.
     pub fn append_bits(&mut self, bits: u64, len: usize) -> Result<(), GrowError> {
         if len > MAX_LEN - self.len() {
             return Err(GrowError::TooLong);
@@ -52,13 +58,13 @@ impl<A: Allocator + Copy> BitVec<A> {
         Ok(())
     }
 
-    /// The same as `append_bits`.
+    /// Appends the low `len` bits of a number, as `append_bits` does.
     pub fn append_bits_unchecked(&mut self, bits: u64, len: usize) -> Result<(), GrowError> {
         self.append_bits(bits, len)
     }
 
-    // Appends the low `n` digits of a number, with zeros past its own. Where the call is refused
-    // some of them may have been appended.
+    // Appends the low `n` digits of a number, with zeros above its own. On error some of them may have been
+    // appended.
     pub(super) fn append_digits(&mut self, number: u64, n: usize) -> Result<(), GrowError> {
         if n <= 64 {
             return self.append_bits(number, n);
@@ -71,7 +77,7 @@ impl<A: Allocator + Copy> BitVec<A> {
         Ok(())
     }
 
-    // Appends the `n` digits of a number, which the last limb has room for.
+    // Appends the `n` digits of a number. Precondition: the last limb has room for them.
     pub(super) fn append_within(&mut self, bits: u64, n: usize) {
         if n == 0 {
             return;
@@ -95,28 +101,27 @@ impl<A: Allocator + Copy> BitVec<A> {
         Ok(())
     }
 
-    /// Appends the 64 bits of a number, the least significant first. Refusals as of `append_bits`.
+    /// Appends the 64 bits of a number, least significant first. Errors as for `append_bits`.
     pub fn append_word(&mut self, word: u64) -> Result<(), GrowError> {
         self.append_bits(word, 64)
     }
 
-    /// Appends the lowest bit of a number: a one where the number is odd. Refusals as of `append`.
+    /// Appends the lowest bit of a number. Errors as for `append`.
     pub fn append_bit_u8(&mut self, number: u8) -> Result<(), GrowError> {
         self.append_bit(u64::from(number))
     }
 
-    /// Appends the lowest bit of a number: a one where the number is odd. Refusals as of `append`.
+    /// Appends the lowest bit of a number. Errors as for `append`.
     pub fn append_bit_u16(&mut self, number: u16) -> Result<(), GrowError> {
         self.append_bit(u64::from(number))
     }
 
-    /// Appends the lowest bit of a number: a one where the number is odd. Refusals as of `append`.
+    /// Appends the lowest bit of a number. Errors as for `append`.
     pub fn append_bit_u32(&mut self, number: u32) -> Result<(), GrowError> {
         self.append_bit(u64::from(number))
     }
 
-    // Appends the bits of another list from a place on. Where the call is refused some of them may
-    // have been appended.
+    // Appends the bits of another list from position `start`. On error some of them may have been appended.
     #[inline(always)]
     fn append_from(&mut self, other: &BitVec<A>, start: usize) -> Result<(), GrowError> {
         let added = other.len() - start;
@@ -128,8 +133,8 @@ impl<A: Allocator + Copy> BitVec<A> {
         self.append_bits(other.get_bits_unchecked(start + (added - rest), rest), rest)
     }
 
-    // Appends the bits of another list from a place on. It is put where it is called: onto an empty
-    // list, or from the first place on, one of both shifts of a limb is none.
+    // Appends the bits of another list from position `start`. Inlined: for an empty list, or from position 0,
+    // the compiler drops one of the two shifts of a limb.
     #[inline(always)]
     pub(super) fn extend_from(&mut self, other: &BitVec<A>, start: usize) -> Result<(), GrowError> {
         let len = self.len();
@@ -143,14 +148,17 @@ impl<A: Allocator + Copy> BitVec<A> {
         Ok(())
     }
 
-    /// Appends all bits of another list. TooLong where the list would be longer than `MAX_LEN`.
-    /// The list is as it was where the call is refused.
+    /// Appends all bits of another list. The list is unchanged on error.
+    ///
+    /// # Errors
+    ///
+    /// `TooLong` if the list would exceed `MAX_LEN` bits; `Memory` if the allocator refuses a request.
     pub fn extend_bitvec(&mut self, other: &BitVec<A>) -> Result<(), GrowError> {
         self.extend_from(other, 0)
     }
 
-    // Appends the lists that an iterator has left. Where the call is refused, the iterator has just
-    // passed the list that found no place.
+    // Appends the remaining lists of an iterator. On error, the iterator has just passed the list that was not
+    // appended.
     #[inline(always)]
     fn extend_by<L: AsList<A>, I: Iterator<Item = L>>(
         &mut self,
@@ -162,8 +170,12 @@ impl<A: Allocator + Copy> BitVec<A> {
         Ok(())
     }
 
-    /// Appends the lists of an iterator that ends, in order. At the first list that finds no place
-    /// the call is refused: the lists before it stay appended, and of that one nothing.
+    /// Appends the lists of a finite iterator, in order. On error, the lists before the one that failed stay
+    /// appended, and nothing of that one does.
+    ///
+    /// # Errors
+    ///
+    /// `TooLong` if the list would exceed `MAX_LEN` bits; `Memory` if the allocator refuses a request.
     pub fn extend<I: Iterator<Item = BitVec<A>>>(
         &mut self,
         mut lists: I,
@@ -171,7 +183,7 @@ impl<A: Allocator + Copy> BitVec<A> {
         self.extend_by(&mut lists)
     }
 
-    /// The same as `extend`, of lists behind references.
+    /// Appends the lists of a finite iterator over references, as `extend` does.
     pub fn extend_ref<'a, I: Iterator<Item = &'a BitVec<A>>>(
         &mut self,
         mut lists: I,
@@ -182,7 +194,7 @@ impl<A: Allocator + Copy> BitVec<A> {
         self.extend_by(&mut lists)
     }
 
-    // Makes room for `added` bits more.
+    // Reserves room for `added` more bits.
     fn reserve(&mut self, added: usize) -> Result<(), AllocError> {
         let words = (self.len() + added).div_ceil(64);
         self.data.reserve(words - self.data.len())

@@ -78,17 +78,17 @@ pub type BitVecRefIter<'a, A> = ListEnds<&'a BitVec<A>>;
 /// An iterator over the bits of a list that it owns, as numbers: 1 for a one, 0 for a zero.
 pub type BitVecIter<A> = ListEnds<BitVec<A>>;
 
-/// An iterator over the limbs of a list of bits, 64 bits each, the first as the least significant
-/// one, with zeros past the length.
+/// An iterator over the limbs of a list of bits, 64 bits each, least significant first, with zeros past the
+/// length.
 pub type LimbIter<'a, A> = ListEnds<Limbs<'a, A>>;
 
 impl<A: Allocator + Copy> BitVec<A> {
-    /// An iterator over the bits, as numbers.
+    /// Returns an iterator over the bits, as numbers.
     pub fn iter(&self) -> BitVecRefIter<'_, A> {
         ListEnds::new(self)
     }
 
-    /// An iterator over the limbs.
+    /// Returns an iterator over the limbs.
     pub fn iter_limbs(&self) -> LimbIter<'_, A> {
         ListEnds::new(Limbs { bits: self })
     }
@@ -119,7 +119,7 @@ impl<A: Allocator + Copy> IntoIterator for BitVec<A> {
 
     type IntoIter = BitVecIter<A>;
 
-    /// An iterator over the bits, as numbers, which owns the list.
+    /// Returns an iterator over the bits, as numbers, which owns the list.
     fn into_iter(self) -> BitVecIter<A> {
         ListEnds::new(self)
     }

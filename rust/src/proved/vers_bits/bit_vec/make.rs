@@ -1,4 +1,4 @@
-//! Makers of lists of bits.
+//! Constructors of lists of bits.
 
 use crate::rattle::prelude::*;
 
@@ -6,12 +6,12 @@ use crate::proved::vers_bits::bit_vec::words::cut;
 use crate::proved::vers_bits::bit_vec::{BitVec, GrowError, MAX_LEN};
 use crate::rattle::Allocator;
 
-// What lists of bits are made of: numbers of up to 64 bits, and truth values.
+// The items that lists of bits are made of: numbers of up to 64 bits, and booleans.
 trait Item: Copy {
-    // The item as a number.
+    // Returns the item as a number.
     fn number(self) -> u64;
 
-    // Whether the number is odd.
+    // Returns true if the number is odd.
     fn is_odd(self) -> bool;
 }
 
@@ -66,14 +66,18 @@ impl Item for u64 {
 }
 
 impl<A: Allocator + Copy> BitVec<A> {
-    /// The empty list, with room for `n` bits. TooLong where `n` is above `MAX_LEN`.
+    /// Returns the empty list, with room for `n` bits.
+    ///
+    /// # Errors
+    ///
+    /// `TooLong` if `n` is above `MAX_LEN`; `Memory` if the allocator refuses a request.
     pub fn with_capacity(alloc: A, n: usize) -> Result<Self, GrowError> {
         check_len(n)?;
         let data = Vec::with_capacity(alloc, n.div_ceil(64))?;
         Ok(BitVec { data, len: 0 })
     }
 
-    // `n` equal bits.
+    // Returns a list of `n` equal bits.
     fn from_equal(alloc: A, bit: bool, n: usize) -> Result<Self, GrowError> {
         check_len(n)?;
         let word = equal_word(bit);
@@ -83,31 +87,43 @@ impl<A: Allocator + Copy> BitVec<A> {
         Ok(BitVec { data, len: n })
     }
 
-    /// `n` zeros. TooLong where `n` is above `MAX_LEN`.
+    /// Returns a list of `n` zeros.
+    ///
+    /// # Errors
+    ///
+    /// `TooLong` if `n` is above `MAX_LEN`; `Memory` if the allocator refuses a request.
     pub fn from_zeros(alloc: A, n: usize) -> Result<Self, GrowError> {
         BitVec::from_equal(alloc, false, n)
     }
 
-    /// `n` ones. TooLong where `n` is above `MAX_LEN`.
+    /// Returns a list of `n` ones.
+    ///
+    /// # Errors
+    ///
+    /// `TooLong` if `n` is above `MAX_LEN`; `Memory` if the allocator refuses a request.
     pub fn from_ones(alloc: A, n: usize) -> Result<Self, GrowError> {
         BitVec::from_equal(alloc, true, n)
     }
 
-    /// The bits of limbs, 64 of each, its least significant bit first. Takes no memory: TooLong is
-    /// the only fault, where they are more than `MAX_LEN` bits. The limbs are dropped then.
+    /// Returns the bits of the limbs, 64 of each, least significant first. Allocates nothing. Errors: `TooLong`
+    /// if they exceed `MAX_LEN` bits; the limbs are then dropped.
     pub fn from_vec(limbs: Vec<u64, A>) -> Result<Self, GrowError> {
         let len = bits_of_limbs(limbs.len())?;
         Ok(BitVec { data: limbs, len })
     }
 
-    /// The bits of limbs, 64 of each, its least significant bit first. TooLong where they are more
-    /// than `MAX_LEN` bits, which is tested before memory is asked for.
+    /// Returns the bits of the limbs, 64 of each, least significant first.
+    ///
+    /// # Errors
+    ///
+    /// `TooLong` if they exceed `MAX_LEN` bits, which is tested before any allocation; `Memory` if the
+    /// allocator refuses a request.
     pub fn from_limbs(alloc: A, limbs: &[u64]) -> Result<Self, GrowError> {
         bits_of_limbs(limbs.len())?;
         BitVec::from_vec(Vec::from_slice(alloc, limbs)?)
     }
 
-    // A bit an item of a slice.
+    // Returns the lowest bit of each item of a slice.
     fn odd_items<T: Item>(alloc: A, items: &[T]) -> Result<Self, GrowError> {
         let mut list = BitVec::with_capacity(alloc, items.len())?;
         let mut rest = items;
@@ -119,9 +135,9 @@ impl<A: Allocator + Copy> BitVec<A> {
         Ok(list)
     }
 
-    // A bit an item that an iterator has left. Where it is refused, the iterator has just passed the
-    // item that found no place. The first bit of each limb is appended, which may take memory. The
-    // others are gathered in a word until the limb is full.
+    // Returns the lowest bit of each remaining item of an iterator. On error, the iterator has just passed the
+    // item that was not appended. The first bit of each limb is appended, which may allocate. The others are
+    // gathered in a word until the limb is full.
     #[inline(always)]
     fn odd_items_of<T: Item, I: Iterator<Item = T>>(
         alloc: A,
@@ -147,7 +163,7 @@ impl<A: Allocator + Copy> BitVec<A> {
         Ok(list)
     }
 
-    // The low `k` digits of each item of a slice.
+    // Returns the low `k` digits of each item of a slice.
     fn packed_items<T: Item>(alloc: A, items: &[T], k: usize) -> Result<Self, GrowError> {
         let len = match items.len().checked_mul(k) { Some(len) => len, _ => {
             return Err(GrowError::TooLong);
@@ -161,8 +177,8 @@ impl<A: Allocator + Copy> BitVec<A> {
         Ok(list)
     }
 
-    // The low `k` digits of each item that an iterator has left. Where it is refused, the iterator has
-    // just passed the item that found no place.
+    // Returns the low `k` digits of each remaining item of an iterator. On error, the iterator has just passed
+    // the item that was not appended.
     #[inline(always)]
     fn packed_items_of<T: Item, I: Iterator<Item = T>>(
         alloc: A,
@@ -176,28 +192,47 @@ impl<A: Allocator + Copy> BitVec<A> {
         Ok(list)
     }
 
-    /// A bit an item: a one where the item is odd. TooLong where the items are more than `MAX_LEN`.
+    /// Returns the lowest bit of each item.
+    ///
+    /// # Errors
+    ///
+    /// `TooLong` if there are more than `MAX_LEN` items; `Memory` if the allocator refuses a request.
     pub fn from_bits(alloc: A, bits: &[u8]) -> Result<Self, GrowError> {
         BitVec::odd_items(alloc, bits)
     }
 
-    /// A bit an item: a one where the item is odd. TooLong where the items are more than `MAX_LEN`.
+    /// Returns the lowest bit of each item.
+    ///
+    /// # Errors
+    ///
+    /// `TooLong` if there are more than `MAX_LEN` items; `Memory` if the allocator refuses a request.
     pub fn from_bits_u16(alloc: A, bits: &[u16]) -> Result<Self, GrowError> {
         BitVec::odd_items(alloc, bits)
     }
 
-    /// A bit an item: a one where the item is odd. TooLong where the items are more than `MAX_LEN`.
+    /// Returns the lowest bit of each item.
+    ///
+    /// # Errors
+    ///
+    /// `TooLong` if there are more than `MAX_LEN` items; `Memory` if the allocator refuses a request.
     pub fn from_bits_u32(alloc: A, bits: &[u32]) -> Result<Self, GrowError> {
         BitVec::odd_items(alloc, bits)
     }
 
-    /// A bit an item: a one where the item is odd. TooLong where the items are more than `MAX_LEN`.
+    /// Returns the lowest bit of each item.
+    ///
+    /// # Errors
+    ///
+    /// `TooLong` if there are more than `MAX_LEN` items; `Memory` if the allocator refuses a request.
     pub fn from_bits_u64(alloc: A, bits: &[u64]) -> Result<Self, GrowError> {
         BitVec::odd_items(alloc, bits)
     }
 
-    /// A bit an item of an iterator that ends: a one where the item is odd. TooLong at the item
-    /// that would pass `MAX_LEN` bits, Memory at the one that finds no memory.
+    /// Returns the lowest bit of each item of a finite iterator.
+    ///
+    /// # Errors
+    ///
+    /// `TooLong` at the item that would exceed `MAX_LEN` bits; `Memory` if the allocator refuses a request.
     pub fn from_bits_iter<I: Iterator<Item = u64>>(
         alloc: A,
         mut bits: I,
@@ -205,13 +240,20 @@ impl<A: Allocator + Copy> BitVec<A> {
         BitVec::odd_items_of(alloc, &mut bits)
     }
 
-    /// The truth values. TooLong where they are more than `MAX_LEN`.
+    /// Returns the booleans as bits.
+    ///
+    /// # Errors
+    ///
+    /// `TooLong` if there are more than `MAX_LEN`; `Memory` if the allocator refuses a request.
     pub fn from_bools(alloc: A, bools: &[bool]) -> Result<Self, GrowError> {
         BitVec::odd_items(alloc, bools)
     }
 
-    /// The truth values of an iterator that ends. TooLong at the one that would pass `MAX_LEN` bits,
-    /// Memory at the one that finds no memory.
+    /// Returns the booleans of a finite iterator as bits.
+    ///
+    /// # Errors
+    ///
+    /// `TooLong` at the one that would exceed `MAX_LEN` bits; `Memory` if the allocator refuses a request.
     pub fn from_bool_iter<I: Iterator<Item = bool>>(
         alloc: A,
         mut bools: I,
@@ -219,8 +261,11 @@ impl<A: Allocator + Copy> BitVec<A> {
         BitVec::odd_items_of(alloc, &mut bools)
     }
 
-    /// The bits of the limbs of an iterator that ends, 64 of each, its least significant bit first.
-    /// TooLong at the limb that would pass `MAX_LEN` bits, Memory at the one that finds no memory.
+    /// Returns the bits of the limbs of a finite iterator, 64 of each, least significant first.
+    ///
+    /// # Errors
+    ///
+    /// `TooLong` at the limb that would exceed `MAX_LEN` bits; `Memory` if the allocator refuses a request.
     pub fn from_limbs_iter<I: Iterator<Item = u64>>(
         alloc: A,
         mut limbs: I,
@@ -228,32 +273,51 @@ impl<A: Allocator + Copy> BitVec<A> {
         BitVec::packed_items_of(alloc, &mut limbs, 64)
     }
 
-    /// The low `k` bits of each number, one after another, with zeros above its 8 bits. TooLong
-    /// where they are more than `MAX_LEN`, which is tested before memory is asked for.
+    /// Returns the low `k` bits of each number, one after another, with zeros above its 8 bits.
+    ///
+    /// # Errors
+    ///
+    /// `TooLong` if they exceed `MAX_LEN`, which is tested before any allocation; `Memory` if the allocator
+    /// refuses a request.
     pub fn pack_sequence_u8(alloc: A, sequence: &[u8], k: usize) -> Result<Self, GrowError> {
         BitVec::packed_items(alloc, sequence, k)
     }
 
-    /// The low `k` bits of each number, one after another, with zeros above its 16 bits. TooLong
-    /// where they are more than `MAX_LEN`, which is tested before memory is asked for.
+    /// Returns the low `k` bits of each number, one after another, with zeros above its 16 bits.
+    ///
+    /// # Errors
+    ///
+    /// `TooLong` if they exceed `MAX_LEN`, which is tested before any allocation; `Memory` if the allocator
+    /// refuses a request.
     pub fn pack_sequence_u16(alloc: A, sequence: &[u16], k: usize) -> Result<Self, GrowError> {
         BitVec::packed_items(alloc, sequence, k)
     }
 
-    /// The low `k` bits of each number, one after another, with zeros above its 32 bits. TooLong
-    /// where they are more than `MAX_LEN`, which is tested before memory is asked for.
+    /// Returns the low `k` bits of each number, one after another, with zeros above its 32 bits.
+    ///
+    /// # Errors
+    ///
+    /// `TooLong` if they exceed `MAX_LEN`, which is tested before any allocation; `Memory` if the allocator
+    /// refuses a request.
     pub fn pack_sequence_u32(alloc: A, sequence: &[u32], k: usize) -> Result<Self, GrowError> {
         BitVec::packed_items(alloc, sequence, k)
     }
 
-    /// The low `k` bits of each number, one after another, with zeros above its 64 bits. TooLong
-    /// where they are more than `MAX_LEN`, which is tested before memory is asked for.
+    /// Returns the low `k` bits of each number, one after another, with zeros above its 64 bits.
+    ///
+    /// # Errors
+    ///
+    /// `TooLong` if they exceed `MAX_LEN`, which is tested before any allocation; `Memory` if the allocator
+    /// refuses a request.
     pub fn pack_sequence_u64(alloc: A, sequence: &[u64], k: usize) -> Result<Self, GrowError> {
         BitVec::packed_items(alloc, sequence, k)
     }
 
-    /// The low `k` bits of each number of an iterator that ends, with zeros above its 8 bits.
-    /// TooLong at the number that would pass `MAX_LEN` bits, Memory at the one that finds no memory.
+    /// Returns the low `k` bits of each number of a finite iterator, with zeros above its 8 bits.
+    ///
+    /// # Errors
+    ///
+    /// `TooLong` at the number that would exceed `MAX_LEN` bits; `Memory` if the allocator refuses a request.
     pub fn pack_from_iter_u8<I: Iterator<Item = u8>>(
         alloc: A,
         mut sequence: I,
@@ -262,8 +326,11 @@ impl<A: Allocator + Copy> BitVec<A> {
         BitVec::packed_items_of(alloc, &mut sequence, k)
     }
 
-    /// The low `k` bits of each number of an iterator that ends, with zeros above its 16 bits.
-    /// TooLong at the number that would pass `MAX_LEN` bits, Memory at the one that finds no memory.
+    /// Returns the low `k` bits of each number of a finite iterator, with zeros above its 16 bits.
+    ///
+    /// # Errors
+    ///
+    /// `TooLong` at the number that would exceed `MAX_LEN` bits; `Memory` if the allocator refuses a request.
     pub fn pack_from_iter_u16<I: Iterator<Item = u16>>(
         alloc: A,
         mut sequence: I,
@@ -272,8 +339,11 @@ impl<A: Allocator + Copy> BitVec<A> {
         BitVec::packed_items_of(alloc, &mut sequence, k)
     }
 
-    /// The low `k` bits of each number of an iterator that ends, with zeros above its 32 bits.
-    /// TooLong at the number that would pass `MAX_LEN` bits, Memory at the one that finds no memory.
+    /// Returns the low `k` bits of each number of a finite iterator, with zeros above its 32 bits.
+    ///
+    /// # Errors
+    ///
+    /// `TooLong` at the number that would exceed `MAX_LEN` bits; `Memory` if the allocator refuses a request.
     pub fn pack_from_iter_u32<I: Iterator<Item = u32>>(
         alloc: A,
         mut sequence: I,
@@ -282,8 +352,11 @@ impl<A: Allocator + Copy> BitVec<A> {
         BitVec::packed_items_of(alloc, &mut sequence, k)
     }
 
-    /// The low `k` bits of each number of an iterator that ends, with zeros above its 64 bits.
-    /// TooLong at the number that would pass `MAX_LEN` bits, Memory at the one that finds no memory.
+    /// Returns the low `k` bits of each number of a finite iterator, with zeros above its 64 bits.
+    ///
+    /// # Errors
+    ///
+    /// `TooLong` at the number that would exceed `MAX_LEN` bits; `Memory` if the allocator refuses a request.
     pub fn pack_from_iter_u64<I: Iterator<Item = u64>>(
         alloc: A,
         mut sequence: I,
@@ -293,7 +366,7 @@ impl<A: Allocator + Copy> BitVec<A> {
     }
 }
 
-// TooLong for a length above `MAX_LEN`.
+// Errors: `TooLong` if `len` is above `MAX_LEN`.
 fn check_len(len: usize) -> Result<(), GrowError> {
     if len > MAX_LEN {
         return Err(GrowError::TooLong);
@@ -301,7 +374,7 @@ fn check_len(len: usize) -> Result<(), GrowError> {
     Ok(())
 }
 
-// How many bits limbs have. TooLong where they are more than `MAX_LEN`.
+// Returns the number of bits of that many limbs. Errors: `TooLong` if it is above `MAX_LEN`.
 fn bits_of_limbs(limbs: usize) -> Result<usize, GrowError> {
     if limbs > MAX_LEN / 64 {
         return Err(GrowError::TooLong);
@@ -309,12 +382,12 @@ fn bits_of_limbs(limbs: usize) -> Result<usize, GrowError> {
     Ok(64 * limbs)
 }
 
-// A word of 64 equal bits.
+// Returns a word of 64 equal bits.
 fn equal_word(bit: bool) -> u64 {
     if bit { u64::MAX } else { 0 }
 }
 
-// The number whose digits say which items are odd, the lowest digit of the first item.
+// Returns the number whose digits are the lowest bits of the items, the first item's lowest.
 fn parities<T: Item>(items: &[T]) -> u64 {
     let mut word = 0;
     for place in (0..items.len()).rev() {
@@ -323,7 +396,7 @@ fn parities<T: Item>(items: &[T]) -> u64 {
     word
 }
 
-// A number of `n` digits with one more digit above them.
+// Returns a number of `n` digits with one more digit above them.
 fn with_digit(word: u64, n: usize, digit: bool) -> u64 {
     word | (u64::from(digit) << n)
 }

@@ -1,4 +1,4 @@
-//! Two lists of bits of one length, seen as one through a function on their limbs.
+//! Two lists of bits of the same length, combined through a function on their limbs.
 
 use crate::rattle::prelude::*;
 
@@ -7,9 +7,9 @@ use crate::proved::vers_bits::bit_vec::{BitVec, LengthMismatch};
 use crate::rattle::AllocError;
 use crate::rattle::Allocator;
 
-/// Two lists of one length and a closure on their limbs. Bit `p` is bit `p % 64` of what the
-/// closure answers of both limbs `p / 64`. Contracts see both lists and the closure. What a call
-/// answers is said for each definition `g` that the closure follows, by the list `masked g`.
+/// Two lists of the same length and a closure on their limbs. Bit `p` is bit `p % 64` of what the closure
+/// returns for both limbs `p / 64`. Contracts see both lists and the closure. They describe a result for each
+/// definition `g` that the closure follows, through the list `masked g`.
 pub struct MaskedBitVec<'a, 'b, F, A: Allocator + Copy> {
     left: &'a BitVec<A>,
     right: &'b BitVec<A>,
@@ -17,30 +17,30 @@ pub struct MaskedBitVec<'a, 'b, F, A: Allocator + Copy> {
 }
 
 impl<'a, 'b, F: Fn(u64, u64) -> u64, A: Allocator + Copy> MaskedBitVec<'a, 'b, F, A> {
-    // What the closure answers of both limbs number `k`.
+    // Returns what the closure returns for both limbs `k`.
     fn answer(&self, k: usize) -> u64 {
         let mine = self.left.limb(k);
         let theirs = self.right.limb(k);
         (self.mask)(mine, theirs)
     }
 
-    // Limb number `k` of the masked list, with zeros past the length.
+    // Returns limb `k` of the masked list, with zeros past the length.
     fn limb(&self, k: usize) -> u64 {
         let rest = self.left.len() - 64 * k;
         low_part(self.answer(k), rest.min(64))
     }
 
-    // The ones of limb number `k` of the masked list.
+    // Returns the number of ones in limb `k` of the masked list.
     fn ones_of_limb(&self, k: usize) -> u64 {
         self.limb(k).count_ones() as u64
     }
 
-    // The number of the `n` bits from `place` on, which lie in one limb.
+    // Returns the `n` bits from `place` as a number. Precondition: they are in one limb.
     fn part(&self, place: usize, n: usize) -> u64 {
         (self.limb(place / 64) >> (place % 64)) & (u64::MAX >> (64 - n))
     }
 
-    /// Whether the bit at a place is a one. None for a place that the lists don't have.
+    /// Returns true if the bit at `place` is a one, or `None` if `place` is out of bounds.
     pub fn is_bit_set(&self, place: usize) -> Option<bool> {
         if place >= self.left.len() {
             return None;
@@ -48,7 +48,7 @@ impl<'a, 'b, F: Fn(u64, u64) -> u64, A: Allocator + Copy> MaskedBitVec<'a, 'b, F
         Some(self.is_bit_set_unchecked(place))
     }
 
-    /// The bit at a place, 1 or 0. None for a place that the lists don't have.
+    /// Returns the bit at `place`, 1 or 0, or `None` if `place` is out of bounds.
     pub fn get(&self, place: usize) -> Option<u64> {
         if place >= self.left.len() {
             return None;
@@ -56,18 +56,18 @@ impl<'a, 'b, F: Fn(u64, u64) -> u64, A: Allocator + Copy> MaskedBitVec<'a, 'b, F
         Some(self.get_unchecked(place))
     }
 
-    /// Whether the bit at a place that the lists have is a one.
+    /// Returns true if the bit at `place` is a one. Precondition: `place` is below the length.
     pub fn is_bit_set_unchecked(&self, place: usize) -> bool {
         (self.answer(place / 64) >> (place % 64)) & 1 == 1
     }
 
-    /// The bit at a place that the lists have, 1 or 0.
+    /// Returns the bit at `place`, 1 or 0. Precondition: `place` is below the length.
     pub fn get_unchecked(&self, place: usize) -> u64 {
         u64::from(self.is_bit_set_unchecked(place))
     }
 
-    /// The number of the bits from `place` on, `n` of them. None where there are not so many, or
-    /// `n` is 0 or above 64.
+    /// Returns the `n` bits from position `place` as a number. `None` if there are fewer, or `n` is 0 or above
+    /// 64.
     pub fn get_bits(&self, place: usize, n: usize) -> Option<u64> {
         let len = self.left.len();
         if n == 0 || n > 64 || place > len || n > len - place {
@@ -76,7 +76,8 @@ impl<'a, 'b, F: Fn(u64, u64) -> u64, A: Allocator + Copy> MaskedBitVec<'a, 'b, F
         Some(self.get_bits_unchecked(place, n))
     }
 
-    /// The number of the bits from `place` on, `n` of them: 0 where `n` is 0.
+    /// Returns the `n` bits from position `place` as a number: 0 if `n` is 0. Precondition: `n` is at most 64,
+    /// and `place + n` at most the length.
     pub fn get_bits_unchecked(&self, place: usize, n: usize) -> u64 {
         let len = self.left.len();
         if n == 0 || place >= len {
@@ -89,7 +90,7 @@ impl<'a, 'b, F: Fn(u64, u64) -> u64, A: Allocator + Copy> MaskedBitVec<'a, 'b, F
         self.part(place, room) | (self.part(place + room, n - room) << room)
     }
 
-    /// How many ones the list has.
+    /// Returns the number of ones.
     pub fn count_ones(&self) -> u64 {
         let mut ones: u64 = 0;
         for k in 0..self.left.len().div_ceil(64) {
@@ -98,12 +99,12 @@ impl<'a, 'b, F: Fn(u64, u64) -> u64, A: Allocator + Copy> MaskedBitVec<'a, 'b, F
         ones
     }
 
-    /// How many zeros the list has.
+    /// Returns the number of zeros.
     pub fn count_zeros(&self) -> u64 {
         self.left.len() as u64 - self.count_ones()
     }
 
-    /// A list of its own with the bits.
+    /// Returns a list of its own with the bits.
     pub fn to_bit_vec(&self) -> Result<BitVec<A>, AllocError> {
         let mut bits = self.left.clone()?;
         bits.combine(self.right, &self.mask);
@@ -112,13 +113,14 @@ impl<'a, 'b, F: Fn(u64, u64) -> u64, A: Allocator + Copy> MaskedBitVec<'a, 'b, F
 }
 
 impl<A: Allocator + Copy> BitVec<A> {
-    // Makes each limb what a closure answers of both limbs, and keeps no bit past the length.
+    // Replaces each limb by what a closure returns for both limbs, and clears the bits past the length.
     fn combine<F: Fn(u64, u64) -> u64>(&mut self, other: &BitVec<A>, mask: &F) {
         combine_words(&mut self.data, other.limbs(), mask);
         cut(&mut self.data, self.len);
     }
 
-    /// Both lists seen through a closure on their limbs. LengthMismatch where their lengths differ.
+    /// Returns both lists combined through a closure on their limbs. Errors: `LengthMismatch` if their lengths
+    /// differ.
     pub fn mask_custom<'a, 'b, F: Fn(u64, u64) -> u64>(
         &'a self,
         other: &'b BitVec<A>,
@@ -153,8 +155,7 @@ impl MaskKind {
     }
 }
 
-/// Two lists of one length combined bit by bit, by or, and or xor. Contracts see the list of the
-/// bits.
+/// Two lists of the same length combined bit by bit, by or, and or xor. Contracts see the list of the bits.
 pub struct BitMask<'s, 'b, A: Allocator + Copy> {
     left: &'s BitVec<A>,
     right: &'b BitVec<A>,
@@ -162,7 +163,7 @@ pub struct BitMask<'s, 'b, A: Allocator + Copy> {
 }
 
 impl<'s, 'b, A: Allocator + Copy> BitMask<'s, 'b, A> {
-    /// Whether the bit at a place is a one. None for a place that the list doesn't have.
+    /// Returns true if the bit at `place` is a one, or `None` if `place` is out of bounds.
     pub fn is_bit_set(&self, place: usize) -> Option<bool> {
         let kind = self.kind;
         MaskedBitVec {
@@ -173,7 +174,7 @@ impl<'s, 'b, A: Allocator + Copy> BitMask<'s, 'b, A> {
         .is_bit_set(place)
     }
 
-    /// The bit at a place, 1 or 0. None for a place that the list doesn't have.
+    /// Returns the bit at `place`, 1 or 0, or `None` if `place` is out of bounds.
     pub fn get(&self, place: usize) -> Option<u64> {
         let kind = self.kind;
         MaskedBitVec {
@@ -184,7 +185,7 @@ impl<'s, 'b, A: Allocator + Copy> BitMask<'s, 'b, A> {
         .get(place)
     }
 
-    /// Whether the bit at a place that the list has is a one.
+    /// Returns true if the bit at `place` is a one. Precondition: `place` is below the length.
     pub fn is_bit_set_unchecked(&self, place: usize) -> bool {
         let kind = self.kind;
         MaskedBitVec {
@@ -195,7 +196,7 @@ impl<'s, 'b, A: Allocator + Copy> BitMask<'s, 'b, A> {
         .is_bit_set_unchecked(place)
     }
 
-    /// The bit at a place that the list has, 1 or 0.
+    /// Returns the bit at `place`, 1 or 0. Precondition: `place` is below the length.
     pub fn get_unchecked(&self, place: usize) -> u64 {
         let kind = self.kind;
         MaskedBitVec {
@@ -206,8 +207,8 @@ impl<'s, 'b, A: Allocator + Copy> BitMask<'s, 'b, A> {
         .get_unchecked(place)
     }
 
-    /// The number of the bits from `place` on, `n` of them. None where there are not so many, or
-    /// `n` is 0 or above 64.
+    /// Returns the `n` bits from position `place` as a number. `None` if there are fewer, or `n` is 0 or above
+    /// 64.
     pub fn get_bits(&self, place: usize, n: usize) -> Option<u64> {
         let kind = self.kind;
         MaskedBitVec {
@@ -218,7 +219,8 @@ impl<'s, 'b, A: Allocator + Copy> BitMask<'s, 'b, A> {
         .get_bits(place, n)
     }
 
-    /// The number of the bits from `place` on, `n` of them: 0 where `n` is 0.
+    /// Returns the `n` bits from position `place` as a number: 0 if `n` is 0. Precondition: `n` is at most 64,
+    /// and `place + n` at most the length.
     pub fn get_bits_unchecked(&self, place: usize, n: usize) -> u64 {
         let kind = self.kind;
         MaskedBitVec {
@@ -229,7 +231,7 @@ impl<'s, 'b, A: Allocator + Copy> BitMask<'s, 'b, A> {
         .get_bits_unchecked(place, n)
     }
 
-    /// How many ones the list has.
+    /// Returns the number of ones.
     pub fn count_ones(&self) -> u64 {
         let kind = self.kind;
         MaskedBitVec {
@@ -240,7 +242,7 @@ impl<'s, 'b, A: Allocator + Copy> BitMask<'s, 'b, A> {
         .count_ones()
     }
 
-    /// How many zeros the list has.
+    /// Returns the number of zeros.
     pub fn count_zeros(&self) -> u64 {
         let kind = self.kind;
         MaskedBitVec {
@@ -251,7 +253,7 @@ impl<'s, 'b, A: Allocator + Copy> BitMask<'s, 'b, A> {
         .count_zeros()
     }
 
-    /// A list of its own with the bits.
+    /// Returns a list of its own with the bits.
     pub fn to_bit_vec(&self) -> Result<BitVec<A>, AllocError> {
         let kind = self.kind;
         MaskedBitVec {
@@ -262,7 +264,7 @@ impl<'s, 'b, A: Allocator + Copy> BitMask<'s, 'b, A> {
         .to_bit_vec()
     }
 
-    /// The same mask, which takes no memory.
+    /// Returns the same mask. Allocates nothing.
     pub fn clone(&self) -> Self {
         BitMask {
             left: self.left,
@@ -273,7 +275,7 @@ impl<'s, 'b, A: Allocator + Copy> BitMask<'s, 'b, A> {
 }
 
 impl<A: Allocator + Copy> BitVec<A> {
-    // Both lists combined by a kind of mask.
+    // Returns both lists combined by a kind of mask.
     fn mask_by<'s, 'b>(
         &'s self,
         other: &'b BitVec<A>,
@@ -289,7 +291,7 @@ impl<A: Allocator + Copy> BitVec<A> {
         })
     }
 
-    /// The list with a one where either list has a one. LengthMismatch where their lengths differ.
+    /// Returns the bitwise or of both lists. Errors: `LengthMismatch` if their lengths differ.
     pub fn mask_or<'s, 'b>(
         &'s self,
         other: &'b BitVec<A>,
@@ -297,7 +299,7 @@ impl<A: Allocator + Copy> BitVec<A> {
         self.mask_by(other, MaskKind::Or)
     }
 
-    /// The list with a one where both lists have a one. LengthMismatch where their lengths differ.
+    /// Returns the bitwise and of both lists. Errors: `LengthMismatch` if their lengths differ.
     pub fn mask_and<'s, 'b>(
         &'s self,
         other: &'b BitVec<A>,
@@ -305,7 +307,7 @@ impl<A: Allocator + Copy> BitVec<A> {
         self.mask_by(other, MaskKind::And)
     }
 
-    /// The list with a one where just one of the lists has a one. LengthMismatch where their lengths differ.
+    /// Returns the bitwise xor of both lists. Errors: `LengthMismatch` if their lengths differ.
     pub fn mask_xor<'s, 'b>(
         &'s self,
         other: &'b BitVec<A>,
@@ -313,8 +315,8 @@ impl<A: Allocator + Copy> BitVec<A> {
         self.mask_by(other, MaskKind::Xor)
     }
 
-    // Makes each limb what a closure answers of both limbs, and keeps no bit past the length.
-    // LengthMismatch where the lengths differ, and the list is as it was.
+    // Replaces each limb by what a closure returns for both limbs, and clears the bits past the length. Errors:
+    // `LengthMismatch` if the lengths differ; the list is then unchanged.
     fn apply<F: Fn(u64, u64) -> u64>(
         &mut self,
         other: &BitVec<A>,
@@ -327,26 +329,26 @@ impl<A: Allocator + Copy> BitVec<A> {
         Ok(())
     }
 
-    /// Makes the list the one with a one where either list has a one. LengthMismatch where their lengths
-    /// differ, and the list is as it was.
+    /// Replaces the list by its bitwise or with the other. Errors: `LengthMismatch` if their lengths differ;
+    /// the list is then unchanged.
     pub fn apply_mask_or(&mut self, other: &BitVec<A>) -> Result<(), LengthMismatch> {
         self.apply(other, &|x: u64, y: u64| x | y)
     }
 
-    /// Makes the list the one with a one where both lists have a one. LengthMismatch where their lengths
-    /// differ, and the list is as it was.
+    /// Replaces the list by its bitwise and with the other. Errors: `LengthMismatch` if their lengths differ;
+    /// the list is then unchanged.
     pub fn apply_mask_and(&mut self, other: &BitVec<A>) -> Result<(), LengthMismatch> {
         self.apply(other, &|x: u64, y: u64| x & y)
     }
 
-    /// Makes the list the one with a one where just one of the lists has a one. LengthMismatch where their lengths
-    /// differ, and the list is as it was.
+    /// Replaces the list by its bitwise xor with the other. Errors: `LengthMismatch` if their lengths differ;
+    /// the list is then unchanged.
     pub fn apply_mask_xor(&mut self, other: &BitVec<A>) -> Result<(), LengthMismatch> {
         self.apply(other, &|x: u64, y: u64| x ^ y)
     }
 
-    /// Makes each limb what a function answers of both limbs, and keeps no bit past the length.
-    /// LengthMismatch where the lengths differ, and the list is as it was.
+    /// Replaces each limb by what a function returns for both limbs, and clears the bits past the length.
+    /// Errors: `LengthMismatch` if the lengths differ; the list is then unchanged.
     pub fn apply_mask_custom(
         &mut self,
         other: &BitVec<A>,
@@ -356,7 +358,7 @@ impl<A: Allocator + Copy> BitVec<A> {
     }
 }
 
-// Makes each word what a closure answers of it and the other word of its number.
+// Replaces each word by what a closure returns for it and the other slice's word at its position.
 fn combine_words<F: Fn(u64, u64) -> u64, A: Allocator + Copy>(
     words: &mut Vec<u64, A>,
     others: &[u64],

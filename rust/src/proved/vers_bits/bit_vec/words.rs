@@ -1,4 +1,4 @@
-//! Edits of the words that hold a list of bits.
+//! Edits of the words that represent a list of bits.
 
 use crate::rattle::prelude::*;
 
@@ -6,12 +6,12 @@ use crate::proved::vers_bits::bit_vec::{GrowError, MAX_LEN};
 use crate::rattle::AllocError;
 use crate::rattle::Allocator;
 
-// The low `n` bits of a word.
+// Returns the low `n` bits of a word.
 pub(super) fn low_part(word: u64, n: usize) -> u64 {
     word & (u64::MAX >> (64 - n))
 }
 
-// Puts a word behind the others.
+// Appends a word.
 fn push_word<A: Allocator + Copy>(words: &mut Vec<u64, A>, word: u64) -> Result<(), AllocError> {
     if words.push(word).is_err() {
         return Err(AllocError);
@@ -19,12 +19,13 @@ fn push_word<A: Allocator + Copy>(words: &mut Vec<u64, A>, word: u64) -> Result<
     Ok(())
 }
 
-// Sets the bits of word `k` that `bits` has.
+// Sets the bits of word `k` that are set in `bits`.
 fn or_into<A: Allocator + Copy>(words: &mut Vec<u64, A>, k: usize, bits: u64) {
     words[k] |= bits;
 }
 
-// Makes the words hold `n` bits more, those of the number `bits`, which the last word has room for.
+// Appends `n` bits, those of the number `bits`, to the list in the words. Precondition: the last word has room
+// for them.
 pub(super) fn add_within<A: Allocator + Copy>(
     words: &mut Vec<u64, A>,
     len: usize,
@@ -34,7 +35,7 @@ pub(super) fn add_within<A: Allocator + Copy>(
     or_into(words, len / 64, bits << (len % 64));
 }
 
-// Makes the words hold `n` bits more, those of the number `bits`.
+// Appends `n` bits, those of the number `bits`, to the list in the words.
 #[inline(always)]
 pub(super) fn add_bits<A: Allocator + Copy>(
     words: &mut Vec<u64, A>,
@@ -55,7 +56,7 @@ pub(super) fn add_bits<A: Allocator + Copy>(
     Ok(())
 }
 
-// Makes the words hold `n` zeros more.
+// Appends `n` zeros to the list in the words.
 pub(super) fn add_zeros<A: Allocator + Copy>(
     words: &mut Vec<u64, A>,
     len: usize,
@@ -65,7 +66,7 @@ pub(super) fn add_zeros<A: Allocator + Copy>(
     Ok(())
 }
 
-// Makes the words hold one bit more.
+// Appends a bit to the list in the words.
 pub(super) fn add_bit<A: Allocator + Copy>(
     words: &mut Vec<u64, A>,
     len: usize,
@@ -88,7 +89,7 @@ pub(super) fn add_bit<A: Allocator + Copy>(
     Ok(())
 }
 
-// Cuts the words to those of the first `len` bits, with zeros past them.
+// Truncates the words to those of the first `len` bits, with zeros past them.
 pub(super) fn cut<A: Allocator + Copy>(words: &mut Vec<u64, A>, len: usize) {
     words.truncate(len.div_ceil(64));
     let used = len % 64;
@@ -99,7 +100,7 @@ pub(super) fn cut<A: Allocator + Copy>(words: &mut Vec<u64, A>, len: usize) {
     words[len / 64] = low_part(last, used);
 }
 
-// Makes the bit at a place what `bit` says.
+// Sets the bit at `place` to `bit`.
 pub(super) fn put_bit<A: Allocator + Copy>(words: &mut Vec<u64, A>, place: usize, bit: bool) {
     let mask = 1 << (place % 64);
     if bit {
@@ -109,7 +110,7 @@ pub(super) fn put_bit<A: Allocator + Copy>(words: &mut Vec<u64, A>, place: usize
     words[place / 64] &= !mask;
 }
 
-// Makes the bit at a place the other one.
+// Flips the bit at `place`.
 pub(super) fn flip<A: Allocator + Copy>(words: &mut Vec<u64, A>, place: usize) {
     words[place / 64] ^= 1 << (place % 64);
 }

@@ -1,4 +1,4 @@
-//! The places of many zeros or ones at once.
+//! Select for many numbers at once.
 
 use crate::rattle::prelude::*;
 
@@ -7,13 +7,13 @@ use super::{BLOCK, BLOCKS, LIMB, RsVec, SUPERBLOCK};
 use crate::rattle::Allocator;
 use crate::proved::vers_tally::tally::Tally;
 
-/// How many numbers go through all levels before the next ones do: so many that the processor has
-/// their reads in flight at once, and so few that what they read stays near.
+/// The numbers that pass all levels together: enough that the processor has their reads in flight at once, and
+/// few enough that what they read stays in the cache.
 const GROUP: usize = 64;
 
-// A level that numbers are led through, each from a place that stands for it to one nearer to its own.
+// A level of the search, which maps each number to one nearer to its position.
 pub(super) trait Level {
-    // Leads a number through the level.
+    // Maps a number through the level.
     fn lead<A: Allocator + Copy>(
         bits: &RsVec<A>,
         bit: bool,
@@ -23,34 +23,32 @@ pub(super) trait Level {
 }
 
 impl<A: Allocator + Copy> RsVec<A> {
-    /// Puts in the stead of each number the place of the zero of that number, counted from 0, or the
-    /// length where there are no more: the answers of `select0`. Takes no memory.
+    /// Replaces each `r` in `numbers` by `select0(r)`. Allocates nothing.
     pub fn select0_each(&self, numbers: &mut [usize]) {
         let mut tally = Tally::new();
         self.select0_each_counted(numbers, &mut tally)
     }
 
-    /// Puts in the stead of each number the place of the one of that number, counted from 0, or the
-    /// length where there are no more: the answers of `select1`. Takes no memory.
+    /// Replaces each `r` in `numbers` by `select1(r)`. Allocates nothing.
     pub fn select1_each(&self, numbers: &mut [usize]) {
         let mut tally = Tally::new();
         self.select1_each_counted(numbers, &mut tally)
     }
 
-    /// The same as `select0_each`, by at most the reads of as many calls of `select0`.
+    /// Replaces each `r` in `numbers` by `select0(r)`. Reads at most what as many calls of `select0` do.
     #[inline(always)]
     pub fn select0_each_counted(&self, numbers: &mut [usize], tally: &mut Tally) {
         self.select_each::<false>(numbers, tally)
     }
 
-    /// The same as `select1_each`, by at most the reads of as many calls of `select1`.
+    /// Replaces each `r` in `numbers` by `select1(r)`. Reads at most what as many calls of `select1` do.
     #[inline(always)]
     pub fn select1_each_counted(&self, numbers: &mut [usize], tally: &mut Tally) {
         self.select_each::<true>(numbers, tally)
     }
 
-    // Puts in the stead of each number its place, group by group. The bit is a const parameter, so that
-    // the compiler makes a search for ones and one for zeros, neither of which asks which it is.
+    // Replaces each number by its position, group by group. The bit is a const parameter, so that the compiler
+    // writes one search for ones and one for zeros, neither of which tests the bit.
     #[inline(always)]
     fn select_each<const BIT: bool>(&self, numbers: &mut [usize], tally: &mut Tally) {
         let len = numbers.len();
@@ -62,7 +60,7 @@ impl<A: Allocator + Copy> RsVec<A> {
         }
     }
 
-    // Puts in the stead of each of `n` numbers its place, all of them level by level.
+    // Replaces each of `n` numbers by its position, all of them level by level.
     #[inline(always)]
     fn levels_each<const BIT: bool>(
         &self,
@@ -77,7 +75,7 @@ impl<A: Allocator + Copy> RsVec<A> {
         self.level_each::<Place>(BIT, numbers, from, n, tally);
     }
 
-    // Leads each of `n` numbers through one level.
+    // Maps each of `n` numbers through one level.
     #[inline(always)]
     fn level_each<L: Level>(
         &self,
@@ -94,7 +92,7 @@ impl<A: Allocator + Copy> RsVec<A> {
     }
 }
 
-// As far into its superblock as the number in it that a number is.
+// Maps a number to the start of its superblock plus its number there.
 pub(super) struct Superblock;
 
 impl Level for Superblock {
@@ -115,7 +113,7 @@ impl Level for Superblock {
     }
 }
 
-// As far into its block as the number in it that a number of a superblock is.
+// Maps the start of a superblock plus a number there to the start of its block plus its number there.
 pub(super) struct Block;
 
 impl Level for Block {
@@ -137,7 +135,7 @@ impl Level for Block {
     }
 }
 
-// As far into its limb as the number in it that a number of a block is.
+// Maps the start of a block plus a number there to the start of its limb plus its number there.
 pub(super) struct Limb;
 
 impl Level for Limb {
@@ -159,7 +157,7 @@ impl Level for Limb {
     }
 }
 
-// The place of a number of a limb.
+// Maps the start of a limb plus a number there to its position.
 pub(super) struct Place;
 
 impl Level for Place {

@@ -1,4 +1,4 @@
-//! The iterators that turn chunks of 16 bits into the offsets of their zeros or ones.
+//! Iterators that turn chunks of 16 bits into the offsets of their zeros or ones.
 
 use crate::rattle::prelude::*;
 
@@ -8,8 +8,8 @@ use crate::proved::vers_rank::word::marks;
 use crate::rattle::Allocator;
 use crate::proved::vers_tally::tally::Tally;
 
-// A walk that has loaded the chunks up to place `end`. Of the last one, which begins at place `start`,
-// the first `left` of the offsets are still to come, the last of them first.
+// A walk that has loaded the chunks up to position `end`. In the last one, which begins at position `start`,
+// the first `left` offsets are yet to come, the last of them first.
 #[derive(Clone, Copy)]
 struct ChunkWalk {
     bit: bool,
@@ -20,7 +20,7 @@ struct ChunkWalk {
 }
 
 impl ChunkWalk {
-    // The next place of the bit, by the next offset in the buffer. Loads chunks on the way.
+    // Returns the next position of the bit, from the next offset in the buffer. Loads chunks as needed.
     fn next_counted<A: Allocator + Copy>(
         &mut self,
         bits: &RsVec<A>,
@@ -37,8 +37,8 @@ impl ChunkWalk {
         Some(self.start + self.offsets[self.left as usize] as usize)
     }
 
-    // Loads the next chunk, where all places of the last one were passed: 16 bits by lanes, and the
-    // rest of the list, where it has fewer, one by one.
+    // Loads the next chunk if all positions of the last one are passed: 16 bits by lanes, or the rest of the
+    // list one by one if it has fewer.
     fn load<A: Allocator + Copy>(&mut self, bits: &RsVec<A>, tally: &mut Tally) {
         tally.add_chunk();
         let limb = bits.bits.limb(self.end / LIMB, tally);
@@ -55,7 +55,7 @@ impl ChunkWalk {
     }
 }
 
-// The places of one kind of bit that are still to come, found by chunks.
+// The positions of one kind of bit that are yet to come, found by chunks.
 struct Chunks<'a, A: Allocator + Copy> {
     bits: &'a RsVec<A>,
     walk: ChunkWalk,
@@ -80,24 +80,23 @@ impl<'a, A: Allocator + Copy> Chunks<'a, A> {
     }
 }
 
-/// An iterator over the places of a list: of its zeros where `ZERO` is true, and else of its ones,
-/// ascending. It loads chunks of 16 bits and lists the offsets in each by lanes, which is fast where the
-/// bit is frequent.
-/// Contracts see its `rest` as the list of `bits`, the places `left`, which are still to come, and
-/// the number of chunks that are `unread`. Each chunk is loaded once.
+/// An iterator over the positions of the zeros of a list if `ZERO` is true, otherwise of its ones, ascending.
+/// It loads chunks of 16 bits and lists the offsets in each by lanes, which is fast if the bit is frequent.
+/// Contracts see its `rest` as the list of `bits`, the positions `left`, and the number of chunks that are
+/// `unread`. Each chunk is loaded once.
 pub struct BitSetIter<'a, const ZERO: bool, A: Allocator + Copy> {
     rest: Chunks<'a, A>,
 }
 
 impl<A: Allocator + Copy> RsVec<A> {
-    /// An iterator over the places of the zeros, which scans chunks of bits.
+    /// Returns an iterator over the positions of the zeros, which scans chunks of bits.
     pub fn bit_set_iter0(&self) -> BitSetIter<'_, true, A> {
         BitSetIter {
             rest: Chunks::new(self, false),
         }
     }
 
-    /// An iterator over the places of the ones, which scans chunks of bits.
+    /// Returns an iterator over the positions of the ones, which scans chunks of bits.
     pub fn bit_set_iter1(&self) -> BitSetIter<'_, false, A> {
         BitSetIter {
             rest: Chunks::new(self, true),
@@ -106,14 +105,14 @@ impl<A: Allocator + Copy> RsVec<A> {
 }
 
 impl<'a, const ZERO: bool, A: Allocator + Copy> BitSetIter<'a, ZERO, A> {
-    /// The first of the places left, which is taken.
+    /// Takes the first of the positions left. `None` if none is left.
     pub fn next(&mut self) -> Option<usize> {
         let mut tally = Tally::new();
         self.next_counted(&mut tally)
     }
 
-    /// The first of the places left, which is taken. Loads as many chunks as the number of those
-    /// unread falls by, each by at most two data words and two queries.
+    /// Takes the first of the positions left. `None` if none is left. Loads as many chunks as `unread` falls
+    /// by, each with at most two data words and two queries.
     pub fn next_counted(&mut self, tally: &mut Tally) -> Option<usize> {
         self.rest.next_counted(tally)
     }

@@ -8,20 +8,20 @@ use crate::rattle::Allocator;
 use crate::proved::vers_tally::tally::{Tally, Uncounted};
 
 impl<A: Allocator + Copy> RsVec<A> {
-    /// Whether both lists have the same bits, by comparing the places of their zeros where `ZERO`
-    /// is true, and else of their ones. Fast where there are few of them.
+    /// Returns true if both lists have the same bits, comparing the positions of their zeros if `ZERO` is true,
+    /// otherwise of their ones. Fast if these are few.
     #[inline]
     pub fn sparse_equals<const ZERO: bool>(&self, other: &Self) -> bool {
         self.has_places_of(!ZERO, other)
     }
 
-    /// Whether both lists have the same bits, by comparing all limbs.
+    /// Returns true if both lists have the same bits, comparing all limbs.
     #[inline]
     pub fn full_equals(&self, other: &Self) -> bool {
         self == other
     }
 
-    // Whether both lists have one length and the same places of a bit, by a walk over each.
+    // Returns true if both lists have the same length and the same positions of a bit, by a walk over each.
     fn has_places_of(&self, bit: bool, other: &Self) -> bool {
         if self.len() != other.len() {
             return false;
@@ -43,7 +43,7 @@ impl<A: Allocator + Copy> RsVec<A> {
 }
 
 impl<A: Allocator + Copy> PartialEq for RsVec<A> {
-    /// Whether both lists have the same bits.
+    /// Returns true if both lists have the same bits.
     fn eq(&self, other: &RsVec<A>) -> bool {
         self.bits.as_bit_vec(Uncounted) == other.bits.as_bit_vec(Uncounted)
     }

@@ -1,4 +1,4 @@
-//! The iterators over the bits of an indexed list.
+//! Iterators over the bits of an indexed list.
 
 use crate::rattle::prelude::*;
 
@@ -8,11 +8,11 @@ use crate::rattle::Allocator;
 use crate::proved::vers_tally::ends::{Borrowing, BothEnds, Owning, Source};
 use crate::proved::vers_tally::tally::Tally;
 
-/// An indexed list, which is borrowed or owned.
+/// An indexed list, borrowed or owned.
 pub trait Indexed: Sized {
     type Alloc: Allocator + Copy;
 
-    /// The list itself.
+    /// Returns the list itself.
     fn list(&self) -> &RsVec<Self::Alloc>;
 }
 
@@ -75,7 +75,7 @@ pub type RsVecRefIter<'a, A> = BothEnds<Bits<&'a RsVec<A>>>;
 pub type RsVecIter<A> = BothEnds<Bits<RsVec<A>>>;
 
 impl<A: Allocator + Copy> RsVec<A> {
-    /// An iterator over the bits, as numbers.
+    /// Returns an iterator over the bits, as numbers.
     pub fn iter(&self) -> RsVecRefIter<'_, A> {
         BothEnds::new(Bits { list: self })
     }
@@ -106,7 +106,7 @@ impl<A: Allocator + Copy> IntoIterator for RsVec<A> {
 
     type IntoIter = RsVecIter<A>;
 
-    /// An iterator over the bits, as numbers, which owns the list.
+    /// Returns an iterator over the bits, as numbers, which owns the list.
     fn into_iter(self) -> RsVecIter<A> {
         BothEnds::new(Bits { list: self })
     }

@@ -1,4 +1,4 @@
-//! The places of two zeros or two ones that follow each other.
+//! The positions of two consecutive zeros or ones.
 
 use crate::rattle::prelude::*;
 
@@ -7,49 +7,46 @@ use crate::proved::vers_rank::word::marks;
 use crate::rattle::Allocator;
 use crate::proved::vers_tally::tally::Tally;
 
-/// The places of two zeros of a list, or of two ones, with no other between them.
+/// The positions of two consecutive zeros of a list, or of two consecutive ones.
 #[derive(Clone, Copy)]
 pub struct PlacePair {
-    /// The place of the first.
+    /// The position of the first.
     pub first: usize,
-    /// The place of the one after it.
+    /// The position of the next one.
     pub second: usize,
 }
 
 impl<A: Allocator + Copy> RsVec<A> {
-    /// The places of zero number `r`, counted from 0, and of the zero after it, each the length
-    /// where there are no more.
+    /// Returns the positions of zero `r` (from 0) and of the next zero, each the length if there are fewer.
     #[inline]
     pub fn select0_pair(&self, r: usize) -> PlacePair {
         let mut tally = Tally::new();
         self.select0_pair_counted(r, &mut tally)
     }
 
-    /// The same as `select0_pair`. Counts one query, by the reads of one select where both stand in
-    /// one word of 64 bits, and else by those of two.
+    /// Returns `select0_pair(r)`. Counts one query. Reads at most what one select does if both are in one word
+    /// of 64 bits, otherwise two.
     #[inline(always)]
     pub fn select0_pair_counted(&self, r: usize, tally: &mut Tally) -> PlacePair {
         self.pair_of(false, r, tally)
     }
 
-    /// The places of one number `r`, counted from 0, and of the one after it, each the length
-    /// where there are no more.
+    /// Returns the positions of one `r` (from 0) and of the next one, each the length if there are fewer.
     #[inline]
     pub fn select1_pair(&self, r: usize) -> PlacePair {
         let mut tally = Tally::new();
         self.select1_pair_counted(r, &mut tally)
     }
 
-    /// The same as `select1_pair`. Counts one query, by the reads of one select where both stand in
-    /// one word of 64 bits, and else by those of two.
+    /// Returns `select1_pair(r)`. Counts one query. Reads at most what one select does if both are in one word
+    /// of 64 bits, otherwise two.
     #[inline(always)]
     pub fn select1_pair_counted(&self, r: usize, tally: &mut Tally) -> PlacePair {
         self.pair_of(true, r, tally)
     }
 
-    // The places of number `r` of the zeros or the ones, and of the next number, most often from the
-    // rest of its word. Both selects of the rare case are one call in the text, so that a compiler writes
-    // the search of a select only once.
+    // Returns the positions of zero or one `r` and of the next, mostly from the rest of its word. Both selects
+    // of the rare case are one call in the source, so that the compiler inlines the search only once.
     #[inline(always)]
     fn pair_of(&self, bit: bool, r: usize, tally: &mut Tally) -> PlacePair {
         tally.add_rank_call();

@@ -1,4 +1,4 @@
-//! How many zeros or ones stand below a place.
+//! Rank: the number of zeros or ones below a position.
 
 use crate::rattle::prelude::*;
 
@@ -6,31 +6,31 @@ use super::{BLOCK, BLOCKS, LIMB, RsVec};
 use crate::rattle::Allocator;
 use crate::proved::vers_tally::tally::Tally;
 
-/// The bit at a place, and how many zeros stand below it.
+/// The bit at a position, and the number of zeros below it.
 #[derive(Clone, Copy)]
 pub struct RankedBit {
-    /// How many zeros stand below the place.
+    /// The number of zeros below the position.
     pub zeros: usize,
-    /// Whether the bit is a one.
+    /// True if the bit is a one.
     pub is_one: bool,
 }
 
 impl<A: Allocator + Copy> RsVec<A> {
-    /// How many zeros stand below a place. Past the end all zeros count.
+    /// Returns the number of zeros below `place`; all zeros if `place` is past the end.
     #[inline]
     pub fn rank0(&self, place: usize) -> usize {
         let mut tally = Tally::new();
         self.rank0_counted(place, &mut tally)
     }
 
-    /// How many ones stand below a place. Past the end all ones count.
+    /// Returns the number of ones below `place`; all ones if `place` is past the end.
     #[inline]
     pub fn rank1(&self, place: usize) -> usize {
         let mut tally = Tally::new();
         self.rank1_counted(place, &mut tally)
     }
 
-    /// The same as `rank0`, by at most 8 data words, one block entry and one superblock entry.
+    /// Returns `rank0(place)`. Reads at most 8 data words, one block entry and one superblock entry.
     #[inline(always)]
     pub fn rank0_counted(&self, place: usize, tally: &mut Tally) -> usize {
         tally.add_rank_call();
@@ -43,7 +43,7 @@ impl<A: Allocator + Copy> RsVec<A> {
         place - self.ones_below_in_last(place, tally)
     }
 
-    /// The same as `rank1`, by at most 8 data words, one block entry and one superblock entry.
+    /// Returns `rank1(place)`. Reads at most 8 data words, one block entry and one superblock entry.
     #[inline(always)]
     pub fn rank1_counted(&self, place: usize, tally: &mut Tally) -> usize {
         tally.add_rank_call();
@@ -56,14 +56,14 @@ impl<A: Allocator + Copy> RsVec<A> {
         self.ones_below_in_last(place, tally)
     }
 
-    /// How many zeros stand below a place of the list, and whether the bit there is a one.
+    /// Returns the number of zeros below `place`, and the bit there. Precondition: `place` is below the length.
     #[inline]
     pub fn rank0_with_bit(&self, place: usize) -> RankedBit {
         let mut tally = Tally::new();
         self.rank0_with_bit_counted(place, &mut tally)
     }
 
-    /// The same as `rank0_with_bit`, by at most 9 data words, one block entry and one superblock entry.
+    /// Returns `rank0_with_bit(place)`. Reads at most 9 data words, one block entry and one superblock entry.
     #[inline(always)]
     pub fn rank0_with_bit_counted(&self, place: usize, tally: &mut Tally) -> RankedBit {
         tally.add_rank_call();
@@ -79,7 +79,7 @@ impl<A: Allocator + Copy> RsVec<A> {
         }
     }
 
-    // The ones below a place, by the limbs of its block.
+    // Returns the number of ones below a position, by the limbs of its block.
     #[inline(always)]
     fn ones_below(&self, limbs: &[u64; 8], place: usize, tally: &mut Tally) -> usize {
         let block = place / BLOCK;
@@ -87,7 +87,7 @@ impl<A: Allocator + Copy> RsVec<A> {
         BLOCK * block - self.zeros_before(block, tally) + ones
     }
 
-    // The ones below a place of the last block, which has not all its limbs.
+    // Returns the number of ones below a position in the last block, which may not have all its limbs.
     #[inline(always)]
     fn ones_below_in_last(&self, place: usize, tally: &mut Tally) -> usize {
         let block = place / BLOCK;
@@ -95,15 +95,16 @@ impl<A: Allocator + Copy> RsVec<A> {
         BLOCK * block - self.zeros_before(block, tally) + ones
     }
 
-    // The zeros before a block.
+    // Returns the number of zeros before a block.
     #[inline(always)]
     pub(super) fn zeros_before(&self, block: usize, tally: &mut Tally) -> usize {
         self.blocks.read(block, tally) as usize
             + self.superblocks.read(block / BLOCKS, tally) as usize
     }
 
-    // The ones from the start of a block up to a place in it: up to its half, its quarter there, its limb
-    // there, and in that limb. Limbs past the place, which the last block may not have, are not read.
+    // Returns the number of ones from the start of a block up to a position in it: up to its half, its quarter
+    // there, its limb there, and in that limb. Limbs past the position, which the last block may not have, are
+    // not read.
     #[inline(always)]
     fn ones_up_to(&self, block: usize, place: usize, tally: &mut Tally) -> usize {
         let half = self.ones_up_to_half(block, place, tally);
@@ -112,7 +113,7 @@ impl<A: Allocator + Copy> RsVec<A> {
         half + quarter + limb + self.ones_of_rest(place, tally)
     }
 
-    // The ones from the start of a block up to a place's half of it.
+    // Returns the number of ones from the start of a block up to the position's half of it.
     #[inline(always)]
     fn ones_up_to_half(&self, block: usize, place: usize, tally: &mut Tally) -> usize {
         if place / 256 % 2 == 0 {
@@ -121,7 +122,7 @@ impl<A: Allocator + Copy> RsVec<A> {
         self.ones_of_two(8 * block, tally) + self.ones_of_two(8 * block + 2, tally)
     }
 
-    // The ones from the start of a place's half of a block up to its quarter.
+    // Returns the number of ones from the start of the position's half of a block up to its quarter.
     #[inline(always)]
     fn ones_up_to_quarter(&self, place: usize, tally: &mut Tally) -> usize {
         if place / 128 % 2 == 0 {
@@ -130,7 +131,7 @@ impl<A: Allocator + Copy> RsVec<A> {
         self.ones_of_two(place / 256 * 4, tally)
     }
 
-    // The ones from the start of a place's quarter of a block up to its limb.
+    // Returns the number of ones from the start of the position's quarter of a block up to its limb.
     #[inline(always)]
     fn ones_up_to_limb(&self, place: usize, tally: &mut Tally) -> usize {
         if place / LIMB % 2 == 0 {
@@ -139,28 +140,28 @@ impl<A: Allocator + Copy> RsVec<A> {
         self.ones_of_whole(place / 128 * 2, tally)
     }
 
-    // The ones of two limbs, which are read.
+    // Reads two limbs and returns their number of ones.
     #[inline(always)]
     pub(super) fn ones_of_two(&self, k: usize, tally: &mut Tally) -> usize {
         self.ones_of_whole(k + 1, tally) + self.ones_of_whole(k, tally)
     }
 
-    // The ones of a limb, which is read.
+    // Reads a limb and returns its number of ones.
     #[inline(always)]
     pub(super) fn ones_of_whole(&self, k: usize, tally: &mut Tally) -> usize {
         self.bits.limb(k, tally).count_ones() as usize
     }
 
-    // The ones of a place's limb that stand below it, where the limb is read.
+    // Reads the position's limb and returns its number of ones below the position.
     #[inline(always)]
     fn ones_of_rest(&self, place: usize, tally: &mut Tally) -> usize {
         ones_of_part(self.bits.limb(place / LIMB, tally), place)
     }
 
-    // The ones from the start of a block up to a place in it: up to its half, its quarter there, its limb
-    // there, and in that limb. All limbs that are looked at are left out of the sum where the place does not
-    // lie past them, with no branch on the place, which would be guessed wrong. None lies in a half past the
-    // place's own, which may stand in another line of the cache.
+    // Returns the number of ones from the start of a block up to a position in it: up to its half, its quarter
+    // there, its limb there, and in that limb. Every limb that is examined is masked out of the sum unless the
+    // position is past it, with no branch on the position, which would be mispredicted. None is in a half past
+    // the position's own, which may be in another cache line.
     #[inline(always)]
     fn ones_in_block(&self, limbs: &[u64; 8], place: usize) -> usize {
         let half = self.ones_before_half(limbs, place);
@@ -169,7 +170,7 @@ impl<A: Allocator + Copy> RsVec<A> {
         half + quarter + limb + ones_of_part(limbs[place / LIMB % 8], place)
     }
 
-    // The ones from the start of a block up to a place's half of it.
+    // Returns the number of ones from the start of a block up to the position's half of it.
     #[inline(always)]
     fn ones_before_half(&self, limbs: &[u64; 8], place: usize) -> usize {
         let block = place / BLOCK;
@@ -178,34 +179,34 @@ impl<A: Allocator + Copy> RsVec<A> {
         if place / 256 % 2 == 1 { four } else { 0 }
     }
 
-    // The ones from the start of a place's half of a block up to its quarter.
+    // Returns the number of ones from the start of the position's half of a block up to its quarter.
     #[inline(always)]
     fn ones_before_quarter(&self, limbs: &[u64; 8], place: usize) -> usize {
         let two = self.ones_of_pair(limbs, place / BLOCK, place / 256 * 4);
         if place / 128 % 2 == 1 { two } else { 0 }
     }
 
-    // The ones from the start of a place's quarter of a block up to its limb.
+    // Returns the number of ones from the start of the position's quarter of a block up to its limb.
     #[inline(always)]
     fn ones_before_limb(&self, limbs: &[u64; 8], place: usize) -> usize {
         let first = self.ones_of_limb(limbs, place / BLOCK, place / 128 * 2);
         if place / 64 % 2 == 1 { first } else { 0 }
     }
 
-    // The ones of two limbs of a block.
+    // Returns the number of ones in two limbs of a block.
     #[inline(always)]
     fn ones_of_pair(&self, limbs: &[u64; 8], block: usize, k: usize) -> usize {
         self.ones_of_limb(limbs, block, k) + self.ones_of_limb(limbs, block, k + 1)
     }
 
-    // The ones of a limb of a block.
+    // Returns the number of ones in a limb of a block.
     #[inline(always)]
     fn ones_of_limb(&self, limbs: &[u64; 8], block: usize, k: usize) -> usize {
         limbs[k % 8].count_ones() as usize
     }
 }
 
-// The ones of a limb that stand below a place in it.
+// Returns the number of ones in a limb below a position in it.
 #[inline(always)]
 fn ones_of_part(limb: u64, place: usize) -> usize {
     (limb & ((1 << (place % LIMB)) - 1)).count_ones() as usize

@@ -1,4 +1,4 @@
-//! The limb that a walk over places is reading.
+//! The limb that a walk over positions is reading.
 
 use crate::rattle::prelude::*;
 
@@ -7,10 +7,9 @@ use crate::proved::vers_rank::word::{marks, place_in_word};
 use crate::rattle::Allocator;
 use crate::proved::vers_tally::tally::Tally;
 
-// The word of a limb in which the places from number `next` on are ones, where the walk goes from
-// the front, and those below number `next`, where it goes from the back. The places from `next` up to
-// number `edge` stand in the limb's block, and from the back those from `edge` on. A reader that has
-// read nothing has no such numbers.
+// The word of a limb in which the positions from number `next` on are ones, if the walk goes from the front, or
+// those below number `next`, if it goes from the back. The positions from `next` up to number `edge` are in the
+// limb's block, and from the back those from `edge` on. A reader that has read nothing has no such numbers.
 #[derive(Clone, Copy)]
 pub(super) struct Reader {
     pub(super) word: u64,
@@ -20,7 +19,7 @@ pub(super) struct Reader {
 }
 
 impl Reader {
-    // A reader that has read nothing.
+    // Returns a reader that has read nothing.
     #[inline(always)]
     pub(super) fn new() -> Self {
         Reader {
@@ -31,8 +30,8 @@ impl Reader {
         }
     }
 
-    // The place of number `r`: mostly from the word at hand, else from a word of the same block, and
-    // else by a select.
+    // Returns the position of number `r`: mostly from the current word, otherwise from a word of the same
+    // block, or by a select.
     #[inline(always)]
     pub(super) fn place<A: Allocator + Copy>(
         &mut self,
@@ -49,7 +48,7 @@ impl Reader {
         LIMB * self.limb + lowest
     }
 
-    // Reads on at number `r`.
+    // Moves to number `r`.
     #[inline(always)]
     fn seek<A: Allocator + Copy>(&mut self, bit: bool, r: usize, bits: &RsVec<A>, tally: &mut Tally) {
         if self.word != 0 && self.next == r {
@@ -62,7 +61,7 @@ impl Reader {
         }
     }
 
-    // Reads on at number `r` of the block at hand: limb by limb, by their ones, and then in a word.
+    // Moves to number `r` of the current block: limb by limb, by their ones, and then in a word.
     #[inline(always)]
     fn seek_in_block<A: Allocator + Copy>(
         &mut self,
@@ -87,7 +86,7 @@ impl Reader {
         }
     }
 
-    // Reads on at number `r` by a select, and by the entry of the block that comes next.
+    // Moves to number `r` by a select, and by the entry of the next block.
     #[inline(always)]
     fn seek_anew<A: Allocator + Copy>(
         &mut self,
@@ -105,7 +104,7 @@ impl Reader {
         self.edge = edge;
     }
 
-    // The place of number `r`, in a walk from the back.
+    // Returns the position of number `r`, in a walk from the back.
     #[inline(always)]
     pub(super) fn place_back<A: Allocator + Copy>(
         &mut self,
@@ -122,7 +121,7 @@ impl Reader {
         LIMB * self.limb + highest
     }
 
-    // Reads on at the last number below `end`.
+    // Moves to the last number below `end`.
     #[inline(always)]
     fn seek_back<A: Allocator + Copy>(
         &mut self,
@@ -141,8 +140,8 @@ impl Reader {
         }
     }
 
-    // Reads on at the last number below `end`, in the block at hand: limb by limb, by their ones, and
-    // then in a word.
+    // Moves to the last number below `end`, in the current block: limb by limb, by their ones, and then in a
+    // word.
     #[inline(always)]
     fn seek_back_in_block<A: Allocator + Copy>(
         &mut self,
@@ -166,7 +165,7 @@ impl Reader {
         }
     }
 
-    // Reads on at the last number below `end` by a select, and by the entry of its block.
+    // Moves to the last number below `end` by a select, and by the entry of its block.
     #[inline(always)]
     fn seek_back_anew<A: Allocator + Copy>(
         &mut self,

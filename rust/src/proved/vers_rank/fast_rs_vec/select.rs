@@ -1,4 +1,4 @@
-//! The places of zeros and ones.
+//! Select: the positions of zeros and ones.
 
 use crate::rattle::prelude::*;
 
@@ -8,13 +8,13 @@ use crate::proved::vers_rank::word::{held_in_word, held_of, place_in_word};
 use crate::rattle::Allocator;
 use crate::proved::vers_tally::tally::{SuperblockEntries, Tally};
 
-/// Among how many superblocks a search takes two halves, and no more.
+/// The number of superblocks up to which a search takes exactly two halvings.
 const FEW: usize = 4;
 
-/// How many superblocks from the one that is guessed a search looks at before it goes by halves.
+/// The number of superblocks from the guessed one that a search tries before it bisects.
 const STEPS: usize = 4;
 
-// A limb, and how many places of its block before it hold a bit.
+// A limb, and the number of positions of its block before it that have a bit.
 #[derive(Clone, Copy)]
 struct FoundLimb {
     limb: usize,
@@ -28,14 +28,14 @@ struct FoundHalf {
     ones: usize,
 }
 
-// A limb, and the number in it that a number of a block is.
+// A limb, and the number within it of a number in a block.
 #[derive(Clone, Copy)]
 pub(super) struct InLimb {
     pub(super) limb: usize,
     pub(super) rest: usize,
 }
 
-// Where a place stands: its limb with the word that the limb holds, and its place in the word.
+// A location: the limb, its word, and the position in the word.
 #[derive(Clone, Copy)]
 pub(super) struct InWord {
     pub(super) limb: usize,
@@ -43,50 +43,51 @@ pub(super) struct InWord {
     pub(super) place: usize,
 }
 
-// Which of the `n` superblocks between two samples has number `r`, if each of them holds as many.
+// Returns which of the `n` superblocks between two samples contains number `r`, if each of them contains
+// equally many.
 #[inline(always)]
 fn guessed(r: usize, n: usize) -> usize {
     (r % SUPERBLOCK * (n - 1) + SUPERBLOCK / 2) / SUPERBLOCK
 }
 
 impl<A: Allocator + Copy> RsVec<A> {
-    /// The place of zero number `r`, counted from 0, or the length where there are no more.
+    /// Returns the position of zero `r` (from 0), or the length if there are fewer.
     #[inline]
     pub fn select0(&self, r: usize) -> usize {
         let mut tally = Tally::new();
         self.select0_counted(r, &mut tally)
     }
 
-    /// The place of one number `r`, counted from 0, or the length where there are no more.
+    /// Returns the position of one `r` (from 0), or the length if there are fewer.
     #[inline]
     pub fn select1(&self, r: usize) -> usize {
         let mut tally = Tally::new();
         self.select1_counted(r, &mut tally)
     }
 
-    /// The same as `select0`, by at most 8 data words, 17 block entries, and 12 superblock entries
-    /// beside one for each binary digit of the number of superblocks.
+    /// Returns `select0(r)`. Reads at most 8 data words, 17 block entries, and 12 superblock entries plus one
+    /// for each binary digit of the number of superblocks.
     #[inline(always)]
     pub fn select0_counted(&self, r: usize, tally: &mut Tally) -> usize {
         self.select_counted(false, r, tally)
     }
 
-    /// The same as `select1`, by at most 8 data words, 17 block entries, and 12 superblock entries
-    /// beside one for each binary digit of the number of superblocks.
+    /// Returns `select1(r)`. Reads at most 8 data words, 17 block entries, and 12 superblock entries plus one
+    /// for each binary digit of the number of superblocks.
     #[inline(always)]
     pub fn select1_counted(&self, r: usize, tally: &mut Tally) -> usize {
         self.select_counted(true, r, tally)
     }
 
-    /// The same as `select0_counted` or `select1_counted`: the place of number `r`, counted from 0, of the
-    /// bits that are `bit`, or the length where there are no more.
+    /// Returns the position of occurrence `r` (from 0) of `bit`, or the length if there are fewer:
+    /// `select0_counted` or `select1_counted`.
     #[inline(always)]
     pub fn select_counted(&self, bit: bool, r: usize, tally: &mut Tally) -> usize {
         tally.add_rank_call();
         self.place_of(bit, r, tally)
     }
 
-    // The place of number `r` of the zeros or the ones, or the length, as a part of a query.
+    // Returns the position of zero or one `r`, or the length, as a part of a query.
     #[inline(always)]
     pub(super) fn place_of(&self, bit: bool, r: usize, tally: &mut Tally) -> usize {
         let len = self.len();
@@ -97,7 +98,7 @@ impl<A: Allocator + Copy> RsVec<A> {
         LIMB * at.limb + at.place
     }
 
-    // Where number `r` of the zeros or the ones stands.
+    // Returns the location of zero or one `r`.
     #[inline(always)]
     pub(super) fn locate(&self, bit: bool, r: usize, tally: &mut Tally) -> InWord {
         let _ = self.len();
@@ -111,15 +112,14 @@ impl<A: Allocator + Copy> RsVec<A> {
         self.place_in_limb(bit, at, tally)
     }
 
-    // The number in a superblock that number `r`, which stands there, is.
+    // Returns the number within its superblock of number `r`.
     #[inline(always)]
     pub(super) fn number_in(&self, bit: bool, r: usize, s: usize, tally: &mut Tally) -> u16 {
         let _ = self.len();
         (r - self.count_at_superblock(bit, s, tally)) as u16
     }
 
-    // The limb of number `r` of a superblock, where `is_whole` says that the superblock has all its
-    // bits.
+    // Returns the limb of number `r` of a superblock. `is_whole` says that the superblock has all its bits.
     #[inline(always)]
     fn limb_of(&self, bit: bool, r: u16, s: usize, is_whole: bool, tally: &mut Tally) -> InLimb {
         let _ = self.len();
@@ -128,20 +128,20 @@ impl<A: Allocator + Copy> RsVec<A> {
         self.limb_in_block(bit, found.rest as usize, block, is_whole, tally)
     }
 
-    // How many places hold the bit.
+    // Returns the number of positions that have the bit.
     #[inline(always)]
     pub(super) fn total(&self, bit: bool) -> usize {
         if bit { self.ones() } else { self.zeros() }
     }
 
-    // How many places before a superblock hold the bit.
+    // Returns the number of positions before a superblock that have the bit.
     #[inline(always)]
     fn count_at_superblock(&self, bit: bool, s: usize, tally: &mut Tally) -> usize {
         let zeros = self.superblocks.read(s, tally) as usize;
         if bit { SUPERBLOCK * s - zeros } else { zeros }
     }
 
-    // How many places of a superblock before its block number `j` hold the bit.
+    // Returns the number of positions of a superblock before its block `j` that have the bit.
     #[inline(always)]
     fn count_in_superblock(&self, bit: bool, s: usize, j: u16, tally: &mut Tally) -> u16 {
         let _ = &self.bits;
@@ -149,7 +149,8 @@ impl<A: Allocator + Copy> RsVec<A> {
         if bit { BLOCK as u16 * j - zeros } else { zeros }
     }
 
-    // How many places before a block hold the bit, or how many there are where the list ends before it.
+    // Returns the number of positions before a block that have the bit, or of all such positions if the list
+    // ends before it.
     #[inline(always)]
     pub(super) fn count_at_block(&self, bit: bool, block: usize, tally: &mut Tally) -> usize {
         if block >= self.blocks.len() {
@@ -159,13 +160,13 @@ impl<A: Allocator + Copy> RsVec<A> {
         if bit { BLOCK * block - zeros } else { zeros }
     }
 
-    // The superblock that sample number `j` names.
+    // Returns the superblock that sample `j` names.
     #[inline(always)]
     fn sample(&self, bit: bool, j: usize, tally: &mut Tally) -> usize {
         self.samples(bit).read(j, tally) as usize
     }
 
-    // The samples of the zeros or of the ones.
+    // Returns the samples of the zeros or of the ones.
     #[inline(always)]
     fn samples(&self, bit: bool) -> &SuperblockEntries<A> {
         let _ = &self.bits;
@@ -176,11 +177,11 @@ impl<A: Allocator + Copy> RsVec<A> {
         }
     }
 
-    // The superblock of number `r`.
+    // Returns the superblock of number `r`.
     #[inline(always)]
     pub(super) fn superblock_with(&self, bit: bool, r: usize, tally: &mut Tally) -> usize {
         let _ = self.len();
-        // The last first, so that a test of its place serves both.
+        // The last first, so that a single bounds check covers both.
         let last = self.sample(bit, r / SUPERBLOCK + 1, tally);
         let first = self.sample(bit, r / SUPERBLOCK, tally);
         let n = last + 1 - first;
@@ -190,8 +191,8 @@ impl<A: Allocator + Copy> RsVec<A> {
         self.superblock_guessed(bit, r, first, n, tally)
     }
 
-    // The superblock of number `r` among the `n` from `first` on: where there are many, it is
-    // guessed as if each of them held as many, and looked for near the guess.
+    // Returns the superblock of number `r` among the `n` from `first` on: if there are many, it interpolates,
+    // and searches near the guess.
     #[inline(always)]
     fn superblock_guessed(
         &self,
@@ -212,7 +213,7 @@ impl<A: Allocator + Copy> RsVec<A> {
         self.superblock_before(bit, r, first, guess, tally)
     }
 
-    // The superblock of number `r` among the `n` from `first` on, which is looked for near the first.
+    // Returns the superblock of number `r` among the `n` from `first` on, searching near the first.
     #[inline(always)]
     fn superblock_from(
         &self,
@@ -231,7 +232,7 @@ impl<A: Allocator + Copy> RsVec<A> {
         self.superblock_among(bit, r, first + STEPS, n - STEPS, tally)
     }
 
-    // The superblock of number `r` among the `n` from `first` on, which is looked for near the last.
+    // Returns the superblock of number `r` among the `n` from `first` on, searching near the last.
     #[inline(always)]
     fn superblock_before(
         &self,
@@ -250,7 +251,7 @@ impl<A: Allocator + Copy> RsVec<A> {
         self.superblock_among(bit, r, first, n - STEPS, tally)
     }
 
-    // The superblock of number `r` among the `n` from `first` on, by halves.
+    // Returns the superblock of number `r` among the `n` from `first` on, by bisection.
     #[inline(always)]
     fn superblock_among(
         &self,
@@ -267,14 +268,14 @@ impl<A: Allocator + Copy> RsVec<A> {
             start = self.superblock_half(bit, r, start, left, tally);
             left -= left / 2;
         }
-        // Two halves more of at most four, whatever is left, so that nothing depends on a guess of it.
+        // Two more halvings of at most four, whatever is left, so that no branch depends on it.
         start = self.superblock_half(bit, r, start, left, tally);
         left -= left / 2;
         self.superblock_half(bit, r, start, left, tally)
     }
 
-    // Where the half of `n` superblocks from `first` on begins in which number `r` stands: the second
-    // half where it has that number, and else the first. It is a choice of values, and no branch.
+    // Returns the start of the half of `n` superblocks from `first` on that contains number `r`. It selects a
+    // value without a branch.
     #[inline(always)]
     fn superblock_half(
         &self,
@@ -293,7 +294,7 @@ impl<A: Allocator + Copy> RsVec<A> {
         }
     }
 
-    // The block of number `r` of a superblock.
+    // Returns the block of number `r` of a superblock.
     #[inline(always)]
     pub(super) fn block_with(
         &self,
@@ -310,7 +311,7 @@ impl<A: Allocator + Copy> RsVec<A> {
         self.block_up_to(bit, r, s, blocks as u16, tally)
     }
 
-    // The block of number `r` among the 16 of a superblock, or the last of them: all their entries are
+    // Returns the block of number `r` among the 16 of a superblock, or the last of them: all their entries are
     // read and compared at once, by lanes.
     #[inline(always)]
     fn block_among(&self, bit: bool, r: u16, s: usize, tally: &mut Tally) -> FoundBlock {
@@ -319,7 +320,7 @@ impl<A: Allocator + Copy> RsVec<A> {
         last_up_to(zeros, bit, r)
     }
 
-    // The block of number `r` among the first `n` of a superblock, or the last of them: one after the
+    // Returns the block of number `r` among the first `n` of a superblock, or the last of them: one after the
     // other, up to the first whose entry passes `r`.
     #[inline(always)]
     fn block_up_to(&self, bit: bool, r: u16, s: usize, n: u16, tally: &mut Tally) -> FoundBlock {
@@ -334,7 +335,7 @@ impl<A: Allocator + Copy> RsVec<A> {
         FoundBlock { block: n - 1, rest }
     }
 
-    // The limb of number `r` of a block, and the number in it.
+    // Returns the limb of number `r` of a block, and the number in it.
     #[inline(always)]
     pub(super) fn limb_in_block(
         &self,
@@ -352,7 +353,7 @@ impl<A: Allocator + Copy> RsVec<A> {
         }
     }
 
-    // Where a number of a limb stands.
+    // Returns the location of a number in a limb.
     #[inline(always)]
     pub(super) fn place_in_limb(&self, bit: bool, at: InLimb, tally: &mut Tally) -> InWord {
         let word = self.bits.limb(at.limb, tally);
@@ -364,7 +365,7 @@ impl<A: Allocator + Copy> RsVec<A> {
         }
     }
 
-    // The limb of number `r` of a block.
+    // Returns the limb of number `r` of a block.
     #[inline(always)]
     fn limb_with(
         &self,
@@ -381,8 +382,8 @@ impl<A: Allocator + Copy> RsVec<A> {
         self.limb_up_to(bit, r, block, (8 * block + 7).min(last), tally)
     }
 
-    // The limb of number `r` among the 8 of a block, or the last of them: by halves, with no branch
-    // on what they hold, which would be guessed wrong.
+    // Returns the limb of number `r` among the 8 of a block, or the last of them: by halves, with no branch on
+    // their bits, which would be mispredicted.
     #[inline(always)]
     fn limb_by_halves(&self, bit: bool, r: usize, block: usize, tally: &mut Tally) -> FoundLimb {
         let _ = self.len();
@@ -398,8 +399,8 @@ impl<A: Allocator + Copy> RsVec<A> {
         self.half_of(bit, r, block, quarter, 1, ones)
     }
 
-    // The half of a block that has number `r`, by the ones of its first pair of limbs, of its first two
-    // pairs, and of its third pair. It is a choice of values, and no branch.
+    // Returns the half of a block that contains number `r`, by the ones of its first pair of limbs, of its
+    // first two pairs, and of its third pair. It selects a value without a branch.
     #[inline(always)]
     fn half_of_block(
         &self,
@@ -429,8 +430,8 @@ impl<A: Allocator + Copy> RsVec<A> {
         }
     }
 
-    // The half of number `r` among twice `n` limbs: the second where the places of the first, of which
-    // `ones` are ones, don't pass the number. It is a choice of values, and no branch.
+    // Returns the half of number `r` among twice `n` limbs: the second if the first, of which `ones` positions
+    // are ones, doesn't pass the number. It selects a value without a branch.
     #[inline(always)]
     fn half_of(
         &self,
@@ -451,7 +452,7 @@ impl<A: Allocator + Copy> RsVec<A> {
         }
     }
 
-    // The limb of number `r` among those of a block up to the one before `last`, or `last` itself: one
+    // Returns the limb of number `r` among those of a block up to the one before `last`, or `last` itself: one
     // after the other.
     #[inline(always)]
     fn limb_up_to(

@@ -1,4 +1,4 @@
-//! The iterators over the places of the zeros or the ones of an indexed list.
+//! Iterators over the positions of the zeros or the ones of an indexed list.
 
 use crate::rattle::prelude::*;
 
@@ -11,11 +11,11 @@ use std::marker::PhantomData;
 use crate::proved::vers_tally::ends::{Borrowing, BothEnds, Owning, Source};
 use crate::proved::vers_tally::tally::Tally;
 
-/// Marks an iterator over the zeros of a list where `ZERO` is true, and else over its ones.
+/// Marks an iterator over the zeros of a list if `ZERO` is true, otherwise over its ones.
 pub struct Kind<const ZERO: bool>;
 
-/// The places of one kind of bit of an indexed list, which iterators of type `K` read one by one.
-/// It keeps the limbs that it reads, one for each end.
+/// The positions of one kind of bit of an indexed list, which iterators of type `K` read one by one. It keeps
+/// the current limb of each end.
 pub struct Places<K, L: Indexed> {
     list: L,
     bit: bool,
@@ -25,7 +25,7 @@ pub struct Places<K, L: Indexed> {
 }
 
 impl<K, L: Indexed> Places<K, L> {
-    /// The places of the zeros of a list, or of its ones. Reads nothing yet.
+    /// Returns the positions of the ones of a list if `bit` is true, otherwise of its zeros. Reads nothing yet.
     pub fn new(list: L, bit: bool) -> Self {
         let nothing = Reader::new();
         Places {
@@ -71,43 +71,43 @@ impl<K, A: Allocator + Copy> Owning for Places<K, RsVec<A>> {
     }
 }
 
-/// An iterator over the places of a list: of its zeros where `ZERO` is true, and else of its ones,
-/// ascending. Each step reads at most what one select does.
+/// An iterator over the positions of the zeros of a list if `ZERO` is true, otherwise of its ones, ascending.
+/// Each step reads at most what one select does.
 pub type SelectIter<'a, const ZERO: bool, A> = BothEnds<Places<Kind<ZERO>, &'a RsVec<A>>>;
 
-/// An iterator over the places of a list that it owns: of its zeros where `ZERO` is true, and else
-/// of its ones, ascending. Each step reads at most what one select does.
+/// An iterator over the positions of the zeros of a list that it owns if `ZERO` is true, otherwise of its ones,
+/// ascending. Each step reads at most what one select does.
 pub type SelectIntoIter<const ZERO: bool, A> = BothEnds<Places<Kind<ZERO>, RsVec<A>>>;
 
 impl<A: Allocator + Copy> RsVec<A> {
-    /// An iterator over the places of the zeros where `ZERO` is true, and else of the ones.
+    /// Returns an iterator over the positions of the zeros if `ZERO` is true, otherwise of the ones.
     pub fn select_iter<const ZERO: bool>(&self) -> SelectIter<'_, ZERO, A> {
         BothEnds::new(Places::new(self, !ZERO))
     }
 
-    /// An iterator over the places of the zeros.
+    /// Returns an iterator over the positions of the zeros.
     pub fn iter0(&self) -> SelectIter<'_, true, A> {
         self.select_iter::<true>()
     }
 
-    /// An iterator over the places of the ones.
+    /// Returns an iterator over the positions of the ones.
     pub fn iter1(&self) -> SelectIter<'_, false, A> {
         self.select_iter::<false>()
     }
 
-    /// An iterator over the places of the zeros where `ZERO` is true, and else of the ones, which
-    /// owns the list.
+    /// Returns an iterator over the positions of the zeros if `ZERO` is true, otherwise of the ones, which owns
+    /// the list.
     pub fn into_select_iter<const ZERO: bool>(self) -> SelectIntoIter<ZERO, A> {
         let places = Places::new(self, !ZERO);
         BothEnds::new(places)
     }
 
-    /// An iterator over the places of the zeros, which owns the list.
+    /// Returns an iterator over the positions of the zeros, which owns the list.
     pub fn into_iter0(self) -> SelectIntoIter<true, A> {
         BothEnds::new(Places::new(self, false))
     }
 
-    /// An iterator over the places of the ones, which owns the list.
+    /// Returns an iterator over the positions of the ones, which owns the list.
     pub fn into_iter1(self) -> SelectIntoIter<false, A> {
         BothEnds::new(Places::new(self, true))
     }

@@ -1,4 +1,4 @@
-//! Range minima by two items read.
+//! Range minima from two items read.
 
 use crate::rattle::prelude::*;
 
@@ -15,22 +15,22 @@ use std::ops::Bound;
 use crate::proved::vers_bits::bit_vec::GrowError;
 use crate::proved::vers_tally::tally::{CountedItems, Tally, Uncounted};
 
-/// The most items that a `BinaryRmq` holds.
+/// The greatest length of a `BinaryRmq`.
 pub const MAX_LEN: usize = 4294967295;
 
-/// A list of numbers with a table by which the place of a least item of any range is found from two
-/// items. Contracts see a `BinaryRmq` as the list of its items.
+/// A list of numbers with a table that gives the position of a least item of any range from two items.
+/// Contracts see a `BinaryRmq` as the list of its items.
 ///
-/// The table, which is the sparse table of Bender and Farach-Colton, has for each place and each power
-/// of two up to the first that is not below the number of items the place of the least of as many items
-/// from there on, in 4 bytes. A range is covered by two such ranges, which may overlap.
+/// The table, which is the sparse table of Bender and Farach-Colton, stores for each position and each power of
+/// two up to the first that is at least the number of items the position of the least of that many items from
+/// there on, in 4 bytes. Two such ranges, which may overlap, cover a range.
 pub struct BinaryRmq<A: Allocator + Copy> {
     items: CountedItems<A>,
     table: Vec<u32, A>,
 }
 
 impl<A: Allocator + Copy> Clone for BinaryRmq<A> {
-    /// A second value of the same items, with a copy of the table.
+    /// Returns a copy of the items and the table.
     fn clone(&self) -> Result<Self, AllocError> {
         let alloc = *self.table.allocator();
         let items = Vec::from_slice(alloc, self.items.as_slice(Uncounted))?;
@@ -43,7 +43,8 @@ impl<A: Allocator + Copy> Clone for BinaryRmq<A> {
 }
 
 impl<A: Allocator + Copy> BinaryRmq<A> {
-    /// The items, with their table. They are dropped if it is out of memory.
+    /// Returns the items with their table. Precondition: there are at most `MAX_LEN`. Errors: `AllocError` if
+    /// the allocator refuses a request; the items are then dropped.
     pub fn from_vec(items: Vec<u64, A>) -> Result<Self, AllocError> {
         let alloc = *items.allocator();
         let table = places(items.as_slice(), alloc)?;
@@ -53,69 +54,74 @@ impl<A: Allocator + Copy> BinaryRmq<A> {
         })
     }
 
-    /// The items of an iterator that ends. TooLong at the item that would pass `MAX_LEN`, which is
-    /// tested before memory is asked for. Memory where there is none for an item or for the table.
+    /// Returns the items of a finite iterator with their table.
+    ///
+    /// # Errors
+    ///
+    /// `TooLong` at the item that would exceed `MAX_LEN`, which is tested before its allocation; `Memory` if
+    /// the allocator refuses a request.
     pub fn from_iter<I: Iterator<Item = u64>>(alloc: A, items: I) -> Result<Self, GrowError> {
         let list = gathered(alloc, items, MAX_LEN)?;
         Ok(BinaryRmq::from_vec(list)?)
     }
 
-    /// How many items there are.
+    /// Returns the number of items.
     #[inline]
     pub fn len(&self) -> usize {
         self.items.len()
     }
 
-    /// Whether there are no items.
+    /// Returns true if there are no items.
     #[inline]
     pub fn is_empty(&self) -> bool {
         self.len() == 0
     }
 
-    /// The list that holds all items, for callers that ask for a vector.
+    /// Returns the vector of all items, for callers that need a vector.
     #[inline]
     pub fn items(&self, whole: Uncounted) -> &Vec<u64, A> {
         self.items.as_vec(whole)
     }
 
-    /// All items.
+    /// Returns all items.
     #[inline]
     pub fn as_slice(&self) -> &[u64] {
         self.items.as_slice(Uncounted)
     }
 
-    /// The bytes that the items and the table take.
+    /// Returns the number of bytes that the items and the table take.
     pub fn heap_size(&self) -> usize {
         8 * self.items.len() + 4 * self.table.len()
     }
 
-    // The entry of level `k` for the range from `i` on.
+    // Returns the entry of level `k` for the range from `i` on.
     #[inline(always)]
     fn entry(&self, k: usize, i: usize) -> usize {
         self.table[self.items.len() * k + i] as usize
     }
 
-    /// The item at a place of the list.
+    /// Returns the item at `place`. Precondition: `place` is below the length.
     #[inline]
     pub fn item(&self, place: usize) -> u64 {
         let mut tally = Tally::new();
         self.item_counted(place, &mut tally)
     }
 
-    /// The same as `item`, by one item read.
+    /// Returns `item(place)`. Reads one item.
     #[inline(always)]
     pub fn item_counted(&self, place: usize, tally: &mut Tally) -> u64 {
         self.items.read(place, tally)
     }
 
-    /// The first least item from place `i` to place `j`, both included, with its place.
+    /// Returns the first least item from position `i` to position `j`, both included, with its position.
+    /// Precondition: `i` is at most `j`, which is below the length.
     #[inline]
     pub fn range_min_item(&self, i: usize, j: usize) -> PlacedItem {
         let mut tally = Tally::new();
         self.range_min_item_counted(i, j, &mut tally)
     }
 
-    /// The same as `range_min_item`, by at most 2 items read.
+    /// Returns `range_min_item(i, j)`. Reads at most 2 items.
     #[inline(always)]
     pub fn range_min_item_counted(&self, i: usize, j: usize, tally: &mut Tally) -> PlacedItem {
         let _ = &self.items;
@@ -125,20 +131,21 @@ impl<A: Allocator + Copy> BinaryRmq<A> {
         lesser_of(left, right)
     }
 
-    /// The same as `range_min`, by at most 2 items read.
+    /// Returns `range_min(i, j)`. Reads at most 2 items.
     #[inline(always)]
     pub fn range_min_counted(&self, i: usize, j: usize, tally: &mut Tally) -> usize {
         self.range_min_item_counted(i, j, tally).place
     }
 
-    /// The first place of a least item from place `i` to place `j`, both included.
+    /// Returns the first position of a least item from position `i` to position `j`, both included.
+    /// Precondition: `i` is at most `j`, which is below the length.
     #[inline]
     pub fn range_min(&self, i: usize, j: usize) -> usize {
         let mut tally = Tally::new();
         self.range_min_counted(i, j, &mut tally)
     }
 
-    /// The same as `range_min_with_range`, by at most 2 items read.
+    /// Returns `range_min_with_range(start, end)`. Reads at most 2 items.
     #[inline(always)]
     pub fn range_min_with_range_counted(
         &self,
@@ -150,11 +157,11 @@ impl<A: Allocator + Copy> BinaryRmq<A> {
         self.range_min_counted(start_place(start, n), end_place(end, n), tally)
     }
 
-    /// The first place of a least item in a range of which the ends are cut to the places of the list:
-    /// an unbounded start is 0, an unbounded end the last place.
+    /// Returns the first position of a least item in a range whose ends are clamped to the positions of the
+    /// list: an unbounded start is 0, an unbounded end the last position.
     ///
-    /// There is at least one item, a start excluded is not the greatest number, an end excluded is not
-    /// 0, and the start, cut so, is not past the end.
+    /// Precondition: there is at least one item, an excluded start isn't `usize::MAX`, an excluded end isn't 0,
+    /// and the start, clamped so, is at most the end.
     #[inline]
     pub fn range_min_with_range(&self, start: Bound<usize>, end: Bound<usize>) -> usize {
         let mut tally = Tally::new();

@@ -1,10 +1,10 @@
-//! The ends of a range as places of a list.
+//! The ends of a range as positions of a list.
 
 use crate::rattle::prelude::*;
 
 use std::ops::Bound;
 
-// The first place of a range that starts at the bound, among `n` places.
+// Returns the first position of a range that starts at the bound, among `n` positions.
 #[inline(always)]
 pub(super) fn start_place(start: Bound<usize>, n: usize) -> usize {
     let first = match start {
@@ -15,7 +15,7 @@ pub(super) fn start_place(start: Bound<usize>, n: usize) -> usize {
     first.min(n - 1)
 }
 
-// The last place of a range that ends at the bound, among `n` places.
+// Returns the last position of a range that ends at the bound, among `n` positions.
 #[inline(always)]
 pub(super) fn end_place(end: Bound<usize>, n: usize) -> usize {
     let last = match end {

@@ -17,27 +17,26 @@ use std::ops::Bound;
 use crate::proved::vers_bits::bit_vec::GrowError;
 use crate::proved::vers_tally::tally::{CountedItems, Tally, Uncounted};
 
-/// The items of a block, of which the last one may have fewer.
+/// The number of items in a block; the last block may have fewer.
 const BLOCK: usize = 128;
 
-/// The items of a part of a block.
+/// The number of items in a part of a block.
 const PART: usize = 16;
 
-/// The most items that a `FastRmq` holds.
+/// The greatest length of a `FastRmq`.
 pub const MAX_LEN: usize = 549755813760;
 
-/// A list of numbers, of which the place of a least item of any range is found with few of them read.
-/// Contracts see a `FastRmq` as the list of its items.
+/// A list of numbers that finds the position of a least item of any range from few items. Contracts see a
+/// `FastRmq` as the list of its items.
 ///
-/// Of each block of 128 items it keeps the place of the least one in 1 byte, and four masks of 128 bits.
-/// One mask has the items that are below all before them in the block, and one those that none after them
-/// in the block is below. So each start and each end of a block has the place of its least item in a mask.
-/// The other two masks have the same of each part of 16 items. Over the least items of the blocks there is
-/// a `BinaryRmq`.
+/// For each block of 128 items it stores the position of the least one in 1 byte, and four masks of 128 bits.
+/// One mask marks the items that are below all before them in the block, and one those that no later item of
+/// the block is below. So a mask gives the least item of each prefix and each suffix of a block. The other two
+/// masks have the same for each part of 16 items. A `BinaryRmq` covers the least items of the blocks.
 ///
-/// A range over more than one block is the end of one, whole blocks and the start of another. A range over
-/// more than one part of a block is the end of one, whole parts and the start of another. A range in one
-/// part has its least item in a mask, or is read.
+/// A range over more than one block is a suffix of one, whole blocks and a prefix of another. A range over more
+/// than one part of a block is a suffix of one, whole parts and a prefix of another. In one part the masks give
+/// the least item, or the items are read.
 pub struct FastRmq<A: Allocator + Copy> {
     items: CountedItems<A>,
     minima: BinaryRmq<A>,
@@ -46,7 +45,7 @@ pub struct FastRmq<A: Allocator + Copy> {
 }
 
 impl<A: Allocator + Copy> Clone for FastRmq<A> {
-    /// A second value of the same items, with a copy of what is kept of the blocks.
+    /// Returns a copy of the items and the data of the blocks.
     fn clone(&self) -> Result<Self, AllocError> {
         let alloc = *self.places.allocator();
         let items = Vec::from_slice(alloc, self.items.as_slice(Uncounted))?;
@@ -63,7 +62,8 @@ impl<A: Allocator + Copy> Clone for FastRmq<A> {
 }
 
 impl<A: Allocator + Copy> FastRmq<A> {
-    /// The items, with what is kept of their blocks. They are dropped if it is out of memory.
+    /// Returns the items with the data of their blocks. Precondition: there are at most `MAX_LEN`. Errors:
+    /// `AllocError` if the allocator refuses a request; the items are then dropped.
     pub fn from_vec(items: Vec<u64, A>) -> Result<Self, AllocError> {
         let alloc = *items.allocator();
         let Blocks {
@@ -80,75 +80,78 @@ impl<A: Allocator + Copy> FastRmq<A> {
         })
     }
 
-    /// The items of an iterator that ends. TooLong at the item that would pass `MAX_LEN`, which is
-    /// tested before memory is asked for. Memory where there is none for an item or for what is kept of
-    /// the blocks.
+    /// Returns the items of a finite iterator with the data of their blocks.
+    ///
+    /// # Errors
+    ///
+    /// `TooLong` at the item that would exceed `MAX_LEN`, which is tested before its allocation; `Memory` if
+    /// the allocator refuses a request.
     pub fn from_iter<I: Iterator<Item = u64>>(alloc: A, items: I) -> Result<Self, GrowError> {
         let list = gathered(alloc, items, MAX_LEN)?;
         Ok(FastRmq::from_vec(list)?)
     }
 
-    /// How many items there are.
+    /// Returns the number of items.
     #[inline]
     pub fn len(&self) -> usize {
         self.items.len()
     }
 
-    /// Whether there are no items.
+    /// Returns true if there are no items.
     #[inline]
     pub fn is_empty(&self) -> bool {
         self.len() == 0
     }
 
-    /// The list that holds all items, for callers that ask for a vector.
+    /// Returns the vector of all items, for callers that need a vector.
     #[inline]
     pub fn items(&self, whole: Uncounted) -> &Vec<u64, A> {
         self.items.as_vec(whole)
     }
 
-    /// All items.
+    /// Returns all items.
     #[inline]
     pub fn as_slice(&self) -> &[u64] {
         self.items.as_slice(Uncounted)
     }
 
-    /// A copy of the allocator.
+    /// Returns a copy of the allocator.
     #[inline]
     pub fn allocator(&self) -> A {
         *self.places.allocator()
     }
 
-    /// The bytes that the items and what is kept of the blocks take.
+    /// Returns the number of bytes that the items and the data of the blocks take.
     pub fn heap_size(&self) -> usize {
         let kept = self.places.len() + 64 * self.masks.len();
         8 * self.items.len() + self.minima.heap_size() + kept
     }
 
-    // The first place of a least item from the start of the block of `j` to `j`.
+    // Returns the first position of a least item from the start of the block of `j` to `j`.
     #[inline(always)]
     fn prefix_place(&self, j: usize) -> usize {
         BLOCK * (j / BLOCK) + last_set(self.masks[j / BLOCK].whole.prefixes, j % BLOCK)
     }
 
-    // The first place of a least item from `i` to the end of its block.
+    // Returns the first position of a least item from `i` to the end of its block.
     #[inline(always)]
     fn suffix_place(&self, i: usize) -> usize {
         BLOCK * (i / BLOCK) + first_set(self.masks[i / BLOCK].whole.suffixes, i % BLOCK)
     }
 
-    // The first place of a least item from the start of the part of `j` to `j`.
+    // Returns the first position of a least item from the start of the part of `j` to `j`.
     #[inline(always)]
     fn part_prefix_place(&self, j: usize) -> usize {
         BLOCK * (j / BLOCK) + last_set(self.masks[j / BLOCK].parts.prefixes, j % BLOCK)
     }
 
-    // The first place of a least item from `i` to the end of its part.
+    // Returns the first position of a least item from `i` to the end of its part.
     #[inline(always)]
     fn part_suffix_place(&self, i: usize) -> usize {
         BLOCK * (i / BLOCK) + first_set(self.masks[i / BLOCK].parts.suffixes, i % BLOCK)
     }
 
-    // The first least item of the blocks from `a` to `c`, which are whole.
+    // Returns the first least item of the whole blocks from `a` to `c`.
     #[inline(always)]
     fn between(&self, a: usize, c: usize, tally: &mut Tally) -> PlacedItem {
         let _ = self.items.len();
@@ -159,7 +162,7 @@ impl<A: Allocator + Copy> FastRmq<A> {
         }
     }
 
-    // The first place of a least item of a range in one part: by its masks, or by reading its items.
+    // Returns the first position of a least item of a range in one part: by its masks, or by reading its items.
     #[inline(always)]
     fn least_in_part(&self, i: usize, j: usize, tally: &mut Tally) -> usize {
         let last = self.part_prefix_place(j);
@@ -173,8 +176,8 @@ impl<A: Allocator + Copy> FastRmq<A> {
         scan(&self.items, i, j, tally).place
     }
 
-    // The first place of a least item of a range over parts of one block: by the masks of the block, or
-    // by reading the least items of the end of a part, of whole parts and of the start of a part.
+    // Returns the first position of a least item of a range over parts of one block: by the masks of the block,
+    // or by reading the least items of the suffix of a part, of whole parts and of the prefix of a part.
     #[inline(always)]
     fn least_in_block(&self, i: usize, j: usize, tally: &mut Tally) -> usize {
         let last = self.prefix_place(j);
@@ -198,15 +201,15 @@ impl<A: Allocator + Copy> FastRmq<A> {
         lesser_of(least, here).place
     }
 
-    // The least item of block `b`, by one item read.
+    // Returns the least item of block `b`. Reads one item.
     #[inline(always)]
     fn least_of_block(&self, b: usize, tally: &mut Tally) -> u64 {
         let _ = self.items.len();
         self.minima.item_counted(b, tally)
     }
 
-    // The first least item from `i` on, where `after` is that from the start of the next block on. No
-    // item of the block of `i` is read where its least one is above `after`.
+    // Returns the first least item from `i` on, if `after` is that from the start of the next block on. Reads
+    // no item of the block of `i` if its least one is above `after`.
     #[inline(always)]
     fn least_from(&self, i: usize, after: PlacedItem, tally: &mut Tally) -> PlacedItem {
         let least = self.least_of_block(i / BLOCK, tally);
@@ -216,8 +219,8 @@ impl<A: Allocator + Copy> FastRmq<A> {
         lesser_of(read_at(&self.items, self.suffix_place(i), tally), after)
     }
 
-    // The first least item up to `j`, where `before` is that up to the end of the block before. No item
-    // of the block of `j` is read where its least one isn't below `before`.
+    // Returns the first least item up to `j`, if `before` is that up to the end of the previous block. Reads no
+    // item of the block of `j` if its least one isn't below `before`.
     #[inline(always)]
     fn least_up_to(&self, before: PlacedItem, j: usize, tally: &mut Tally) -> PlacedItem {
         let least = self.least_of_block(j / BLOCK, tally);
@@ -227,8 +230,8 @@ impl<A: Allocator + Copy> FastRmq<A> {
         lesser_of(before, read_at(&self.items, self.prefix_place(j), tally))
     }
 
-    // The first place of a least item of a range over blocks, by the least items of whole blocks, and by
-    // reading the least items of the end of a block and of the start of a block where they can be less.
+    // Returns the first position of a least item of a range over blocks, by the least items of whole blocks,
+    // and by reading the least items of the suffix of a block and of the prefix of a block if they can be less.
     #[inline(always)]
     fn least_over_blocks(&self, i: usize, j: usize, tally: &mut Tally) -> usize {
         if i / BLOCK + 1 == j / BLOCK {
@@ -241,8 +244,8 @@ impl<A: Allocator + Copy> FastRmq<A> {
         self.least_up_to(from, j, tally).place
     }
 
-    /// The same as `range_min`, by at most 18 items read: at most 6 over more than one block, 8
-    /// over parts of one block, and 16 in one part.
+    /// Returns `range_min(i, j)`. Reads at most 18 items: at most 6 over more than one block, 8 over parts of
+    /// one block, and 16 in one part.
     #[inline(always)]
     pub fn range_min_counted(&self, i: usize, j: usize, tally: &mut Tally) -> usize {
         if i / PART == j / PART {
@@ -254,14 +257,15 @@ impl<A: Allocator + Copy> FastRmq<A> {
         self.least_over_blocks(i, j, tally)
     }
 
-    /// The first place of a least item from place `i` to place `j`, both included.
+    /// Returns the first position of a least item from position `i` to position `j`, both included.
+    /// Precondition: `i` is at most `j`, which is below the length.
     #[inline(always)]
     pub fn range_min(&self, i: usize, j: usize) -> usize {
         let mut tally = Tally::new();
         self.range_min_counted(i, j, &mut tally)
     }
 
-    /// The same as `range_min_with_range`, by as many items read as `range_min_counted`.
+    /// Returns `range_min_with_range(start, end)`. Reads as many items as `range_min_counted` at most.
     #[inline(always)]
     pub fn range_min_with_range_counted(
         &self,
@@ -273,11 +277,11 @@ impl<A: Allocator + Copy> FastRmq<A> {
         self.range_min_counted(start_place(start, n), end_place(end, n), tally)
     }
 
-    /// The first place of a least item in a range of which the ends are cut to the places of the list:
-    /// an unbounded start is 0, an unbounded end the last place.
+    /// Returns the first position of a least item in a range whose ends are clamped to the positions of the
+    /// list: an unbounded start is 0, an unbounded end the last position.
     ///
-    /// There is at least one item, a start excluded is not the greatest number, an end excluded is not
-    /// 0, and the start, cut so, is not past the end.
+    /// Precondition: there is at least one item, an excluded start isn't `usize::MAX`, an excluded end isn't 0,
+    /// and the start, clamped so, is at most the end.
     #[inline]
     pub fn range_min_with_range(&self, start: Bound<usize>, end: Bound<usize>) -> usize {
         let mut tally = Tally::new();

@@ -1,12 +1,11 @@
-//! The items of an iterator as a vector, up to a greatest number of them.
+//! The items of an iterator as a vector, up to a greatest length.
 
 use crate::rattle::prelude::*;
 
 use crate::rattle::Allocator;
 use crate::proved::vers_bits::bit_vec::GrowError;
 
-// The items of an iterator that ends, which are tested to be no more than `most` before memory is asked
-// for each.
+// Returns the items of a finite iterator. Tests before each allocation that they are at most `most`.
 pub(super) fn gathered<A: Allocator + Copy, I: Iterator<Item = u64>>(
     alloc: A,
     items: I,

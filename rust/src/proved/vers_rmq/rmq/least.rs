@@ -5,16 +5,16 @@ use crate::rattle::prelude::*;
 use crate::rattle::Allocator;
 use crate::proved::vers_tally::tally::{CountedItems, Tally};
 
-/// An item of a list, with the place where it stands.
+/// An item of a list, with its position.
 #[derive(Clone, Copy)]
 pub struct PlacedItem {
-    /// The place.
+    /// The position.
     pub place: usize,
     /// The item.
     pub value: u64,
 }
 
-// The lesser of two items, the first where they are equal.
+// Returns the lesser of two items, the first if they are equal.
 #[inline(always)]
 pub(super) fn lesser_of(first: PlacedItem, second: PlacedItem) -> PlacedItem {
     if first.value <= second.value {
@@ -24,7 +24,7 @@ pub(super) fn lesser_of(first: PlacedItem, second: PlacedItem) -> PlacedItem {
     }
 }
 
-// The one of two places that has the lesser item, the first where they are equal.
+// Returns the one of two positions that has the lesser item, the first if they are equal.
 pub(super) fn lesser_place(items: &[u64], m: usize, n: usize) -> usize {
     let first = PlacedItem {
         place: m,
@@ -37,7 +37,7 @@ pub(super) fn lesser_place(items: &[u64], m: usize, n: usize) -> usize {
     lesser_of(first, second).place
 }
 
-// The item at a place, by one item read.
+// Returns the item at a position. Reads one item.
 #[inline(always)]
 pub(super) fn read_at<A: Allocator + Copy>(
     items: &CountedItems<A>,
@@ -48,7 +48,7 @@ pub(super) fn read_at<A: Allocator + Copy>(
     PlacedItem { place, value }
 }
 
-// The first least item from `i` to `j`, by reading each of them once.
+// Returns the first least item from `i` to `j`. Reads each of them once.
 #[inline(always)]
 pub(super) fn scan<A: Allocator + Copy>(
     items: &CountedItems<A>,

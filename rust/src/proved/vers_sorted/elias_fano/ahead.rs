@@ -1,4 +1,4 @@
-//! The bits of the high parts that a walk along the members has read before it is asked for them.
+//! The bits of the high parts that a walk along the members has read ahead.
 
 use crate::rattle::prelude::*;
 
@@ -6,7 +6,7 @@ use super::EliasFanoVec;
 use crate::rattle::Allocator;
 use crate::proved::vers_tally::tally::Tally;
 
-// Bits of the high parts: `len` of them from `place` on, as a number. No ones where nothing was read.
+// Bits of the high parts: `len` of them from `place` on, as a number. No ones if nothing was read.
 #[derive(Clone, Copy)]
 pub(super) struct Ahead {
     pub(super) place: usize,
@@ -15,7 +15,7 @@ pub(super) struct Ahead {
 }
 
 impl Ahead {
-    // Nothing is read ahead.
+    // Returns an empty read-ahead.
     #[inline]
     pub(super) fn none() -> Ahead {
         Ahead {
@@ -27,7 +27,7 @@ impl Ahead {
 }
 
 impl<A: Allocator + Copy> EliasFanoVec<A> {
-    // The place of the one of a member, which most often was read ahead with those before it.
+    // Returns the position of the one of a member, which mostly was read ahead with those before it.
     #[inline(always)]
     pub(super) fn place_ahead(&self, i: usize, ahead: &mut Ahead, tally: &mut Tally) -> usize {
         let bits = self.high.len();
@@ -49,7 +49,7 @@ impl<A: Allocator + Copy> EliasFanoVec<A> {
         place
     }
 
-    // A member, by the place of its one.
+    // Returns a member, by the position of its one.
     #[inline(always)]
     pub(super) fn member_ahead(&self, i: usize, ahead: &mut Ahead, tally: &mut Tally) -> u64 {
         let high = (self.place_ahead(i, ahead, tally) - i - 1) as u64;

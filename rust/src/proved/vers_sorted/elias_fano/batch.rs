@@ -1,4 +1,4 @@
-//! The members at many places at once.
+//! Queries for many positions or numbers at once.
 
 use crate::rattle::prelude::*;
 
@@ -6,11 +6,11 @@ use super::EliasFanoVec;
 use crate::rattle::Allocator;
 use crate::proved::vers_tally::tally::Tally;
 
-/// How many members are looked for together: so many that the processor has their reads in flight at
-/// once, and so few that what they read stays near.
+/// The members that are searched together: enough that the processor has their reads in flight at once, and few
+/// enough that what they read stays in the cache.
 pub(super) const GROUP: usize = 64;
 
-// The numbers of the ones of the members at `n` places, past all ones where there is no place.
+// Returns the numbers of the ones of the members at `n` positions, past all ones for each `None`.
 #[inline(always)]
 fn ask_each(places: &[Option<u64>], from: usize, n: usize, ones: &mut [usize; GROUP]) {
     for j in 0..n {
@@ -19,14 +19,13 @@ fn ask_each(places: &[Option<u64>], from: usize, n: usize, ones: &mut [usize; GR
 }
 
 impl<A: Allocator + Copy> EliasFanoVec<A> {
-    /// Puts in the stead of each place the member there: the answers of `get`, None past the last.
-    /// None stays where there is no place. Takes no memory.
+    /// Replaces each `Some(i)` in `places` by `get(i)`; each `None` stays. Allocates nothing.
     pub fn get_each(&self, places: &mut [Option<u64>]) {
         let mut tally = Tally::new();
         self.get_each_counted(places, &mut tally)
     }
 
-    /// The same as `get_each`, by at most the reads of as many calls of `get`.
+    /// Does what `get_each` does. Reads at most what as many calls of `get` do.
     #[inline(always)]
     pub fn get_each_counted(&self, places: &mut [Option<u64>], tally: &mut Tally) {
         let _ = self.len();
@@ -39,7 +38,7 @@ impl<A: Allocator + Copy> EliasFanoVec<A> {
         }
     }
 
-    // Puts in the stead of each of `n` places the member there: all selects first, level by level.
+    // Replaces each of `n` positions by the member there: all selects first, level by level.
     #[inline(always)]
     fn get_group(&self, places: &mut [Option<u64>], from: usize, n: usize, tally: &mut Tally) {
         let _ = &self.len;
@@ -49,7 +48,7 @@ impl<A: Allocator + Copy> EliasFanoVec<A> {
         self.members_each(places, from, n, &ones, tally);
     }
 
-    // Puts in the stead of each of `n` places the member there, by the place of its one.
+    // Replaces each of `n` positions by the member there, by the position of its one.
     #[inline(always)]
     fn members_each(
         &self,
@@ -64,7 +63,7 @@ impl<A: Allocator + Copy> EliasFanoVec<A> {
         }
     }
 
-    // The member at a place, by the place of its one.
+    // Returns the member at a position, by the position of its one.
     #[inline(always)]
     fn member_at(&self, place: Option<u64>, one: usize, tally: &mut Tally) -> Option<u64> {
         let number = match place { Some(number) => number, _ => {
@@ -77,14 +76,13 @@ impl<A: Allocator + Copy> EliasFanoVec<A> {
         Some(self.with_low_part((one - i - 1) as u64, i, tally))
     }
 
-    /// Puts in the stead of each number how many members are below it: the answers of `rank`. Takes
-    /// no memory.
+    /// Replaces each `v` in `numbers` by `rank(v)`. Allocates nothing.
     pub fn rank_each(&self, numbers: &mut [u64]) {
         let mut tally = Tally::new();
         self.rank_each_counted(numbers, &mut tally)
     }
 
-    /// The same as `rank_each`, by at most the reads of as many calls of `rank`.
+    /// Replaces each `v` in `numbers` by `rank(v)`. Reads at most what as many calls of `rank` do.
     #[inline(always)]
     pub fn rank_each_counted(&self, numbers: &mut [u64], tally: &mut Tally) {
         let _ = self.len();
@@ -97,7 +95,7 @@ impl<A: Allocator + Copy> EliasFanoVec<A> {
         }
     }
 
-    // Puts in the stead of each of `n` numbers how many members are below it.
+    // Replaces each of `n` numbers by the number of members below it.
     #[inline(always)]
     fn rank_group(&self, numbers: &mut [u64], from: usize, n: usize, tally: &mut Tally) {
         let mut before = [0; GROUP];
@@ -113,7 +111,7 @@ impl<A: Allocator + Copy> EliasFanoVec<A> {
         self.ranks_each(numbers, from, n, &before, &after, &parts, tally);
     }
 
-    // The same by what the searches began with.
+    // Does the same, from the first results of the searches.
     #[inline(always)]
     fn ranks_each(
         &self,
@@ -136,7 +134,7 @@ impl<A: Allocator + Copy> EliasFanoVec<A> {
         }
     }
 
-    // How many members are below a number, by what the search began with.
+    // Returns the number of members below a number, from the first results of the search.
     #[inline(always)]
     fn rank_begun(&self, v: u64, before: usize, after: usize, part: u64, tally: &mut Tally) -> u64 {
         let _ = self.len();

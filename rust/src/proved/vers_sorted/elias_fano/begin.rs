@@ -1,4 +1,4 @@
-//! What searches for many numbers begin with, all of them step by step.
+//! The first steps of searches for many numbers, all of them step by step.
 
 use crate::rattle::prelude::*;
 
@@ -9,14 +9,14 @@ use crate::rattle::Allocator;
 use crate::proved::vers_tally::tally::Tally;
 
 impl<A: Allocator + Copy> EliasFanoVec<A> {
-    // The high part of a number, 0 below the first member.
+    // Returns the high part of a number, or 0 below the first member.
     #[inline(always)]
     fn high_or_zero(&self, v: u64) -> usize {
         let _ = &self.len;
         (v.saturating_sub(self.first) >> self.width) as usize
     }
 
-    // The high parts of numbers.
+    // Computes the high parts of numbers.
     #[inline(always)]
     fn high_numbers(&self, asked: &[u64], highs: &mut [usize; GROUP]) {
         for j in 0..asked.len() {
@@ -24,9 +24,9 @@ impl<A: Allocator + Copy> EliasFanoVec<A> {
         }
     }
 
-    // For each number inside the list, the places of the zeros before and after the members with its
-    // high part, and the low part of the first of these. Each caller names a type of its own: so each has
-    // a copy that no one else calls, which is compiled into it and leaves nothing of the counter.
+    // For each number inside the list, finds the positions of the zeros before and after the members with its
+    // high part, and the low part of the first of these. Each caller names a type of its own, so each has its
+    // own copy, which is inlined into it without the counter.
     #[inline(always)]
     pub(super) fn begin_each<Caller>(
         &self,
@@ -43,7 +43,7 @@ impl<A: Allocator + Copy> EliasFanoVec<A> {
         self.go_on_each(asked, before, after, parts, tally);
     }
 
-    // The same by the places of the zeros before.
+    // Does the same, from the positions of the zeros before.
     #[inline(always)]
     fn go_on_each(
         &self,
@@ -61,14 +61,15 @@ impl<A: Allocator + Copy> EliasFanoVec<A> {
         }
     }
 
-    // The place of the zero after the members with the high part of a number, by that of the zero before.
+    // Returns the position of the zero after the members with the high part of a number, from that of the zero
+    // before.
     #[inline(always)]
     fn zero_past(&self, v: u64, before: usize, tally: &mut Tally) -> usize {
         let _ = &self.len;
         zero_after(&self.high, self.high_number(v), before, tally)
     }
 
-    // The low part of the first of these members, or of the one after where there are none.
+    // Returns the low part of the first of these members, or of the next one if there are none.
     #[inline(always)]
     fn first_part(&self, v: u64, before: usize, tally: &mut Tally) -> u64 {
         let _ = self.len();

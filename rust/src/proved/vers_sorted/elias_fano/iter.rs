@@ -1,4 +1,4 @@
-//! The iterators over the members of an ascending list.
+//! Iterators over the members of an ascending list.
 
 use crate::rattle::prelude::*;
 
@@ -9,11 +9,11 @@ use crate::rattle::Allocator;
 use crate::proved::vers_tally::ends::{Ascending, Borrowing, BothEnds, Owning, Source};
 use crate::proved::vers_tally::tally::Tally;
 
-/// An ascending list, which is borrowed or owned.
+/// An ascending list, borrowed or owned.
 pub trait Sorted: Sized {
     type Alloc: Allocator + Copy;
 
-    /// The list itself.
+    /// Returns the list itself.
     fn list(&self) -> &EliasFanoVec<Self::Alloc>;
 }
 
@@ -101,7 +101,7 @@ pub type EliasFanoRefIter<'a, A> = BothEnds<Members<&'a EliasFanoVec<A>>>;
 pub type EliasFanoIter<A> = BothEnds<Members<EliasFanoVec<A>>>;
 
 impl<A: Allocator + Copy> EliasFanoVec<A> {
-    /// An iterator over the members.
+    /// Returns an iterator over the members.
     pub fn iter(&self) -> EliasFanoRefIter<'_, A> {
         BothEnds::new(Members::new(self))
     }
@@ -132,7 +132,7 @@ impl<A: Allocator + Copy> IntoIterator for EliasFanoVec<A> {
 
     type IntoIter = EliasFanoIter<A>;
 
-    /// An iterator over the members, which owns the list.
+    /// Returns an iterator over the members, which owns the list.
     fn into_iter(self) -> EliasFanoIter<A> {
         BothEnds::new(Members::new(self))
     }

@@ -7,15 +7,15 @@ use crate::rattle::AllocError;
 use crate::rattle::Allocator;
 use crate::proved::vers_bits::bit_vec::{BitVec, MAX_LEN};
 
-// Bits that are to follow a list: the lowest `len` digits of a word.
+// Bits still to be appended to a list: the lowest `len` digits of a word.
 #[derive(Clone, Copy)]
 pub(super) struct Gathered {
     pub(super) word: u64,
     pub(super) len: usize,
 }
 
-// The bits that are still gathered, after the `width` lowest digits of a number have followed. A word
-// that is full goes over to the list.
+// Appends the `width` lowest digits of a number, and returns the bits that are still gathered. A full word is
+// appended to the list.
 #[inline(always)]
 pub(super) fn add_part<A: Allocator + Copy>(
     low: &mut BitVec<A>,

@@ -1,4 +1,4 @@
-//! The makers of ascending lists.
+//! Constructors of ascending lists.
 
 use crate::rattle::prelude::*;
 
@@ -13,9 +13,9 @@ use crate::proved::vers_tally::tally::CountedBits;
 /// The greatest length of a list. No slice of numbers is longer.
 pub const MAX_LEN: usize = 1152921504606846975;
 
-/// Numbers that are read in turn, and from a copy once more.
+/// Numbers that are read one by one, and once more from a copy.
 pub trait Numbers: Copy {
-    /// The first of the numbers left, which is taken.
+    /// Takes the first of the numbers left. `None` if none is left.
     fn next(&mut self) -> Option<u64>;
 }
 
@@ -35,14 +35,15 @@ impl Numbers for SliceNumbers<'_> {
 }
 
 impl<A: Allocator + Copy> EliasFanoVec<A> {
-    /// The list of ascending numbers. `AllocError` only where a request for memory was refused.
+    /// Returns the list of the numbers. Precondition: they ascend. Errors: `AllocError` only if the allocator
+    /// refuses a request.
     pub fn from_slice(alloc: A, numbers: &[u64]) -> Result<Self, AllocError> {
         let rest = SliceNumbers { rest: numbers };
         EliasFanoVec::from_numbers(alloc, rest, numbers.len(), last_of(numbers))
     }
 
-    /// The list of `len` ascending numbers that are read in turn, of which `last` is the last one, or 0
-    /// where there are none. `AllocError` only where a request for memory was refused.
+    /// Returns the list of `len` numbers that are read one by one; `last` is the last one, or 0 if there are
+    /// none. Precondition: they ascend. Errors: `AllocError` only if the allocator refuses a request.
     pub fn from_numbers<N: Numbers>(
         alloc: A,
         numbers: N,
@@ -63,12 +64,12 @@ impl<A: Allocator + Copy> EliasFanoVec<A> {
     }
 }
 
-// The first number, or 0.
+// Returns the first number, or 0.
 fn first_of<N: Numbers>(mut numbers: N) -> u64 {
     numbers.next().unwrap_or(0)
 }
 
-// The last number, or 0.
+// Returns the last number, or 0.
 fn last_of(numbers: &[u64]) -> u64 {
     if numbers.is_empty() {
         return 0;
@@ -76,23 +77,23 @@ fn last_of(numbers: &[u64]) -> u64 {
     numbers[numbers.len() - 1]
 }
 
-// How many bits of a number are its low part, among `n` numbers that lie `u` apart.
+// Returns the number of bits of a low part, for `n` numbers that span `u`.
 fn width_of(n: usize, u: u64) -> usize {
     let bits = clog_of(u.max(2) as u128).max(clog_of(n as u128 + 2));
     bits - clog_of(n.max(2) as u128)
 }
 
-// The least exponent of a power of two that is not below `n`.
+// Returns the least exponent of a power of two that is at least `n`.
 fn clog_of(n: u128) -> usize {
     if n == 0 { 0 } else { digit_count(n - 1) }
 }
 
-// How many binary digits a number has.
+// Returns the number of binary digits of a number.
 fn digit_count(n: u128) -> usize {
     (128 - n.leading_zeros()) as usize
 }
 
-// How many bits the high parts of `len` numbers take, where the last high part is `high`.
+// Returns the number of bits that the high parts of `len` numbers take, if the last high part is `high`.
 fn high_length_of(len: usize, high: u64) -> usize {
     if len == 0 {
         return 0;
@@ -100,7 +101,7 @@ fn high_length_of(len: usize, high: u64) -> usize {
     2 + len + high as usize
 }
 
-// The answer of a call on a list that is known to fit: it is refused only for memory.
+// Returns the result of a call on a list that is known to fit: it fails only if the allocator refuses a request.
 pub(super) fn known_to_fit<T>(answer: Result<T, GrowError>) -> Result<T, AllocError> {
     match answer {
         Ok(value) => Ok(value),
@@ -115,8 +116,8 @@ struct Parts<A: Allocator + Copy> {
     low: BitVec<A>,
 }
 
-// The parts of ascending numbers: a list of zeros in which the one of each number is set, and the low parts
-// one after another.
+// Returns the parts of ascending numbers: a list of zeros in which the one of each number is set, and the low
+// parts one after another.
 fn parts_of<A: Allocator + Copy, N: Numbers>(
     alloc: A,
     mut numbers: N,

@@ -1,4 +1,4 @@
-//! A guess at where a number stands among many members with one high part.
+//! Interpolation of a number's position among many members with the same high part.
 
 use crate::rattle::prelude::*;
 
@@ -7,17 +7,17 @@ use super::search::Bucket;
 use crate::rattle::Allocator;
 use crate::proved::vers_tally::tally::Tally;
 
-// Places between which the members below a number end.
+// The range of positions that contains the end of the members below a number.
 #[derive(Clone, Copy)]
 pub(super) struct Between {
     pub(super) from: usize,
     pub(super) to: usize,
 }
 
-// How many members with one high part are worth a guess.
+// The number of members with the same high part from which on interpolation pays off.
 pub(super) const MANY: usize = 256;
 
-// The place of a low part among `count` that rise evenly from `first` to `last`.
+// Returns the position of a low part among `count` that rise evenly from `first` to `last`.
 #[inline(always)]
 fn guess(first: u64, last: u64, low: u64, count: usize) -> usize {
     let span = last.saturating_sub(first);
@@ -28,8 +28,8 @@ fn guess(first: u64, last: u64, low: u64, count: usize) -> usize {
 }
 
 impl<A: Allocator + Copy> EliasFanoVec<A> {
-    // The places between which the members below `v` end. Among many members that rise evenly, but
-    // for a few at both ends, few are left between them.
+    // Returns the range that contains the end of the members below `v`. If the members rise evenly, but for a
+    // few at both ends, it is short.
     #[inline(always)]
     pub(super) fn narrowed(&self, bucket: Bucket, v: u64, low: u64, tally: &mut Tally) -> Between {
         let _ = self.len();
@@ -41,7 +41,7 @@ impl<A: Allocator + Copy> EliasFanoVec<A> {
         if count < MANY {
             return all;
         }
-        // A few at both ends may lie far from the others.
+        // A few at both ends may be far from the others.
         let start = bucket.start + count / 64;
         let last = bucket.end - 1 - count / 64;
         let from = self.low_part(start, tally);
@@ -55,7 +55,8 @@ impl<A: Allocator + Copy> EliasFanoVec<A> {
         self.probed(bucket, v, low, after, near.saturating_add(margin), tally)
     }
 
-    // The side of place `i` on which the members below `v` end, where `i` is one of the places.
+    // Returns the side of position `i` that contains the end of the members below `v`, if `i` is one of the
+    // positions.
     #[inline(always)]
     fn probed(
         &self,
@@ -77,7 +78,7 @@ impl<A: Allocator + Copy> EliasFanoVec<A> {
         self.side_of(bucket, v, low, between, i, part)
     }
 
-    // The same by the low part of the member at place `i`, which was read.
+    // Does the same from the low part of the member at position `i`, which was read.
     #[inline(always)]
     fn side_of(
         &self,

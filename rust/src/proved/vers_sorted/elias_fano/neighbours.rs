@@ -1,4 +1,4 @@
-//! The members beside many numbers at once.
+//! Predecessors and successors of many numbers at once.
 
 use crate::rattle::prelude::*;
 
@@ -7,12 +7,12 @@ use super::batch::GROUP;
 use crate::rattle::Allocator;
 use crate::proved::vers_tally::tally::Tally;
 
-// A side of a number, on which a member is looked for.
+// A side of a number, on which a member is searched.
 pub(super) trait Side {
-    // That number, where the machine has it.
+    // Returns that number, if it fits in 64 bits.
     fn limit(v: u64) -> u64;
 
-    // That member, by what the search began with.
+    // Returns that member, from the first results of the search.
     fn begun<A: Allocator + Copy>(
         list: &EliasFanoVec<A>,
         v: u64,
@@ -23,7 +23,7 @@ pub(super) trait Side {
     ) -> Option<u64>;
 }
 
-// The greatest member that is not above a number.
+// The greatest member that is at most a number.
 pub(super) struct Before;
 
 impl Side for Before {
@@ -45,7 +45,7 @@ impl Side for Before {
     }
 }
 
-// The least member that is not below a number.
+// The least member that is at least a number.
 pub(super) struct After;
 
 impl Side for After {
@@ -67,7 +67,7 @@ impl Side for After {
     }
 }
 
-// For each of `n` values the number below which members are counted.
+// Computes for each of `n` values the number below which members are counted.
 #[inline(always)]
 fn bounds_each<S: Side>(values: &[Option<u64>], from: usize, n: usize, asked: &mut [u64; GROUP]) {
     for j in 0..n {
@@ -76,35 +76,33 @@ fn bounds_each<S: Side>(values: &[Option<u64>], from: usize, n: usize, asked: &m
 }
 
 impl<A: Allocator + Copy> EliasFanoVec<A> {
-    /// Puts in the stead of each number the greatest member that is not above it: the answers of
-    /// `predecessor`, None where there is none. None stays where there is no number. Takes no memory.
+    /// Replaces each `Some(v)` in `values` by `predecessor(v)`; each `None` stays. Allocates nothing.
     pub fn predecessor_each(&self, values: &mut [Option<u64>]) {
         let mut tally = Tally::new();
         self.predecessor_each_counted(values, &mut tally)
     }
 
-    /// The same as `predecessor_each`, by at most the reads of as many calls of `predecessor`.
+    /// Does what `predecessor_each` does. Reads at most what as many calls of `predecessor` do.
     #[inline(always)]
     pub fn predecessor_each_counted(&self, values: &mut [Option<u64>], tally: &mut Tally) {
         let _ = self.len();
         self.neighbour_each::<Before>(values, tally)
     }
 
-    /// Puts in the stead of each number the least member that is not below it: the answers of
-    /// `successor`, None where there is none. None stays where there is no number. Takes no memory.
+    /// Replaces each `Some(v)` in `values` by `successor(v)`; each `None` stays. Allocates nothing.
     pub fn successor_each(&self, values: &mut [Option<u64>]) {
         let mut tally = Tally::new();
         self.successor_each_counted(values, &mut tally)
     }
 
-    /// The same as `successor_each`, by at most the reads of as many calls of `successor`.
+    /// Does what `successor_each` does. Reads at most what as many calls of `successor` do.
     #[inline(always)]
     pub fn successor_each_counted(&self, values: &mut [Option<u64>], tally: &mut Tally) {
         let _ = self.len();
         self.neighbour_each::<After>(values, tally)
     }
 
-    // Puts in the stead of each number its neighbour on one side, group by group.
+    // Replaces each number by its neighbour on one side, group by group.
     #[inline(always)]
     fn neighbour_each<S: Side>(&self, values: &mut [Option<u64>], tally: &mut Tally) {
         let len = values.len();
@@ -116,7 +114,7 @@ impl<A: Allocator + Copy> EliasFanoVec<A> {
         }
     }
 
-    // The same for `n` numbers: what all searches begin with, and then the rest of each.
+    // Does the same for `n` numbers: the first steps of all searches, and then the rest of each.
     #[inline(always)]
     fn neighbour_group<S: Side>(
         &self,
@@ -135,7 +133,7 @@ impl<A: Allocator + Copy> EliasFanoVec<A> {
         self.neighbours_each::<S>(values, from, n, &before, &after, &parts, tally);
     }
 
-    // The same by what the searches began with.
+    // Does the same, from the first results of the searches.
     #[inline(always)]
     fn neighbours_each<S: Side>(
         &self,
@@ -158,7 +156,7 @@ impl<A: Allocator + Copy> EliasFanoVec<A> {
         }
     }
 
-    // The neighbour of a number, by what the search began with.
+    // Returns the neighbour of a number, from the first results of the search.
     #[inline(always)]
     fn neighbour<S: Side>(
         &self,
@@ -174,7 +172,7 @@ impl<A: Allocator + Copy> EliasFanoVec<A> {
         S::begun(self, v, before, after, part, tally)
     }
 
-    // The predecessor of a number, by what the search began with.
+    // Returns the predecessor of a number, from the first results of the search.
     #[inline(always)]
     fn predecessor_begun(
         &self,
@@ -194,7 +192,7 @@ impl<A: Allocator + Copy> EliasFanoVec<A> {
         Some(self.last_below(bucket, v + 1, k, tally))
     }
 
-    // The successor of a number, by what the search began with.
+    // Returns the successor of a number, from the first results of the search.
     #[inline(always)]
     fn successor_begun(
         &self,

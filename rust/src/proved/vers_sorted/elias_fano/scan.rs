@@ -1,4 +1,4 @@
-//! Steps along the high parts that read the bits beside a place before they ask for a select.
+//! Steps along the high parts that read the next bits before they use a select.
 
 use crate::rattle::prelude::*;
 
@@ -6,7 +6,7 @@ use crate::rattle::Allocator;
 use crate::proved::vers_rank::fast_rs_vec::RsVec;
 use crate::proved::vers_tally::tally::Tally;
 
-// The place of the zero after zero number `h`, which stands at a place.
+// Returns the position of the zero after zero `h`, from the position of zero `h`.
 #[inline(always)]
 pub(super) fn zero_after<A: Allocator + Copy>(
     high: &RsVec<A>,
@@ -23,7 +23,7 @@ pub(super) fn zero_after<A: Allocator + Copy>(
     high.select0_counted(h + 1, tally)
 }
 
-// The place of one number `k`, the next one from place `from` on.
+// Returns the position of one `k`, the next one from position `from` on.
 #[inline(always)]
 pub(super) fn one_from<A: Allocator + Copy>(
     high: &RsVec<A>,
@@ -40,7 +40,7 @@ pub(super) fn one_from<A: Allocator + Copy>(
     high.select1_counted(k, tally)
 }
 
-// The place of one number `k`, the last one before place `to`.
+// Returns the position of one `k`, the last one before position `to`.
 #[inline(always)]
 pub(super) fn one_before<A: Allocator + Copy>(
     high: &RsVec<A>,

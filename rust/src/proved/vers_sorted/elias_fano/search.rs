@@ -1,4 +1,4 @@
-//! What is asked of an ascending list.
+//! Queries of an ascending list.
 
 use crate::rattle::prelude::*;
 
@@ -8,7 +8,7 @@ use crate::proved::vers_sorted::elias_fano::scan::{one_before, one_from};
 use crate::rattle::Allocator;
 use crate::proved::vers_tally::tally::Tally;
 
-// The members with one high part: those from place `start` up to place `end`.
+// The members with one high part: those from position `start` up to position `end`.
 #[derive(Clone, Copy)]
 pub(super) struct Bucket {
     pub(super) high: u64,
@@ -17,21 +17,21 @@ pub(super) struct Bucket {
 }
 
 impl<A: Allocator + Copy> EliasFanoVec<A> {
-    // The low part of a member.
+    // Returns the low part of a member.
     #[inline(always)]
     pub(super) fn low_part(&self, i: usize, tally: &mut Tally) -> u64 {
         let _ = self.low.len();
         self.low.low_part(i * self.width, self.width, tally)
     }
 
-    // The high part of a member.
+    // Returns the high part of a member.
     #[inline(always)]
     fn high_part(&self, i: usize, tally: &mut Tally) -> u64 {
         let _ = &self.len;
         (self.high.select1_counted(i, tally) - i - 1) as u64
     }
 
-    // The member whose high part is known, by its low part.
+    // Returns a member from its high part and its low part.
     #[inline(always)]
     pub(super) fn with_low_part(&self, high: u64, i: usize, tally: &mut Tally) -> u64 {
         let _ = &self.len;
@@ -39,28 +39,28 @@ impl<A: Allocator + Copy> EliasFanoVec<A> {
         self.first + ((high << self.width) | low)
     }
 
-    // A member.
+    // Returns a member.
     #[inline(always)]
     pub(super) fn member(&self, i: usize, tally: &mut Tally) -> u64 {
         let high = self.high_part(i, tally);
         self.with_low_part(high, i, tally)
     }
 
-    // The high part of a number that isn't below the first member.
+    // Returns the high part of a number that isn't below the first member.
     #[inline(always)]
     pub(super) fn high_number(&self, v: u64) -> usize {
         let _ = &self.len;
         ((v - self.first) >> self.width) as usize
     }
 
-    // Its low part.
+    // Returns its low part.
     #[inline(always)]
     pub(super) fn low_number(&self, v: u64) -> u64 {
         let _ = &self.len;
         (v - self.first) & ((1 << self.width) - 1)
     }
 
-    // The members with the high part of `v`, by the places of two zeros, most often from one select.
+    // Returns the members with the high part of `v`, from the positions of two zeros, mostly by one select.
     #[inline(always)]
     fn bucket_of(&self, v: u64, tally: &mut Tally) -> Bucket {
         let _ = &self.len;
@@ -68,7 +68,7 @@ impl<A: Allocator + Copy> EliasFanoVec<A> {
         self.bucket_between(v, zeros.first, zeros.second)
     }
 
-    // The members with the high part of `v`, by the places of the zeros before and after them.
+    // Returns the members with the high part of `v`, from the positions of the zeros before and after them.
     #[inline(always)]
     pub(super) fn bucket_between(&self, v: u64, before: usize, after: usize) -> Bucket {
         let high = self.high_number(v);
@@ -79,7 +79,7 @@ impl<A: Allocator + Copy> EliasFanoVec<A> {
         }
     }
 
-    // How many members are below `v`, where those with its high part are known.
+    // Returns the number of members below `v`, from the members with its high part.
     #[inline(always)]
     pub(super) fn below_in(&self, bucket: Bucket, v: u64, tally: &mut Tally) -> usize {
         let _ = self.len();
@@ -98,7 +98,7 @@ impl<A: Allocator + Copy> EliasFanoVec<A> {
         from
     }
 
-    // The same where the low part of the first of those members is known too.
+    // Does the same if the low part of the first of those members is known too.
     #[inline(always)]
     pub(super) fn below_from(&self, bucket: Bucket, part: u64, v: u64, tally: &mut Tally) -> usize {
         let low = self.low_number(v);
@@ -111,7 +111,7 @@ impl<A: Allocator + Copy> EliasFanoVec<A> {
         self.below_in(bucket, v, tally)
     }
 
-    // Whether a bucket of many members has `v` in its middle, as most of those have in which many are
+    // Returns true if a bucket of many members has `v` in its middle, as most of those do in which many are
     // equal to it. The bucket is that of another number.
     #[inline(always)]
     fn is_amid(&self, bucket: Bucket, other: u64, v: u64, tally: &mut Tally) -> bool {
@@ -123,7 +123,7 @@ impl<A: Allocator + Copy> EliasFanoVec<A> {
         self.with_low_part(bucket.high, bucket.start + count / 2, tally) == v
     }
 
-    // The first member past a bucket. Most often its one is among the next 64 high parts.
+    // Returns the first member past a bucket. Mostly its one is among the next 64 high parts.
     #[inline(always)]
     fn member_past(&self, bucket: Bucket, v: u64, tally: &mut Tally) -> u64 {
         let _ = &self.len;
@@ -133,7 +133,7 @@ impl<A: Allocator + Copy> EliasFanoVec<A> {
         self.with_low_part((place - i - 1) as u64, i, tally)
     }
 
-    // The last member before a bucket. Most often its one is among the 64 high parts before.
+    // Returns the last member before a bucket. Mostly its one is among the 64 high parts before.
     #[inline(always)]
     fn member_before(&self, bucket: Bucket, v: u64, tally: &mut Tally) -> u64 {
         let _ = &self.len;
@@ -143,8 +143,8 @@ impl<A: Allocator + Copy> EliasFanoVec<A> {
         self.with_low_part((place - i - 1) as u64, i, tally)
     }
 
-    /// The same as `has`, by at most as many low parts and queries of the high parts as the number
-    /// of members has binary digits, and 8 more.
+    /// Returns `has(v)`. Reads at most as many low parts, and queries the high parts at most as often, as the
+    /// length has binary digits, plus 8.
     #[inline(always)]
     pub fn has_counted(&self, v: u64, tally: &mut Tally) -> bool {
         if self.len() == 0 {
@@ -164,7 +164,7 @@ impl<A: Allocator + Copy> EliasFanoVec<A> {
         self.with_low_part(bucket.high, k, tally) == v
     }
 
-    /// The same as `get`, by at most 2 low parts and 2 queries of the high parts.
+    /// Returns `get(i)`. Reads at most 2 low parts, with at most 2 queries of the high parts.
     #[inline(always)]
     pub fn get_counted(&self, i: usize, tally: &mut Tally) -> Option<u64> {
         if i >= self.len() {
@@ -173,13 +173,13 @@ impl<A: Allocator + Copy> EliasFanoVec<A> {
         Some(self.member(i, tally))
     }
 
-    /// The same as `get_counted`.
+    /// Returns `select(i)`. Reads at most what `get_counted` does.
     #[inline(always)]
     pub fn select_counted(&self, i: usize, tally: &mut Tally) -> Option<u64> {
         self.get_counted(i, tally)
     }
 
-    /// The same as `delta`, by at most 2 low parts and 2 queries of the high parts.
+    /// Returns `delta(i)`. Reads at most 2 low parts, with at most 2 queries of the high parts.
     #[inline(always)]
     pub fn delta_counted(&self, i: usize, tally: &mut Tally) -> Option<u64> {
         let _ = &self.first;
@@ -195,8 +195,8 @@ impl<A: Allocator + Copy> EliasFanoVec<A> {
         Some(member - before)
     }
 
-    /// The same as `rank`, by at most as many low parts and queries of the high parts as the number
-    /// of members has binary digits, and 8 more.
+    /// Returns `rank(v)`. Reads at most as many low parts, and queries the high parts at most as often, as the
+    /// length has binary digits, plus 8.
     #[inline(always)]
     pub fn rank_counted(&self, v: u64, tally: &mut Tally) -> u64 {
         let _ = self.len();
@@ -207,14 +207,14 @@ impl<A: Allocator + Copy> EliasFanoVec<A> {
         self.below_in(bucket, v, tally) as u64
     }
 
-    // Whether a number lies above the first member and not above the last.
+    // Returns true if a number is above the first member and at most the last.
     #[inline(always)]
     pub(super) fn is_inside(&self, v: u64) -> bool {
         let _ = self.len();
         self.first() < v && v <= self.last()
     }
 
-    // How many members are below a number that doesn't lie so.
+    // Returns the number of members below a number that isn't in that range.
     #[inline(always)]
     pub(super) fn rank_outside(&self, v: u64) -> u64 {
         let _ = self.len();
@@ -224,8 +224,8 @@ impl<A: Allocator + Copy> EliasFanoVec<A> {
         self.len() as u64
     }
 
-    /// The same as `predecessor`, by at most as many low parts and queries of the high parts as the
-    /// number of members has binary digits, and 8 more.
+    /// Returns `predecessor(v)`. Reads at most as many low parts, and queries the high parts at most as often,
+    /// as the length has binary digits, plus 8.
     #[inline(always)]
     pub fn predecessor_counted(&self, v: u64, tally: &mut Tally) -> Option<u64> {
         let _ = self.len();
@@ -241,14 +241,14 @@ impl<A: Allocator + Copy> EliasFanoVec<A> {
         Some(self.last_below(bucket, v + 1, k, tally))
     }
 
-    // Whether the number after `v` lies above the first member and not above the last.
+    // Returns true if the number after `v` is above the first member and at most the last.
     #[inline(always)]
     pub(super) fn is_inside_after(&self, v: u64) -> bool {
         let _ = self.len();
         self.first() <= v && v < self.last()
     }
 
-    // The predecessor of a number where the one after it doesn't lie so.
+    // Returns the predecessor of a number if the next number isn't in that range.
     #[inline(always)]
     pub(super) fn predecessor_outside(&self, v: u64) -> Option<u64> {
         let _ = self.len();
@@ -258,7 +258,7 @@ impl<A: Allocator + Copy> EliasFanoVec<A> {
         Some(self.last())
     }
 
-    // The last of the `k` members below `v`.
+    // Returns the last of the `k` members below `v`.
     #[inline(always)]
     pub(super) fn last_below(&self, bucket: Bucket, v: u64, k: usize, tally: &mut Tally) -> u64 {
         let _ = self.len();
@@ -268,8 +268,8 @@ impl<A: Allocator + Copy> EliasFanoVec<A> {
         self.with_low_part(bucket.high, k - 1, tally)
     }
 
-    /// The same as `successor`, by at most as many low parts and queries of the high parts as the
-    /// number of members has binary digits, and 8 more.
+    /// Returns `successor(v)`. Reads at most as many low parts, and queries the high parts at most as often, as
+    /// the length has binary digits, plus 8.
     #[inline(always)]
     pub fn successor_counted(&self, v: u64, tally: &mut Tally) -> Option<u64> {
         let _ = self.len();
@@ -284,7 +284,7 @@ impl<A: Allocator + Copy> EliasFanoVec<A> {
         Some(self.first_from(bucket, v, k, tally))
     }
 
-    // The successor of a number that doesn't lie above the first member and not above the last.
+    // Returns the successor of a number that isn't above the first member and at most the last.
     #[inline(always)]
     pub(super) fn successor_outside(&self, v: u64) -> Option<u64> {
         let _ = self.len();
@@ -294,7 +294,7 @@ impl<A: Allocator + Copy> EliasFanoVec<A> {
         Some(self.first())
     }
 
-    // The member after the `k` members below `v`.
+    // Returns the member after the `k` members below `v`.
     #[inline(always)]
     pub(super) fn first_from(&self, bucket: Bucket, v: u64, k: usize, tally: &mut Tally) -> u64 {
         let _ = self.len();

@@ -33,30 +33,30 @@ use crate::proved::vers_bits::bit_vec::{BitVec, GrowError};
 use crate::proved::vers_rank::fast_rs_vec::RsVec;
 use crate::proved::vers_tally::tally::Tally;
 
-/// The most bits that a tree has.
+/// The greatest number of bits of a tree.
 pub const MAX_LEN: usize = 9223372036854775807;
 
-/// The most bits that a block of a tree has.
+/// The greatest number of bits of a block of a tree.
 pub const MAX_BLOCK_SIZE: usize = 4294967296;
 
-/// A list of parentheses, of which a one opens and a zero closes. Where they are balanced they write
-/// down a forest of ordered trees, each node of which is named by the place of its one. Contracts see
-/// a `BpTree` as the list of its bits.
+/// A list of parentheses, of which a one opens and a zero closes. If they are balanced they represent a forest
+/// of ordered trees, each node of which is named by the position of its one. Contracts see a `BpTree` as the
+/// list of its bits.
 ///
-/// The excess before a place is the ones less the zeros before it. Over blocks of `BLOCK_SIZE` bits a
-/// tree of 24 bytes a node keeps the total, the least and the greatest excess of each part, by which a
-/// search for a place where the excess has risen by a number passes over the blocks without one. No
-/// answer but that of `heap_size` depends on `BLOCK_SIZE`.
+/// The excess before a position is the number of ones minus the number of zeros before it. Over blocks of
+/// `BLOCK_SIZE` bits a min-max tree of 24 bytes per node stores the total, the least and the greatest excess of
+/// each part, so that a search for an excess skips the blocks that don't contain it. Only the result of
+/// `heap_size` depends on `BLOCK_SIZE`.
 ///
-/// Each query has a form `_counted`, which counts its reads in a `Tally`; the plain form is that
-/// one with a counter of its own. `relative`, `measure` and `level_end` ask one of these.
+/// Each query has a form `_counted`, which counts its reads in a `Tally`; the plain form passes a counter of
+/// its own. `relative`, `measure` and `level_end` call one of these.
 pub struct BpTree<const BLOCK_SIZE: usize, A: Allocator + Copy> {
     bits: RsVec<A>,
     tree: MinMaxTree<A>,
 }
 
 impl<const BLOCK_SIZE: usize, A: Allocator + Copy> Clone for BpTree<BLOCK_SIZE, A> {
-    /// A second tree of the same bits, with a copy of the index.
+    /// Returns a copy of the bits and the index.
     fn clone(&self) -> Result<Self, AllocError> {
         let tree = self.tree.copied()?;
         let bits = self.bits.clone()?;
@@ -65,10 +65,14 @@ impl<const BLOCK_SIZE: usize, A: Allocator + Copy> Clone for BpTree<BLOCK_SIZE, 
 }
 
 impl<const BLOCK_SIZE: usize, A: Allocator + Copy> BpTree<BLOCK_SIZE, A> {
-    /// The tree of a list of parentheses, balanced or not. TooLong above `MAX_LEN` bits, which is
-    /// tested before memory is asked for. The list is dropped where the tree is refused.
+    /// Returns the tree of a list of parentheses, balanced or not. The list is dropped on error.
     ///
-    /// The block size is from 1 to `MAX_BLOCK_SIZE`.
+    /// Precondition: `BLOCK_SIZE` is from 1 to `MAX_BLOCK_SIZE`.
+    ///
+    /// # Errors
+    ///
+    /// `TooLong` above `MAX_LEN` bits, which is tested before any allocation; `Memory` if the allocator refuses
+    /// a request.
     pub fn from_bit_vector(bits: BitVec<A>) -> Result<Self, GrowError> {
         if bits.len() > MAX_LEN {
             return Err(GrowError::TooLong);
@@ -76,58 +80,58 @@ impl<const BLOCK_SIZE: usize, A: Allocator + Copy> BpTree<BLOCK_SIZE, A> {
         Ok(BpTree::indexed(bits)?)
     }
 
-    // The tree of a list that is not too long.
+    // Returns the tree of a list that is not too long.
     fn indexed(bits: BitVec<A>) -> Result<Self, AllocError> {
         let tree = MinMaxTree::over(&bits, BLOCK_SIZE)?;
         let bits = RsVec::from_bit_vec(bits)?;
         Ok(BpTree { bits, tree })
     }
 
-    /// How many bits the list has.
+    /// Returns the number of bits.
     #[inline]
     pub fn len(&self) -> usize {
         self.bits.len()
     }
 
-    /// The bits alone, with ranks and selects.
+    /// Returns the bits, with rank and select.
     #[inline]
     pub fn bits(&self) -> &RsVec<A> {
         &self.bits
     }
 
-    /// How many ones the list has: in balanced parentheses, how many nodes there are.
+    /// Returns the number of ones: in balanced parentheses, the number of nodes.
     #[inline]
     pub fn size(&self) -> usize {
         self.bits.ones()
     }
 
-    /// Whether the list has no bits.
+    /// Returns true if the list is empty.
     #[inline]
     pub fn is_empty(&self) -> bool {
         self.bits.is_empty()
     }
 
-    /// The place of the first bit, which opens the first tree of balanced parentheses. None where the
-    /// list has no bits.
+    /// Returns the position of the first bit, which opens the first tree of balanced parentheses. `None` if the
+    /// list is empty.
     #[inline]
     pub fn root(&self) -> Option<usize> {
         if self.is_empty() { None } else { Some(0) }
     }
 
-    /// The bytes that the bits, their index and the tree take, beside those of the `BpTree` itself, up
-    /// to the greatest number of the machine.
+    /// Returns the number of bytes that the bits, their index and the tree take, in addition to the `BpTree`
+    /// itself, at most the greatest `usize`.
     pub fn heap_size(&self) -> usize {
         self.bits.heap_size().saturating_add(self.tree.heap_size())
     }
 
-    /// Whether the parenthesis at a place opens. None for a place that the list doesn't have.
+    /// Returns true if the parenthesis at `i` opens, or `None` if `i` is out of bounds.
     #[inline]
     pub fn is_open(&self, i: usize) -> Option<bool> {
         let mut tally = Tally::new();
         self.is_open_counted(i, &mut tally)
     }
 
-    /// The same as `is_open`, by one bit read.
+    /// Returns `is_open(i)`. Reads at most one bit.
     #[inline(always)]
     pub fn is_open_counted(&self, i: usize, tally: &mut Tally) -> Option<bool> {
         if i >= self.bits.len() {
@@ -136,14 +140,15 @@ impl<const BLOCK_SIZE: usize, A: Allocator + Copy> BpTree<BLOCK_SIZE, A> {
         Some(self.bits.is_one_counted(i, tally))
     }
 
-    /// The excess past the bit at a place: the ones less the zeros up to it, itself among them.
+    /// Returns the excess past position `i`: the ones minus the zeros up to it, included. Precondition: `i` is
+    /// below the length.
     #[inline]
     pub fn excess(&self, i: usize) -> i64 {
         let mut tally = Tally::new();
         self.excess_counted(i, &mut tally)
     }
 
-    /// The same as `excess`, by the reads of one rank.
+    /// Returns `excess(i)`. Reads at most what one rank does.
     #[inline(always)]
     pub fn excess_counted(&self, i: usize, tally: &mut Tally) -> i64 {
         let ones = self.bits.rank1_counted(i + 1, tally);
@@ -151,77 +156,75 @@ impl<const BLOCK_SIZE: usize, A: Allocator + Copy> BpTree<BLOCK_SIZE, A> {
         ones as i64 - zeros as i64
     }
 
-    /// The first place after `i` past which the excess is `r` more than past `i`. None where there is
-    /// none, and for a place that the list doesn't have.
+    /// Returns the first position after `i` past which the excess is `r` more than past `i`. `None` if there is
+    /// none, or `i` is out of bounds.
     #[inline]
     pub fn fwd_search(&self, i: usize, r: i64) -> Option<usize> {
         let mut tally = Tally::new();
         self.fwd_search_counted(i, r, &mut tally)
     }
 
-    /// The same as `fwd_search`, by at most two blocks, four nodes a level, and twice as many bits
-    /// as a block has.
+    /// Returns `fwd_search(i, r)`. Reads at most two blocks, four nodes per level, and twice as many bits as a
+    /// block has.
     #[inline(always)]
     pub fn fwd_search_counted(&self, i: usize, r: i64, tally: &mut Tally) -> Option<usize> {
         self.searched().forward(i, r, tally)
     }
 
-    /// The last place before `i` before which the excess is `r` more than before `i`. None where there
-    /// is none, and for a place that the list doesn't have.
+    /// Returns the last position before `i` before which the excess is `r` more than before `i`. `None` if
+    /// there is none, or `i` is out of bounds.
     #[inline]
     pub fn bwd_search(&self, i: usize, r: i64) -> Option<usize> {
         let mut tally = Tally::new();
         self.bwd_search_counted(i, r, &mut tally)
     }
 
-    /// The same as `bwd_search`, by at most two blocks, four nodes a level, and twice as many bits
-    /// as a block has.
+    /// Returns `bwd_search(i, r)`. Reads at most two blocks, four nodes per level, and twice as many bits as a
+    /// block has.
     #[inline(always)]
     pub fn bwd_search_counted(&self, i: usize, r: i64, tally: &mut Tally) -> Option<usize> {
         self.searched().backward(i, r, tally)
     }
 
-    /// The first place after `i` past which the excess is one less than past `i`: in balanced
-    /// parentheses, where the one at `i` is closed. None where there is none, and for a place that the
-    /// list doesn't have.
+    /// Returns the first position after `i` past which the excess is one less than past `i`: in balanced
+    /// parentheses, the zero that closes the one at `i`. `None` if there is none, or `i` is out of bounds.
     #[inline]
     pub fn close(&self, i: usize) -> Option<usize> {
         let mut tally = Tally::new();
         self.close_counted(i, &mut tally)
     }
 
-    /// The same as `close`, by the reads of one search.
+    /// Returns `close(i)`. Reads at most what one search does.
     #[inline(always)]
     pub fn close_counted(&self, i: usize, tally: &mut Tally) -> Option<usize> {
         self.fwd_search_counted(i, -1, tally)
     }
 
-    /// The last place before `i` before which the excess is one less than before `i`: in balanced
-    /// parentheses, where the pair that the zero at `i` closes is opened. None where there is none, and
-    /// for a place that the list doesn't have.
+    /// Returns the last position before `i` before which the excess is one less than before `i`: in balanced
+    /// parentheses, if a zero is at `i`, the one that it closes. `None` if there is none, or `i` is out of
+    /// bounds.
     #[inline]
     pub fn open(&self, i: usize) -> Option<usize> {
         let mut tally = Tally::new();
         self.open_counted(i, &mut tally)
     }
 
-    /// The same as `open`, by the reads of one search.
+    /// Returns `open(i)`. Reads at most what one search does.
     #[inline(always)]
     pub fn open_counted(&self, i: usize, tally: &mut Tally) -> Option<usize> {
         self.bwd_search_counted(i, -1, tally)
     }
 
-    /// The last place before `i` before which the excess is one less than before `i` where there is a
-    /// one, and two less where there is a zero: in balanced parentheses, where the nearest pair opens
-    /// that holds the bit's own pair between its places. None where there is none, and for a place that
-    /// the list doesn't have.
+    /// Returns the last position before `i` before which the excess is one less than before `i` if a one is at
+    /// `i`, or two less if a zero is: in balanced parentheses, where the nearest pair opens that encloses the
+    /// bit's own pair. `None` if there is none, or `i` is out of bounds.
     #[inline]
     pub fn enclose(&self, i: usize) -> Option<usize> {
         let mut tally = Tally::new();
         self.enclose_counted(i, &mut tally)
     }
 
-    /// The same as `enclose`, by one bit read and the reads of one search.
+    /// Returns `enclose(i)`. Reads at most one bit and what one search does.
     #[inline(always)]
     pub fn enclose_counted(&self, i: usize, tally: &mut Tally) -> Option<usize> {
         if i >= self.bits.len() {
@@ -235,21 +238,21 @@ impl<const BLOCK_SIZE: usize, A: Allocator + Copy> BpTree<BLOCK_SIZE, A> {
         self.bwd_search_counted(i, rise, tally)
     }
 
-    /// The place of one number `i`, counted from 0, or the number of bits where there are no more: in
-    /// balanced parentheses, node number `i` in preorder.
+    /// Returns the position of one `i` (from 0), or the length if there are fewer: in balanced parentheses,
+    /// node `i` in preorder.
     #[inline]
     pub fn node_handle(&self, i: usize) -> usize {
         let mut tally = Tally::new();
         self.node_handle_counted(i, &mut tally)
     }
 
-    /// The same as `node_handle`, by the reads of one select.
+    /// Returns `node_handle(i)`. Reads at most what one select does.
     #[inline(always)]
     pub fn node_handle_counted(&self, i: usize, tally: &mut Tally) -> usize {
         self.bits.select1_counted(i, tally)
     }
 
-    // The parentheses, as searches go through them.
+    // Returns the parentheses, in the form that searches use.
     #[inline(always)]
     fn searched(&self) -> Searched<'_, BLOCK_SIZE, A> {
         Searched {

@@ -18,16 +18,16 @@ use crate::rattle::Allocator;
 use crate::proved::vers_rank::fast_rs_vec::RsVec;
 use crate::proved::vers_tally::tally::Tally;
 
-// A query that is asked level by level, and keeps in itself where it stands and what it found so far.
+// A query that is answered level by level, and stores its current position and result.
 pub(super) trait Query: Copy {
-    // The query before the first of some levels with `len` places.
+    // Returns the query before the first of some levels with `len` positions.
     fn begin(self, levels: usize, len: usize) -> Self;
 
-    // The query after one level more, with `i` levels left.
+    // Returns the query after one more level, with `i` levels left.
     fn step<A: Allocator + Copy>(self, level: &RsVec<A>, i: usize, tally: &mut Tally) -> Self;
 }
 
-// Makes each query one before the first level.
+// Puts each query before the first level.
 #[inline(always)]
 fn begin_each<Q: Query>(queries: &mut [Q], levels: usize, len: usize) {
     for j in 0..queries.len() {
@@ -35,7 +35,7 @@ fn begin_each<Q: Query>(queries: &mut [Q], levels: usize, len: usize) {
     }
 }
 
-// Leads each query through one level more, with `i` levels left.
+// Advances each query by one level, with `i` levels left.
 #[inline(always)]
 fn step_each<A: Allocator + Copy, Q: Query>(
     level: &RsVec<A>,
@@ -48,7 +48,7 @@ fn step_each<A: Allocator + Copy, Q: Query>(
     }
 }
 
-// Asks all queries, level by level. Where the symbols are no numbers of the machine, no level is read.
+// Answers all queries, level by level. If the symbols don't fit in a word, no level is read.
 #[inline(always)]
 pub(super) fn ask_each<A: Allocator + Copy, Q: Query>(
     levels: &[RsVec<A>],

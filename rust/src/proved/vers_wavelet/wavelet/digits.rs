@@ -1,16 +1,17 @@
-//! Numbers that are read and made digit by digit.
+//! Numbers that are read and written digit by digit.
 
 use crate::rattle::prelude::*;
 
 use crate::rattle::Allocator;
 use crate::proved::vers_bits::bit_vec::BitVec;
 
-// A number by its binary digits: one that the machine holds, or a list of them.
+// A number by its binary digits: a word, or a list of them.
 pub(crate) trait Digits {
-    // Whether digit `i` is 1.
+    // Returns true if digit `i` is 1.
     fn digit(&self, i: usize) -> bool;
 
-    // Makes digit `i` the bit. The number has zeros from there on down, and keeps within its digits.
+    // Sets digit `i` to the bit. Precondition: the number has zeros from there on down, and keeps within its
+    // digits.
     fn put_digit(&mut self, i: usize, bit: bool);
 }
 
@@ -40,7 +41,7 @@ impl<A: Allocator + Copy> Digits for BitVec<A> {
     }
 }
 
-// Writes the digits from number `low` on, before number `high`, of a number into one that is 0.
+// Copies the digits from digit `low` on, before digit `high`, of a number into one that is 0.
 #[inline(always)]
 pub(super) fn copy_digits<D: Digits>(from: &D, low: usize, high: usize, to: &mut D) {
     for i in 0..high - low {

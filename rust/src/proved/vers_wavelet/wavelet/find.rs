@@ -1,4 +1,4 @@
-//! Where a symbol occurs.
+//! Select: the positions of a symbol.
 
 use crate::rattle::prelude::*;
 
@@ -8,16 +8,15 @@ use crate::proved::vers_bits::bit_vec::BitVec;
 use crate::proved::vers_tally::tally::Tally;
 
 impl<A: Allocator + Copy> WaveletMatrix<A> {
-    /// The place of occurrence `rank`, counted from 0, of a symbol, among those from `offset` on. None
-    /// for a symbol of another length, for an `offset` at or past the end, and where there are not so
-    /// many.
+    /// Returns the position of occurrence `rank` (from 0) of a symbol from position `offset` on. `None` if the
+    /// symbol has another width, `offset` is at or past the end, or there are fewer occurrences.
     pub fn select_offset(&self, offset: usize, rank: usize, symbol: &BitVec<A>) -> Option<usize> {
         let mut tally = Tally::new();
         self.select_offset_counted(offset, rank, symbol, &mut tally)
     }
 
-    /// The same as `select_offset`, by at most `4k` rank calls for symbols of `k` bits, each within
-    /// the reads of one select of a level.
+    /// Returns `select_offset(..)`. Reads at most `4k` rank calls for symbols of `k` bits, each at most one
+    /// select of a level.
     #[inline(always)]
     pub fn select_offset_counted(
         &self,
@@ -32,21 +31,21 @@ impl<A: Allocator + Copy> WaveletMatrix<A> {
         self.find_from(offset, rank, symbol, tally)
     }
 
-    /// The place of occurrence `rank`, counted from 0, of a symbol, among those from `offset` on, or
-    /// the length where there are not so many. The symbol has the length of those of the list.
+    /// Returns the position of occurrence `rank` (from 0) of a symbol from position `offset` on, or the length
+    /// if there are fewer. Precondition: `offset` is at most the length, and the symbol has the list's width.
     pub fn select_offset_unchecked(&self, offset: usize, rank: usize, symbol: &BitVec<A>) -> usize {
         self.place_from(offset, rank, symbol)
     }
 
-    /// The place of occurrence `rank`, counted from 0, of a symbol. None for a symbol of another
-    /// length, and where there are not so many.
+    /// Returns the position of occurrence `rank` (from 0) of a symbol. `None` if the symbol has another width,
+    /// or there are fewer occurrences.
     pub fn select(&self, rank: usize, symbol: &BitVec<A>) -> Option<usize> {
         let mut tally = Tally::new();
         self.select_counted(rank, symbol, &mut tally)
     }
 
-    /// The same as `select`, by at most `4k` rank calls for symbols of `k` bits, each within the
-    /// reads of one select of a level.
+    /// Returns `select(..)`. Reads at most `4k` rank calls for symbols of `k` bits, each at most one select of
+    /// a level.
     #[inline(always)]
     pub fn select_counted(
         &self,
@@ -60,22 +59,22 @@ impl<A: Allocator + Copy> WaveletMatrix<A> {
         self.find_from(0, rank, symbol, tally)
     }
 
-    /// The place of occurrence `rank`, counted from 0, of a symbol, or the length where there are not
-    /// so many. The symbol has the length of those of the list.
+    /// Returns the position of occurrence `rank` (from 0) of a symbol, or the length if there are fewer.
+    /// Precondition: the symbol has the list's width.
     pub fn select_unchecked(&self, rank: usize, symbol: &BitVec<A>) -> usize {
         self.select_offset_unchecked(0, rank, symbol)
     }
 
-    /// The place of occurrence `rank`, counted from 0, of a symbol, of which the low digits count,
-    /// among those from `offset` on. None where the symbols have more than 64 bits, for an `offset` at
-    /// or past the end, and where there are not so many.
+    /// Returns the position of occurrence `rank` (from 0) of a symbol from position `offset` on. Only the low
+    /// bits of `symbol` count. `None` if the symbols have more than 64 bits, `offset` is at or past the end, or
+    /// there are fewer occurrences.
     pub fn select_offset_u64(&self, offset: usize, rank: usize, symbol: u64) -> Option<usize> {
         let mut tally = Tally::new();
         self.select_offset_u64_counted(offset, rank, symbol, &mut tally)
     }
 
-    /// The same as `select_offset_u64`, by at most `4k` rank calls for symbols of `k` bits, each
-    /// within the reads of one select of a level.
+    /// Returns `select_offset_u64(..)`. Reads at most `4k` rank calls for symbols of `k` bits, each at most one
+    /// select of a level.
     #[inline(always)]
     pub fn select_offset_u64_counted(
         &self,
@@ -90,22 +89,22 @@ impl<A: Allocator + Copy> WaveletMatrix<A> {
         self.find_from(offset, rank, &symbol, tally)
     }
 
-    /// The place of occurrence `rank`, counted from 0, of a symbol, of which the low digits count,
-    /// among those from `offset` on, or the length where there are not so many. The symbols have at
-    /// most 64 bits.
+    /// Returns the position of occurrence `rank` (from 0) of a symbol from position `offset` on, or the length
+    /// if there are fewer. Only the low bits of `symbol` count. Precondition: `offset` is at most the length,
+    /// and the symbols have at most 64 bits.
     pub fn select_offset_u64_unchecked(&self, offset: usize, rank: usize, symbol: u64) -> usize {
         self.place_from(offset, rank, &symbol)
     }
 
-    /// The place of occurrence `rank`, counted from 0, of a symbol, of which the low digits count. None
-    /// where the symbols have more than 64 bits, and where there are not so many.
+    /// Returns the position of occurrence `rank` (from 0) of a symbol. Only the low bits of `symbol` count.
+    /// `None` if the symbols have more than 64 bits, or there are fewer occurrences.
     pub fn select_u64(&self, rank: usize, symbol: u64) -> Option<usize> {
         let mut tally = Tally::new();
         self.select_u64_counted(rank, symbol, &mut tally)
     }
 
-    /// The same as `select_u64`, by at most `4k` rank calls for symbols of `k` bits, each within
-    /// the reads of one select of a level.
+    /// Returns `select_u64(..)`. Reads at most `4k` rank calls for symbols of `k` bits, each at most one select
+    /// of a level.
     #[inline(always)]
     pub fn select_u64_counted(&self, rank: usize, symbol: u64, tally: &mut Tally) -> Option<usize> {
         if !self.fits_word() {
@@ -114,8 +113,8 @@ impl<A: Allocator + Copy> WaveletMatrix<A> {
         self.find_from(0, rank, &symbol, tally)
     }
 
-    /// The place of occurrence `rank`, counted from 0, of a symbol, of which the low digits count, or
-    /// the length where there are not so many. The symbols have at most 64 bits.
+    /// Returns the position of occurrence `rank` (from 0) of a symbol, or the length if there are fewer. Only
+    /// the low bits of `symbol` count. Precondition: the symbols have at most 64 bits.
     pub fn select_u64_unchecked(&self, rank: usize, symbol: u64) -> usize {
         self.select_offset_u64_unchecked(0, rank, symbol)
     }

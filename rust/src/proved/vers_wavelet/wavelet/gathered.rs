@@ -1,4 +1,5 @@
-//! Where symbols go in the order of their digits from the lowest to the highest, in which equal ones are gathered.
+//! Gathered order: all positions sorted stably by their symbols' digits, lowest digit first, so that equal
+//! symbols are adjacent.
 
 use crate::rattle::prelude::*;
 
@@ -8,26 +9,27 @@ use crate::rattle::Allocator;
 use std::ops::Range;
 use crate::proved::vers_tally::tally::Tally;
 
-/// The symbol at a place, and where the place goes when all places are put in the order of their symbols' digits
-/// from the lowest to the highest, those of equal symbols as they stand.
+/// The symbol at a position, and its gathered position: its index when all positions are sorted stably by their
+/// symbols' digits, lowest digit first.
 #[derive(Clone, Copy, PartialEq, Eq, Debug)]
 pub struct Gathered {
     /// The symbol.
     pub symbol: u64,
-    /// Where its place goes.
+    /// The gathered position.
     pub place: usize,
 }
 
 impl<A: Allocator + Copy> WaveletMatrix<A> {
-    /// The symbol at a place, and where the place goes when all places are put in the order of their symbols' digits
-    /// from the lowest to the highest, those of equal symbols as they stand. None where the symbols have more than 64
-    /// bits, and for a place that the list doesn't have.
+    /// Returns the symbol at `place`, and its gathered position: its index when all positions are sorted stably
+    /// by their symbols' digits, lowest digit first. `None` if the symbols have more than 64 bits, or `place`
+    /// is out of bounds.
     pub fn get_gathered_u64(&self, place: usize) -> Option<Gathered> {
         let mut tally = Tally::new();
         self.get_gathered_u64_counted(place, &mut tally)
     }
 
-    /// The same as `get_gathered_u64`, by at most two ranks of each level: `2k` rank calls for symbols of `k` bits.
+    /// Returns `get_gathered_u64(place)`. Reads at most two ranks of each level: `2k` rank calls for symbols of
+    /// `k` bits.
     #[inline(always)]
     pub fn get_gathered_u64_counted(&self, place: usize, tally: &mut Tally) -> Option<Gathered> {
         if !self.fits_word() || place >= self.len() {
@@ -38,16 +40,16 @@ impl<A: Allocator + Copy> WaveletMatrix<A> {
         Some(Gathered { symbol, place })
     }
 
-    /// Where the first place from a place on that holds a symbol, of which the low digits count, goes when all places
-    /// are put in the order of their symbols' digits from the lowest to the highest, those of equal symbols as they
-    /// stand; or would go, if there is none. None where the symbols have more than 64 bits, and for a place past the
-    /// end.
+    /// Returns the gathered position of the first occurrence of a symbol from `place` on, or the one that it
+    /// would have if there is none. (The gathered position is the index when all positions are sorted stably by
+    /// their symbols' digits, lowest digit first.) Only the low bits of `symbol` count. `None` if the symbols
+    /// have more than 64 bits, or `place` is past the end.
     pub fn gathered_u64(&self, place: usize, symbol: u64) -> Option<usize> {
         let mut tally = Tally::new();
         self.gathered_u64_counted(place, symbol, &mut tally)
     }
 
-    /// The same as `gathered_u64`, by at most one rank of each level: `k` rank calls for symbols of `k` bits.
+    /// Returns `gathered_u64(..)`. Reads at most one rank of each level: `k` rank calls for symbols of `k` bits.
     #[inline(always)]
     pub fn gathered_u64_counted(
         &self,
@@ -61,28 +63,30 @@ impl<A: Allocator + Copy> WaveletMatrix<A> {
         Some(self.gathered_from(place, symbol, tally))
     }
 
-    /// The same as `gathered_u64`. The list has the place, or ends there, and the symbols have at most 64 bits.
+    /// Returns the gathered position that `gathered_u64` does. Precondition: `place` is at most the length, and
+    /// the symbols have at most 64 bits.
     pub fn gathered_u64_unchecked(&self, place: usize, symbol: u64) -> usize {
         let mut tally = Tally::new();
         self.gathered_from(place, symbol, &mut tally)
     }
 
-    // Where the first place from a place on that holds a symbol goes.
+    // Returns the gathered position of the first occurrence of a symbol from a position on.
     #[inline(always)]
     fn gathered_from(&self, place: usize, symbol: u64, tally: &mut Tally) -> usize {
         descend(self.levels(), self.len(), place, &symbol, tally)
     }
 
-    /// Where the places of a range that hold a symbol, of which the low digits count, go when all places are put in the
-    /// order of their symbols' digits from the lowest to the highest, those of equal symbols as they stand: they go
-    /// together, and none between them. None where the symbols have more than 64 bits, for a range that ends past the
-    /// list, and where the symbol isn't at a place of the range.
+    /// Returns the gathered positions of the occurrences of a symbol in a range: they are adjacent. (The
+    /// gathered position is the index when all positions are sorted stably by their symbols' digits, lowest
+    /// digit first.) Only the low bits of `symbol` count. `None` if the symbols have more than 64 bits, the
+    /// range ends past the list, or the symbol doesn't occur in the range.
     pub fn gathered_range_u64(&self, range: Range<usize>, symbol: u64) -> Option<Range<usize>> {
         let mut tally = Tally::new();
         self.gathered_range_u64_counted(range, symbol, &mut tally)
     }
 
-    /// The same as `gathered_range_u64`, by at most two ranks of each level: `2k` rank calls for symbols of `k` bits.
+    /// Returns `gathered_range_u64(..)`. Reads at most two ranks of each level: `2k` rank calls for symbols of
+    /// `k` bits.
     #[inline(always)]
     pub fn gathered_range_u64_counted(
         &self,
@@ -100,7 +104,8 @@ impl<A: Allocator + Copy> WaveletMatrix<A> {
         Some(places)
     }
 
-    // Where the places from `start` on, before `end`, that hold a symbol go, and no places if there are none.
+    // Returns the gathered positions of the occurrences of a symbol from `start` on, before `end`, or an empty
+    // range if there are none.
     #[inline(always)]
     fn gathered_between(
         &self,

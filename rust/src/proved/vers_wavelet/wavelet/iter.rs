@@ -1,4 +1,4 @@
-//! The iterators over the symbols: in their order or by size, as numbers or as lists of their bits.
+//! Iterators over the symbols: in their order or ascending, as numbers or as lists of their bits.
 
 use crate::rattle::prelude::*;
 
@@ -12,11 +12,11 @@ use crate::proved::vers_tally::ends::{Borrowing, BothEnds, Owning, Source};
 use crate::proved::vers_tally::made_ends::{BorrowingMaker, MadeEnds, Maker, OwningMaker};
 use crate::proved::vers_tally::tally::Tally;
 
-/// A wavelet matrix, which is borrowed or owned.
+/// A wavelet matrix, borrowed or owned.
 pub trait Matrix: Sized {
     type Alloc: Allocator + Copy;
 
-    /// The matrix itself.
+    /// Returns the matrix itself.
     fn matrix(&self) -> &WaveletMatrix<Self::Alloc>;
 }
 
@@ -38,13 +38,13 @@ impl<A: Allocator + Copy> Matrix for WaveletMatrix<A> {
     }
 }
 
-/// An order in which iterators give the symbols of a matrix.
+/// The order in which iterators return the symbols of a matrix.
 pub trait Order {
-    /// Whether symbols come by size, and else as they stand.
+    /// Returns true if symbols come in ascending order, otherwise they come in their own order.
     fn is_by_size() -> bool;
 }
 
-/// The order in which the symbols stand.
+/// The symbols' own order.
 pub struct InOrder;
 
 impl Order for InOrder {
@@ -54,7 +54,7 @@ impl Order for InOrder {
     }
 }
 
-/// The order by size.
+/// Ascending order.
 pub struct BySize;
 
 impl Order for BySize {
@@ -105,9 +105,9 @@ impl<A: Allocator + Copy> Owning for Numbers<WaveletMatrix<A>> {
     }
 }
 
-/// The symbols of a matrix as numbers, by size, which iterators read one by one. A symbol has at most 64
-/// bits. It keeps the symbol that was found last, with the members that are equal to it, and the way down
-/// to it, from which the next one is found.
+/// The symbols of a matrix as numbers, ascending, which iterators read one by one. A symbol has at most 64
+/// bits. It keeps the last symbol found, with the members that are equal to it, and the path down to it, from
+/// which the next one is found.
 pub struct SortedNumbers<M: Matrix> {
     matrix: M,
     way: Way,
@@ -170,7 +170,7 @@ pub struct SymbolLists<O: Order, M: Matrix> {
 /// The symbols of a matrix as lists of their bits, in their order.
 pub type Lists<M> = SymbolLists<InOrder, M>;
 
-/// The symbols of a matrix as lists of their bits, by size.
+/// The symbols of a matrix as lists of their bits, ascending.
 pub type SortedLists<M> = SymbolLists<BySize, M>;
 
 impl<O: Order, M: Matrix> SymbolLists<O, M> {
@@ -211,21 +211,20 @@ impl<O: Order, A: Allocator + Copy> OwningMaker for SymbolLists<O, WaveletMatrix
     }
 }
 
-/// An iterator over the symbols as lists of their bits. Each item takes memory, and reads at most
-/// what one query does: `2k` rank calls for symbols of `k` bits.
+/// An iterator over the symbols as lists of their bits. Each item is allocated, and reads at most what one
+/// query does: `2k` rank calls for symbols of `k` bits.
 pub type WaveletRefIter<'a, A> = MadeEnds<Lists<&'a WaveletMatrix<A>>>;
 
-/// An iterator over the symbols of a matrix that it owns, as lists of their bits. Each item takes
-/// memory, and reads at most what one query does: `2k` rank calls for symbols of `k` bits.
+/// An iterator over the symbols of a matrix that it owns, as lists of their bits. Each item is allocated, and
+/// reads at most what one query does: `2k` rank calls for symbols of `k` bits.
 pub type WaveletIter<A> = MadeEnds<Lists<WaveletMatrix<A>>>;
 
-/// An iterator over the symbols by size, as lists of their bits. Each item takes memory, and reads
-/// at most what one query does: `2k` rank calls for symbols of `k` bits.
+/// An iterator over the symbols, ascending, as lists of their bits. Each item is allocated, and reads at most
+/// what one query does: `2k` rank calls for symbols of `k` bits.
 pub type WaveletSortedRefIter<'a, A> = MadeEnds<SortedLists<&'a WaveletMatrix<A>>>;
 
-/// An iterator over the symbols of a matrix that it owns, by size, as lists of their bits. Each
-/// item takes memory, and reads at most what one query does: `2k` rank calls for symbols of `k`
-/// bits.
+/// An iterator over the symbols of a matrix that it owns, ascending, as lists of their bits. Each item is
+/// allocated, and reads at most what one query does: `2k` rank calls for symbols of `k` bits.
 pub type WaveletSortedIter<A> = MadeEnds<SortedLists<WaveletMatrix<A>>>;
 
 /// An iterator over the symbols as numbers. Each step reads at most what one query does: `2k` rank
@@ -236,31 +235,31 @@ pub type WaveletNumRefIter<'a, A> = BothEnds<Numbers<&'a WaveletMatrix<A>>>;
 /// one query does: `2k` rank calls for symbols of `k` bits.
 pub type WaveletNumIter<A> = BothEnds<Numbers<WaveletMatrix<A>>>;
 
-/// An iterator over the symbols by size, as numbers. Each step reads at most what one query does:
-/// `2k` rank calls for symbols of `k` bits.
+/// An iterator over the symbols, ascending, as numbers. Each step reads at most what one query does: `2k` rank
+/// calls for symbols of `k` bits.
 pub type WaveletSortedNumRefIter<'a, A> = BothEnds<SortedNumbers<&'a WaveletMatrix<A>>>;
 
-/// An iterator over the symbols of a matrix that it owns, by size, as numbers. Each step reads at
-/// most what one query does: `2k` rank calls for symbols of `k` bits.
+/// An iterator over the symbols of a matrix that it owns, ascending, as numbers. Each step reads at most what
+/// one query does: `2k` rank calls for symbols of `k` bits.
 pub type WaveletSortedNumIter<A> = BothEnds<SortedNumbers<WaveletMatrix<A>>>;
 
 impl<A: Allocator + Copy> WaveletMatrix<A> {
-    /// An iterator over the symbols, as lists of their bits.
+    /// Returns an iterator over the symbols, as lists of their bits.
     pub fn iter(&self) -> WaveletRefIter<'_, A> {
         MadeEnds::new(SymbolLists::new(self))
     }
 
-    /// An iterator over the symbols by size, as lists of their bits.
+    /// Returns an iterator over the symbols, ascending, as lists of their bits.
     pub fn iter_sorted(&self) -> WaveletSortedRefIter<'_, A> {
         MadeEnds::new(SymbolLists::new(self))
     }
 
-    /// An iterator over the symbols by size, as lists of their bits, which owns the matrix.
+    /// Returns an iterator over the symbols, ascending, as lists of their bits, which owns the matrix.
     pub fn into_iter_sorted(self) -> WaveletSortedIter<A> {
         MadeEnds::new(SymbolLists::new(self))
     }
 
-    /// An iterator over the symbols, as numbers. None where they have more than 64 bits.
+    /// Returns an iterator over the symbols, as numbers. `None` if they have more than 64 bits.
     pub fn iter_u64(&self) -> Option<WaveletNumRefIter<'_, A>> {
         if !self.fits_word() {
             return None;
@@ -268,7 +267,7 @@ impl<A: Allocator + Copy> WaveletMatrix<A> {
         Some(BothEnds::new(Numbers::new(self)))
     }
 
-    /// An iterator over the symbols, as numbers, which owns the matrix. None where they have more than
+    /// Returns an iterator over the symbols, as numbers, which owns the matrix. `None` if they have more than
     /// 64 bits.
     pub fn into_iter_u64(self) -> Option<WaveletNumIter<A>> {
         if !self.fits_word() {
@@ -277,7 +276,7 @@ impl<A: Allocator + Copy> WaveletMatrix<A> {
         Some(BothEnds::new(Numbers::new(self)))
     }
 
-    /// An iterator over the symbols by size, as numbers. None where they have more than 64 bits.
+    /// Returns an iterator over the symbols, ascending, as numbers. `None` if they have more than 64 bits.
     pub fn iter_sorted_u64(&self) -> Option<WaveletSortedNumRefIter<'_, A>> {
         if !self.fits_word() {
             return None;
@@ -285,7 +284,7 @@ impl<A: Allocator + Copy> WaveletMatrix<A> {
         Some(BothEnds::new(SortedNumbers::new(self)))
     }
 
-    /// An iterator over the symbols by size, as numbers, which owns the matrix. None where they have
+    /// Returns an iterator over the symbols, ascending, as numbers, which owns the matrix. `None` if they have
     /// more than 64 bits.
     pub fn into_iter_sorted_u64(self) -> Option<WaveletSortedNumIter<A>> {
         if !self.fits_word() {
@@ -320,7 +319,7 @@ impl<A: Allocator + Copy> IntoIterator for WaveletMatrix<A> {
 
     type IntoIter = WaveletIter<A>;
 
-    /// An iterator over the symbols, as lists of their bits, which owns the matrix.
+    /// Returns an iterator over the symbols, as lists of their bits, which owns the matrix.
     fn into_iter(self) -> WaveletIter<A> {
         MadeEnds::new(SymbolLists::new(self))
     }

@@ -1,4 +1,4 @@
-//! One level of a wavelet matrix: where places of it stand in the next.
+//! One level of a wavelet matrix: the map of its positions to the next level.
 
 use crate::rattle::prelude::*;
 
@@ -6,8 +6,8 @@ use crate::rattle::Allocator;
 use crate::proved::vers_rank::fast_rs_vec::RsVec;
 use crate::proved::vers_tally::tally::Tally;
 
-// Where the places from a place on that hold the bit go on in the next level, the zeros at `zeros`.
-// With no branch on the bit, which would be guessed wrong.
+// Returns where the positions from `place` on that have the bit begin in the next level, the zeros at `zeros`.
+// No branch on the bit, which would be mispredicted.
 #[inline(always)]
 pub(super) fn chosen_place<A: Allocator + Copy>(
     level: &RsVec<A>,
@@ -19,7 +19,7 @@ pub(super) fn chosen_place<A: Allocator + Copy>(
     if bit { ones } else { zeros }
 }
 
-// Where the places from a place on that hold the bit begin in the next level: by one rank, which
+// Returns where the positions from `place` on that have the bit begin in the next level: by one rank, which
 // serves both bits.
 #[inline(always)]
 pub(super) fn next_place<A: Allocator + Copy>(
@@ -32,7 +32,7 @@ pub(super) fn next_place<A: Allocator + Copy>(
     chosen_place(level, bit, place, zeros)
 }
 
-// Where the zeros from a place on begin in the next level.
+// Returns where the zeros from a position on begin in the next level.
 #[inline(always)]
 fn zeros_before<A: Allocator + Copy>(level: &RsVec<A>, place: usize, tally: &mut Tally) -> usize {
     level.rank0_counted(place, tally)
@@ -45,8 +45,8 @@ pub(super) struct Zeros {
     pub(super) last: usize,
 }
 
-// Where the zeros from either end of a range on begin in the next level: by two ranks, and by one
-// and a bit where the range has one place.
+// Returns where the zeros from either end of a range on begin in the next level: by two ranks, or by one and a
+// bit if the range has one position.
 #[inline(always)]
 pub(super) fn zeros_before_both<A: Allocator + Copy>(
     level: &RsVec<A>,
@@ -66,7 +66,7 @@ pub(super) fn zeros_before_both<A: Allocator + Copy>(
     Zeros { first, last }
 }
 
-// Whether a place of the next level is one of those of the bit.
+// Returns true if a position of the next level is one of those of the bit.
 #[inline(always)]
 pub(super) fn is_of_bit<A: Allocator + Copy>(level: &RsVec<A>, bit: bool, place: usize) -> bool {
     if bit {
@@ -76,8 +76,8 @@ pub(super) fn is_of_bit<A: Allocator + Copy>(level: &RsVec<A>, bit: bool, place:
     }
 }
 
-// The place whose place in the next level is `place`, where that one is among those of the bit. One
-// select serves both bits: one for each were too large to be inlined.
+// Returns the position whose position in the next level is `place`, if that one is among those of the bit. One
+// select serves both bits: one for each would be too large to be inlined.
 #[inline(always)]
 pub(super) fn place_above<A: Allocator + Copy>(
     level: &RsVec<A>,
@@ -89,7 +89,7 @@ pub(super) fn place_above<A: Allocator + Copy>(
     level.select_counted(bit, place - start, tally)
 }
 
-// Some places of a level, and how many symbols that were left behind are below those sought.
+// A range of positions of a level, and the number of symbols below the symbol that were left behind.
 #[derive(Clone, Copy)]
 pub(super) struct Part {
     pub(super) start: usize,
@@ -97,7 +97,8 @@ pub(super) struct Part {
     pub(super) less: usize,
 }
 
-// Those of a part that hold the bit, in the next level, where the zeros from its ends on begin there.
+// Returns those of a part that have the bit, in the next level, from where the zeros from its ends on begin
+// there.
 #[inline(always)]
 pub(super) fn part_of_bit<A: Allocator + Copy>(
     level: &RsVec<A>,
@@ -116,7 +117,7 @@ pub(super) fn part_of_bit<A: Allocator + Copy>(
     }
 }
 
-// Those of a part that hold the bit, in the next level.
+// Returns those of a part that have the bit, in the next level.
 #[inline(always)]
 pub(super) fn narrow_level<A: Allocator + Copy>(
     level: &RsVec<A>,
@@ -128,8 +129,8 @@ pub(super) fn narrow_level<A: Allocator + Copy>(
     part_of_bit(level, bit, part, zeros)
 }
 
-// Some places of a level, among whose symbols the one sought has number `left` by size, and the
-// digit of it that was found last.
+// A range of positions of a level, among whose symbols the sought one has rank `left` by size, and the last
+// digit found of it.
 #[derive(Clone, Copy)]
 pub(super) struct Choice {
     pub(super) start: usize,
@@ -138,7 +139,7 @@ pub(super) struct Choice {
     pub(super) bit: bool,
 }
 
-// Those with the digit of the symbol sought, in the next level.
+// Returns the positions with the digit of the sought symbol, in the next level.
 #[inline(always)]
 pub(super) fn choose_level<A: Allocator + Copy>(
     level: &RsVec<A>,
@@ -156,14 +157,14 @@ pub(super) fn choose_level<A: Allocator + Copy>(
     }
 }
 
-// The bit at a place, and the place in the next level.
+// The bit at a position, and the position in the next level.
 #[derive(Clone, Copy)]
 pub(super) struct Step {
     pub(super) bit: bool,
     pub(super) place: usize,
 }
 
-// One level of the symbol at a place.
+// Reads one level of the symbol at a position.
 #[inline(always)]
 pub(super) fn read_level<A: Allocator + Copy>(
     level: &RsVec<A>,

@@ -1,4 +1,4 @@
-//! Makers of wavelet matrices.
+//! Constructors of wavelet matrices.
 
 use crate::rattle::prelude::*;
 
@@ -15,23 +15,25 @@ mod sort;
 mod source;
 
 impl<A: Allocator + Copy> WaveletMatrix<A> {
-    /// The symbols of the low `bits_per_element` bits of each number, by stable sorting; none where
-    /// that is 0. Two buffers of as many numbers are asked for once, beside the levels.
+    /// Returns the matrix of the low `bits_per_element` bits of each number, by stable sorting; it is empty if
+    /// that is 0. Allocates two buffers of as many numbers, in addition to the levels. Precondition:
+    /// `bits_per_element` is at most 64.
     pub fn from_slice(alloc: A, numbers: &[u64], bits_per_element: u16) -> Result<Self, AllocError> {
         let source = Words::new(numbers, bits_per_element as usize);
         WaveletMatrix::sorted(alloc, &source)
     }
 
-    /// The symbols of `bits_per_element` bits each that a list of bits holds, by stable sorting. Its
-    /// length is a multiple of that. Two buffers of as many numbers as symbols are asked for once,
-    /// beside the levels.
+    /// Returns the matrix of the symbols of `bits_per_element` bits each in a list of bits, by stable sorting.
+    /// Allocates two buffers of as many numbers as symbols, in addition to the levels. Precondition: the list's
+    /// length is a multiple of `bits_per_element`, which isn't 0.
     pub fn from_bit_vec(bits: &BitVec<A>, bits_per_element: u16) -> Result<Self, AllocError> {
         let source = Packed::new(bits, bits_per_element as usize);
         WaveletMatrix::sorted(bits.allocator(), &source)
     }
 
-    /// The symbols of `from_slice`, by counting prefixes. Two tables of `2 ^ bits_per_element` numbers
-    /// are asked for, beside the levels. From a width of 60 on so many are never given: out of memory.
+    /// Returns the matrix that `from_slice` does, by counting prefixes. Allocates two tables of `2 ^
+    /// bits_per_element` numbers, in addition to the levels; from 60 bits on this fails, out of memory.
+    /// Precondition: `bits_per_element` is from 1 to 63.
     pub fn from_slice_pc(
         alloc: A,
         numbers: &[u64],
@@ -41,20 +43,21 @@ impl<A: Allocator + Copy> WaveletMatrix<A> {
         WaveletMatrix::counted(alloc, &source)
     }
 
-    /// The symbols of `from_bit_vec`, by counting prefixes. Two tables of `2 ^ bits_per_element` numbers
-    /// are asked for, beside the levels. From a width of 60 on so many are never given: out of memory.
+    /// Returns the matrix that `from_bit_vec` does, by counting prefixes. Allocates two tables of `2 ^
+    /// bits_per_element` numbers, in addition to the levels; from 60 bits on this fails, out of memory.
+    /// Precondition: `bits_per_element` is from 1 to 63, and the list's length a multiple of it.
     pub fn from_bit_vec_pc(bits: &BitVec<A>, bits_per_element: u16) -> Result<Self, AllocError> {
         let source = Packed::new(bits, bits_per_element as usize);
         WaveletMatrix::counted(bits.allocator(), &source)
     }
 
-    // The numbers of a source, by stable sorting.
+    // Returns the matrix of the numbers of a source, by stable sorting.
     fn sorted<S: Source>(alloc: A, source: &S) -> Result<Self, AllocError> {
         let levels = sorted_levels(alloc, source)?;
         let len = source.len();
         Ok(WaveletMatrix { levels, len })
     }
-    // The numbers of a source, by counting prefixes.
+    // Returns the matrix of the numbers of a source, by counting prefixes.
     fn counted<S: Source>(alloc: A, source: &S) -> Result<Self, AllocError> {
         let levels = counted_levels(alloc, source)?;
         let len = source.len();

@@ -1,4 +1,4 @@
-//! The nearest symbol of a range on one side of a symbol, by one way down through the levels.
+//! The nearest symbol of a range on one side of a symbol, by one descent through the levels.
 
 use crate::rattle::prelude::*;
 
@@ -9,9 +9,8 @@ use crate::rattle::Allocator;
 use crate::proved::vers_rank::fast_rs_vec::RsVec;
 use crate::proved::vers_tally::tally::Tally;
 
-// The places of a level, counted from 1 on, whose symbols have the digits of the one sought but for the
-// last of these digits, where that one leaves the side that is asked for. Where there are none, it
-// ends where it starts.
+// The positions of a level, counted from 1, whose symbols share all digits of the sought one but the last,
+// which differs on the requested side. If there are none, it ends where it starts.
 #[derive(Clone, Copy)]
 pub(super) struct Beside {
     pub(super) level: usize,
@@ -19,14 +18,14 @@ pub(super) struct Beside {
     pub(super) end: usize,
 }
 
-// The places that the digits of a symbol lead to, and the last ones that they left beside.
+// The positions that the digits of a symbol lead to, and the last ones that were passed on the side.
 #[derive(Clone, Copy)]
 pub(super) struct Trail {
     pub(super) part: Part,
     pub(super) beside: Beside,
 }
 
-// The trail after level `k`. What was left beside is chosen by values.
+// Returns the trail after level `k`. The range passed on the side is selected without a branch.
 #[inline(always)]
 fn follow_level<A: Allocator + Copy, D: Digits>(
     levels: &[RsVec<A>],
@@ -59,7 +58,7 @@ fn follow_level<A: Allocator + Copy, D: Digits>(
     }
 }
 
-// The trail of a symbol, which ends where none of the range's symbols have its digits so far.
+// Returns the trail of a symbol, which ends when none of the range's symbols share its digits so far.
 #[inline(always)]
 fn follow<A: Allocator + Copy, D: Digits>(
     levels: &[RsVec<A>],
@@ -90,14 +89,14 @@ fn follow<A: Allocator + Copy, D: Digits>(
     trail
 }
 
-// The number of the first of so many members, or of the last where `is_up` is false.
+// Returns the index of the first of `many` members, or of the last if `is_up` is false.
 #[inline(always)]
 fn first_or_last(is_up: bool, many: usize) -> usize {
     if is_up { 0 } else { many - 1 }
 }
 
-// Writes the least symbol of what was left beside a symbol into a number that is 0, or the greatest where
-// `is_up` is false: the digits above, the digit that leaves the symbol's, and those found below.
+// Writes the least symbol of the range next to a symbol into a number that is 0, or the greatest if `is_up` is
+// false: the digits above, the digit that differs from the symbol's, and those found below.
 #[inline(always)]
 fn write_beside<A: Allocator + Copy, D: Digits>(
     levels: &[RsVec<A>],
@@ -116,9 +115,8 @@ fn write_beside<A: Allocator + Copy, D: Digits>(
     find_kth(below, len, beside.start, beside.end, i, answer, tally);
 }
 
-// Whether a range has a symbol that is not below a symbol, or, where `is_up` is false, one that is not
-// above it; and writes the nearest of these into a number that is 0. It is the symbol itself, where
-// the range has it.
+// Returns true if a range has a symbol that is at least a symbol, or, if `is_up` is false, one that is at most
+// it; and writes the nearest of these into a number that is 0. It is the symbol itself if the range has it.
 #[inline(always)]
 pub(super) fn find_nearest<A: Allocator + Copy, D: Digits>(
     levels: &[RsVec<A>],

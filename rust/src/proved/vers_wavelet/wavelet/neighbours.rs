@@ -10,8 +10,9 @@ use crate::proved::vers_bits::bit_vec::BitVec;
 use crate::proved::vers_tally::tally::Tally;
 
 impl<A: Allocator + Copy> WaveletMatrix<A> {
-    /// The greatest symbol of a range that is not above a symbol. None for a symbol of another length,
-    /// for a range that is reversed or ends past the end, and where there is no such symbol.
+    /// Returns the greatest symbol of a range that is at most `symbol`. `None` if `symbol` has another width,
+    /// the range is reversed or ends past the end, or there is no such symbol. Errors: `AllocError` if the
+    /// allocator refuses a request.
     pub fn predecessor(
         &self,
         range: Range<usize>,
@@ -21,8 +22,8 @@ impl<A: Allocator + Copy> WaveletMatrix<A> {
         self.predecessor_counted(range, symbol, &mut tally)
     }
 
-    /// The same as `predecessor`, by at most four ranks of each level: `4k` rank calls for symbols of
-    /// `k` bits.
+    /// Returns `predecessor(..)`. Reads at most four ranks of each level: `4k` rank calls for symbols of `k`
+    /// bits.
     #[inline(always)]
     pub fn predecessor_counted(
         &self,
@@ -43,8 +44,9 @@ impl<A: Allocator + Copy> WaveletMatrix<A> {
         Ok(Some(answer))
     }
 
-    /// The least symbol of a range that is not below a symbol. None for a symbol of another length, for
-    /// a range that is reversed or ends past the end, and where there is no such symbol.
+    /// Returns the least symbol of a range that is at least `symbol`. `None` if `symbol` has another width, the
+    /// range is reversed or ends past the end, or there is no such symbol. Errors: `AllocError` if the
+    /// allocator refuses a request.
     pub fn successor(
         &self,
         range: Range<usize>,
@@ -54,8 +56,7 @@ impl<A: Allocator + Copy> WaveletMatrix<A> {
         self.successor_counted(range, symbol, &mut tally)
     }
 
-    /// The same as `successor`, by at most four ranks of each level: `4k` rank calls for symbols of `k`
-    /// bits.
+    /// Returns `successor(..)`. Reads at most four ranks of each level: `4k` rank calls for symbols of `k` bits.
     #[inline(always)]
     pub fn successor_counted(
         &self,
@@ -76,16 +77,16 @@ impl<A: Allocator + Copy> WaveletMatrix<A> {
         Ok(Some(answer))
     }
 
-    /// The greatest symbol of a range that is not above a symbol, of which the low digits count. None
-    /// where the symbols have more than 64 bits, for a range that is reversed or ends past the end, and
-    /// where there is no such symbol.
+    /// Returns the greatest symbol of a range that is at most `symbol`, of which only the low bits count.
+    /// `None` if the symbols have more than 64 bits, the range is reversed or ends past the end, or there is no
+    /// such symbol.
     pub fn predecessor_u64(&self, range: Range<usize>, symbol: u64) -> Option<u64> {
         let mut tally = Tally::new();
         self.predecessor_u64_counted(range, symbol, &mut tally)
     }
 
-    /// The same as `predecessor_u64`, by at most four ranks of each level: `4k` rank calls for symbols
-    /// of `k` bits.
+    /// Returns `predecessor_u64(..)`. Reads at most four ranks of each level: `4k` rank calls for symbols of
+    /// `k` bits.
     #[inline(always)]
     pub fn predecessor_u64_counted(
         &self,
@@ -103,16 +104,16 @@ impl<A: Allocator + Copy> WaveletMatrix<A> {
         Some(answer)
     }
 
-    /// The least symbol of a range that is not below a symbol, of which the low digits count. None
-    /// where the symbols have more than 64 bits, for a range that is reversed or ends past the end, and
-    /// where there is no such symbol.
+    /// Returns the least symbol of a range that is at least `symbol`, of which only the low bits count. `None`
+    /// if the symbols have more than 64 bits, the range is reversed or ends past the end, or there is no such
+    /// symbol.
     pub fn successor_u64(&self, range: Range<usize>, symbol: u64) -> Option<u64> {
         let mut tally = Tally::new();
         self.successor_u64_counted(range, symbol, &mut tally)
     }
 
-    /// The same as `successor_u64`, by at most four ranks of each level: `4k` rank calls for symbols of
-    /// `k` bits.
+    /// Returns `successor_u64(..)`. Reads at most four ranks of each level: `4k` rank calls for symbols of `k`
+    /// bits.
     #[inline(always)]
     pub fn successor_u64_counted(
         &self,

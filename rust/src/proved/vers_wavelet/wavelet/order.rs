@@ -1,4 +1,4 @@
-//! Members of a range by size.
+//! Quantiles: members of a range by size.
 
 use crate::rattle::prelude::*;
 
@@ -10,15 +10,14 @@ use crate::proved::vers_bits::bit_vec::BitVec;
 use crate::proved::vers_tally::tally::Tally;
 
 impl<A: Allocator + Copy> WaveletMatrix<A> {
-    /// Member `i` of a range by size, counted from 0, equal ones too. None for a range that ends past
-    /// the end, and where the range has not so many places.
+    /// Returns the `i`-th smallest symbol of a range (from 0, counting duplicates). `None` if the range ends
+    /// past the end or has at most `i` positions. Errors: `AllocError` if the allocator refuses a request.
     pub fn quantile(&self, range: Range<usize>, i: usize) -> Result<Option<BitVec<A>>, AllocError> {
         let mut tally = Tally::new();
         self.quantile_counted(range, i, &mut tally)
     }
 
-    /// The same as `quantile`, by at most two ranks of each level: `2k` rank calls for symbols of `k`
-    /// bits.
+    /// Returns `quantile(..)`. Reads at most two ranks of each level: `2k` rank calls for symbols of `k` bits.
     #[inline(always)]
     pub fn quantile_counted(
         &self,
@@ -34,7 +33,9 @@ impl<A: Allocator + Copy> WaveletMatrix<A> {
         Ok(Some(answer))
     }
 
-    /// Member `i` of a range of the list by size, counted from 0, equal ones too.
+    /// Returns the `i`-th smallest symbol of a range (from 0, counting duplicates). Precondition: the range is
+    /// within the list and has more than `i` positions. Errors: `AllocError` if the allocator refuses a
+    /// request.
     pub fn quantile_unchecked(&self, range: Range<usize>, i: usize) -> Result<BitVec<A>, AllocError> {
         let mut tally = Tally::new();
         let mut answer = self.zero_symbol()?;
@@ -42,15 +43,14 @@ impl<A: Allocator + Copy> WaveletMatrix<A> {
         Ok(answer)
     }
 
-    /// Member `i` of all symbols by size, counted from 0, equal ones too. None where there are not so
-    /// many.
+    /// Returns the `i`-th smallest symbol (from 0, counting duplicates), or `None` if there are at most `i`.
+    /// Errors: `AllocError` if the allocator refuses a request.
     pub fn get_sorted(&self, i: usize) -> Result<Option<BitVec<A>>, AllocError> {
         let mut tally = Tally::new();
         self.get_sorted_counted(i, &mut tally)
     }
 
-    /// The same as `get_sorted`, by at most two ranks of each level: `2k` rank calls for symbols of `k`
-    /// bits.
+    /// Returns `get_sorted(i)`. Reads at most two ranks of each level: `2k` rank calls for symbols of `k` bits.
     #[inline(always)]
     pub fn get_sorted_counted(
         &self,
@@ -60,18 +60,20 @@ impl<A: Allocator + Copy> WaveletMatrix<A> {
         self.quantile_counted(0..self.len(), i, tally)
     }
 
-    /// Member `i` of all symbols by size, counted from 0, equal ones too.
+    /// Returns the `i`-th smallest symbol (from 0, counting duplicates). Precondition: `i` is below the length.
+    /// Errors: `AllocError` if the allocator refuses a request.
     pub fn get_sorted_unchecked(&self, i: usize) -> Result<BitVec<A>, AllocError> {
         self.quantile_unchecked(0..self.len(), i)
     }
 
-    /// The least symbol of a range. None for a range that is empty, reversed or ends past the end.
+    /// Returns the least symbol of a range. `None` if the range is empty, reversed or ends past the end.
+    /// Errors: `AllocError` if the allocator refuses a request.
     pub fn range_min(&self, range: Range<usize>) -> Result<Option<BitVec<A>>, AllocError> {
         let mut tally = Tally::new();
         self.range_min_counted(range, &mut tally)
     }
 
-    /// The same as `range_min`, by at most two ranks of each level: `2k` rank calls for symbols of `k`
+    /// Returns `range_min(range)`. Reads at most two ranks of each level: `2k` rank calls for symbols of `k`
     /// bits.
     #[inline(always)]
     pub fn range_min_counted(
@@ -82,18 +84,20 @@ impl<A: Allocator + Copy> WaveletMatrix<A> {
         self.quantile_counted(range, 0, tally)
     }
 
-    /// The least symbol of a range, which has a place of the list.
+    /// Returns the least symbol of a range. Precondition: the range is within the list, and not empty. Errors:
+    /// `AllocError` if the allocator refuses a request.
     pub fn range_min_unchecked(&self, range: Range<usize>) -> Result<BitVec<A>, AllocError> {
         self.quantile_unchecked(range, 0)
     }
 
-    /// The greatest symbol of a range. None for a range that is empty, reversed or ends past the end.
+    /// Returns the greatest symbol of a range. `None` if the range is empty, reversed or ends past the end.
+    /// Errors: `AllocError` if the allocator refuses a request.
     pub fn range_max(&self, range: Range<usize>) -> Result<Option<BitVec<A>>, AllocError> {
         let mut tally = Tally::new();
         self.range_max_counted(range, &mut tally)
     }
 
-    /// The same as `range_max`, by at most two ranks of each level: `2k` rank calls for symbols of `k`
+    /// Returns `range_max(range)`. Reads at most two ranks of each level: `2k` rank calls for symbols of `k`
     /// bits.
     #[inline(always)]
     pub fn range_max_counted(
@@ -108,21 +112,22 @@ impl<A: Allocator + Copy> WaveletMatrix<A> {
         self.quantile_counted(range, last, tally)
     }
 
-    /// The greatest symbol of a range, which has a place of the list.
+    /// Returns the greatest symbol of a range. Precondition: the range is within the list, and not empty.
+    /// Errors: `AllocError` if the allocator refuses a request.
     pub fn range_max_unchecked(&self, range: Range<usize>) -> Result<BitVec<A>, AllocError> {
         let last = range.end - range.start - 1;
         self.quantile_unchecked(range, last)
     }
 
-    /// The symbol in the middle of a range by size, the lower one of two. None for a range that is
-    /// empty, reversed or ends past the end.
+    /// Returns the median symbol of a range, the lower one of two. `None` if the range is empty, reversed or
+    /// ends past the end. Errors: `AllocError` if the allocator refuses a request.
     pub fn range_median(&self, range: Range<usize>) -> Result<Option<BitVec<A>>, AllocError> {
         let mut tally = Tally::new();
         self.range_median_counted(range, &mut tally)
     }
 
-    /// The same as `range_median`, by at most two ranks of each level: `2k` rank calls for symbols of
-    /// `k` bits.
+    /// Returns `range_median(range)`. Reads at most two ranks of each level: `2k` rank calls for symbols of `k`
+    /// bits.
     #[inline(always)]
     pub fn range_median_counted(
         &self,
@@ -136,22 +141,22 @@ impl<A: Allocator + Copy> WaveletMatrix<A> {
         self.quantile_counted(range, middle, tally)
     }
 
-    /// The symbol in the middle of a range by size, the lower one of two, which has a place of the
-    /// list.
+    /// Returns the median symbol of a range, the lower one of two. Precondition: the range is within the list,
+    /// and not empty. Errors: `AllocError` if the allocator refuses a request.
     pub fn range_median_unchecked(&self, range: Range<usize>) -> Result<BitVec<A>, AllocError> {
         let middle = (range.end - 1 - range.start) / 2;
         self.quantile_unchecked(range, middle)
     }
 
-    /// Member `i` of a range by size, counted from 0, equal ones too. None where the symbols have more
-    /// than 64 bits, for a range that ends past the end, and where the range has not so many places.
+    /// Returns the `i`-th smallest symbol of a range (from 0, counting duplicates). `None` if the symbols have
+    /// more than 64 bits, or the range ends past the end or has at most `i` positions.
     pub fn quantile_u64(&self, range: Range<usize>, i: usize) -> Option<u64> {
         let mut tally = Tally::new();
         self.quantile_u64_counted(range, i, &mut tally)
     }
 
-    /// The same as `quantile_u64`, by at most two ranks of each level: `2k` rank calls for symbols of
-    /// `k` bits.
+    /// Returns `quantile_u64(..)`. Reads at most two ranks of each level: `2k` rank calls for symbols of `k`
+    /// bits.
     #[inline(always)]
     pub fn quantile_u64_counted(
         &self,
@@ -171,8 +176,8 @@ impl<A: Allocator + Copy> WaveletMatrix<A> {
         Some(answer)
     }
 
-    /// Member `i` of a range of the list by size, counted from 0, equal ones too. The symbols have at
-    /// most 64 bits.
+    /// Returns the `i`-th smallest symbol of a range (from 0, counting duplicates). Precondition: the range is
+    /// within the list and has more than `i` positions, and the symbols have at most 64 bits.
     pub fn quantile_u64_unchecked(&self, range: Range<usize>, i: usize) -> u64 {
         let mut tally = Tally::new();
         let mut answer: u64 = 0;
@@ -180,53 +185,54 @@ impl<A: Allocator + Copy> WaveletMatrix<A> {
         answer
     }
 
-    /// Member `i` of all symbols by size, counted from 0, equal ones too. None where the symbols have
-    /// more than 64 bits, and where there are not so many.
+    /// Returns the `i`-th smallest symbol (from 0, counting duplicates). `None` if the symbols have more than
+    /// 64 bits, or there are at most `i`.
     pub fn get_sorted_u64(&self, i: usize) -> Option<u64> {
         let mut tally = Tally::new();
         self.get_sorted_u64_counted(i, &mut tally)
     }
 
-    /// The same as `get_sorted_u64`, by at most two ranks of each level: `2k` rank calls for symbols of
-    /// `k` bits.
+    /// Returns `get_sorted_u64(i)`. Reads at most two ranks of each level: `2k` rank calls for symbols of `k`
+    /// bits.
     #[inline(always)]
     pub fn get_sorted_u64_counted(&self, i: usize, tally: &mut Tally) -> Option<u64> {
         self.quantile_u64_counted(0..self.len(), i, tally)
     }
 
-    /// Member `i` of all symbols by size, counted from 0, equal ones too. The symbols have at most 64
-    /// bits.
+    /// Returns the `i`-th smallest symbol (from 0, counting duplicates). Precondition: `i` is below the length,
+    /// and the symbols have at most 64 bits.
     pub fn get_sorted_u64_unchecked(&self, i: usize) -> u64 {
         self.quantile_u64_unchecked(0..self.len(), i)
     }
 
-    /// The least symbol of a range. None where the symbols have more than 64 bits, and for a range that
-    /// is empty, reversed or ends past the end.
+    /// Returns the least symbol of a range. `None` if the symbols have more than 64 bits, or the range is
+    /// empty, reversed or ends past the end.
     pub fn range_min_u64(&self, range: Range<usize>) -> Option<u64> {
         let mut tally = Tally::new();
         self.range_min_u64_counted(range, &mut tally)
     }
 
-    /// The same as `range_min_u64`, by at most two ranks of each level: `2k` rank calls for symbols of
+    /// Returns `range_min_u64(range)`. Reads at most two ranks of each level: `2k` rank calls for symbols of
     /// `k` bits.
     #[inline(always)]
     pub fn range_min_u64_counted(&self, range: Range<usize>, tally: &mut Tally) -> Option<u64> {
         self.quantile_u64_counted(range, 0, tally)
     }
 
-    /// The least symbol of a range, which has a place of the list. The symbols have at most 64 bits.
+    /// Returns the least symbol of a range. Precondition: the range is within the list, and not empty, and the
+    /// symbols have at most 64 bits.
     pub fn range_min_u64_unchecked(&self, range: Range<usize>) -> u64 {
         self.quantile_u64_unchecked(range, 0)
     }
 
-    /// The greatest symbol of a range. None where the symbols have more than 64 bits, and for a range
-    /// that is empty, reversed or ends past the end.
+    /// Returns the greatest symbol of a range. `None` if the symbols have more than 64 bits, or the range is
+    /// empty, reversed or ends past the end.
     pub fn range_max_u64(&self, range: Range<usize>) -> Option<u64> {
         let mut tally = Tally::new();
         self.range_max_u64_counted(range, &mut tally)
     }
 
-    /// The same as `range_max_u64`, by at most two ranks of each level: `2k` rank calls for symbols of
+    /// Returns `range_max_u64(range)`. Reads at most two ranks of each level: `2k` rank calls for symbols of
     /// `k` bits.
     #[inline(always)]
     pub fn range_max_u64_counted(&self, range: Range<usize>, tally: &mut Tally) -> Option<u64> {
@@ -237,21 +243,22 @@ impl<A: Allocator + Copy> WaveletMatrix<A> {
         self.quantile_u64_counted(range, last, tally)
     }
 
-    /// The greatest symbol of a range, which has a place of the list. The symbols have at most 64 bits.
+    /// Returns the greatest symbol of a range. Precondition: the range is within the list, and not empty, and
+    /// the symbols have at most 64 bits.
     pub fn range_max_u64_unchecked(&self, range: Range<usize>) -> u64 {
         let last = range.end - range.start - 1;
         self.quantile_u64_unchecked(range, last)
     }
 
-    /// The symbol in the middle of a range by size, the lower one of two. None where the symbols have
-    /// more than 64 bits, and for a range that is empty, reversed or ends past the end.
+    /// Returns the median symbol of a range, the lower one of two. `None` if the symbols have more than 64
+    /// bits, or the range is empty, reversed or ends past the end.
     pub fn range_median_u64(&self, range: Range<usize>) -> Option<u64> {
         let mut tally = Tally::new();
         self.range_median_u64_counted(range, &mut tally)
     }
 
-    /// The same as `range_median_u64`, by at most two ranks of each level: `2k` rank calls for symbols
-    /// of `k` bits.
+    /// Returns `range_median_u64(range)`. Reads at most two ranks of each level: `2k` rank calls for symbols of
+    /// `k` bits.
     #[inline(always)]
     pub fn range_median_u64_counted(&self, range: Range<usize>, tally: &mut Tally) -> Option<u64> {
         if range.start >= range.end {
@@ -261,8 +268,8 @@ impl<A: Allocator + Copy> WaveletMatrix<A> {
         self.quantile_u64_counted(range, middle, tally)
     }
 
-    /// The symbol in the middle of a range by size, the lower one of two, which has a place of the
-    /// list. The symbols have at most 64 bits.
+    /// Returns the median symbol of a range, the lower one of two. Precondition: the range is within the list,
+    /// and not empty, and the symbols have at most 64 bits.
     pub fn range_median_u64_unchecked(&self, range: Range<usize>) -> u64 {
         let middle = (range.end - 1 - range.start) / 2;
         self.quantile_u64_unchecked(range, middle)

@@ -13,13 +13,13 @@ use crate::proved::vers_bits::bit_vec::BitVec;
 use crate::proved::vers_tally::tally::Tally;
 
 impl<A: Allocator + Copy> WaveletMatrix<A> {
-    // A symbol that is 0.
+    // Returns a symbol that is 0.
     pub(super) fn zero_symbol(&self) -> Result<BitVec<A>, AllocError> {
         let alloc = *self.levels.allocator();
         BitVec::from_zeros(alloc, self.bits_per_element()).map_err(|_| AllocError)
     }
 
-    // How many places of a range hold a symbol.
+    // Returns the number of occurrences of a symbol in a range.
     #[inline(always)]
     pub(super) fn count_in<D: Digits>(
         &self,
@@ -32,7 +32,7 @@ impl<A: Allocator + Copy> WaveletMatrix<A> {
         part.end - part.start
     }
 
-    // The place of occurrence `rank` of a symbol from a place on.
+    // Returns the position of occurrence `rank` of a symbol from a position on.
     #[inline(always)]
     pub(super) fn find_from<D: Digits>(
         &self,
@@ -50,7 +50,7 @@ impl<A: Allocator + Copy> WaveletMatrix<A> {
         climb(levels, len, symbol, first + rank, tally)
     }
 
-    // The same, or the length where there are not so many.
+    // Does the same, but returns the length if there are fewer.
     #[inline(always)]
     pub(super) fn place_from<D: Digits>(&self, offset: usize, rank: usize, symbol: &D) -> usize {
         let mut tally = Tally::new();
@@ -58,13 +58,13 @@ impl<A: Allocator + Copy> WaveletMatrix<A> {
             .unwrap_or(self.len())
     }
 
-    // Writes the symbol at a place into a number that is 0.
+    // Writes the symbol at a position into a number that is 0.
     #[inline(always)]
     pub(super) fn read_at<D: Digits>(&self, place: usize, answer: &mut D, tally: &mut Tally) {
         read_symbol(self.levels(), self.len(), place, answer, tally);
     }
 
-    // Writes member `i` of a range by size into a number that is 0.
+    // Writes the `i`-th smallest member of a range into a number that is 0.
     #[inline(always)]
     pub(super) fn kth_in<D: Digits>(
         &self,
@@ -77,15 +77,15 @@ impl<A: Allocator + Copy> WaveletMatrix<A> {
         find_kth(self.levels(), self.len(), start, end, i, answer, tally);
     }
 
-    // Member `i` of all symbols by size, and which others are equal to it. It goes on from the way down to
-    // the one that was found last.
+    // Returns the `i`-th smallest symbol, and which members by size are equal to it. It continues from the path
+    // down to the last one found.
     #[inline(always)]
     pub(super) fn find_by_size(&self, way: &mut Way, i: usize, tally: &mut Tally) -> Found {
         way.find(self.levels(), self.len(), i, tally)
     }
 
-    // Writes into a number that is 0 member `i` of all symbols by size where that is asked, and else
-    // the symbol at place `i`.
+    // Writes the `i`-th smallest symbol into a number that is 0 if `by_size`, otherwise the symbol at position
+    // `i`.
     #[inline(always)]
     pub(super) fn member<D: Digits>(
         &self,
@@ -101,9 +101,9 @@ impl<A: Allocator + Copy> WaveletMatrix<A> {
         self.read_at(i, answer, tally);
     }
 
-    // Whether a range has a symbol that is not below a symbol, or, where `is_up` is false, one that
-    // is not above it; and writes the nearest of these into a number that is 0. It is the symbol
-    // itself, where the range has it.
+    // Returns true if a range has a symbol that is at least a symbol, or, if `is_up` is false, one that is at
+    // most it; and writes the nearest of these into a number that is 0. It is the symbol itself if the range
+    // has it.
     #[inline(always)]
     pub(super) fn nearest_in<D: Digits>(
         &self,

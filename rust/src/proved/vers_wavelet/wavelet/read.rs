@@ -1,4 +1,4 @@
-//! The symbol at a place.
+//! Access: the symbol at a position.
 
 use crate::rattle::prelude::*;
 
@@ -9,13 +9,14 @@ use crate::proved::vers_bits::bit_vec::BitVec;
 use crate::proved::vers_tally::tally::Tally;
 
 impl<A: Allocator + Copy> WaveletMatrix<A> {
-    /// The symbol at a place. None for a place that the list doesn't have.
+    /// Returns the symbol at `place`, or `None` if `place` is out of bounds. Errors: `AllocError` if the
+    /// allocator refuses a request.
     pub fn get_value(&self, place: usize) -> Result<Option<BitVec<A>>, AllocError> {
         let mut tally = Tally::new();
         self.get_value_counted(place, &mut tally)
     }
 
-    /// The same as `get_value`, by at most two ranks of each level: `2k` rank calls for symbols of `k`
+    /// Returns `get_value(place)`. Reads at most two ranks of each level: `2k` rank calls for symbols of `k`
     /// bits.
     #[inline(always)]
     pub fn get_value_counted(
@@ -31,7 +32,8 @@ impl<A: Allocator + Copy> WaveletMatrix<A> {
         Ok(Some(answer))
     }
 
-    /// The symbol at a place of the list.
+    /// Returns the symbol at `place`. Precondition: `place` is below the length. Errors: `AllocError` if the
+    /// allocator refuses a request.
     pub fn get_value_unchecked(&self, place: usize) -> Result<BitVec<A>, AllocError> {
         let mut tally = Tally::new();
         let mut answer = self.zero_symbol()?;
@@ -39,15 +41,13 @@ impl<A: Allocator + Copy> WaveletMatrix<A> {
         Ok(answer)
     }
 
-    /// The symbol at a place. None where the symbols have more than 64 bits, and for a place that the
-    /// list doesn't have.
+    /// Returns the symbol at `place`. `None` if the symbols have more than 64 bits, or `place` is out of bounds.
     pub fn get_u64(&self, place: usize) -> Option<u64> {
         let mut tally = Tally::new();
         self.get_u64_counted(place, &mut tally)
     }
 
-    /// The same as `get_u64`, by at most two ranks of each level: `2k` rank calls for symbols of `k`
-    /// bits.
+    /// Returns `get_u64(place)`. Reads at most two ranks of each level: `2k` rank calls for symbols of `k` bits.
     #[inline(always)]
     pub fn get_u64_counted(&self, place: usize, tally: &mut Tally) -> Option<u64> {
         if !self.fits_word() || place >= self.len() {
@@ -58,7 +58,8 @@ impl<A: Allocator + Copy> WaveletMatrix<A> {
         Some(answer)
     }
 
-    /// The symbol at a place of the list. The symbols have at most 64 bits.
+    /// Returns the symbol at `place`. Precondition: `place` is below the length, and the symbols have at most
+    /// 64 bits.
     pub fn get_u64_unchecked(&self, place: usize) -> u64 {
         let mut tally = Tally::new();
         let mut answer: u64 = 0;

@@ -1,4 +1,4 @@
-//! What a wavelet matrix takes, and its clones.
+//! The size of a wavelet matrix, and its clones.
 
 use crate::rattle::prelude::*;
 
@@ -8,7 +8,7 @@ use crate::rattle::Allocator;
 use crate::proved::vers_rank::fast_rs_vec::RsVec;
 
 impl<A: Allocator + Copy> Clone for WaveletMatrix<A> {
-    /// A second matrix of the same symbols.
+    /// Returns a copy of the matrix.
     fn clone(&self) -> Result<Self, AllocError> {
         let levels = self.levels.clone()?;
         Ok(WaveletMatrix {
@@ -19,14 +19,14 @@ impl<A: Allocator + Copy> Clone for WaveletMatrix<A> {
 }
 
 impl<A: Allocator + Copy> WaveletMatrix<A> {
-    /// The bytes that the levels take, each a list of as many bits as there are symbols, with its
-    /// index; the greatest `usize` where they are more.
+    /// Returns the number of bytes that the levels take, each a list of as many bits as there are symbols, with
+    /// its index; the greatest `usize` if it is larger.
     pub fn heap_size(&self) -> usize {
         size_of_levels(self.levels(), self.len())
     }
 }
 
-// The bytes of the levels together: the level of the lowest digits comes last.
+// Returns the bytes of the levels together: the level of the lowest digits comes last.
 fn size_of_levels<A: Allocator + Copy>(levels: &[RsVec<A>], len: usize) -> usize {
     let mut bytes: usize = 0;
     for i in 0..levels.len() {

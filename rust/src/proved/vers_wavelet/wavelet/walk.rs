@@ -10,8 +10,8 @@ use crate::rattle::Allocator;
 use crate::proved::vers_rank::fast_rs_vec::RsVec;
 use crate::proved::vers_tally::tally::Tally;
 
-// How many places of a range hold a symbol, as the distance of two places, and how many symbols of the
-// range are below it. Where no place is left that shares the digits so far, the levels below are not read.
+// Returns the number of occurrences of a symbol in a range, as the distance of two positions, and the number of
+// symbols of the range below it. If no position shares the digits so far, the levels below are not read.
 #[inline(always)]
 pub(super) fn narrow<A: Allocator + Copy, D: Digits>(
     levels: &[RsVec<A>],
@@ -36,7 +36,7 @@ pub(super) fn narrow<A: Allocator + Copy, D: Digits>(
     part
 }
 
-// Where the places from a place on that hold a symbol begin below the last level.
+// Returns where the positions from `place` on that have a symbol begin below the last level.
 #[inline(always)]
 pub(super) fn descend<A: Allocator + Copy, D: Digits>(
     levels: &[RsVec<A>],
@@ -53,8 +53,8 @@ pub(super) fn descend<A: Allocator + Copy, D: Digits>(
     at
 }
 
-// The place that holds a symbol and whose way leads to a place below the last level. None where
-// another symbol stands there, which a level shows in whose next one the place is among those of the other bit.
+// Maps a position below the last level back to its position in the list. Returns `None` if some level has the
+// other bit, so a different symbol is there.
 #[inline(always)]
 pub(super) fn climb<A: Allocator + Copy, D: Digits>(
     levels: &[RsVec<A>],
@@ -75,8 +75,8 @@ pub(super) fn climb<A: Allocator + Copy, D: Digits>(
     Some(place)
 }
 
-// Adds the symbol at a place of some levels to a number, whose digits of these levels are zeros, and
-// answers where the way of the symbol leads from the place.
+// Adds the symbol at a position of some levels to a number, whose digits of these levels are zeros, and returns
+// the position below the last level.
 #[inline(always)]
 pub(super) fn read_symbol<A: Allocator + Copy, D: Digits>(
     levels: &[RsVec<A>],
@@ -94,8 +94,7 @@ pub(super) fn read_symbol<A: Allocator + Copy, D: Digits>(
     at
 }
 
-// Adds member `i` by size of a range of some levels to a number, whose digits of these levels are
-// zeros.
+// Adds the `i`-th smallest member of a range of some levels to a number, whose digits of these levels are zeros.
 #[inline(always)]
 pub(super) fn find_kth<A: Allocator + Copy, D: Digits>(
     levels: &[RsVec<A>],

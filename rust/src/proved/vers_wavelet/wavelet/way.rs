@@ -1,4 +1,4 @@
-//! The way down to a member by size, from which the next one is found.
+//! The path down to a member by size, from which the next one is found.
 
 use crate::rattle::prelude::*;
 
@@ -17,15 +17,15 @@ pub(super) struct Found {
 }
 
 impl Found {
-    // Whether member `i` is one of them.
+    // Returns true if member `i` is one of them.
     #[inline(always)]
     pub(super) fn has(self, i: usize) -> bool {
         i >= self.from && i - self.from < self.count
     }
 }
 
-// The places of a level whose symbols have the same digits on the levels above, which make a number;
-// and the number by size of the first of these symbols.
+// The positions of a level whose symbols have the same digits on the levels above, which make a number; and the
+// rank by size of the first of these symbols.
 #[derive(Clone, Copy)]
 pub(super) struct Node {
     pub(super) start: usize,
@@ -35,7 +35,7 @@ pub(super) struct Node {
 }
 
 impl Node {
-    // Whether member `i` by size is one of its symbols.
+    // Returns true if member `i` by size is one of its symbols.
     #[inline(always)]
     fn has_member(self, i: usize) -> bool {
         i >= self.from && i - self.from < self.end - self.start
@@ -49,13 +49,13 @@ struct Begin {
     node: Node,
 }
 
-// The nodes on the way down to the member that was found last, one for each level.
+// The nodes on the path down to the last member found, one for each level.
 pub(super) struct Way {
     pub(super) nodes: [Node; 64],
 }
 
 impl Way {
-    // No way so far, by nodes without places.
+    // Returns an empty path, of nodes without positions.
     pub(super) fn new() -> Self {
         let none = Node {
             start: 0,
@@ -66,7 +66,7 @@ impl Way {
         Way { nodes: [none; 64] }
     }
 
-    // The deepest node of the way that has member `i`, and all places of the first level where none has.
+    // Returns the deepest node of the path that has member `i`, or all positions of the first level if none has.
     #[inline(always)]
     fn begin<A: Allocator + Copy>(&self, levels: &[RsVec<A>], len: usize, i: usize) -> Begin {
         for j in 0..levels.len() {
@@ -85,7 +85,8 @@ impl Way {
         Begin { level: 0, node }
     }
 
-    // Member `i` by size of all places of some levels: from the deepest node that has it on down.
+    // Returns the `i`-th smallest member of all positions of some levels: from the deepest node that has it on
+    // down.
     #[inline(always)]
     pub(super) fn find<A: Allocator + Copy>(
         &mut self,

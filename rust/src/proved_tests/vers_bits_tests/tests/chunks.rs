@@ -1,4 +1,5 @@
-//! Calls that take limbs by chunks, against a plain computation, around the ends of limbs and chunks.
+//! Functions that process limbs by chunks, compared with a plain computation, around the ends of limbs and
+//! chunks.
 
 use crate::rattle::prelude::*;
 use crate::proved_tests::vers_bits_tests::tests::assert_none_wrong;
@@ -11,7 +12,7 @@ const LENGTHS: [usize; 15] = [
     0, 1, 15, 16, 17, 63, 64, 65, 511, 512, 513, 8191, 8192, 8193, 16385,
 ];
 
-// How many of the first places of the pattern are ones.
+// Returns how many of the first positions of the pattern are ones.
 fn ones_of_pattern(len: usize) -> u64 {
     let mut ones = 0u64;
     for place in 0..len {
@@ -24,13 +25,13 @@ fn are_equal(one: &BitVec<Global>, other: &BitVec<Global>) -> bool {
     *one == *other
 }
 
-// Whether a list is not equal to what it was once a bit is turned. The bit is turned back.
+// Returns true if a list is unequal to what it was once a bit is flipped. The bit is flipped back.
 fn is_turn_seen(list: &mut BitVec<Global>, before: &BitVec<Global>, place: usize) -> bool {
     let turn = Change::FlipBit(place);
     is_made(list, turn) && !are_equal(list, before) && is_made(list, turn)
 }
 
-// Whether that holds of each bit, and the list is equal to what it was when all are turned back.
+// Returns true if that holds for each bit, and the list is equal to what it was when all are flipped back.
 fn is_each_turn_seen(list: &mut BitVec<Global>, before: &BitVec<Global>) -> bool {
     for place in 0..before.len() {
         if !is_turn_seen(list, before, place) {
@@ -40,7 +41,7 @@ fn is_each_turn_seen(list: &mut BitVec<Global>, before: &BitVec<Global>) -> bool
     are_equal(list, before)
 }
 
-// Whether two lists of one length that were made alike are equal, and unequal with one bit turned.
+// Returns true if two lists of the same length that were made alike are equal, and unequal with one bit flipped.
 fn compares(list: &BitVec<Global>, another: Result<BitVec<Global>, GrowError>) -> bool {
     match another {
         Ok(mut other) => are_equal(list, &other) && is_each_turn_seen(&mut other, list),
@@ -48,12 +49,13 @@ fn compares(list: &BitVec<Global>, another: Result<BitVec<Global>, GrowError>) -
     }
 }
 
-// Whether a list of the pattern has its ones, and is equal to another one, and to none with one bit turned.
+// Returns true if a list of the pattern has its ones, and is equal to another one, and to none with one bit
+// flipped.
 fn counts_and_compares(list: &BitVec<Global>, len: usize) -> bool {
     list.count_ones() == ones_of_pattern(len) && compares(list, pattern(list.allocator(), 0, len))
 }
 
-// The same of a list that was made.
+// Does the same for a list that was made.
 fn is_right(made: Result<BitVec<Global>, GrowError>, len: usize) -> bool {
     match made {
         Ok(list) => counts_and_compares(&list, len),
@@ -61,7 +63,7 @@ fn is_right(made: Result<BitVec<Global>, GrowError>, len: usize) -> bool {
     }
 }
 
-// The first length at which a list of the pattern is counted or compared wrong.
+// Returns the first length at which a list of the pattern is counted or compared wrongly.
 fn first_wrong_length(alloc: Global) -> Option<(usize, usize)> {
     for len in &LENGTHS {
         if !is_right(pattern(alloc, 0, *len), *len) {

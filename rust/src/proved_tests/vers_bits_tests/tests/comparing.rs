@@ -8,7 +8,7 @@ use std::hash::BuildHasherDefault;
 use std::collections::hash_map::DefaultHasher as FoldHasher;
 use crate::proved::vers_bits::bit_vec::{BitVec, GrowError};
 
-// A list as numbers of so many bits each.
+// A list as numbers of that many bits each.
 type Packed = (&'static [u64], usize);
 
 // Two lists, and whether they are equal.
@@ -25,12 +25,12 @@ fn hash_of(list: &BitVec<Global>) -> u64 {
     BuildHasherDefault::<FoldHasher>::default().hash_one(list)
 }
 
-// Whether lists are equal, as their hashes are too, or differ, as told.
+// Returns true if lists are equal, as are their hashes, or differ, as expected.
 fn compares(one: &BitVec<Global>, other: &BitVec<Global>, are_equal: bool) -> bool {
     (*one == *other) == are_equal && (hash_of(one) == hash_of(other)) == are_equal
 }
 
-// The same of a list and one that is made.
+// Does the same for a list and one that is made.
 fn compares_with(one: &BitVec<Global>, other: Packed, are_equal: bool) -> bool {
     match BitVec::pack_sequence_u64(one.allocator(), other.0, other.1) {
         Ok(other) => compares(one, &other, are_equal),
@@ -45,7 +45,7 @@ fn is_pair(alloc: Global, one: Packed, other: Packed, are_equal: bool) -> bool {
     }
 }
 
-// The first pair, by its number counted from 0, that compares otherwise.
+// Returns the first pair, by its number (from 0), that compares wrongly.
 fn first_wrong_pair(alloc: Global) -> Option<(usize, usize)> {
     for (row, (one, other, are_equal)) in PAIRS.iter().enumerate() {
         if !is_pair(alloc, *one, *other, *are_equal) {
@@ -69,7 +69,7 @@ fn appended_and_dropped(list: &mut BitVec<Global>) -> u64 {
     hash_of(list)
 }
 
-// The hash of a list, or of what it is with ten ones appended and dropped. None where it was not made.
+// Returns the hash of a list, or of the list with ten ones appended and dropped. `None` if it was not made.
 fn hash_of_made(made: Result<BitVec<Global>, GrowError>, is_changed: bool) -> Option<u64> {
     match made {
         Ok(mut list) => {
@@ -83,7 +83,7 @@ fn hash_of_made(made: Result<BitVec<Global>, GrowError>, is_changed: bool) -> Op
     }
 }
 
-// Whether the bits 10 have one hash, made in two ways.
+// Returns true if the bits 10 have the same hash, made in two ways.
 fn has_one_hash(alloc: Global) -> bool {
     let plain = hash_of_made(BitVec::from_bits(alloc, &[3, 0]), false);
     plain.is_some() && plain == hash_of_made(BitVec::from_bits(alloc, &[1, 0]), true)

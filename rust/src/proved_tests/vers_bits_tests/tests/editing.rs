@@ -7,7 +7,7 @@ use crate::rattle::Global;
 use crate::rattle::testing::Fail;
 use crate::proved::vers_bits::bit_vec::{BitVec, GrowError, LengthMismatch, OutOfRange, SplitCause, SplitError};
 
-// What a list is before it is changed.
+// A list before it is changed.
 #[derive(Clone, Copy)]
 enum Start {
     WithCapacity(usize),
@@ -23,7 +23,7 @@ fn start_of(alloc: Global, start: Start) -> Result<BitVec<Global>, GrowError> {
     }
 }
 
-// A list, and what is done and asked then.
+// A list, and its changes and queries.
 const SCRIPTS: [(Start, &[Line]); 7] = [
     (
         Start::WithCapacity(0),
@@ -129,7 +129,7 @@ const SCRIPTS: [(Start, &[Line]); 7] = [
     ),
 ];
 
-// The first wrong line of a script over a list; as many as there are lines where it was not made.
+// Returns the first wrong line of a script over a list, or the number of lines if the list was not made.
 fn wrong_line_of(made: Result<BitVec<Global>, GrowError>, script: &[Line]) -> Option<usize> {
     match made {
         Ok(mut list) => first_wrong_line(&mut list, script),
@@ -137,7 +137,7 @@ fn wrong_line_of(made: Result<BitVec<Global>, GrowError>, script: &[Line]) -> Op
     }
 }
 
-// The first script that goes wrong, and its line.
+// Returns the first script that is wrong, and its line.
 fn first_wrong_script(alloc: Global) -> Option<(usize, usize)> {
     for (number, (start, script)) in SCRIPTS.iter().enumerate() {
         if let Some(line) = wrong_line_of(start_of(alloc, *start), script) {
@@ -162,12 +162,12 @@ fn faults_have_messages() -> Result<(), Fail> {
     Ok(())
 }
 
-// Whether a list has `len` bits, at most 64, with a number.
+// Returns true if a list has `len` bits, at most 64, with a number.
 fn is_list(list: &BitVec<Global>, len: usize, number: u64) -> bool {
     list.len() == len && list.get_bits(0, len).unwrap_or(0) == number
 }
 
-// Whether the halves of 11010 after three bits are right, and make it again.
+// Returns true if the halves of 11010 after three bits are right, and make it again.
 fn are_of_five(first: &mut BitVec<Global>, second: &BitVec<Global>) -> bool {
     is_list(first, 3, 3)
         && is_list(second, 2, 1)
@@ -182,7 +182,7 @@ fn is_split_in_two(list: BitVec<Global>) -> bool {
     }
 }
 
-// Whether the halves of 192 bits after 70 are right.
+// Returns true if the halves of 192 bits after 70 are right.
 fn are_of_limbs(first: &BitVec<Global>, second: &BitVec<Global>) -> bool {
     first.len() == 70
         && first.get_bits(60, 10) == Some(32)
@@ -200,12 +200,12 @@ fn is_split_inside_a_limb(list: BitVec<Global>) -> bool {
     }
 }
 
-// Whether 1001 comes back from a split past its end.
+// Returns true if a split of 1001 past its end returns it.
 fn is_kept_whole(refused: &SplitError<Global>) -> bool {
     refused.cause == SplitCause::OutOfRange && is_list(&refused.vec, 4, 9)
 }
 
-// Whether it does, and is split at its end.
+// Returns true if it does, and is split at its end.
 fn is_split_at_the_end(list: BitVec<Global>) -> bool {
     match list.split_at(5) {
         Ok(_) => false,
@@ -220,7 +220,7 @@ fn has_all_first(list: BitVec<Global>) -> bool {
     }
 }
 
-// Which of three lists are split right.
+// Returns which of three lists are split rightly.
 fn are_split(alloc: Global) -> Result<[bool; 3], GrowError> {
     Ok([
         is_split_in_two(BitVec::from_bits(alloc, &[1, 1, 0, 1, 0])?),

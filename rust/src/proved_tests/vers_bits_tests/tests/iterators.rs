@@ -8,7 +8,7 @@ use crate::proved_tests::test_alloc::Step;
 use crate::proved::vers_bits::bit_vec::{BitVec, GrowError};
 use crate::proved::vers_bits::list_ends::{BorrowedList, ListEnds, Listed, OwnedList};
 
-/// What a step of a walk gives, or how many items are left.
+/// Returns the result of a step of a walk, or the number of items left.
 pub fn take<L: Listed<Item = u64>>(walk: &mut ListEnds<L>, step: Step) -> Option<u64> {
     match step {
         Step::Next => walk.next(),
@@ -72,7 +72,7 @@ fn list_10110(alloc: Global) -> Result<BitVec<Global>, GrowError> {
     BitVec::from_bits(alloc, &[1, 0, 1, 1, 0])
 }
 
-// The number of the first step of a walk that gives another item.
+// Returns the number of the first step of a walk with another result.
 fn wrong_step<L: Listed<Item = u64>>(
     walk: &mut ListEnds<L>,
     rows: &[(Step, Option<u64>)],
@@ -85,7 +85,7 @@ fn wrong_step<L: Listed<Item = u64>>(
     None
 }
 
-// The same of walks over the bits of a list, by a reference and by the list.
+// Does the same for walks over the bits of a list, by a reference and by the list.
 fn wrong_bit_step(
     made: Result<BitVec<Global>, GrowError>,
     rows: &[(Step, Option<u64>)],
@@ -98,7 +98,7 @@ fn wrong_bit_step(
     }
 }
 
-// The first walk over the bits that goes wrong, and its step.
+// Returns the first walk over the bits that is wrong, and its step.
 fn first_wrong_bits(alloc: Global) -> Option<(usize, usize)> {
     for (walk, rows) in BITS.iter().enumerate() {
         if let Some(step) = wrong_bit_step(list_10110(alloc), rows) {
@@ -108,7 +108,7 @@ fn first_wrong_bits(alloc: Global) -> Option<(usize, usize)> {
     None
 }
 
-// The same of walks over the limbs.
+// Does the same for walks over the limbs.
 fn first_wrong_limbs(list: &BitVec<Global>) -> Option<(usize, usize)> {
     for (walk, rows) in LIMBS.iter().enumerate() {
         if let Some(step) = wrong_step(&mut list.iter_limbs(), rows) {
@@ -128,7 +128,7 @@ fn bits_from_both_ends() {
     assert_none_wrong(&rt, first_wrong_bits(rt.alloc()));
 }
 
-// The same of limbs that were made.
+// Does the same for limbs that were made.
 fn first_wrong_of_made(made: Result<BitVec<Global>, GrowError>) -> Option<(usize, usize)> {
     match made {
         Ok(list) => first_wrong_limbs(&list),
@@ -142,13 +142,13 @@ fn limbs_from_both_ends() {
     assert_none_wrong(&rt, first_wrong_of_made(four_limbs(rt.alloc())));
 }
 
-// Whether a walk says that so many items are left.
+// Returns true if a walk reports that many items left.
 fn has_left<L: Listed<Item = u64>>(walk: &ListEnds<L>, left: usize) -> bool {
     walk.len() == left && walk.size_hint() == (left, Some(left))
 }
 
-/// What a walk gives that is begun and then cloned: its first steps, how many items are left then and the last of
-/// them, and the steps of the clone, which are then those of the walk too.
+/// A walk that is begun and then cloned: its first steps, the number of items left then and the last of them,
+/// and the steps of the clone, which are then those of the walk too.
 #[derive(Clone, Copy)]
 pub struct Cloned<'a> {
     pub first: &'a [(Step, Option<u64>)],
@@ -199,7 +199,7 @@ const CLONED_LIMBS: [Cloned<'static>; 2] = [
     },
 ];
 
-// Whether a clone goes on as told, and then the walk itself.
+// Returns true if a clone continues as expected, and then the walk itself.
 fn go_on<L: Listed<Item = u64>>(
     walk: &mut ListEnds<L>,
     twin: &mut ListEnds<L>,
@@ -211,7 +211,7 @@ fn go_on<L: Listed<Item = u64>>(
         && wrong_step(walk, cloned.steps).is_none()
 }
 
-/// Whether a walk by a reference gives what is told of it.
+/// Returns true if a walk by a reference has the expected results.
 pub fn is_cloned<L: BorrowedList<Item = u64>>(walk: &mut ListEnds<L>, cloned: &Cloned<'_>) -> bool {
     let is_begun = wrong_step(walk, cloned.first).is_none();
     let has_end = walk.clone().last() == cloned.last && walk.clone().count() == cloned.left;
@@ -219,7 +219,7 @@ pub fn is_cloned<L: BorrowedList<Item = u64>>(walk: &mut ListEnds<L>, cloned: &C
     is_begun && has_end && go_on(walk, &mut twin, cloned)
 }
 
-// The same of a walk that owns its list.
+// Does the same for a walk that owns its list.
 fn is_owned_cloned<L: OwnedList<Item = u64>>(walk: &mut ListEnds<L>, cloned: &Cloned<'_>) -> bool {
     let is_begun = wrong_step(walk, cloned.first).is_none();
     let copy: Result<ListEnds<L>, AllocError> = walk.clone();
@@ -238,7 +238,7 @@ fn are_bits_cloned(made: Result<BitVec<Global>, GrowError>, cloned: &Cloned<'_>)
     }
 }
 
-// The first walk over the bits that is cloned otherwise than told.
+// Returns the first walk over the bits with a wrong clone.
 fn first_wrong_clone(alloc: Global) -> Option<usize> {
     for (row, cloned) in CLONED_BITS.iter().enumerate() {
         if !are_bits_cloned(list_10110(alloc), cloned) {
@@ -248,7 +248,7 @@ fn first_wrong_clone(alloc: Global) -> Option<usize> {
     None
 }
 
-// The same of walks over the limbs.
+// Does the same for walks over the limbs.
 fn first_wrong_limb_clone(list: &BitVec<Global>) -> Option<usize> {
     for (row, cloned) in CLONED_LIMBS.iter().enumerate() {
         if !is_cloned(&mut list.iter_limbs(), cloned) {
@@ -258,7 +258,7 @@ fn first_wrong_limb_clone(list: &BitVec<Global>) -> Option<usize> {
     None
 }
 
-// How many ones the limbs of a list have.
+// Returns the number of ones that the limbs of a list have.
 fn ones_of(list: &BitVec<Global>) -> u32 {
     let mut ones: u32 = 0;
     for limb in list.iter_limbs() {
@@ -267,18 +267,19 @@ fn ones_of(list: &BitVec<Global>) -> u32 {
     ones
 }
 
-// The last item of 10110 by a walk that owns it, and how many items it has.
+// Returns the last item of 10110 by a walk that owns it, and how many items it has.
 fn end_of_owned(alloc: Global) -> Result<(Option<u64>, usize), GrowError> {
     let last = list_10110(alloc)?.into_iter().last();
     Ok((last, list_10110(alloc)?.into_iter().count()))
 }
 
-// Whether walks over the limbs 7, all ones, 9, 1 end and are cloned, and a loop over them has all their ones.
+// Returns true if walks over the limbs 7, all ones, 9, 1 end and are cloned, and a loop over them has all their
+// ones.
 fn limbs_work(list: &BitVec<Global>) -> bool {
     first_wrong_limb_clone(list).is_none() && ones_of(list) == 70
 }
 
-// Which walks end and are cloned as they should.
+// Returns which walks end and are cloned as they should.
 fn walks_work(alloc: Global) -> Result<[bool; 3], GrowError> {
     let bits = first_wrong_clone(alloc).is_none();
     let limbs = limbs_work(&four_limbs(alloc)?);
@@ -291,7 +292,7 @@ fn walks_end_and_are_cloned() {
     assert_eq!(walks_work(rt.alloc()), Ok([true, true, true]));
 }
 
-// The number of 10110 by loops over a reference, over a `&mut` and over the list.
+// Returns the number of 10110 by loops over a reference, over a `&mut` and over the list.
 fn number_by_reference(list: &BitVec<Global>) -> u64 {
     let mut number: u64 = 0;
     for bit in list {
@@ -340,7 +341,7 @@ const ENDED: [(Step, Option<u64>); 3] = [
     (Step::Len, Some(0)),
 ];
 
-// Whether walks over no bits have ended.
+// Returns true if walks over no bits have ended.
 fn have_ended(list: &BitVec<Global>) -> bool {
     wrong_step(&mut list.iter(), &ENDED).is_none()
         && wrong_step(&mut list.iter_limbs(), &ENDED).is_none()

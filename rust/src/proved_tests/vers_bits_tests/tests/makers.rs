@@ -1,4 +1,4 @@
-//! Every maker of a list of bits, by one table of items in each type that lists are made of.
+//! Every constructor of a list of bits, by one table of items in each type that lists are made of.
 
 use crate::rattle::prelude::*;
 use crate::proved_tests::vers_bits_tests::tests::pattern::item;
@@ -6,7 +6,7 @@ use crate::rattle::AllocError;
 use crate::rattle::Allocator;
 use crate::proved::vers_bits::bit_vec::{BitVec, GrowError};
 
-/// A maker; where it packs, with the number of bits that each item gets.
+/// A constructor; if it packs, with the number of bits of each item.
 #[derive(Clone, Copy)]
 pub enum Maker {
     WithCapacity,
@@ -53,7 +53,7 @@ impl<A: Allocator + Copy> Items<A> {
         }
     }
 
-    /// The allocator of the items.
+    /// Returns the allocator of the items.
     pub fn allocator(&self) -> A {
         self.alloc
     }
@@ -67,7 +67,7 @@ impl<A: Allocator + Copy> Items<A> {
         push(&mut self.longs, number)
     }
 
-    /// The items with the lowest digits of the numbers.
+    /// Returns the items with the lowest digits of the numbers.
     pub fn of_numbers(alloc: A, numbers: &[u64]) -> Result<Self, AllocError> {
         let mut items = Items::new(alloc);
         for number in numbers {
@@ -76,7 +76,7 @@ impl<A: Allocator + Copy> Items<A> {
         Ok(items)
     }
 
-    /// The first items of the pattern.
+    /// Returns the first items of the pattern.
     pub fn of_pattern(alloc: A, len: usize) -> Result<Self, AllocError> {
         let mut items = Items::new(alloc);
         for place in 0..len {
@@ -86,7 +86,7 @@ impl<A: Allocator + Copy> Items<A> {
     }
 }
 
-/// A push of which the prover knows nothing.
+/// Appends an item. The prover knows nothing of it.
 pub fn push<T: Sized, A: Allocator + Copy>(
     items: &mut Vec<T, A>,
     item: T,
@@ -95,7 +95,7 @@ pub fn push<T: Sized, A: Allocator + Copy>(
     Ok(())
 }
 
-/// The list that a maker makes of items; where it takes only a length, of as many bits.
+/// Returns the list that a constructor makes of items, or of as many bits if it takes only a length.
 pub fn make<A: Allocator + Copy>(
     alloc: A,
     maker: Maker,
@@ -116,7 +116,7 @@ pub fn make<A: Allocator + Copy>(
     }
 }
 
-// The same of the makers that pack a slice.
+// Does the same for the constructors that pack a slice.
 fn pack<A: Allocator + Copy>(
     alloc: A,
     maker: Maker,
@@ -131,7 +131,7 @@ fn pack<A: Allocator + Copy>(
     }
 }
 
-// The same of the makers that take an iterator.
+// Does the same for the constructors that take an iterator.
 fn make_of_iter<A: Allocator + Copy>(
     alloc: A,
     maker: Maker,
@@ -145,7 +145,7 @@ fn make_of_iter<A: Allocator + Copy>(
     }
 }
 
-// The same of the makers that pack the items of one.
+// Does the same for the constructors that pack the items of one.
 fn pack_iter<A: Allocator + Copy>(
     alloc: A,
     maker: Maker,

@@ -1,4 +1,4 @@
-//! What the makers make.
+//! What the constructors make.
 
 use crate::rattle::prelude::*;
 use crate::proved_tests::vers_bits_tests::tests::assert_none_wrong;
@@ -38,7 +38,7 @@ const LIMBS: &[(Query, Option<u64>)] = &[
     (Query::GetBits(64, 64), Some(u64::MAX)),
 ];
 
-// Makers, their items, what is asked and the answers.
+// Constructors, their items, queries and their answers.
 const CASES: [(&[Maker], &[u64], &[(Query, Option<u64>)]); 9] = [
     (
         &[Maker::FromLimbs, Maker::FromLimbsIter],
@@ -113,7 +113,7 @@ const CASES: [(&[Maker], &[u64], &[(Query, Option<u64>)]); 9] = [
     ),
 ];
 
-// A maker, a length, what is asked and the answers.
+// A constructor, a length, queries and their answers.
 const OF_LENGTH: [(Maker, usize, &[(Query, Option<u64>)]); 4] = [
     (
         Maker::FromZeros,
@@ -152,7 +152,7 @@ const OF_LENGTH: [(Maker, usize, &[(Query, Option<u64>)]); 4] = [
     ),
 ];
 
-// The row of the first wrong answer of a list; as many as there are rows where it was not made.
+// Returns the row of the first wrong answer of a list, or the number of rows if it was not made.
 fn wrong_answer(
     made: Result<BitVec<Global>, GrowError>,
     rows: &[(Query, Option<u64>)],
@@ -163,7 +163,7 @@ fn wrong_answer(
     }
 }
 
-// The same of a list that a maker makes of items.
+// Does the same for a list that a constructor makes of items.
 fn wrong_answer_of_items(
     maker: Maker,
     items: &Items<Global>,
@@ -172,7 +172,7 @@ fn wrong_answer_of_items(
     wrong_answer(make(items.allocator(), maker, items), rows)
 }
 
-// The same of items that were made.
+// Does the same for items that were made.
 fn wrong_answer_of(
     maker: Maker,
     made: Result<Items<Global>, AllocError>,
@@ -184,7 +184,7 @@ fn wrong_answer_of(
     }
 }
 
-// The same of the first of some makers that makes a wrong list.
+// Does the same for the first of some constructors that makes a wrong list.
 fn wrong_answer_of_any(
     alloc: Global,
     makers: &[Maker],
@@ -200,7 +200,7 @@ fn wrong_answer_of_any(
     None
 }
 
-// The first case that is answered wrong, and its row.
+// Returns the first case with a wrong answer, and its row.
 fn first_wrong_case(alloc: Global) -> Option<(usize, usize)> {
     for (case, (makers, numbers, rows)) in CASES.iter().enumerate() {
         if let Some(row) = wrong_answer_of_any(alloc, makers, numbers, rows) {
@@ -210,7 +210,7 @@ fn first_wrong_case(alloc: Global) -> Option<(usize, usize)> {
     None
 }
 
-// The same of lists of a length.
+// Does the same for lists of a length.
 fn first_wrong_length(alloc: Global) -> Option<(usize, usize)> {
     for (case, (maker, len, rows)) in OF_LENGTH.iter().enumerate() {
         if let Some(row) = wrong_answer_of(*maker, Items::of_pattern(alloc, *len), rows) {
@@ -227,7 +227,7 @@ fn makers_make_the_bits_of_items() {
     assert_none_wrong(&rt, first_wrong_length(rt.alloc()));
 }
 
-// The first wrong answer of a list made of a vector of limbs.
+// Returns the first wrong answer of a list made of a vector of limbs.
 fn wrong_of_vector(made: Result<Vec<u64, Global>, AllocError>) -> Option<usize> {
     match made {
         Ok(limbs) => wrong_answer(BitVec::from_vec(limbs), LIMBS),
@@ -242,7 +242,7 @@ fn a_vector_of_limbs_makes_64_bits_each() {
     assert_eq!(wrong_of_vector(limbs), None, "a row");
 }
 
-// What each maker answers for too many bits.
+// Returns the error of each constructor for too many bits.
 fn faults_of_too_long(alloc: Global) -> [Option<GrowError>; 5] {
     [
         BitVec::from_zeros(alloc, usize::MAX).err(),

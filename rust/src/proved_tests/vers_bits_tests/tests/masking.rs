@@ -1,4 +1,4 @@
-//! What masks make, how they are read, and lists of different lengths.
+//! The results of masks, reads of them, and lists of different lengths.
 
 use crate::rattle::prelude::*;
 use crate::proved_tests::vers_bits_tests::tests::masks::{Mask, answer_of_nor, answer_of_or, apply, is_cloned, masked};
@@ -8,7 +8,7 @@ use crate::rattle::Global;
 use crate::proved_tests::test_alloc::asked_both;
 use crate::proved::vers_bits::bit_vec::{BitVec, LengthMismatch};
 
-// The masks, and what each makes of the bits 0011 and 0101, as a number of which the first bit is the lowest.
+// The masks, and the result of each for the bits 0011 and 0101, as a number of which the first bit is the lowest.
 const NUMBERS: [(Mask, u64); 4] = [
     (Mask::Or, 14),
     (Mask::And, 8),
@@ -16,7 +16,7 @@ const NUMBERS: [(Mask, u64); 4] = [
     (Mask::AndNot, 4),
 ];
 
-// The number of a list of four bits. None where it has not four.
+// Returns the number of a list of four bits. `None` if it has another length.
 fn number_of_four(list: &BitVec<Global>) -> Option<u64> {
     if list.len() != 4 {
         return None;
@@ -24,7 +24,7 @@ fn number_of_four(list: &BitVec<Global>) -> Option<u64> {
     list.get_bits(0, 4)
 }
 
-// The number of the list that a mask makes. None where it was not made.
+// Returns the number of the list that a mask makes. `None` if it was not made.
 fn number_of_masked(made: Result<BitVec<Global>, Option<AllocError>>) -> Option<u64> {
     match made {
         Ok(list) => number_of_four(&list),
@@ -32,7 +32,7 @@ fn number_of_masked(made: Result<BitVec<Global>, Option<AllocError>>) -> Option<
     }
 }
 
-// The number of a copy of a list that was changed by a mask.
+// Returns the number of a copy of a list that was changed by a mask.
 fn changed_number(
     copy: Result<BitVec<Global>, AllocError>,
     mask: Mask,
@@ -47,7 +47,7 @@ fn changed_number(
     }
 }
 
-// The first mask that makes another number, or changes a list to another.
+// Returns the first mask that makes another number, or changes a list to another.
 fn first_wrong_mask(left: &BitVec<Global>, right: &BitVec<Global>) -> Option<usize> {
     for (row, (mask, number)) in NUMBERS.iter().enumerate() {
         if number_of_masked(masked(*mask, left, right)) != Some(*number)
@@ -70,7 +70,7 @@ fn two_lists_are_combined_bit_by_bit() {
     assert_eq!(wrong, Ok(None), "a mask");
 }
 
-// What is asked of masks that make 70 ones, and the answers.
+// Queries of masks that make 70 ones, and their answers.
 const OF_ONES: [(Query, Option<u64>); 14] = [
     (Query::GetBits(3, 64), Some(u64::MAX)),
     (Query::GetBits(7, 64), None),
@@ -88,8 +88,7 @@ const OF_ONES: [(Query, Option<u64>); 14] = [
     (Query::IsBitSetUnchecked(64), Some(1)),
 ];
 
-// The row of the first question of the or of zeros and ones that has another answer, and the same of a closure that
-// makes ones of zeros.
+// Returns the first wrong row for the or of zeros and ones, and for a closure that makes ones of zeros.
 fn first_wrong_reads(
     zeros: &BitVec<Global>,
     ones: &BitVec<Global>,
@@ -106,7 +105,7 @@ fn first_wrong_reads(
     wrong
 }
 
-// Whether a list was made, and is equal to another one.
+// Returns true if a list was made, and is equal to another one.
 fn is_equal(made: Result<BitVec<Global>, AllocError>, other: &BitVec<Global>) -> bool {
     match made {
         Ok(list) => list == *other,
@@ -114,7 +113,7 @@ fn is_equal(made: Result<BitVec<Global>, AllocError>, other: &BitVec<Global>) ->
     }
 }
 
-// Whether a closure that answers ones where both bits are equal makes zeros of zeros and ones.
+// Returns true if a closure that returns ones where both bits are equal makes zeros of zeros and ones.
 fn makes_zeros(zeros: &BitVec<Global>, ones: &BitVec<Global>) -> bool {
     let mask = match zeros.mask_custom(ones, |a: u64, b: u64| !(a ^ b)) { Ok(mask) => mask, _ => {
         return false;
@@ -122,7 +121,7 @@ fn makes_zeros(zeros: &BitVec<Global>, ones: &BitVec<Global>) -> bool {
     mask.count_ones() == 0 && mask.count_zeros() == 70 && is_equal(mask.to_bit_vec(), zeros)
 }
 
-// Whether a closure that answers ones where both bits are zeros makes ones of zeros.
+// Returns true if a closure that returns ones where both bits are zeros makes ones of zeros.
 fn makes_ones(zeros: &BitVec<Global>, ones: &BitVec<Global>) -> bool {
     match zeros.mask_custom(zeros, |a: u64, b: u64| !(a | b)) {
         Ok(mask) => is_equal(mask.to_bit_vec(), ones),
@@ -134,7 +133,7 @@ fn nor(a: u64, b: u64) -> u64 {
     !(a | b)
 }
 
-// Whether a function makes ones of a copy of zeros, with no bit past the length.
+// Returns true if a function makes ones of a copy of zeros, with no bit past the length.
 fn is_changed_to_ones(copy: Result<BitVec<Global>, AllocError>, zeros: &BitVec<Global>) -> bool {
     let rows = [
         (Query::Len, Some(70)),
@@ -149,7 +148,7 @@ fn is_changed_to_ones(copy: Result<BitVec<Global>, AllocError>, zeros: &BitVec<G
     }
 }
 
-// What goes right with 70 zeros and as many ones.
+// Returns which tests pass with 70 zeros and as many ones.
 fn masks_work(zeros: &BitVec<Global>, ones: &BitVec<Global>) -> [bool; 5] {
     [
         first_wrong_reads(zeros, ones) == (None, None),
@@ -170,7 +169,7 @@ fn a_mask_is_read_like_a_list() {
     );
 }
 
-// Whether no mask of two lists is made.
+// Returns true if no mask of two lists is made.
 fn makes_no_mask(one: &BitVec<Global>, other: &BitVec<Global>) -> bool {
     for (mask, _) in &NUMBERS {
         if !matches!(masked(*mask, one, other), Err(None)) {
@@ -180,7 +179,7 @@ fn makes_no_mask(one: &BitVec<Global>, other: &BitVec<Global>) -> bool {
     true
 }
 
-// Whether a list of 70 zeros is changed by no mask.
+// Returns true if no mask changes a list of 70 zeros.
 fn stays(list: &mut BitVec<Global>, other: &BitVec<Global>) -> bool {
     for (mask, _) in &NUMBERS {
         if apply(*mask, list, other) != Err(LengthMismatch) {
@@ -190,7 +189,7 @@ fn stays(list: &mut BitVec<Global>, other: &BitVec<Global>) -> bool {
     first_wrong_answer(list, &[(Query::Len, Some(70)), (Query::CountOnes, Some(0))]).is_none()
 }
 
-// The same of a copy of zeros.
+// Does the same for a copy of zeros.
 fn is_not_changed(copy: Result<BitVec<Global>, AllocError>, other: &BitVec<Global>) -> bool {
     match copy {
         Ok(mut list) => stays(&mut list, other),

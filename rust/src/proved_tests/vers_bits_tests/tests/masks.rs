@@ -8,7 +8,7 @@ use crate::rattle::Allocator;
 use crate::proved::vers_bits::bit_vec::mask::MaskedBitVec;
 use crate::proved::vers_bits::bit_vec::{BitMask, BitVec, LengthMismatch};
 
-/// A mask; the last one is a closure, or a function where a list is changed.
+/// A mask; the last one is a closure, or a function if a list is changed.
 #[derive(Clone, Copy)]
 pub enum Mask {
     Or,
@@ -21,7 +21,7 @@ fn and_not(x: u64, y: u64) -> u64 {
     x & !y
 }
 
-/// The bit that a mask makes of two.
+/// Returns the bit that a mask makes of two.
 pub fn masked_bit(mask: Mask, left: bool, right: bool) -> bool {
     match mask {
         Mask::Or => left | right,
@@ -31,7 +31,7 @@ pub fn masked_bit(mask: Mask, left: bool, right: bool) -> bool {
     }
 }
 
-/// The list that a mask of two lists makes. Err has None where their lengths differ.
+/// Returns the list that a mask of two lists makes. The error is `None` if their lengths differ.
 pub fn masked<A: Allocator + Copy>(
     mask: Mask,
     left: &BitVec<A>,
@@ -80,7 +80,7 @@ pub fn apply<A: Allocator + Copy>(
     }
 }
 
-/// Whether a mask was made, and its clone is read as it is.
+/// Returns true if a mask was made, and its clone reads the same.
 pub fn is_cloned<A: Allocator + Copy>(mask: Result<BitMask<'_, '_, A>, LengthMismatch>) -> bool {
     let mask = match mask { Ok(mask) => mask, _ => {
         return false;
@@ -99,7 +99,7 @@ pub fn is_cloned<A: Allocator + Copy>(mask: Result<BitMask<'_, '_, A>, LengthMis
     true
 }
 
-// The answers of the calls of a mask that have no condition.
+// Returns the answers of the queries of a mask without a precondition.
 fn checked_answer<A: Allocator + Copy>(mask: &BitMask<'_, '_, A>, query: Query) -> Option<u64> {
     match query {
         Query::CountOnes => Some(mask.count_ones()),
@@ -111,7 +111,7 @@ fn checked_answer<A: Allocator + Copy>(mask: &BitMask<'_, '_, A>, query: Query) 
     }
 }
 
-// Those of a mask of `len` bits that have one, where it holds.
+// Returns those of a mask of `len` bits with a precondition, if it holds.
 fn unchecked_answer<A: Allocator + Copy>(
     mask: &BitMask<'_, '_, A>,
     len: usize,
@@ -129,8 +129,8 @@ fn unchecked_answer<A: Allocator + Copy>(
     }
 }
 
-/// The answer of a question of the or of two lists. None for a question that masks don't have, and for lists of
-/// different lengths.
+/// Returns the answer of a query of the or of two lists. `None` for a query that masks don't have, and for
+/// lists of different lengths.
 pub fn answer_of_or<A: Allocator + Copy>(
     left: &BitVec<A>,
     right: &BitVec<A>,
@@ -142,7 +142,7 @@ pub fn answer_of_or<A: Allocator + Copy>(
     checked_answer(&mask, query).or(unchecked_answer(&mask, left.len(), query))
 }
 
-// The same as `checked_answer`, of a mask by a closure.
+// Does the same as `checked_answer`, of a mask by a closure.
 fn checked_of_closure<F: Fn(u64, u64) -> u64, A: Allocator + Copy>(
     mask: &MaskedBitVec<'_, '_, F, A>,
     query: Query,
@@ -174,7 +174,7 @@ fn unchecked_of_closure<F: Fn(u64, u64) -> u64, A: Allocator + Copy>(
     }
 }
 
-/// The same as `answer_of_or`, of a closure that makes a one of two zeros.
+/// Does the same as `answer_of_or`, of a closure that makes a one of two zeros.
 pub fn answer_of_nor<A: Allocator + Copy>(
     left: &BitVec<A>,
     right: &BitVec<A>,

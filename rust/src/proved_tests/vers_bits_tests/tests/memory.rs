@@ -1,4 +1,4 @@
-//! Every call that takes memory, each of its requests refused in turn, and the calls that take none.
+//! Every call that allocates, each of its requests refused in turn, and the calls that take none.
 
 use crate::rattle::prelude::*;
 mod clones;

@@ -4,24 +4,24 @@ use crate::rattle::prelude::*;
 use crate::rattle::Allocator;
 use crate::proved::vers_bits::bit_vec::{BitVec, GrowError};
 
-/// Number `place` of the pattern.
+/// Returns number `place` of the pattern.
 pub fn item(place: usize) -> u8 {
     (place as u64)
         .wrapping_mul(0x9E37_79B9_7F4A_7C15)
         .to_be_bytes()[0]
 }
 
-/// Bit `place` of the pattern: whether its number is odd.
+/// Returns bit `place` of the pattern: whether its number is odd.
 pub fn bit(place: usize) -> bool {
     item(place) % 2 == 1
 }
 
-/// Bit `place` of the pattern from a place on.
+/// Returns bit `place` of the pattern from a position on.
 pub fn bit_from(from: usize, place: usize) -> bool {
     bit(from.wrapping_add(place))
 }
 
-/// The bits of the pattern from a place on, `len` of them.
+/// Returns the bits of the pattern from a position on, `len` of them.
 pub fn pattern<A: Allocator + Copy>(
     alloc: A,
     from: usize,
@@ -34,7 +34,7 @@ pub fn pattern<A: Allocator + Copy>(
     Ok(list)
 }
 
-/// The 64 bits of the pattern from a place on, the first as the lowest one.
+/// Returns the 64 bits of the pattern from a position on, the first as the lowest one.
 pub fn word(from: usize) -> u64 {
     let mut word = 0u64;
     for place in (0..64).rev() {
@@ -45,13 +45,13 @@ pub fn word(from: usize) -> u64 {
     word
 }
 
-/// The bit that stands at each place.
+/// The expected bit at each position.
 pub trait Bits {
-    /// The bit at a place.
+    /// Returns the bit at a position.
     fn bit_at(&self, place: usize) -> bool;
 }
 
-/// The bits of the pattern from a place on.
+/// The bits of the pattern from a position on.
 #[derive(Clone, Copy)]
 pub struct PatternFrom {
     pub place: usize,
@@ -63,7 +63,7 @@ impl Bits for PatternFrom {
     }
 }
 
-/// Whether a list has `len` bits, each of them as wanted.
+/// Returns true if a list has `len` bits, each of them as wanted.
 pub fn has_bits<A: Allocator + Copy, W: Bits>(list: &BitVec<A>, len: usize, wanted: &W) -> bool {
     for place in 0..len {
         if list.is_bit_set(place) != Some(wanted.bit_at(place)) {
@@ -73,7 +73,7 @@ pub fn has_bits<A: Allocator + Copy, W: Bits>(list: &BitVec<A>, len: usize, want
     list.len() == len
 }
 
-/// Whether a list has the bits of the pattern from a place on, `len` of them.
+/// Returns true if a list has the bits of the pattern from a position on, `len` of them.
 pub fn has_pattern<A: Allocator + Copy>(list: &BitVec<A>, from: usize, len: usize) -> bool {
     has_bits(list, len, &PatternFrom { place: from })
 }

@@ -1,11 +1,11 @@
-//! What is asked of a list of bits, and what is done to it, by tables.
+//! The queries of a list of bits, and its changes, by tables.
 
 use crate::rattle::prelude::*;
 
 use crate::rattle::Allocator;
 use crate::proved::vers_bits::bit_vec::{BitVec, GrowError};
 
-/// A question. An unchecked one is asked only where its condition holds, and answered None elsewhere.
+/// A query. An unchecked one is called only if its precondition holds, and otherwise answers `None`.
 #[derive(Clone, Copy)]
 pub enum Query {
     Len,
@@ -24,7 +24,7 @@ pub enum Query {
     UnpackElementUnchecked(usize, usize),
 }
 
-/// The answer of a question, a truth value as 1 or 0.
+/// Returns the answer to a query, a boolean as 1 or 0.
 pub fn answer<A: Allocator + Copy>(list: &BitVec<A>, query: Query) -> Option<u64> {
     match query {
         Query::Len => Some(list.len() as u64),
@@ -40,12 +40,12 @@ pub fn answer<A: Allocator + Copy>(list: &BitVec<A>, query: Query) -> Option<u64
     }
 }
 
-/// A truth value as 1 or 0.
+/// Returns a boolean as 1 or 0.
 pub fn number_of(bit: Option<bool>) -> Option<u64> {
     Some(u64::from(bit?))
 }
 
-// The answers of the calls that have a condition.
+// Returns the answers of the queries with a precondition.
 fn unchecked_answer<A: Allocator + Copy>(list: &BitVec<A>, query: Query) -> Option<u64> {
     match query {
         Query::Limb(k) => limb(list, k),
@@ -78,7 +78,7 @@ fn is_bit_set_unchecked<A: Allocator + Copy>(list: &BitVec<A>, place: usize) -> 
     Some(u64::from(list.is_bit_set_unchecked(place)))
 }
 
-/// Whether a list of `len` bits has so many from a place on, and a number has room for them.
+/// Returns true if a list of `len` bits has that many from a position on, and a number has room for them.
 pub fn is_part(len: usize, place: usize, n: usize) -> bool {
     n <= 64 && place <= len && n <= len - place
 }
@@ -105,7 +105,7 @@ fn unpack_element_unchecked<A: Allocator + Copy>(
     Some(list.unpack_element_unchecked(index, n))
 }
 
-/// The row of the first question, counted from 0, that has another answer.
+/// Returns the row of the first query (from 0) with another answer.
 pub fn first_wrong_answer<A: Allocator + Copy>(
     list: &BitVec<A>,
     rows: &[(Query, Option<u64>)],
@@ -118,7 +118,7 @@ pub fn first_wrong_answer<A: Allocator + Copy>(
     None
 }
 
-/// A change. One with a condition is made only where that holds.
+/// A change. One with a precondition is made only if it holds.
 #[derive(Clone, Copy)]
 pub enum Change {
     Append(bool),
@@ -151,7 +151,7 @@ pub fn append<A: Allocator + Copy>(list: &mut BitVec<A>, change: Change) -> Resu
     }
 }
 
-/// Makes a change, and answers whether it was made.
+/// Makes a change, and returns true if it was made.
 pub fn is_made<A: Allocator + Copy>(list: &mut BitVec<A>, change: Change) -> bool {
     let len = list.len();
     match change {
@@ -177,7 +177,7 @@ pub fn is_made<A: Allocator + Copy>(list: &mut BitVec<A>, change: Change) -> boo
     }
 }
 
-/// A line of a script: a change that is made, one that is refused, or a question and its answer.
+/// A line of a script: a change that is made, one that is refused, or a query and its answer.
 #[derive(Clone, Copy)]
 pub enum Line {
     Make(Change),
@@ -185,7 +185,7 @@ pub enum Line {
     Ask(Query, Option<u64>),
 }
 
-/// The number of the first line of a script, counted from 0, that goes otherwise than it says.
+/// Returns the number of the first line of a script (from 0) with another result.
 pub fn first_wrong_line<A: Allocator + Copy>(
     list: &mut BitVec<A>,
     script: &[Line],

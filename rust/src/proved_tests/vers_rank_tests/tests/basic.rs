@@ -11,7 +11,7 @@ use crate::proved::vers_bits::bit_vec::BitVec;
 use crate::proved::vers_rank::fast_rs_vec::RsVec;
 use crate::proved::vers_rank::laws::bits_come_back;
 
-// Runs of equal bits, what is asked of the list, and the answers.
+// Runs of equal bits, queries of the list, and their answers.
 const CASES: [(&[(bool, usize)], &[(Query, Option<u64>)]); 9] = [
     (
         &[(false, 1), (true, 2), (false, 1)],
@@ -146,7 +146,7 @@ const CASES: [(&[(bool, usize)], &[(Query, Option<u64>)]); 9] = [
     ),
 ];
 
-// The first case that is answered wrong, and its row; its number of rows where no list was made.
+// Returns the first case with a wrong answer, and its row, or the number of rows if no list was made.
 fn first_wrong_case<A: Allocator + Copy>(alloc: A) -> Option<(usize, usize)> {
     for (case, (bits, rows)) in CASES.iter().enumerate() {
         let wrong = asked(
@@ -166,7 +166,7 @@ fn queries_and_their_answers() {
     assert_eq!(first_wrong_case(rt.alloc()), None, "a case and a row");
 }
 
-// The number of the first one that does not stand after `gap` zeros of its own.
+// Returns the number of the first one that isn't after `gap` zeros of its own.
 fn first_misplaced<A: Allocator + Copy>(list: &RsVec<A>, gap: usize) -> Option<usize> {
     for r in 0..list.ones() {
         let want = r.wrapping_mul(gap.wrapping_add(1)).wrapping_add(gap);
@@ -177,7 +177,7 @@ fn first_misplaced<A: Allocator + Copy>(list: &RsVec<A>, gap: usize) -> Option<u
     None
 }
 
-// What is asked of 20,000 ones, each after 19 zeros.
+// Queries of 20,000 ones, each after 19 zeros, and their answers.
 const SPREAD: [(Query, Option<u64>); 2] = [
     (Query::Ones, Some(20_000)),
     (Query::Len, Some(400_000)),
@@ -194,7 +194,7 @@ fn ones_spread_evenly() {
     assert_eq!(asked(list, wrong_of_spread), Ok(None));
 }
 
-// Whether all ways to compare two lists answer the same.
+// Returns true if all ways to compare two lists agree.
 fn all_compare<A: Allocator + Copy>(one: &RsVec<A>, other: &RsVec<A>, are_equal: bool) -> bool {
     (*one == *other) == are_equal
         && one.full_equals(other) == are_equal
@@ -202,7 +202,7 @@ fn all_compare<A: Allocator + Copy>(one: &RsVec<A>, other: &RsVec<A>, are_equal:
         && one.sparse_equals::<false>(other) == are_equal
 }
 
-// Whether a list compares as equal to its clone.
+// Returns true if a list compares as equal to its clone.
 fn is_as_its_clone<A: Allocator + Copy>(list: &RsVec<A>) -> bool {
     let clone: Result<_, _> = list.clone();
     asked(clone, |clone: &RsVec<A>| all_compare(list, clone, true)).unwrap_or(false)
@@ -210,7 +210,7 @@ fn is_as_its_clone<A: Allocator + Copy>(list: &RsVec<A>) -> bool {
 
 const ONE_AND_ZEROS: [(bool, usize); 2] = [(true, 1), (false, 63)];
 
-// Runs of bits that make other lists: another place, another length.
+// Runs of bits that make other lists: another position, another length.
 const OTHERS: [&[(bool, usize)]; 2] = [
     &[(false, 1), (true, 1), (false, 62)],
     &[(true, 1), (false, 64)],
@@ -222,7 +222,7 @@ fn differ(alloc: Global, other: &[(bool, usize)]) -> bool {
     asked_both(one, other, |one, other| all_compare(one, other, false)).unwrap_or(false)
 }
 
-// The first of the others that compares as equal.
+// Returns the first of the others that compares as equal.
 fn first_equal(alloc: Global) -> Option<usize> {
     for (number, other) in OTHERS.iter().enumerate() {
         if !differ(alloc, other) {
@@ -239,7 +239,7 @@ fn equal_and_different_lists() {
     assert_eq!((is_equal, first_equal(rt.alloc())), (Ok(true), None));
 }
 
-// Whether the unchecked forms read the bits 0110.
+// Returns true if the unchecked forms read the bits 0110.
 fn reads_0110<A: Allocator + Copy>(list: &RsVec<A>) -> bool {
     list.len() == 4
         && list.get_unchecked(0) == 0
@@ -255,7 +255,7 @@ fn the_unchecked_forms() {
     assert_eq!(asked(list, reads_0110), Ok(true));
 }
 
-// The bits that come back out of a list of a copy of them.
+// Returns the bits from a list made of a copy of them.
 fn back_by_law<A: Allocator + Copy>(
     copy: Result<BitVec<A>, AllocError>,
 ) -> Result<BitVec<A>, AllocError> {
@@ -288,7 +288,7 @@ fn is_back<A: Allocator + Copy>(back: Result<BitVec<A>, AllocError>, bits: &BitV
     }
 }
 
-// Whether copies of bits come back out of a list.
+// Returns true if a list made of copies of bits returns them.
 fn come_back<A: Allocator + Copy>(bits: &BitVec<A>) -> (bool, bool) {
     let by_law = is_back(back_by_law(bits.clone()), bits);
     (by_law, is_back(back_by_from(bits.clone()), bits))

@@ -1,4 +1,4 @@
-//! Every query at every place compared with a plain list, around the ends of limbs, blocks and superblocks.
+//! Every query at every position compared with a plain list, around the ends of limbs, blocks and superblocks.
 
 use crate::rattle::prelude::*;
 use crate::proved_tests::vers_rank_tests::tests::lists::{Look, bits_of, list_of, turned_at};
@@ -28,7 +28,7 @@ fn plain_of<A: Allocator + Copy>(
     }
 }
 
-// What the plain list answers.
+// Returns the answer of the plain list.
 fn plain_answer<A: Allocator + Copy>(plain: &PlainList<A>, query: Query) -> Option<u64> {
     match query {
         Query::Zeros => Some(plain.rank(false, plain.len()) as u64),
@@ -52,7 +52,7 @@ fn plain_answer<A: Allocator + Copy>(plain: &PlainList<A>, query: Query) -> Opti
     }
 }
 
-// Whether all queries at a place are right.
+// Returns true if all queries at a position are right.
 fn are_right_at<A: Allocator + Copy>(list: &RsVec<A>, plain: &PlainList<A>, place: usize) -> bool {
     for query in queries_at(place) {
         if !is_right(list, query, plain_answer(plain, query)) {
@@ -62,8 +62,8 @@ fn are_right_at<A: Allocator + Copy>(list: &RsVec<A>, plain: &PlainList<A>, plac
     true
 }
 
-// Whether the first number of a bit, the last and later ones stand where the plain list has them, by a
-// select that is told the bit.
+// Returns true if the first number of a bit, the last and later ones are where the plain list has them, by a
+// select that takes the bit.
 fn are_right_ends<A: Allocator + Copy>(list: &RsVec<A>, plain: &PlainList<A>, bit: bool) -> bool {
     let total = plain.rank(bit, plain.len());
     for r in [0, total.saturating_sub(1), total, usize::MAX] {
@@ -75,7 +75,7 @@ fn are_right_ends<A: Allocator + Copy>(list: &RsVec<A>, plain: &PlainList<A>, bi
     true
 }
 
-// The first place with a wrong query, up to two past the end and at the greatest place of all.
+// Returns the first position with a wrong query, up to two past the end and at the greatest position.
 fn first_wrong_place<A: Allocator + Copy>(plain: &PlainList<A>, list: &RsVec<A>) -> Option<usize> {
     for place in 0..plain.len().saturating_add(3) {
         if !are_right_at(list, plain, place) {
@@ -91,11 +91,11 @@ fn first_wrong_place<A: Allocator + Copy>(plain: &PlainList<A>, list: &RsVec<A>)
     Some(usize::MAX)
 }
 
-// The most numbers that a batch is tried with.
+// The most numbers that a batch is tested with.
 const MOST: usize = 130;
 
-// Whether a batch of `n` numbers, one in `step` from 0 on, is answered number by number, and what
-// stands after it is kept.
+// Returns true if a batch of `n` numbers, one in `step` from 0 on, is answered number by number, and what is
+// after it is kept.
 fn is_right_batch<A: Allocator + Copy>(list: &RsVec<A>, n: usize, step: usize) -> bool {
     let mut numbers = [7usize; MOST];
     for (i, number) in numbers.iter_mut().enumerate() {
@@ -115,7 +115,7 @@ fn is_right_batch<A: Allocator + Copy>(list: &RsVec<A>, n: usize, step: usize) -
     })
 }
 
-// Whether batches of few and of many numbers are, where they end with a group and where they don't.
+// Returns true if that holds for batches of few and of many numbers, ending with a group and elsewhere.
 fn are_right_batches<A: Allocator + Copy>(list: &RsVec<A>) -> bool {
     [0, 1, 63, 64, 65, 128, 130].iter().all(|n| is_right_batch(list, *n, 1)
         && is_right_batch(list, *n, 57))
@@ -129,7 +129,7 @@ fn batches_of_every_length() -> Result<(), Fail> {
     Ok(())
 }
 
-// Whether a walk by chunks gives the places that hold the bit, one after another, and no more.
+// Returns true if a walk by chunks returns the positions that have the bit, one after another, and no more.
 fn gives_places<const ZERO: bool, A: Allocator + Copy>(
     mut walk: BitSetIter<'_, ZERO, A>,
     plain: &PlainList<A>,
@@ -142,19 +142,19 @@ fn gives_places<const ZERO: bool, A: Allocator + Copy>(
     walk.next().is_none()
 }
 
-// Whether both walks by chunks over a list give the places of the plain one.
+// Returns true if both walks by chunks over a list return the positions of the plain one.
 fn have_places<A: Allocator + Copy>(plain: &PlainList<A>, list: &RsVec<A>) -> bool {
     gives_places(list.bit_set_iter0(), plain) && gives_places(list.bit_set_iter1(), plain)
 }
 
-// The first place at which both disagree on a list; its length where it was not made.
+// Returns the first position at which both disagree on a list, or its length if it was not made.
 fn disagreement(alloc: Global, look: Look, len: usize) -> Option<usize> {
     let plain = plain_of(alloc, look, len);
     let list = list_of(alloc, look, len);
     asked_both(plain, list, |plain, list| first_wrong_place(plain, list)).unwrap_or(Some(len))
 }
 
-// The first length, and the place there, at which both disagree on a list of some look.
+// Returns the first length, and the position there, at which both disagree on a list of some look.
 fn first_disagreement(alloc: Global, lengths: &[usize]) -> Option<(usize, usize)> {
     for len in lengths {
         for look in LOOKS.iter() {
@@ -193,7 +193,7 @@ fn chunks_are_right(alloc: Global, look: Look, len: usize) -> bool {
     asked_both(plain, list, |plain, list| have_places(plain, list)).unwrap_or(false)
 }
 
-// The first length, and the row of the look, of which the walks by chunks do not give every place.
+// Returns the first length, and the row of the look, of which the walks by chunks miss a position.
 fn first_wrong_chunks(alloc: Global) -> Option<(usize, usize)> {
     for len in LENGTHS.iter() {
         for (row, look) in LOOKS.iter().enumerate() {
@@ -215,14 +215,14 @@ fn are_told_apart<A: Allocator + Copy>(list: &RsVec<A>, turned: &RsVec<A>) -> bo
     !list.full_equals(turned) && list.full_equals(list)
 }
 
-// Whether a list is told apart from one with another bit at a place.
+// Returns true if a list is unequal to one with another bit at a position.
 fn is_seen(alloc: Global, len: usize, place: usize) -> bool {
     let list = list_of(alloc, Look::Mixed, len);
     let turned = turned_at(alloc, Look::Mixed, len, place);
     asked_both(list, turned, |list, turned| are_told_apart(list, turned)).unwrap_or(false)
 }
 
-// The first place of each 61, and the last one, at which another bit is not seen.
+// Returns the first of every 61st position, and the last one, at which another bit is not seen.
 fn first_unseen(alloc: Global, len: usize) -> Option<usize> {
     for step in 0..len.div_ceil(61) {
         let place = step.wrapping_mul(61);

@@ -1,4 +1,4 @@
-//! What one query reads at the least, and that each kind of entry counts its reads.
+//! The least that one query reads, and the counts of each kind of entry.
 
 use crate::rattle::prelude::*;
 use crate::proved_tests::vers_rank_tests::tests::lists::runs;
@@ -13,7 +13,7 @@ use crate::proved::vers_tally::tally::{
     BlockEntries, CountedBits, CountedItems, CountedNodes, SuperblockEntries, Tally,
 };
 
-// A query, and what it counts at the least.
+// A query, and the least that it counts.
 const LEAST: [(Query, [u64; 9]); 12] = [
     (Query::Get(9999), [1, 0, 0, 0, 1, 0, 0, 0, 0]),
     (Query::GetBits(63, 2), [2, 0, 0, 0, 1, 0, 0, 0, 0]),
@@ -29,7 +29,7 @@ const LEAST: [(Query, [u64; 9]); 12] = [
     (Query::Predecessor1(5000), [1, 1, 1, 0, 1, 0, 0, 0, 0]),
 ];
 
-// The number of the first query that counts less.
+// Returns the number of the first query that counts less.
 fn first_uncounted<A: Allocator + Copy>(list: &RsVec<A>) -> Option<usize> {
     for (row, (query, least)) in LEAST.iter().enumerate() {
         let mut tally = Tally::new();
@@ -93,12 +93,12 @@ fn read_each<A: Allocator + Copy>(alloc: A, tally: &mut Tally) -> Result<(), All
     Ok(())
 }
 
-// Whether the counters are just these.
+// Returns true if the counters are exactly these.
 fn has_counted(tally: &Tally, wanted: [u64; 9]) -> bool {
     is_within(counters(tally), wanted) && is_within(wanted, counters(tally))
 }
 
-// Whether the limbs 6 and 1 are read as they are, by a data word each, and two for bits of both.
+// Returns true if the limbs 6 and 1 are read unchanged, with a data word each, and two for bits of both.
 fn reads_limbs<A: Allocator + Copy>(bits: &CountedBits<A>) -> bool {
     let mut tally = Tally::new();
     bits.len() == 128

@@ -1,4 +1,4 @@
-//! Walks over the bits and over the places of a list, from both ends.
+//! Walks over the bits and over the positions of a list, from both ends.
 
 use crate::rattle::prelude::*;
 
@@ -80,7 +80,7 @@ where
     }
 }
 
-// What is made of a copy of a list.
+// Returns the result of `make` for a copy of a list.
 fn of_copy<L: Clone, W, F: FnOnce(L) -> W>(list: &L, walk: F) -> Result<W, AllocError> {
     let copy: Result<_, _> = list.clone();
     match copy {
@@ -89,26 +89,26 @@ fn of_copy<L: Clone, W, F: FnOnce(L) -> W>(list: &L, walk: F) -> Result<W, Alloc
     }
 }
 
-/// A walk over the bits of a copy of a list, that owns it.
+/// Returns a walk over the bits of a copy of a list, that owns it.
 pub fn owned_bits<A: Allocator + Copy>(list: &RsVec<A>) -> Result<RsVecIter<A>, AllocError> {
     of_copy(list, |second: RsVec<A>| second.into_iter())
 }
 
-/// The same over its zeros.
+/// Returns the same walk over its zeros.
 pub fn owned_zeros<A: Allocator + Copy>(
     list: &RsVec<A>,
 ) -> Result<SelectIntoIter<true, A>, AllocError> {
     of_copy(list, |second: RsVec<A>| second.into_iter0())
 }
 
-/// The same over its ones.
+/// Returns the same walk over its ones.
 pub fn owned_ones<A: Allocator + Copy>(
     list: &RsVec<A>,
 ) -> Result<SelectIntoIter<false, A>, AllocError> {
     of_copy(list, |second: RsVec<A>| second.into_iter1())
 }
 
-// The same by the general maker. What stands at a given `ZERO` is proved at a given allocator alone.
+// Does the same by the general constructor. A body with a given `ZERO` is proved only with a given allocator.
 fn selected_zeros(list: &RsVec<Global>) -> Result<SelectIntoIter<true, Global>, AllocError> {
     of_copy(
         list,
@@ -123,7 +123,7 @@ fn selected_ones(list: &RsVec<Global>) -> Result<SelectIntoIter<false, Global>, 
     )
 }
 
-// What a step of a walk gives, in one form or the other.
+// Returns the result of a step of a walk, in one form or the other.
 fn taken<W: Walk>(walk: &mut W, is_counted: bool, step: Step) -> Option<u64> {
     if is_counted {
         return walk.step_counted(step, &mut Tally::new());
@@ -131,7 +131,7 @@ fn taken<W: Walk>(walk: &mut W, is_counted: bool, step: Step) -> Option<u64> {
     walk.step(step)
 }
 
-// The number of the first step of a walk that gives another item, in one form or the other.
+// Returns the number of the first step of a walk with another result, in one form or the other.
 fn wrong_step<W: Walk>(
     walk: &mut W,
     is_counted: bool,
@@ -145,7 +145,7 @@ fn wrong_step<W: Walk>(
     None
 }
 
-// The same of a walk that owns a copy of its list; as many as there are rows where there is no copy.
+// Does the same for a walk that owns a copy of its list, or returns the number of rows if there is no copy.
 fn wrong_owned_step<W: Walk>(
     walk: Result<W, AllocError>,
     is_counted: bool,
@@ -157,7 +157,8 @@ fn wrong_owned_step<W: Walk>(
     }
 }
 
-// The first wrong step of the walks over the bits of a list, of a borrowed one and of one that owns a copy.
+// Returns the first wrong step of the walks over the bits of a list, of a borrowed one and of one that owns a
+// copy.
 fn wrong_bits<A: Allocator + Copy>(
     list: &RsVec<A>,
     is_counted: bool,
@@ -170,7 +171,7 @@ fn wrong_bits<A: Allocator + Copy>(
     ))
 }
 
-// The same of the walks over its zeros and over its ones, by both makers of each.
+// Does the same for the walks over its zeros and over its ones, by both constructors of each.
 fn wrong_zeros(
     list: &RsVec<Global>,
     is_counted: bool,
@@ -193,7 +194,7 @@ fn wrong_ones(
         .or(wrong_owned_step(selected_ones(list), is_counted, rows))
 }
 
-/// The first wrong step of all walks over a list.
+/// Returns the first wrong step of all walks over a list.
 pub fn wrong_walk(
     list: &RsVec<Global>,
     over: Over,
@@ -207,7 +208,7 @@ pub fn wrong_walk(
     }
 }
 
-// Walks over 10110: over what, and what each step gives.
+// Walks over 10110: the items, and the result of each step.
 const WALKS: [(Over, &[(Step, Option<u64>)]); 6] = [
     (
         Over::Ones,
@@ -257,7 +258,7 @@ const WALKS: [(Over, &[(Step, Option<u64>)]); 6] = [
     ),
 ];
 
-// The first walk over 10110 that goes wrong, and its step.
+// Returns the first walk over 10110 that is wrong, and its step.
 fn first_wrong_walk(list: &RsVec<Global>) -> Option<(usize, usize)> {
     for (number, (over, rows)) in WALKS.iter().enumerate() {
         let plain = wrong_walk(list, *over, false, rows);
@@ -275,7 +276,7 @@ fn walks_from_both_ends() {
     assert_eq!(wrong, Ok(None), "a walk and a step");
 }
 
-// The last item of a walk that was made, and how many it has.
+// Returns the last item of a walk that was made, and how many it has.
 fn last_of<W: Walk>(walk: Result<W, AllocError>) -> Option<u64> {
     match walk {
         Ok(walk) => walk.last_item(),
@@ -290,7 +291,8 @@ fn count_of<W: Walk>(walk: Result<W, AllocError>) -> usize {
     }
 }
 
-// Whether the walks over the bits, the zeros and the ones of a list have this last item, and so many items.
+// Returns true if the walks over the bits, the zeros and the ones of a list have this last item, and that many
+// items.
 fn bits_end<A: Allocator + Copy>(list: &RsVec<A>, last: Option<u64>, count: usize) -> bool {
     list.iter().last_item() == last
         && list.iter().item_count() == count
@@ -312,7 +314,7 @@ fn ones_end(list: &RsVec<Global>, last: Option<u64>, count: usize) -> bool {
         && count_of(owned_ones(list)) == count
 }
 
-// Which walks over 10110 end as they should, and whether one says how many items are left.
+// Returns which walks over 10110 end as they should, and whether one reports how many items are left.
 fn ends_of_10110(list: &RsVec<Global>) -> [bool; 4] {
     [
         bits_end(list, Some(0), 5),
@@ -338,7 +340,7 @@ fn walks_end_and_are_counted() {
     assert_eq!((ends, none), (Ok([true; 4]), Ok([true; 3])));
 }
 
-// How many items are left in a clone of a walk of which one was taken, by kinds of walks.
+// Returns the number of items left in a clone of a walk of which one was taken, by kinds of walks.
 fn bits_left<A: Allocator + Copy>(list: &RsVec<A>) -> usize {
     let mut bits = list.iter();
     bits.next();
@@ -369,7 +371,7 @@ fn items_left<W: Walk>(walk: Result<W, AllocError>) -> Option<u64> {
     }
 }
 
-// How many items are left in clones of walks over the bits and the ones, borrowed and owned.
+// Returns the number of items left in clones of walks over the bits and the ones, borrowed and owned.
 fn left_in_clones(list: &RsVec<Global>) -> [Option<u64>; 4] {
     [
         Some(bits_left(list) as u64),
@@ -386,7 +388,7 @@ fn clones_go_on_from_where_the_walk_is() {
     assert_eq!(left, Ok([Some(4), Some(2), Some(4), Some(2)]));
 }
 
-// The first place that a walk by chunks doesn't give in its turn, of the places from 0 up to `n`.
+// Returns the first position that a walk by chunks misses, of the positions from 0 up to `n`.
 fn first_lost<const ZERO: bool, A: Allocator + Copy>(
     places: &mut BitSetIter<'_, ZERO, A>,
     n: usize,
@@ -400,7 +402,8 @@ fn first_lost<const ZERO: bool, A: Allocator + Copy>(
     None
 }
 
-// Whether a walk by chunks gives the places from 0 up to `n` and then none, by at most so many chunks.
+// Returns true if a walk by chunks returns the positions from 0 up to `n` and then none, from at most that many
+// chunks.
 fn gives_up_to<const ZERO: bool, A: Allocator + Copy>(
     places: &mut BitSetIter<'_, ZERO, A>,
     n: usize,
@@ -413,7 +416,7 @@ fn gives_up_to<const ZERO: bool, A: Allocator + Copy>(
         && places.next().is_none()
 }
 
-// Whether walks by chunks over `n` equal bits give all places of that bit, and none of the other.
+// Returns true if walks by chunks over `n` equal bits return all positions of that bit, and none of the other.
 fn gives_zeros<A: Allocator + Copy>(list: &RsVec<A>, n: usize, chunks: u64) -> bool {
     gives_up_to(&mut list.bit_set_iter0(), n, chunks)
         && gives_up_to(&mut list.bit_set_iter1(), 0, chunks)
@@ -424,7 +427,7 @@ fn gives_ones<A: Allocator + Copy>(list: &RsVec<A>, n: usize, chunks: u64) -> bo
         && gives_up_to(&mut list.bit_set_iter0(), 0, chunks)
 }
 
-// Whether a list of equal bits gives all its places.
+// Returns true if walks over a list of equal bits return all its positions.
 fn gives_equal<A: Allocator + Copy>(list: &RsVec<A>, bit: bool, n: usize, chunks: u64) -> bool {
     if bit {
         return gives_ones(list, n, chunks);
@@ -437,10 +440,10 @@ fn are_given<A: Allocator + Copy>(alloc: A, bit: bool, n: usize, chunks: u64) ->
     asked(list, |list: &RsVec<A>| gives_equal(list, bit, n, chunks)).unwrap_or(false)
 }
 
-// How many equal bits there are, and by how many chunks they are given at most.
+// Numbers of equal bits, and the greatest number of chunks that return them.
 const EQUAL_BITS: [(usize, u64); 5] = [(0, 0), (17, 2), (20, 2), (32, 2), (33, 3)];
 
-// The first number of equal bits of which not all places are given.
+// Returns the first number of equal bits of which a position is missed.
 fn first_wrong_number<A: Allocator + Copy>(alloc: A) -> Option<usize> {
     for (n, chunks) in EQUAL_BITS.iter() {
         if !are_given(alloc, false, *n, *chunks) || !are_given(alloc, true, *n, *chunks) {
@@ -456,8 +459,8 @@ fn chunks_of_equal_bits() {
     assert_eq!(first_wrong_number(rt.alloc()), None, "so many bits");
 }
 
-// The bits that a loop gives, as a number of which the first is the highest: by a reference, by a `&mut`
-// and by the list.
+// Returns the bits that a loop passes, as a number of which the first is the highest: by a reference, by a
+// `&mut` and by the list.
 fn number_by_reference<A: Allocator + Copy>(list: &RsVec<A>) -> u64 {
     let mut number: u64 = 0;
     for bit in list {
@@ -501,7 +504,7 @@ fn loops_over_a_list() {
     assert_eq!((borrowed, owned), (Ok((0b10110, 0b10110)), Ok(0b10110)));
 }
 
-// The sum of the places that a loop gives.
+// Returns the sum of the positions that a loop passes.
 fn sum_of<I: Iterator<Item = usize>>(places: I) -> usize {
     let mut sum: usize = 0;
     for place in places {
@@ -510,8 +513,8 @@ fn sum_of<I: Iterator<Item = usize>>(places: I) -> usize {
     sum
 }
 
-// Whether the loops over the zeros and the ones, each once by the iterator and once by a `&mut` to it, give
-// places of this sum.
+// Returns true if the loops over the zeros and the ones, each once by the iterator and once by a `&mut` to it,
+// pass positions of this sum.
 fn have_sum<A: Allocator + Copy>(list: &RsVec<A>, sum: usize) -> bool {
     sum_of(list.iter0()) == sum
         && sum_of(&mut list.iter1()) == sum
@@ -519,7 +522,7 @@ fn have_sum<A: Allocator + Copy>(list: &RsVec<A>, sum: usize) -> bool {
         && sum_of(&mut list.bit_set_iter1()) == sum
 }
 
-// The sum of the places of a walk that owns its list.
+// Returns the sum of the positions of a walk that owns its list.
 fn owned_sum<const ZERO: bool, A: Allocator + Copy>(
     places: Result<SelectIntoIter<ZERO, A>, AllocError>,
 ) -> usize {
@@ -529,7 +532,7 @@ fn owned_sum<const ZERO: bool, A: Allocator + Copy>(
     }
 }
 
-// The same by a `&mut` to the walk.
+// Does the same by a `&mut` to the walk.
 fn owned_sum_by_mut<const ZERO: bool, A: Allocator + Copy>(
     places: Result<SelectIntoIter<ZERO, A>, AllocError>,
 ) -> usize {
@@ -556,15 +559,15 @@ fn sum_in_a_loop<A: Allocator + Copy>(list: &RsVec<A>) -> usize {
     sum
 }
 
-// Whether the loops over walks that own a copy of a list give places of this sum.
+// Returns true if the loops over walks that own a copy of a list pass positions of this sum.
 fn have_owned_sum(list: &RsVec<Global>, sum: usize) -> bool {
     owned_sum(owned_zeros(list)) == sum
         && owned_sum(owned_ones(list)) == sum
         && owned_sum_by_mut(owned_ones(list)) == sum
 }
 
-// The sum of the ones of 10110 twice in a loop, and whether borrowed and owned walks have the sum of its
-// ones, and of its zeros.
+// Returns the sum of the ones of 10110 twice in a loop, and whether borrowed and owned walks have the sum of
+// its ones, and of its zeros.
 fn sums_of_10110(list: &RsVec<Global>) -> (usize, bool, bool) {
     (
         sum_in_a_loop(list),
@@ -580,7 +583,8 @@ fn loops_over_places() {
     assert_eq!(sums, Ok((10, true, true)));
 }
 
-// The number of the first one that a walk does not give where `select1` finds it, from the front and by chunks.
+// Returns the number of the first one that a walk does not return where `select1` finds it, from the front and
+// by chunks.
 fn first_lost_one<A: Allocator + Copy>(list: &RsVec<A>) -> Option<usize> {
     let mut ones = list.iter1();
     let mut chunks = list.bit_set_iter1();
@@ -593,7 +597,7 @@ fn first_lost_one<A: Allocator + Copy>(list: &RsVec<A>) -> Option<usize> {
     chunks.next()
 }
 
-// The number of the first zero that a walk from the back does not give where `select0` finds it.
+// Returns the number of the first zero that a walk from the back does not return where `select0` finds it.
 fn first_lost_zero<A: Allocator + Copy>(list: &RsVec<A>) -> Option<usize> {
     let mut zeros = list.iter0();
     for r in (0..list.zeros()).rev() {
@@ -604,7 +608,7 @@ fn first_lost_zero<A: Allocator + Copy>(list: &RsVec<A>) -> Option<usize> {
     zeros.next_back()
 }
 
-// Runs that lie close together and far apart.
+// Runs that are close together and far apart.
 const CLOSE_AND_FAR: &[(bool, usize)] = &[
     (true, 700),
     (false, 9000),

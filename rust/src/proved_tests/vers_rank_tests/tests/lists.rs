@@ -5,7 +5,7 @@ use crate::rattle::Allocator;
 use crate::proved::vers_bits::bit_vec::{BitVec, GrowError};
 use crate::proved::vers_rank::fast_rs_vec::RsVec;
 
-/// The same bits, indexed.
+/// Returns the same bits, indexed.
 pub fn indexed<A: Allocator + Copy>(bits: BitVec<A>) -> Result<RsVec<A>, GrowError> {
     match RsVec::from_bit_vec(bits) {
         Ok(list) => Ok(list),
@@ -13,7 +13,7 @@ pub fn indexed<A: Allocator + Copy>(bits: BitVec<A>) -> Result<RsVec<A>, GrowErr
     }
 }
 
-/// Runs of equal bits, one after another, indexed: each with its bit and its length.
+/// Returns runs of equal bits, one after another, indexed: each with its bit and its length.
 pub fn runs<A: Allocator + Copy>(alloc: A, runs: &[(bool, usize)]) -> Result<RsVec<A>, GrowError> {
     let mut bits = BitVec::new(alloc);
     for (bit, length) in runs {
@@ -24,7 +24,7 @@ pub fn runs<A: Allocator + Copy>(alloc: A, runs: &[(bool, usize)]) -> Result<RsV
     indexed(bits)
 }
 
-/// So many ones, each after `gap` zeros, indexed.
+/// Returns `count` ones, each after `gap` zeros, indexed.
 pub fn spread<A: Allocator + Copy>(
     alloc: A,
     gap: usize,
@@ -40,12 +40,12 @@ pub fn spread<A: Allocator + Copy>(
     indexed(bits)
 }
 
-/// The bits 10110, indexed.
+/// Returns the bits 10110, indexed.
 pub fn list_10110<A: Allocator + Copy>(alloc: A) -> Result<RsVec<A>, GrowError> {
     runs(alloc, &[(true, 1), (false, 1), (true, 2), (false, 1)])
 }
 
-/// What a list looks like.
+/// The look of a list.
 #[derive(Clone, Copy)]
 pub enum Look {
     Zeros,
@@ -54,7 +54,7 @@ pub enum Look {
     Sparse,
 }
 
-/// The bit at a place.
+/// Returns the bit at a position.
 pub fn bit_of(look: Look, place: usize) -> bool {
     match look {
         Look::Zeros => false,
@@ -64,7 +64,7 @@ pub fn bit_of(look: Look, place: usize) -> bool {
     }
 }
 
-/// So many bits of a look.
+/// Returns `len` bits of a look.
 pub fn bits_of<A: Allocator + Copy>(
     alloc: A,
     look: Look,
@@ -77,7 +77,7 @@ pub fn bits_of<A: Allocator + Copy>(
     Ok(bits)
 }
 
-/// The same, indexed.
+/// Returns the same bits, indexed.
 pub fn list_of<A: Allocator + Copy>(
     alloc: A,
     look: Look,
@@ -89,7 +89,7 @@ pub fn list_of<A: Allocator + Copy>(
     }
 }
 
-/// The same, with another bit at one place.
+/// Returns the same bits, indexed, with another one at one position.
 pub fn turned_at<A: Allocator + Copy>(
     alloc: A,
     look: Look,
@@ -103,7 +103,7 @@ pub fn turned_at<A: Allocator + Copy>(
     indexed(bits)
 }
 
-/// Over which items a list is walked.
+/// The items over which a list is walked.
 #[derive(Clone, Copy)]
 pub enum Over {
     Bits,
@@ -111,7 +111,7 @@ pub enum Over {
     Ones,
 }
 
-/// The item that a walk over a list of a look gives for a place, if it gives one.
+/// Returns the item that a walk over a list of a look returns for a position, if any.
 pub fn item_at(over: Over, look: Look, place: usize) -> Option<u64> {
     let bit = bit_of(look, place);
     match over {

@@ -1,5 +1,5 @@
-//! Every call that takes memory, each of its requests refused in turn, and the calls that take none, of
-//! lists of every length.
+//! Every call that allocates, each of its requests refused in turn, and the calls that take none, of lists of
+//! every length.
 
 use crate::rattle::prelude::*;
 use crate::proved_tests::vers_rank_tests::tests::iterators::Walk;
@@ -16,7 +16,7 @@ use crate::proved::vers_bits::bit_vec::{BitVec, GrowError};
 use crate::proved::vers_rank::fast_rs_vec::{RsVec, RsVecIter, SelectIntoIter};
 use crate::proved::vers_tally::tally::Tally;
 
-// Whether a list has the bits of a look, and its ranks and selects.
+// Returns true if a list has the bits of a look, and its rank and select.
 fn has_bits<A: Allocator + Copy>(list: &RsVec<A>, look: Look, len: usize) -> bool {
     let mut ones: usize = 0;
     for place in 0..len {
@@ -37,14 +37,14 @@ fn has_bits<A: Allocator + Copy>(list: &RsVec<A>, look: Look, len: usize) -> boo
     list.len() == len && list.ones() == ones
 }
 
-// A walk over a list of a look, of so many bits.
+// A walk over a list of a look, of that many bits.
 struct WalkOver {
     over: Over,
     look: Look,
     len: usize,
 }
 
-// Whether a walk gives the items and ends.
+// Checks whether a walk returns the items and ends.
 impl<W: Walk> Check<W> for WalkOver {
     fn is_right(&self, walk: &mut W) -> bool {
         for place in 0..self.len {
@@ -57,7 +57,7 @@ impl<W: Walk> Check<W> for WalkOver {
     }
 }
 
-// A list of a look, of so many bits.
+// A list of a look, of that many bits.
 struct ListOf {
     look: Look,
     len: usize,
@@ -115,7 +115,7 @@ fn ones_walk<A: Allocator + Copy>(
     }
 }
 
-// A call that takes memory.
+// A call that allocates.
 #[derive(Clone, Copy)]
 enum Call {
     FromBitVec(Look),
@@ -157,7 +157,7 @@ fn tried_bits_clone<B: Allocator, A: Allocator + Copy>(
     tried_walk_clone(heap, walk, WalkOver { over, look, len })
 }
 
-// What stands at a given `ZERO` is proved at a given allocator alone.
+// A body with a given `ZERO` is proved only with a given allocator.
 fn tried_zeros_clone(heap: &Refusing<Global>, look: Look, len: usize) -> Ending {
     let over = Over::Zeros;
     let walk = zeros_walk(list_of(heap, look, len));
@@ -188,7 +188,7 @@ fn tried_maker<B: Allocator, A: Allocator + Copy>(
     try_conversion(heap, bits_of(alloc, look, len), &ListOf { look, len })
 }
 
-// Each call takes memory, for the select samples at least.
+// Each call allocates, for the select samples at least.
 impl Trial<Global> for Call {
     fn run(self, heap: &Refusing<Global>, len: usize) -> Ending {
         match self {
@@ -212,7 +212,7 @@ fn calls_are_refused_in_turn() {
     assert_eq!(wrong, None, "a length and a row");
 }
 
-// The requests of the first calls at 128 bits.
+// Returns the requests of the first calls at 128 bits.
 fn requests_at_128(alloc: Global) -> [Result<u64, u64>; 5] {
     [
         requests(alloc, Call::FromBitVec(Look::Mixed), 128),
@@ -233,7 +233,7 @@ fn each_list_is_one_request() {
     );
 }
 
-// Calls that take no memory and are tried together.
+// Calls that allocate nothing and are tested together.
 #[derive(Clone, Copy)]
 enum Free {
     Queries,
@@ -259,12 +259,12 @@ const FREE: [Free; 9] = [
     Free::PlaceSteps,
 ];
 
-// Whether both forms of a query agree.
+// Returns true if both forms of a query agree.
 fn agrees<A: Allocator + Copy>(list: &RsVec<A>, query: Query) -> bool {
     answer(list, query) == counted(list, query, &mut Tally::new())
 }
 
-// Whether both forms of the queries at a place agree.
+// Returns true if both forms of the queries at a position agree.
 fn forms_agree<A: Allocator + Copy>(list: &RsVec<A>, place: usize) -> bool {
     for query in queries_at(place) {
         if !agrees(list, query) {
@@ -303,7 +303,7 @@ fn is_equal_to_itself<A: Allocator + Copy>(list: &RsVec<A>) -> bool {
         && list.sparse_equals::<false>(list)
 }
 
-// Whether a walk of so many items that was not begun takes steps from both ends.
+// Returns true if a walk of that many items that was not begun takes steps from both ends.
 fn steps_work<W: Walk>(walk: &mut W, items: usize) -> bool {
     walk.step(Step::Len) == Some(items as u64)
         && walk.step(Step::Next).is_some() == (items > 0)
@@ -312,7 +312,7 @@ fn steps_work<W: Walk>(walk: &mut W, items: usize) -> bool {
         && walk.step(Step::Nth(usize::MAX)).is_none()
 }
 
-// How many ones a list has.
+// Returns the number of ones of a list.
 fn ones_of(len: usize) -> usize {
     let mut ones: usize = 0;
     for place in 0..len {
@@ -385,7 +385,7 @@ impl<A: Allocator + Copy> Conversion<RsVec<A>> for IntoIter {
     }
 }
 
-// Steps of a walk that has so many items.
+// Steps of a walk with that many items.
 struct Steps {
     items: usize,
 }

@@ -34,7 +34,7 @@ impl Left {
         self.to.saturating_sub(self.from)
     }
 
-    // The number of the item after `n` others, which are passed with it.
+    // Returns the number of the item after `n` others, which are passed with it.
     fn pass(&mut self, n: usize) -> Option<usize> {
         if n >= self.count() {
             self.from = self.to;
@@ -45,7 +45,7 @@ impl Left {
         Some(number)
     }
 
-    // The same from the back.
+    // Does the same from the back.
     fn pass_back(&mut self, n: usize) -> Option<usize> {
         if n >= self.count() {
             self.to = self.from;
@@ -55,7 +55,7 @@ impl Left {
         Some(self.to)
     }
 
-    // The number of the item that a step gives.
+    // Returns the number of the item that a step returns.
     fn take(&mut self, step: Step) -> Option<usize> {
         match step {
             Step::Next => self.pass(0),
@@ -67,7 +67,7 @@ impl Left {
     }
 }
 
-// A list of a look, of so many bits, and over what it is walked.
+// A list of a look, of that many bits, and over what it is walked.
 #[derive(Clone, Copy)]
 struct Walked {
     over: Over,
@@ -86,7 +86,7 @@ impl Walked {
         count
     }
 
-    // The item of a number, counted from 0.
+    // Returns the item of a number (from 0).
     fn item(self, number: usize) -> Option<u64> {
         let mut before: usize = 0;
         for place in 0..self.len {
@@ -101,7 +101,7 @@ impl Walked {
         None
     }
 
-    // The item that a step gives, of those that are left.
+    // Returns the item that a step returns, of those that are left.
     fn taken(self, left: &mut Left, step: Step) -> Option<u64> {
         match left.take(step) {
             Some(number) => self.item(number),
@@ -110,7 +110,7 @@ impl Walked {
     }
 }
 
-// What each step of a mixture gives, and how many items are left after it.
+// Returns the result of each step of a mixture, and the number of items left after it.
 fn rows_of<A: Allocator + Copy>(
     alloc: A,
     walked: Walked,
@@ -128,12 +128,12 @@ fn rows_of<A: Allocator + Copy>(
     Ok(rows)
 }
 
-// The first row that goes wrong in some walk over a list, in one form or the other.
+// Returns the first row that is wrong in some walk over a list, in one form or the other.
 fn wrong_row(list: &RsVec<Global>, over: Over, rows: &[(Step, Option<u64>)]) -> Option<usize> {
     wrong_walk(list, over, false, rows).or(wrong_walk(list, over, true, rows))
 }
 
-// Whether all walks give what a plain list does.
+// Returns true if all walks return what a plain list does.
 fn are_right(alloc: Global, walked: Walked, rows: &[(Step, Option<u64>)]) -> bool {
     let list = list_of(alloc, walked.look, walked.len);
     asked(
@@ -155,7 +155,7 @@ const LOOKS: [Look; 3] = [Look::Mixed, Look::Ones, Look::Sparse];
 
 const OVERS: [Over; 3] = [Over::Bits, Over::Zeros, Over::Ones];
 
-// The first length, the look and over what a walk goes wrong there.
+// Returns the first length, the look and over what a walk goes wrong there.
 fn first_wrong(alloc: Global) -> Option<(usize, usize, usize)> {
     for len in LENGTHS.iter() {
         for (row, look) in LOOKS.iter().enumerate() {

@@ -10,27 +10,27 @@ pub struct PlainList<A: Allocator + Copy> {
 }
 
 impl<A: Allocator + Copy> PlainList<A> {
-    /// The same bits.
+    /// Returns the same bits.
     pub fn new(bits: BitVec<A>) -> Self {
         PlainList { bits }
     }
 
-    /// How many bits the list has.
+    /// Returns the number of bits that the list has.
     pub fn len(&self) -> usize {
         self.bits.len()
     }
 
-    /// The bit at a place, 1 or 0. None for a place that the list doesn't have.
+    /// Returns the bit at a position, 1 or 0. `None` for a position that the list doesn't have.
     pub fn get(&self, place: usize) -> Option<u64> {
         self.bits.get(place)
     }
 
-    // Whether the bit at a place is there and of the kind.
+    // Returns true if there is a bit at a position, and it has that value.
     fn holds(&self, bit: bool, place: usize) -> bool {
         self.bits.is_bit_set(place) == Some(bit)
     }
 
-    /// How many zeros or ones stand below a place.
+    /// Returns the number of zeros or ones below a position.
     pub fn rank(&self, bit: bool, place: usize) -> usize {
         let mut count: usize = 0;
         for p in 0..place.min(self.len()) {
@@ -41,7 +41,7 @@ impl<A: Allocator + Copy> PlainList<A> {
         count
     }
 
-    /// The place of zero or one number `r`, counted from 0, or the length where there are no more.
+    /// Returns the position of zero or one number `r` (from 0) or the length if there are fewer.
     pub fn select(&self, bit: bool, r: usize) -> usize {
         let mut left = r;
         for p in 0..self.len() {
@@ -55,7 +55,7 @@ impl<A: Allocator + Copy> PlainList<A> {
         self.len()
     }
 
-    /// The least place above `place` that holds the bit.
+    /// Returns the least position above `place` that has the bit.
     pub fn successor(&self, bit: bool, place: usize) -> Option<u64> {
         for p in place..self.len() {
             if p > place && self.holds(bit, p) {
@@ -65,7 +65,7 @@ impl<A: Allocator + Copy> PlainList<A> {
         None
     }
 
-    /// The greatest place below `place` that holds the bit.
+    /// Returns the greatest position below `place` that has the bit.
     pub fn predecessor(&self, bit: bool, place: usize) -> Option<u64> {
         for p in (0..place.min(self.len())).rev() {
             if self.holds(bit, p) {
@@ -75,7 +75,7 @@ impl<A: Allocator + Copy> PlainList<A> {
         None
     }
 
-    /// The number of the `n` bits from `place` on, the lowest first; 0 for no bits. None where the
+    /// Returns the `n` bits from position `place` as a number, the lowest first; 0 if `n` is 0. `None` if the
     /// list doesn't have them.
     pub fn get_bits(&self, place: usize, n: usize) -> Option<u64> {
         if n > 64 || place.checked_add(n)? > self.len() {

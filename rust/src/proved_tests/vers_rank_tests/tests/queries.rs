@@ -32,17 +32,17 @@ pub enum Query {
     Predecessor1(usize),
 }
 
-// A few numbers to be asked at once, the last of which is `r`.
+// Returns a few numbers for a batch, the last of which is `r`.
 fn batch_with(r: usize) -> [usize; 3] {
     [0, usize::MAX, r]
 }
 
-// What was answered for the last of them.
+// Returns the answer for the last of them.
 fn answer_of(places: [usize; 3]) -> Option<u64> {
     Some(places[2] as u64)
 }
 
-/// What a query answers in its plain form.
+/// Returns the answer of a query in its plain form.
 pub fn answer<A: Allocator + Copy>(list: &RsVec<A>, query: Query) -> Option<u64> {
     match query {
         Query::Len => Some(list.len() as u64),
@@ -77,7 +77,7 @@ pub fn answer<A: Allocator + Copy>(list: &RsVec<A>, query: Query) -> Option<u64>
     }
 }
 
-/// What a query answers in its counted form, which the calls without one have not.
+/// Returns the answer of a query in its counted form, or none if it has no such form.
 pub fn counted<A: Allocator + Copy>(
     list: &RsVec<A>,
     query: Query,
@@ -113,7 +113,7 @@ pub fn counted<A: Allocator + Copy>(
     }
 }
 
-/// The nine counters, in the order in which a counter declares them.
+/// Returns the nine counters, in the order in which a counter declares them.
 pub fn counters(tally: &Tally) -> [u64; 9] {
     [
         tally.data_words(),
@@ -128,12 +128,12 @@ pub fn counters(tally: &Tally) -> [u64; 9] {
     ]
 }
 
-// The binary digits of a number.
+// Returns the number of binary digits of a number.
 fn digits(n: usize) -> u64 {
     u64::from(64 - (n as u64).leading_zeros())
 }
 
-/// The most that each counter may show after one query.
+/// Returns the bound of each counter after one query.
 pub fn bounds<A: Allocator + Copy>(list: &RsVec<A>, query: Query) -> [u64; 9] {
     let superblocks = digits(list.len().div_ceil(8192)).wrapping_add(12);
     match query {
@@ -158,7 +158,7 @@ pub fn bounds<A: Allocator + Copy>(list: &RsVec<A>, query: Query) -> [u64; 9] {
     }
 }
 
-/// Whether no counter is above its bound.
+/// Returns true if no counter is above its bound.
 pub fn is_within(counters: [u64; 9], bounds: [u64; 9]) -> bool {
     counters
         .iter()
@@ -166,7 +166,7 @@ pub fn is_within(counters: [u64; 9], bounds: [u64; 9]) -> bool {
         .all(|(counter, bound)| *counter <= *bound)
 }
 
-/// Whether both forms of a query answer so, the counted one within its bounds.
+/// Returns true if both forms of a query answer so, and the counted one within its bounds.
 pub fn is_right<A: Allocator + Copy>(list: &RsVec<A>, query: Query, wanted: Option<u64>) -> bool {
     let mut tally = Tally::new();
     answer(list, query) == wanted
@@ -174,7 +174,7 @@ pub fn is_right<A: Allocator + Copy>(list: &RsVec<A>, query: Query, wanted: Opti
         && is_within(counters(&tally), bounds(list, query))
 }
 
-/// The number of the first query that is answered otherwise, or reads more than it may.
+/// Returns the number of the first query that has another answer, or reads more than its bound.
 pub fn first_wrong_answer<A: Allocator + Copy>(
     list: &RsVec<A>,
     rows: &[(Query, Option<u64>)],
@@ -187,7 +187,7 @@ pub fn first_wrong_answer<A: Allocator + Copy>(
     None
 }
 
-/// The queries about a place, or about the bits of that number.
+/// Returns the queries of a position, or of that many bits.
 pub fn queries_at(place: usize) -> [Query; 15] {
     [
         Query::Get(place),

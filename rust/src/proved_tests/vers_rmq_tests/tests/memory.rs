@@ -1,5 +1,5 @@
-//! Every call that takes memory, each of its requests refused in turn, and the queries, which take none, of
-//! lists of every length.
+//! Every call that allocates, each of its requests refused in turn, and the queries, which take none, of lists
+//! of every length.
 
 use crate::rattle::prelude::*;
 use crate::proved_tests::vers_rmq_tests::tests::minima::{MadeOf, RangeMinima, least, least_in, made};
@@ -16,7 +16,7 @@ use crate::proved::vers_bits::bit_vec::GrowError;
 use crate::proved::vers_rmq::rmq::binary_rmq::BinaryRmq;
 use crate::proved::vers_rmq::rmq::fast_rmq::FastRmq;
 
-// `n` items below 23, so that many are equal.
+// Returns `n` items below 23, so that many are equal.
 fn items_of<A: Allocator + Copy>(alloc: A, n: usize) -> Result<Vec<u64, A>, AllocError> {
     let mut items = Vec::new(alloc);
     for k in 0..n as u64 {
@@ -25,7 +25,7 @@ fn items_of<A: Allocator + Copy>(alloc: A, n: usize) -> Result<Vec<u64, A>, Allo
     Ok(items)
 }
 
-// Whether a list has these items, and answers the first least one of each range from the start.
+// Returns true if a list has these items, and answers the first least one of each range from the start.
 fn is_of<R: RangeMinima>(minima: &R, items: &[u64]) -> bool {
     let mut lowest = u64::MAX;
     let mut place = 0usize;
@@ -41,7 +41,7 @@ fn is_of<R: RangeMinima>(minima: &R, items: &[u64]) -> bool {
     minima.numbers() == items
 }
 
-// Makers of lists of some items, and what these have to answer.
+// Constructors of lists of some items, and the expected answers.
 struct OfItems<'a, A, R> {
     alloc: A,
     items: &'a [u64],
@@ -95,7 +95,7 @@ impl<A, R: RangeMinima> Check<R> for OfItems<'_, A, R> {
     }
 }
 
-// A call. The queries take no memory.
+// A call. The queries allocate nothing.
 #[derive(Clone, Copy)]
 enum Call {
     OfVec,
@@ -174,7 +174,7 @@ const CALLS: [CallOf; 8] = [
     CallOf::Fast(Call::Queries),
 ];
 
-// More than two blocks of 128 items, and the last of them not whole.
+// More than two blocks of 128 items, the last of them not whole.
 const MANY: usize = 300;
 
 #[test]

@@ -1,4 +1,4 @@
-//! Range minima of lists, and what is asked of them.
+//! Lists with range minima, and their queries.
 
 use crate::rattle::prelude::*;
 
@@ -10,9 +10,9 @@ use crate::proved::vers_rmq::rmq::binary_rmq::BinaryRmq;
 use crate::proved::vers_rmq::rmq::fast_rmq::FastRmq;
 use crate::proved::vers_tally::tally::Tally;
 
-/// What both types are asked.
+/// The queries of both types.
 pub trait RangeMinima: Clone {
-    /// The most items that one query reads.
+    /// The greatest number of items that one query reads.
     const MOST_READS: u64;
 
     fn numbers(&self) -> &[u64];
@@ -32,26 +32,26 @@ pub trait RangeMinima: Clone {
 
     fn place_in_counted(&self, start: Bound<usize>, end: Bound<usize>, tally: &mut Tally) -> usize;
 
-    // Whether the calls that this type alone has agree that the first least item stands at a place.
+    // Returns true if the functions that only this type has agree that the first least item is at a position.
     fn agrees(&self, i: usize, j: usize, place: usize) -> bool;
 }
 
-/// How both types are made, with memory of an allocator.
+/// The constructors of both types, with memory of an allocator.
 pub trait MadeOf<A>: RangeMinima {
     /// A vector of items.
     type Items: Sized;
 
     fn vec_of(alloc: A, items: &[u64]) -> Result<Self::Items, AllocError>;
 
-    /// Refused, as if there were no memory, where there are too many items.
+    /// Returns the items of a vector, or `AllocError` also if there are too many.
     fn of_vec(items: Self::Items) -> Result<Self, AllocError>;
 
-    /// The items of an iterator.
+    /// Returns the items of an iterator.
     fn of_iter(alloc: A, items: &[u64]) -> Result<Self, GrowError>;
 }
 
-/// The place of the first least item from `i` to `j`. None of a range that the list does not have, and
-/// where another form answers another place, or reads more items than it may.
+/// Returns the position of the first least item from `i` to `j`. `None` if the list does not have the range, or
+/// if another form returns another position, or reads more items than its bound.
 pub fn least<R: RangeMinima>(minima: &R, i: usize, j: usize) -> Option<usize> {
     if i > j || j >= minima.count() {
         return None;
@@ -66,7 +66,7 @@ pub fn least<R: RangeMinima>(minima: &R, i: usize, j: usize) -> Option<usize> {
     }
 }
 
-/// The same of a range with ends.
+/// Does the same for a range with ends.
 pub fn least_in<R: RangeMinima>(
     minima: &R,
     start: Bound<usize>,
@@ -84,7 +84,7 @@ pub fn least_in<R: RangeMinima>(
     }
 }
 
-// Whether the ends may be asked of a list of `n` items.
+// Returns true if the ends are valid for a list of `n` items.
 fn may_ask(start: Bound<usize>, end: Bound<usize>, n: usize) -> bool {
     if n == 0 {
         return false;
@@ -240,7 +240,7 @@ impl<A: Allocator + Copy> RangeMinima for FastRmq<A> {
     }
 }
 
-/// The range minima of numbers.
+/// Returns the range minima of numbers.
 pub fn made<A, R: MadeOf<A>>(alloc: A, numbers: &[u64]) -> Result<R, AllocError> {
     match R::vec_of(alloc, numbers) {
         Ok(items) => R::of_vec(items),

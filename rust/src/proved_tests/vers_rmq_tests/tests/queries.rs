@@ -10,7 +10,7 @@ use crate::proved_tests::test_alloc::first_wrong;
 use crate::proved::vers_rmq::rmq::binary_rmq::BinaryRmq;
 use crate::proved::vers_rmq::rmq::fast_rmq::FastRmq;
 
-// What is asked of a list.
+// The queries of a list.
 #[derive(Clone, Copy)]
 enum Query {
     Len,
@@ -19,12 +19,12 @@ enum Query {
     LeastIn(Bound<usize>, Bound<usize>),
 }
 
-// What is asked, and the answer.
+// A query, and its answer.
 type Row = (Query, Option<usize>);
 
 const GREATEST: usize = usize::MAX;
 
-// The items, what is asked and the answers.
+// The items, queries and their answers.
 const CASES: [(&[u64], &[Row]); 5] = [
     (
         &[],
@@ -59,7 +59,7 @@ const CASES: [(&[u64], &[Row]); 5] = [
             ),
         ],
     ),
-    // Each range answers its last place.
+    // The answer for each range is its last position.
     (
         &[5, 4, 3, 2, 1],
         &[
@@ -105,8 +105,8 @@ const CASES: [(&[u64], &[Row]); 5] = [
             ),
         ],
     ),
-    // Each range answers its first place. The last four start past the last place, and two of these past
-    // their end, but both ends are cut to the last place.
+    // The answer for each range is its first position. The last four start past the last position, and two of
+    // these past their end, but both ends are clamped to the last position.
     (
         &[1, 2, 3, 4, 5],
         &[
@@ -151,7 +151,7 @@ const CASES: [(&[u64], &[Row]); 5] = [
     ),
 ];
 
-// The answer of one query, a truth value as 1 or 0.
+// Returns the answer of one query, a boolean as 1 or 0.
 fn answer<R: RangeMinima>(minima: &R, query: Query) -> Option<usize> {
     match query {
         Query::Len => Some(minima.count()),
@@ -161,8 +161,8 @@ fn answer<R: RangeMinima>(minima: &R, query: Query) -> Option<usize> {
     }
 }
 
-// The number of the first row of a list and of its copy that has another answer; as many as there are
-// rows where a list was not made.
+// Returns the number of the first row of a list and of its copy with another answer, or the number of rows if a
+// list was not made.
 fn wrong_row_of<R: RangeMinima, E: Sized>(made: Result<R, E>, rows: &[Row]) -> Option<usize> {
     match made {
         Ok(minima) => first_wrong(&minima, rows, answer::<R>).or(wrong_row_of_copy(&minima, rows)),
@@ -178,7 +178,7 @@ fn wrong_row_of_copy<R: RangeMinima>(minima: &R, rows: &[Row]) -> Option<usize> 
     }
 }
 
-// The same of lists of these numbers, made in both ways.
+// Does the same for lists of these numbers, made in both ways.
 fn wrong_row<A: Allocator + Copy, R: MadeOf<A>>(
     alloc: A,
     numbers: &[u64],
@@ -190,7 +190,7 @@ fn wrong_row<A: Allocator + Copy, R: MadeOf<A>>(
     ))
 }
 
-// The first case that is answered wrong, and its row.
+// Returns the first case with a wrong answer, and its row.
 fn first_wrong_case<A: Allocator + Copy, R: MadeOf<A>>(alloc: A) -> Option<(usize, usize)> {
     for (case, (numbers, rows)) in CASES.iter().enumerate() {
         if let Some(row) = wrong_row::<A, R>(alloc, numbers, rows) {
@@ -208,19 +208,19 @@ fn queries_and_their_answers() {
     assert_eq!((binary, fast), (None, None), "a case and a row");
 }
 
-// `n` items that are all 7.
+// Returns `n` items that are all 7.
 fn sevens<A: Allocator + Copy>(alloc: A, n: usize) -> Result<Vec<u64, A>, AllocError> {
     let mut numbers = Vec::new(alloc);
     numbers.resize(n, 7)?;
     Ok(numbers)
 }
 
-// How many items there are, and the size of a list.
+// The number of items of a list, and its size.
 const BINARY_SIZES: [(usize, usize); 4] = [(0, 0), (11, 308), (128, 5120), (300, 14400)];
 
 const FAST_SIZES: [(usize, usize); 4] = [(0, 0), (11, 165), (128, 1101), (300, 2655)];
 
-// What is asked of 300 items.
+// The queries of 300 items.
 const OF_SEVENS: [Row; 4] = [
     (Query::Least(5, 290), Some(5)),
     (
@@ -234,7 +234,7 @@ const OF_SEVENS: [Row; 4] = [
     ),
 ];
 
-// The size of a list of sevens.
+// Returns the size of a list of sevens.
 fn bytes_of_sevens<A: Allocator + Copy, R: MadeOf<A>>(
     alloc: A,
     n: usize,
@@ -252,7 +252,7 @@ fn bytes_of<R: RangeMinima>(made: Result<R, AllocError>) -> Result<usize, AllocE
     }
 }
 
-// The first number of sevens of which a list has another size.
+// Returns the first number of sevens of which a list has another size.
 fn first_wrong_size<A: Allocator + Copy, R: MadeOf<A>>(
     alloc: A,
     sizes: &[(usize, usize)],
@@ -273,7 +273,7 @@ fn sizes() {
     assert_eq!((binary, fast), (None, None), "so many items");
 }
 
-// The number of the first row of 300 sevens that has another answer.
+// Returns the number of the first row of 300 sevens that has another answer.
 fn wrong_row_of_sevens<A: Allocator + Copy, R: MadeOf<A>>(alloc: A) -> Option<usize> {
     match sevens(alloc, 300) {
         Ok(numbers) => wrong_row::<A, R>(alloc, numbers.as_slice(), &OF_SEVENS),

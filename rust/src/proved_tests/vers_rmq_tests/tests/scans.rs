@@ -8,7 +8,7 @@ use crate::rattle::Global;
 use crate::proved::vers_rmq::rmq::binary_rmq::BinaryRmq;
 use crate::proved::vers_rmq::rmq::fast_rmq::FastRmq;
 
-// How items follow one another.
+// The order of items.
 #[derive(Clone, Copy)]
 enum Shape {
     Ascending,
@@ -24,7 +24,7 @@ const SHAPES: [Shape; 4] = [
     Shape::Mixed,
 ];
 
-// How many items a list has, and how many ranges.
+// The number of items of a list, and of its ranges.
 const LENGTHS: [(usize, usize); 8] = [
     (0, 0),
     (1, 1),
@@ -36,7 +36,7 @@ const LENGTHS: [(usize, usize); 8] = [
     (257, 33153),
 ];
 
-// Item `k` of a list. Mixed items are below 23, so that many are equal.
+// Returns item `k` of a list. Mixed items are below 23, so that many are equal.
 fn item(shape: Shape, k: u64) -> u64 {
     match shape {
         Shape::Ascending => k,
@@ -46,7 +46,7 @@ fn item(shape: Shape, k: u64) -> u64 {
     }
 }
 
-// Where the first least item from `i` to `j` stands, if the shape alone says so.
+// Returns the position of the first least item from `i` to `j`, if the shape determines it.
 fn known(shape: Shape, i: usize, j: usize) -> Option<usize> {
     match shape {
         Shape::Ascending => Some(i),
@@ -56,7 +56,7 @@ fn known(shape: Shape, i: usize, j: usize) -> Option<usize> {
     }
 }
 
-// `n` items of a shape.
+// Returns `n` items of a shape.
 fn items_of<A: Allocator + Copy>(
     alloc: A,
     shape: Shape,
@@ -69,7 +69,7 @@ fn items_of<A: Allocator + Copy>(
     Ok(items)
 }
 
-// The first place of a least item from `i` to `j`, by a plain scan; None of a range that isn't there.
+// Returns the first position of a least item from `i` to `j`, by a plain scan; `None` if there is no such range.
 fn scanned(items: &[u64], i: usize, j: usize) -> Option<usize> {
     let mut place = i;
     let mut least = *items.get(i)?;
@@ -83,7 +83,7 @@ fn scanned(items: &[u64], i: usize, j: usize) -> Option<usize> {
     Some(place)
 }
 
-// Whether a range has the scan's answer, which is the one that is known.
+// Returns true if a range has the scan's answer, which is the one that is known.
 fn is_right<R: RangeMinima>(minima: &R, shape: Shape, i: usize, j: usize) -> bool {
     let wanted = match scanned(minima.numbers(), i, j) { Some(wanted) => wanted, _ => {
         return false;
@@ -91,7 +91,7 @@ fn is_right<R: RangeMinima>(minima: &R, shape: Shape, i: usize, j: usize) -> boo
     least(minima, i, j) == Some(wanted) && known(shape, i, j).unwrap_or(wanted) == wanted
 }
 
-// How many ranges of a list have the right answer. None where one has not.
+// Returns the number of ranges of a list with the right answer, or `None` if one is wrong.
 fn right_ranges<R: RangeMinima>(minima: &R, shape: Shape) -> Option<usize> {
     let mut ranges = 0usize;
     for j in 0..minima.count() {
@@ -105,7 +105,7 @@ fn right_ranges<R: RangeMinima>(minima: &R, shape: Shape) -> Option<usize> {
     Some(ranges)
 }
 
-// The same of a list of `n` items of a shape.
+// Does the same for a list of `n` items of a shape.
 fn right_ranges_of<A: Allocator + Copy, R: MadeOf<A>>(
     alloc: A,
     shape: Shape,
@@ -127,7 +127,7 @@ fn right_ranges_of_made<R: RangeMinima>(
     }
 }
 
-// The first shape, by its number, and the length at which not all ranges are right.
+// Returns the first shape, by its number, and the length at which not all ranges are right.
 fn first_wrong_list<A: Allocator + Copy, R: MadeOf<A>>(alloc: A) -> Option<(usize, usize)> {
     for (row, shape) in SHAPES.iter().enumerate() {
         for (n, ranges) in LENGTHS {

@@ -7,7 +7,7 @@ use crate::rattle::Allocator;
 use crate::proved_tests::test_alloc::asked;
 use crate::proved::vers_sorted::elias_fano::EliasFanoVec;
 
-// The members, what is asked and the answers.
+// The members, queries and their answers.
 type Case<'a> = (&'a [u64], &'a [(Query, Option<u64>)]);
 
 const CASES: [Case; 7] = [
@@ -105,7 +105,8 @@ const CASES: [Case; 7] = [
     ),
 ];
 
-// The number of the first query of a list that is answered wrong, by the plain form or by the counted one.
+// Returns the number of the first query of a list that has a wrong answer, by the plain form or by the counted
+// one.
 fn first_wrong_answer<A: Allocator + Copy>(
     list: &EliasFanoVec<A>,
     rows: &[(Query, Option<u64>)],
@@ -118,7 +119,7 @@ fn first_wrong_answer<A: Allocator + Copy>(
     None
 }
 
-// The same of a list made of the numbers in turn; as many as there are rows where there is none.
+// Does the same for a list made of the numbers one by one, or returns the number of rows if there is none.
 fn first_wrong_in_turn<A: Allocator + Copy>(
     alloc: A,
     numbers: &[u64],
@@ -131,7 +132,7 @@ fn first_wrong_in_turn<A: Allocator + Copy>(
     .unwrap_or(Some(rows.len()))
 }
 
-// The same of a copy; as many as there are rows where there is none.
+// Does the same for a copy, or returns the number of rows if there is none.
 fn first_wrong_of_copy<A: Allocator + Copy>(
     list: &EliasFanoVec<A>,
     rows: &[(Query, Option<u64>)],
@@ -144,7 +145,8 @@ fn first_wrong_of_copy<A: Allocator + Copy>(
     .unwrap_or(Some(rows.len()))
 }
 
-// The first case that is answered wrong, by a list, by its copy or by one made of the numbers in turn, and its row.
+// Returns the first case with a wrong answer, by a list, by its copy or by one made of the numbers one by one,
+// and its row.
 fn first_wrong_case<A: Allocator + Copy>(
     alloc: A,
     cases: &[Case],
@@ -161,7 +163,7 @@ fn first_wrong_case<A: Allocator + Copy>(
     Ok(None)
 }
 
-// The table stands in a function of its own, which is faster to prove than in a test.
+// The table is in a function of its own, which is faster to prove than in a test.
 fn first_wrong_of_all<A: Allocator + Copy>(alloc: A) -> Result<Option<(usize, usize)>, AllocError> {
     first_wrong_case(alloc, &CASES)
 }
@@ -172,7 +174,7 @@ fn queries_and_their_answers() {
     assert!(matches!(first_wrong_of_all(rt.alloc()), Ok(None)));
 }
 
-// Whether a query is answered so by its counted form, with few low parts and rank calls.
+// Returns true if the counted form of a query has that answer, with few low parts and rank calls.
 fn is_cheap<A: Allocator + Copy>(list: &EliasFanoVec<A>, query: Query, wanted: u64) -> bool {
     let counted = counted_answer(list, query);
     counted.answer == Some(wanted) && counted.low_parts <= 29 && counted.rank_calls <= 29
@@ -186,7 +188,7 @@ fn are_cheap<A: Allocator + Copy>(list: &EliasFanoVec<A>) -> bool {
         && is_cheap(list, Query::Len, 1048581)
 }
 
-// A rank reads no more low parts than the length has digits, and 8, with any number of equal members.
+// A rank reads at most as many low parts as the length has digits, plus 8, with any number of equal members.
 #[test]
 fn many_equal_members_take_few_reads() {
     let rt = HostRuntime;

@@ -1,4 +1,4 @@
-//! Batches of places and of numbers, compared with written answers and with single calls.
+//! Batches of positions and of numbers, compared with written answers and with single calls.
 
 use crate::rattle::prelude::*;
 use crate::proved_tests::vers_sorted_tests::tests::lists::list_of;
@@ -7,24 +7,24 @@ use crate::rattle::testing::Fail;
 use crate::proved_tests::test_alloc::asked;
 use crate::proved::vers_sorted::elias_fano::EliasFanoVec;
 
-// The most places that a batch is tried with.
+// The most positions that a batch is tested with.
 const MOST: usize = 130;
 
-// Whether the members at some places of 2, 4, 4 and 9 are these.
+// Returns true if the members at some positions of 2, 4, 4 and 9 are these.
 fn are_as_written<A: Allocator + Copy>(list: &EliasFanoVec<A>) -> bool {
     let mut members = [Some(0), None, Some(3), Some(4), Some(u64::MAX), Some(1)];
     list.get_each(&mut members);
     members == [Some(2), None, Some(9), None, None, Some(4)]
 }
 
-// Whether as many of 2, 4, 4 and 9 are below some numbers as these.
+// Returns true if the numbers of members of 2, 4, 4 and 9 below some numbers are these.
 fn are_below_as_written<A: Allocator + Copy>(list: &EliasFanoVec<A>) -> bool {
     let mut numbers = [4, 0, u64::MAX, 5, 9, 10, 2, 3];
     list.rank_each(&mut numbers);
     numbers == [1, 0, 4, 3, 3, 4, 0, 1]
 }
 
-// Whether the members beside some numbers are these.
+// Returns true if the predecessors and successors of some numbers are these.
 fn are_beside_as_written<A: Allocator + Copy>(list: &EliasFanoVec<A>) -> bool {
     let asked = [Some(4), None, Some(1), Some(u64::MAX), Some(8), Some(9)];
     let mut before = asked;
@@ -46,7 +46,7 @@ fn written_answers() -> Result<(), Fail> {
     Ok(())
 }
 
-// A place of a batch: each third is none.
+// Returns a position of a batch: every third is none.
 fn place_at(i: usize) -> Option<u64> {
     if i % 3 == 2 {
         return None;
@@ -54,7 +54,7 @@ fn place_at(i: usize) -> Option<u64> {
     Some((i / 7) as u64)
 }
 
-// Whether the first `n` of the places are answered as single calls are, and the others are kept.
+// Returns true if the first `n` of the positions are answered as single calls do, and the others are kept.
 fn is_right<A: Allocator + Copy>(list: &EliasFanoVec<A>, n: usize) -> bool {
     let mut members = [None; MOST];
     for (i, member) in members.iter_mut().enumerate() {
@@ -73,12 +73,12 @@ fn is_right<A: Allocator + Copy>(list: &EliasFanoVec<A>, n: usize) -> bool {
     })
 }
 
-// Number `i` of a batch: below, among and above the members, in no order.
+// Returns number `i` of a batch: below, among and above the members, in no order.
 fn number_at(i: usize) -> u64 {
     (i as u64).wrapping_mul(389) % 1000
 }
 
-// Whether the first `n` of the numbers are ranked as single calls do, and the others are kept.
+// Returns true if the first `n` of the numbers are ranked as single calls do, and the others are kept.
 fn is_ranked<A: Allocator + Copy>(list: &EliasFanoVec<A>, n: usize) -> bool {
     let mut numbers = [0; MOST];
     for (i, number) in numbers.iter_mut().enumerate() {
@@ -93,7 +93,7 @@ fn is_ranked<A: Allocator + Copy>(list: &EliasFanoVec<A>, n: usize) -> bool {
     })
 }
 
-// Value `i` of a batch of neighbours: each fifth is none.
+// Returns value `i` of a batch of neighbours: every fifth is none.
 fn value_at(i: usize) -> Option<u64> {
     if i % 5 == 3 {
         return None;
@@ -101,7 +101,7 @@ fn value_at(i: usize) -> Option<u64> {
     Some(number_at(i))
 }
 
-// Whether the first `n` of the values are answered as single calls are, and the others are kept.
+// Returns true if the first `n` of the values are answered as single calls do, and the others are kept.
 fn are_beside<A: Allocator + Copy>(list: &EliasFanoVec<A>, n: usize) -> bool {
     let mut before = [None; MOST];
     for (i, value) in before.iter_mut().enumerate() {
@@ -122,7 +122,7 @@ fn are_beside<A: Allocator + Copy>(list: &EliasFanoVec<A>, n: usize) -> bool {
     })
 }
 
-// Whether batches of few and of many places are, where they end with a group and where they don't.
+// Returns true if that holds for batches of few and of many positions, ending with a group and elsewhere.
 fn are_right<A: Allocator + Copy>(list: &EliasFanoVec<A>) -> bool {
     [0, 1, 63, 64, 65, 128, 130].iter().all(|n| is_right(list, *n)
         && is_ranked(list, *n)

@@ -1,4 +1,4 @@
-//! Sparse lists of bits, and what is asked of them.
+//! Sparse lists of bits, and their queries.
 
 use crate::rattle::prelude::*;
 
@@ -7,17 +7,17 @@ use crate::rattle::Allocator;
 use crate::proved::vers_sorted::sparse::SparseRSVec;
 use crate::proved::vers_tally::tally::Tally;
 
-// Whether the numbers ascend strictly.
+// Returns true if the numbers ascend strictly.
 fn is_rising(numbers: &[u64]) -> bool {
     numbers.is_sorted_by(|one, next| *one < *next)
 }
 
-// Whether all numbers are below `limit`.
+// Returns true if all numbers are below `limit`.
 fn are_below(numbers: &[u64], limit: u64) -> bool {
     numbers.iter().all(|number| *number < limit)
 }
 
-/// The list of `len` bits with ones at the places, or of none where there is no such list.
+/// Returns the list of `len` bits with ones at the positions, or an empty list if there is no such list.
 pub fn bits_of<A: Allocator + Copy>(
     alloc: A,
     ones: &[u64],
@@ -29,7 +29,7 @@ pub fn bits_of<A: Allocator + Copy>(
     SparseRSVec::new(alloc, &[], 0)
 }
 
-/// What is asked of a sparse list.
+/// The queries of a sparse list.
 #[derive(Clone, Copy)]
 pub enum Query {
     Len,
@@ -45,7 +45,7 @@ pub enum Query {
     Iter1(usize),
 }
 
-// A truth value as a number.
+// Returns a boolean as a number.
 fn as_number(bit: Option<bool>) -> Option<u64> {
     match bit {
         Some(bit) => Some(u64::from(bit)),
@@ -53,8 +53,8 @@ fn as_number(bit: Option<bool>) -> Option<u64> {
     }
 }
 
-/// The answer of one query, a truth value as 1 or 0. An unchecked one is asked only where its
-/// condition holds; `Iter1` asks the iterator over the ones for its item of that number.
+/// Returns the answer of one query, a boolean as 1 or 0. An unchecked one is called only if its precondition
+/// holds; `Iter1` takes the item of that number of the iterator over the ones.
 pub fn answer<A: Allocator + Copy>(bits: &SparseRSVec<A>, query: Query) -> Option<u64> {
     match query {
         Query::Len => Some(bits.len()),
@@ -81,7 +81,7 @@ pub fn answer<A: Allocator + Copy>(bits: &SparseRSVec<A>, query: Query) -> Optio
     }
 }
 
-/// The answer of the counted form of a query. A query that has none is asked as it is.
+/// Returns the answer of the counted form of a query, or of its plain form if it has none.
 pub fn counted<A: Allocator + Copy>(bits: &SparseRSVec<A>, query: Query) -> Option<u64> {
     let mut tally = Tally::new();
     match query {

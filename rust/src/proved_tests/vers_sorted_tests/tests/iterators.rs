@@ -14,7 +14,7 @@ use crate::proved_tests::test_alloc::{asked, asked_mut};
 use crate::proved::vers_sorted::elias_fano::{EliasFanoIter, EliasFanoVec};
 use crate::proved::vers_sorted::sparse::SparseRSVec;
 
-// The members, the steps of one iterator, and what they answer.
+// The members, the steps of one iterator, and their answers.
 type Walk<'a> = (&'a [u64], &'a [(Step, Option<u64>)]);
 
 const WALKS: [Walk; 5] = [
@@ -73,7 +73,7 @@ const WALKS: [Walk; 5] = [
     ),
 ];
 
-// The first walk that answers wrong, over a list or one that owns it, and its step.
+// Returns the first walk with a wrong answer, over a list or one that owns it, and its step.
 fn first_wrong_walk<A: Allocator + Copy>(
     alloc: A,
     walks: &[Walk],
@@ -91,7 +91,7 @@ fn first_wrong_walk<A: Allocator + Copy>(
     Ok(None)
 }
 
-// The table stands in a function of its own, which is faster to prove than in a test.
+// The table is in a function of its own, which is faster to prove than in a test.
 fn first_wrong_of_all<A: Allocator + Copy>(alloc: A) -> Result<Option<(usize, usize)>, AllocError> {
     first_wrong_walk(alloc, &WALKS)
 }
@@ -102,7 +102,7 @@ fn steps_and_their_answers() {
     assert!(matches!(first_wrong_of_all(rt.alloc()), Ok(None)));
 }
 
-// The sums by loops over a reference to a list, over a `&mut` to it, and over the list itself.
+// Returns the sums by loops over a reference to a list, over a `&mut` to it, and over the list itself.
 fn sums<A: Allocator + Copy>(alloc: A, numbers: &[u64]) -> [Result<u64, AllocError>; 3] {
     [
         asked(list_of(alloc, numbers), sum_by_reference),
@@ -157,10 +157,10 @@ const MIXTURES: [&[Step]; 5] = [
     ],
 ];
 
-// How many members there are: more than a word has bits, than two, than a block, and than two.
+// Numbers of members: more than a word has bits, than two words, than a block, and than two.
 const LONG: [usize; 4] = [65, 130, 513, 1100];
 
-// How the members of a long list lie.
+// The gaps between the members of a long list.
 #[derive(Clone, Copy)]
 enum Lie {
     Twice,
@@ -169,7 +169,7 @@ enum Lie {
     WithAGap,
 }
 
-// The last two ascend strictly, and can be places of ones.
+// The last two ascend strictly, and can be positions of ones.
 const LIES: [Lie; 4] = [Lie::Twice, Lie::Equal, Lie::Apart, Lie::WithAGap];
 
 fn member(lie: Lie, i: u64) -> u64 {
@@ -189,9 +189,9 @@ fn members<A: Allocator + Copy>(alloc: A, lie: Lie, len: usize) -> Result<Vec<u6
     Ok(numbers)
 }
 
-// What is walked, by an iterator over it or as one.
+// A structure that is walked, by an iterator over it or as one.
 trait Walked: Sized {
-    // Whether the walk gives the numbers.
+    // Returns true if the walk returns the numbers.
     fn gives(&mut self, numbers: &[u64], steps: &[Step]) -> bool;
 }
 
@@ -213,7 +213,7 @@ impl<A: Allocator + Copy> Walked for SparseRSVec<A> {
     }
 }
 
-// The same of what was made.
+// Does the same for what was made.
 fn made_gives<T: Walked>(
     made: Result<T, AllocError>,
     numbers: &[u64],
@@ -225,7 +225,7 @@ fn made_gives<T: Walked>(
     }
 }
 
-// Whether the iterators over a list, that own one, and over the ones of a sparse list give the numbers.
+// Returns true if the iterators over a list, that own one, and over the ones of a sparse list return the numbers.
 fn are_followed<A: Allocator + Copy>(
     alloc: A,
     lie: Lie,
@@ -240,7 +240,7 @@ fn are_followed<A: Allocator + Copy>(
     )
 }
 
-// The first mixture that is not followed, of lists of one length.
+// Returns the first mixture with a wrong result, of lists of the same length.
 fn first_wrong_mixture<A: Allocator + Copy>(
     alloc: A,
     len: usize,
@@ -256,7 +256,7 @@ fn first_wrong_mixture<A: Allocator + Copy>(
     Ok(None)
 }
 
-// The first length at which one is not.
+// Returns the first length with such a mixture.
 fn first_wrong_of_long(alloc: Global) -> Result<Option<(usize, usize)>, AllocError> {
     for len in LONG {
         if let Some(row) = first_wrong_mixture(alloc, len)? {

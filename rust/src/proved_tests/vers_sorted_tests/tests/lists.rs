@@ -1,4 +1,4 @@
-//! Ascending lists, and what is asked of them.
+//! Ascending lists, and their queries.
 
 use crate::rattle::prelude::*;
 use crate::rattle::AllocError;
@@ -7,7 +7,7 @@ use crate::proved::vers_sorted::elias_fano::{EliasFanoVec, Numbers};
 use crate::proved::vers_sorted::order::is_ascending;
 use crate::proved::vers_tally::tally::Tally;
 
-/// The list of the numbers, or of none where they don't ascend.
+/// Returns the list of the numbers, or an empty list if they don't ascend.
 pub fn list_of<A: Allocator + Copy>(
     alloc: A,
     numbers: &[u64],
@@ -18,7 +18,7 @@ pub fn list_of<A: Allocator + Copy>(
     EliasFanoVec::from_slice(alloc, &[])
 }
 
-/// The same by the maker that reads the numbers in turn.
+/// Does the same by the constructor that reads the numbers one by one.
 pub fn list_in_turn<A: Allocator + Copy>(
     alloc: A,
     numbers: &[u64],
@@ -44,7 +44,7 @@ impl Numbers for InTurn<'_> {
     }
 }
 
-/// `few`, then `n` times `equal`, then `last`.
+/// Returns `few`, then `n` times `equal`, then `last`.
 pub fn with_equal<A: Allocator + Copy>(
     alloc: A,
     few: &[u64],
@@ -58,7 +58,7 @@ pub fn with_equal<A: Allocator + Copy>(
     Ok(numbers)
 }
 
-/// What is asked of a list.
+/// The queries of a list.
 #[derive(Clone, Copy)]
 pub enum Query {
     Len,
@@ -76,7 +76,7 @@ pub enum Query {
     SuccessorUnchecked(u64),
 }
 
-/// The answer of one query. An unchecked one is asked only where its condition holds.
+/// Returns the answer of one query. An unchecked one is called only if its precondition holds.
 pub fn answer<A: Allocator + Copy>(list: &EliasFanoVec<A>, query: Query) -> Option<u64> {
     match query {
         Query::Len => Some(list.len() as u64),
@@ -110,7 +110,7 @@ pub fn answer<A: Allocator + Copy>(list: &EliasFanoVec<A>, query: Query) -> Opti
     }
 }
 
-/// The answer of a counted call, with the low parts and the rank calls that it read by.
+/// The answer of a counted call, with the low parts and the rank calls that it counted.
 #[derive(Clone, Copy)]
 pub struct Counted {
     pub answer: Option<u64>,
@@ -118,7 +118,7 @@ pub struct Counted {
     pub rank_calls: u64,
 }
 
-/// The answer of the counted form of a query. A query that has none is asked as it is.
+/// Returns the answer of the counted form of a query, or of its plain form if it has none.
 pub fn counted_answer<A: Allocator + Copy>(list: &EliasFanoVec<A>, query: Query) -> Counted {
     let mut tally = Tally::new();
     let found = match query {

@@ -1,5 +1,5 @@
-//! Every call that takes memory, each of its requests refused in turn, and the calls that take none, of
-//! lists of every length.
+//! Every call that allocates, each of its requests refused in turn, and the calls that take none, of lists of
+//! every length.
 
 use crate::rattle::prelude::*;
 use crate::proved_tests::vers_sorted_tests::tests::bits::{Query as BitQuery, answer as bit_answer, bits_of, counted};
@@ -18,12 +18,12 @@ use crate::proved::vers_sorted::sparse::SparseRSVec;
 
 type Heap = Refusing<Global>;
 
-// Member `i` of the ascending list: each member twice.
+// Returns member `i` of the ascending list: each member twice.
 fn member(i: usize) -> u64 {
     (i as u64 / 2).wrapping_mul(3)
 }
 
-// One number `i` of the sparse list.
+// Returns one number `i` of the sparse list.
 fn place_of_one(i: usize) -> u64 {
     (i as u64).wrapping_mul(3).wrapping_add(1)
 }
@@ -32,7 +32,7 @@ fn is_one(place: u64) -> bool {
     place % 3 == 1
 }
 
-// How many bits the sparse list of so many ones has.
+// Returns the number of bits that the sparse list of that many ones has.
 fn bit_count(len: usize) -> u64 {
     (len as u64).wrapping_mul(3)
 }
@@ -53,7 +53,7 @@ fn ones_of<A: Allocator + Copy>(alloc: A, len: usize) -> Result<Vec<u64, A>, All
     Ok(numbers)
 }
 
-// All bits of the sparse list, as many as told.
+// Returns all bits of the sparse list, `len` of them.
 fn all_bits<A: Allocator + Copy>(alloc: A, len: usize) -> Result<BitVec<A>, GrowError> {
     let mut bits = BitVec::new(alloc);
     for place in 0..len {
@@ -62,7 +62,7 @@ fn all_bits<A: Allocator + Copy>(alloc: A, len: usize) -> Result<BitVec<A>, Grow
     Ok(bits)
 }
 
-// Whether both forms of each query answer as told.
+// Returns true if both forms of each query answer as expected.
 fn answers_all<A: Allocator + Copy>(list: &EliasFanoVec<A>, rows: &[(Query, Option<u64>)]) -> bool {
     for (query, wanted) in rows {
         if answer(list, *query) != *wanted || counted_answer(list, *query).answer != *wanted {
@@ -72,7 +72,7 @@ fn answers_all<A: Allocator + Copy>(list: &EliasFanoVec<A>, rows: &[(Query, Opti
     true
 }
 
-// Whether the queries answer about member `i`.
+// Returns true if the queries answer about member `i`.
 fn knows_member<A: Allocator + Copy>(list: &EliasFanoVec<A>, i: usize) -> bool {
     let v = member(i);
     let is_second_value = i > 0 && i % 2 == 0;
@@ -93,14 +93,14 @@ fn knows_member<A: Allocator + Copy>(list: &EliasFanoVec<A>, i: usize) -> bool {
     answers_all(list, &rows) && knows_in_batch(list, i)
 }
 
-// Whether a batch answers about member `i`, and keeps what is none.
+// Returns true if a batch answers about member `i`, and keeps each `None`.
 fn knows_in_batch<A: Allocator + Copy>(list: &EliasFanoVec<A>, i: usize) -> bool {
     let mut members = [Some(i as u64), None];
     list.get_each(&mut members);
     members == [Some(member(i)), None]
 }
 
-// Whether a list knows its length, and where it ends.
+// Returns true if a list has its length and its ends.
 fn knows_ends<A: Allocator + Copy>(list: &EliasFanoVec<A>, len: usize) -> bool {
     let rows = [
         (Query::Len, Some(len as u64)),
@@ -114,7 +114,7 @@ fn knows_ends<A: Allocator + Copy>(list: &EliasFanoVec<A>, len: usize) -> bool {
     answers_all(list, &rows) && knows_ends_in_batches(list, len) && list.heap_size() > 0
 }
 
-// The same of batches.
+// Does the same for batches.
 fn knows_ends_in_batches<A: Allocator + Copy>(list: &EliasFanoVec<A>, len: usize) -> bool {
     let mut members = [Some(len as u64)];
     list.get_each(&mut members);
@@ -130,7 +130,7 @@ fn knows_ends_in_batches<A: Allocator + Copy>(list: &EliasFanoVec<A>, len: usize
         && after == [None]
 }
 
-// Whether a list has so many members, and answers about the first, one amid and the last.
+// Returns true if a list has that many members, and answers about the first, one in the middle and the last.
 fn has_members<A: Allocator + Copy>(list: &EliasFanoVec<A>, len: usize) -> bool {
     for i in 0..len {
         if list.get(i) != Some(member(i)) {
@@ -145,12 +145,12 @@ fn has_members<A: Allocator + Copy>(list: &EliasFanoVec<A>, len: usize) -> bool 
     knows_ends(list, len)
 }
 
-// The first of so many numbers, two amid and the last, where there are as many.
+// Returns the first of that many numbers, two in the middle and the last.
 fn some_of(len: usize) -> [usize; 4] {
     [0, len / 2, len / 2 + 1, len.saturating_sub(1)]
 }
 
-// The steps of a walk: all that take no copy of it.
+// The steps of a walk: all that need no copy of it.
 const STEPS: [Step; 10] = [
     Step::Len,
     Step::Next,
@@ -164,7 +164,7 @@ const STEPS: [Step; 10] = [
     Step::NthBackCounted(1),
 ];
 
-// The steps of a walk over a list that stands elsewhere, whose copies take no memory.
+// The steps of a walk that borrows a list, whose copies allocate nothing.
 const STEPS_AND_ENDS: [Step; 7] = [
     Step::Last,
     Step::Count,
@@ -175,7 +175,7 @@ const STEPS_AND_ENDS: [Step; 7] = [
     Step::Next,
 ];
 
-// The members of a list, where it takes its memory, and whether it is made of numbers that are read in turn.
+// The members of a list, its allocator, and whether it is made of numbers that are read one by one.
 #[derive(Clone, Copy)]
 struct Members<'a, 'b> {
     heap: &'a Heap,
@@ -192,7 +192,7 @@ impl<A: Allocator + Copy> Check<EliasFanoVec<A>> for Members<'_, '_> {
     }
 }
 
-// Whether a walk that owns its list gives the members.
+// Checks whether a walk that owns its list returns the members.
 impl<A: Allocator + Copy> Check<EliasFanoIter<A>> for Members<'_, '_> {
     fn is_right(&self, walk: &mut EliasFanoIter<A>) -> bool {
         follows(walk, self.numbers, &STEPS)
@@ -220,7 +220,7 @@ impl<'a> Making for Members<'a, '_> {
     }
 }
 
-// A list that becomes a walk, which is asked for its end.
+// A list that becomes a walk, whose end is queried.
 trait Walked: Sized {
     fn end_of_walk(self, asked: Step) -> Option<u64>;
 }
@@ -231,7 +231,7 @@ impl<A: Allocator + Copy> Walked for EliasFanoVec<A> {
     }
 }
 
-// A call about numbers. Those from `Queries` on take no memory.
+// A call about numbers. Those from `Queries` on allocate nothing.
 #[derive(Clone, Copy)]
 enum Call {
     FromSlice,
@@ -266,7 +266,7 @@ const CALLS: [Call; 15] = [
     Call::SparseQueries,
 ];
 
-// A walk that owns what was made, and its clone.
+// Tests a walk that owns what was made, and its clone.
 fn tried_walk<B: Allocator, T: IntoIterator, X: Sized, C: Check<T::IntoIter>>(
     heap: &Refusing<B>,
     made: Result<T, X>,
@@ -308,7 +308,7 @@ fn ending_if(is_right: bool) -> Ending {
     }
 }
 
-// A call of an ascending list, of any type, since a list itself is slower to prove.
+// Tests a call of an ascending list, of a generic type, since a list itself is slower to prove.
 fn tried_made<
     B: Allocator,
     T: Walked + Clone + IntoIterator,
@@ -338,7 +338,7 @@ fn tried_list(heap: &Heap, call: Call, numbers: &[u64]) -> Ending {
     tried_made(heap, list_of(heap, numbers), call, &members, numbers)
 }
 
-// Whether both forms of each query of a sparse list answer as told.
+// Returns true if both forms of each query of a sparse list answer as expected.
 fn bits_answer_all<A: Allocator + Copy>(
     bits: &SparseRSVec<A>,
     rows: &[(BitQuery, Option<u64>)],
@@ -351,7 +351,7 @@ fn bits_answer_all<A: Allocator + Copy>(
     true
 }
 
-// Whether a sparse list knows one number `i`, and the zeros beside it.
+// Returns true if a sparse list has one number `i`, and the zeros next to it.
 fn knows_one<A: Allocator + Copy>(bits: &SparseRSVec<A>, i: usize) -> bool {
     let place = place_of_one(i);
     let zeros = place.wrapping_sub(i as u64);
@@ -374,7 +374,7 @@ fn knows_one<A: Allocator + Copy>(bits: &SparseRSVec<A>, i: usize) -> bool {
     bits_answer_all(bits, &rows)
 }
 
-// Whether it has so many ones, and knows some of them and where it ends.
+// Returns true if it has that many ones, and answers about some of them and its end.
 fn has_all_ones<A: Allocator + Copy>(bits: &SparseRSVec<A>, len: usize) -> bool {
     for i in 0..len {
         if bits.select1(i) != place_of_one(i) {
@@ -397,7 +397,7 @@ fn has_all_ones<A: Allocator + Copy>(bits: &SparseRSVec<A>, len: usize) -> bool 
     bits_answer_all(bits, &rows) && bits.heap_size() > 0
 }
 
-// Whether a list of all bits has its ones, or its zeros where it is inverted.
+// Returns true if a list of all bits has its ones, or its zeros if it is inverted.
 fn has_bits<A: Allocator + Copy>(bits: &SparseRSVec<A>, len: u64, is_inverted: bool) -> bool {
     for place in 0..len {
         if bits.is_set(place) != Some(is_one(place) != is_inverted) {
@@ -407,7 +407,7 @@ fn has_bits<A: Allocator + Copy>(bits: &SparseRSVec<A>, len: u64, is_inverted: b
     bits.len() == len
 }
 
-// The places of the ones of a sparse list.
+// The positions of the ones of a sparse list.
 #[derive(Clone, Copy)]
 struct Ones<'a> {
     places: &'a [u64],
@@ -419,7 +419,7 @@ impl<A: Allocator + Copy> Check<SparseRSVec<A>> for Ones<'_> {
     }
 }
 
-// A maker of a sparse list, by the places of its ones or by as many bits.
+// A constructor of a sparse list, from the positions of its ones or from all bits.
 struct SparseMaker<'a, 'b> {
     heap: &'a Heap,
     call: Call,
@@ -518,7 +518,7 @@ impl Trial<Global> for Call {
     }
 }
 
-// Each request of a call that takes memory is refused in turn, and the other calls make none.
+// Each request of a call that allocates is refused in turn, and the other calls make none.
 #[test]
 fn calls_take_memory_or_none() {
     let rt = HostRuntime;

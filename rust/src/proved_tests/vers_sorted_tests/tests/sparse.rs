@@ -8,7 +8,7 @@ use crate::proved_tests::test_alloc::asked;
 use crate::proved::vers_bits::bit_vec::BitVec;
 use crate::proved::vers_sorted::sparse::SparseRSVec;
 
-// The places of the ones, the length, what is asked and the answers.
+// The positions of the ones, the length, queries and their answers.
 type Case<'a> = (&'a [u64], u64, &'a [(Query, Option<u64>)]);
 
 const CASES: [Case; 2] = [
@@ -49,7 +49,7 @@ const CASES: [Case; 2] = [
     ),
 ];
 
-// What is asked of 01101, and of the same bits with ones and zeros exchanged, and the answers.
+// Queries of 01101, and of the same bits with ones and zeros exchanged, and their answers.
 const ALL_BITS: [&[(Query, Option<u64>)]; 2] = [
     &[
         (Query::Len, Some(5)),
@@ -65,7 +65,8 @@ const ALL_BITS: [&[(Query, Option<u64>)]; 2] = [
     ],
 ];
 
-// The number of the first query of a list that is answered wrong, by the plain form or by the counted one.
+// Returns the number of the first query of a list that has a wrong answer, by the plain form or by the counted
+// one.
 fn first_wrong_answer<A: Allocator + Copy>(
     bits: &SparseRSVec<A>,
     rows: &[(Query, Option<u64>)],
@@ -78,7 +79,7 @@ fn first_wrong_answer<A: Allocator + Copy>(
     None
 }
 
-// The same of a copy; as many as there are rows where there is none.
+// Does the same for a copy, or returns the number of rows if there is none.
 fn first_wrong_of_copy<A: Allocator + Copy>(
     bits: &SparseRSVec<A>,
     rows: &[(Query, Option<u64>)],
@@ -87,7 +88,7 @@ fn first_wrong_of_copy<A: Allocator + Copy>(
     asked(copy, |copy: &SparseRSVec<A>| first_wrong_answer(copy, rows)).unwrap_or(Some(rows.len()))
 }
 
-// The first case that is answered wrong, by a list or by its copy, and its row.
+// Returns the first case that has a wrong answer, by a list or by its copy, and its row.
 fn first_wrong_case<A: Allocator + Copy>(
     alloc: A,
     cases: &[Case],
@@ -104,7 +105,7 @@ fn first_wrong_case<A: Allocator + Copy>(
     Ok(None)
 }
 
-// The table stands in a function of its own, which is faster to prove than in a test.
+// The table is in a function of its own, which is faster to prove than in a test.
 fn first_wrong_of_all<A: Allocator + Copy>(alloc: A) -> Result<Option<(usize, usize)>, AllocError> {
     first_wrong_case(alloc, &CASES)
 }
@@ -115,7 +116,7 @@ fn queries_and_their_answers() {
     assert!(matches!(first_wrong_of_all(rt.alloc()), Ok(None)));
 }
 
-// The first wrong answer of the sparse list of bits, and of the inverted one.
+// Returns the first wrong answer of the sparse list of bits, and of the inverted one.
 fn wrong_of_bits<A: Allocator + Copy>(
     bits: &BitVec<A>,
     rows: &[(Query, Option<u64>)],
@@ -136,7 +137,7 @@ fn wrong_of_inverted<A: Allocator + Copy>(
     )
 }
 
-// The first wrong answers of both.
+// Returns the first wrong answers of both.
 fn wrong_of_both<A: Allocator + Copy>(bits: &BitVec<A>) -> [Result<Option<usize>, AllocError>; 2] {
     let [straight, inverted] = ALL_BITS;
     [

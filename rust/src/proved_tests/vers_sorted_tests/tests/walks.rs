@@ -8,7 +8,7 @@ use crate::proved::vers_sorted::elias_fano::{EliasFanoIter, EliasFanoRefIter, El
 use crate::proved::vers_tally::ends::{Ascending, Borrowing, BothEnds, Owning};
 use crate::proved::vers_tally::tally::Tally;
 
-/// What is asked of an iterator. The last four are asked of a copy.
+/// The steps of an iterator. The last four are taken on a copy.
 #[derive(Clone, Copy)]
 pub enum Step {
     Len,
@@ -27,7 +27,7 @@ pub enum Step {
     Max,
 }
 
-/// What a walk ends with.
+/// Returns the end of a walk.
 pub fn end<S: Ascending>(members: BothEnds<S>, asked: Step) -> Option<u64> {
     match asked {
         Step::Last => members.last(),
@@ -37,7 +37,7 @@ pub fn end<S: Ascending>(members: BothEnds<S>, asked: Step) -> Option<u64> {
     }
 }
 
-// The same of a copy of a walk that owns its list. None where there is none.
+// Does the same for a copy of a walk that owns its list. `None` if there is none.
 fn end_of_copy<S: Ascending + Owning>(members: &BothEnds<S>, asked: Step) -> Option<u64> {
     let copy: Result<_, _> = members.clone();
     match copy {
@@ -50,7 +50,7 @@ fn is_of_copy(asked: Step) -> bool {
     matches!(asked, Step::Last | Step::Count | Step::Min | Step::Max)
 }
 
-// One counted step of a walk.
+// Returns one counted step of a walk.
 fn counted_step<S: Ascending>(members: &mut BothEnds<S>, asked: Step) -> Option<u64> {
     let mut tally = Tally::new();
     match asked {
@@ -62,7 +62,7 @@ fn counted_step<S: Ascending>(members: &mut BothEnds<S>, asked: Step) -> Option<
     }
 }
 
-// One step of a walk, or None where it is asked of a copy.
+// Returns one step of a walk, or `None` if it needs a copy.
 fn answer_of_step<S: Ascending>(members: &mut BothEnds<S>, asked: Step) -> Option<u64> {
     match asked {
         Step::Len => Some(members.len() as u64),
@@ -75,7 +75,7 @@ fn answer_of_step<S: Ascending>(members: &mut BothEnds<S>, asked: Step) -> Optio
     }
 }
 
-// A count as a number.
+// Returns a count as a number.
 fn as_number(count: Option<usize>) -> Option<u64> {
     match count {
         Some(count) => Some(count as u64),
@@ -83,7 +83,7 @@ fn as_number(count: Option<usize>) -> Option<u64> {
     }
 }
 
-// The answer of one step of a walk over a list that stands elsewhere.
+// Returns the answer of one step of a walk that borrows a list.
 fn answer_of_borrowing<S: Ascending + Borrowing>(
     members: &mut BothEnds<S>,
     asked: Step,
@@ -94,7 +94,7 @@ fn answer_of_borrowing<S: Ascending + Borrowing>(
     answer_of_step(members, asked)
 }
 
-// The same of a walk that owns its list.
+// Does the same for a walk that owns its list.
 fn answer_of_owning<S: Ascending + Owning>(members: &mut BothEnds<S>, asked: Step) -> Option<u64> {
     if is_of_copy(asked) {
         return end_of_copy(members, asked);
@@ -102,9 +102,9 @@ fn answer_of_owning<S: Ascending + Owning>(members: &mut BothEnds<S>, asked: Ste
     answer_of_step(members, asked)
 }
 
-/// A walk that is asked step by step.
+/// A walk that is taken step by step.
 pub trait Walk {
-    /// The answer of one step.
+    /// Returns the answer of one step.
     fn answer(&mut self, asked: Step) -> Option<u64>;
 }
 
@@ -120,10 +120,10 @@ impl<A: Allocator + Copy> Walk for EliasFanoIter<A> {
     }
 }
 
-// What a step takes of a plain list, or is told of it, and what is left then.
+// The result of a step on a plain list, and what is left then.
 type AnswerAndRest<'a> = (Option<u64>, &'a [u64]);
 
-// Item `n` from the front, and what stands after it.
+// Returns item `n` from the front, and what is after it.
 fn from_front(left: &[u64], n: usize) -> AnswerAndRest<'_> {
     match left.get(n) {
         Some(item) => (Some(*item), &left[n + 1..]),
@@ -131,7 +131,7 @@ fn from_front(left: &[u64], n: usize) -> AnswerAndRest<'_> {
     }
 }
 
-// Item `n` from the back, and what stands before it.
+// Returns item `n` from the back, and what is before it.
 fn from_back(left: &[u64], n: usize) -> AnswerAndRest<'_> {
     if n >= left.len() {
         return (None, &[]);
@@ -140,7 +140,7 @@ fn from_back(left: &[u64], n: usize) -> AnswerAndRest<'_> {
     (Some(left[place]), &left[..place])
 }
 
-// The first and the last item of a plain list.
+// Returns the first and the last item of a plain list.
 fn first_of(left: &[u64]) -> Option<u64> {
     from_front(left, 0).0
 }
@@ -149,7 +149,7 @@ fn last_of(left: &[u64]) -> Option<u64> {
     from_back(left, 0).0
 }
 
-// The plain answer of a step.
+// Returns the plain answer of a step.
 fn taken(left: &[u64], asked: Step) -> AnswerAndRest<'_> {
     match asked {
         Step::Next | Step::NextCounted => from_front(left, 0),
@@ -162,12 +162,12 @@ fn taken(left: &[u64], asked: Step) -> AnswerAndRest<'_> {
     }
 }
 
-/// The same without what is left.
+/// Returns the same answer without what is left.
 pub fn plain_answer(left: &[u64], asked: Step) -> Option<u64> {
     taken(left, asked).0
 }
 
-/// Whether a walk gives the numbers of a plain list, where these steps are taken in turn until all have
+/// Returns true if a walk returns the numbers of a plain list, if these steps are taken in turn until all have
 /// passed, and once more then.
 pub fn follows<W: Walk>(walk: &mut W, numbers: &[u64], steps: &[Step]) -> bool {
     let mut left = numbers;
@@ -187,7 +187,7 @@ pub fn follows<W: Walk>(walk: &mut W, numbers: &[u64], steps: &[Step]) -> bool {
     false
 }
 
-/// The number of the first step that answers wrong.
+/// Returns the number of the first step that has a wrong answer.
 pub fn first_wrong_step<W: Walk>(walk: &mut W, rows: &[(Step, Option<u64>)]) -> Option<usize> {
     for (row, (step, wanted)) in rows.iter().enumerate() {
         if walk.answer(*step) != *wanted {
@@ -197,7 +197,7 @@ pub fn first_wrong_step<W: Walk>(walk: &mut W, rows: &[(Step, Option<u64>)]) -> 
     None
 }
 
-/// The same of a walk over a list.
+/// Does the same for a walk over a list.
 pub fn wrong_step<A: Allocator + Copy>(
     list: &EliasFanoVec<A>,
     rows: &[(Step, Option<u64>)],
@@ -205,7 +205,7 @@ pub fn wrong_step<A: Allocator + Copy>(
     first_wrong_step(&mut list.iter(), rows)
 }
 
-/// A walk that owns the list of the numbers.
+/// Returns a walk that owns the list of the numbers.
 pub fn walk_over<A: Allocator + Copy>(
     alloc: A,
     numbers: &[u64],
@@ -216,7 +216,7 @@ pub fn walk_over<A: Allocator + Copy>(
     }
 }
 
-// The sum of the members by a loop.
+// Returns the sum of the members by a loop.
 fn sum_of<S: Ascending>(members: BothEnds<S>) -> u64 {
     let mut sum = 0u64;
     for member in members {
@@ -225,17 +225,17 @@ fn sum_of<S: Ascending>(members: BothEnds<S>) -> u64 {
     sum
 }
 
-/// The sum of the members by a loop over a reference to the list.
+/// Returns the sum of the members by a loop over a reference to the list.
 pub fn sum_by_reference<A: Allocator + Copy>(list: &EliasFanoVec<A>) -> u64 {
     sum_of(list.into_iter())
 }
 
-/// The same by a loop over a `&mut` to it.
+/// Does the same by a loop over a `&mut` to it.
 pub fn sum_by_mut<A: Allocator + Copy>(list: &mut EliasFanoVec<A>) -> u64 {
     sum_of(list.into_iter())
 }
 
-/// The same by a loop over the list itself, which was made.
+/// Does the same by a loop over the list itself, which was made.
 pub fn sum_by_value<A: Allocator + Copy>(
     list: Result<EliasFanoVec<A>, AllocError>,
 ) -> Result<u64, AllocError> {

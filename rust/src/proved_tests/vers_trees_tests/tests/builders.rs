@@ -36,7 +36,7 @@ fn take_steps<const N: usize, A: Allocator + Copy>(
     Ok(())
 }
 
-/// A builder that was made, after steps. A one enters a node, and another number leaves one.
+/// Returns a builder that was made, after steps. A one enters a node, and another number leaves one.
 pub fn stepped<const N: usize, A: Allocator + Copy>(
     made: Result<BpBuilder<N, A>, GrowError>,
     steps: &[u8],
@@ -50,7 +50,7 @@ pub fn stepped<const N: usize, A: Allocator + Copy>(
     }
 }
 
-// What is built of the steps, with room for as many nodes.
+// Returns what is built of the steps, with room for as many nodes.
 fn built<const N: usize>(alloc: Global, steps: &[u8]) -> Result<(usize, usize, bool), BuildError> {
     let room = BpBuilder::<N, Global>::with_capacity(alloc, steps.len() as u64);
     let builder = match stepped(room, steps) { Ok(builder) => builder, _ => {
@@ -62,7 +62,7 @@ fn built<const N: usize>(alloc: Global, steps: &[u8]) -> Result<(usize, usize, b
     )
 }
 
-// What any builder builds of the steps, by the calls of its trait.
+// Returns what any builder builds of the steps, by the calls of its trait.
 fn built_by<B: TreeBuilder>(mut builder: B, steps: &[u8]) -> Result<B::Tree, BuildError> {
     for step in steps {
         let taken = if *step == 1 {
@@ -77,7 +77,7 @@ fn built_by<B: TreeBuilder>(mut builder: B, steps: &[u8]) -> Result<B::Tree, Bui
     builder.build()
 }
 
-// The same of a builder of trees of parentheses.
+// Does the same for a builder of trees of parentheses.
 fn built_by_trait<const N: usize>(
     alloc: Global,
     steps: &[u8],
@@ -88,7 +88,7 @@ fn built_by_trait<const N: usize>(
     )
 }
 
-// The number of the first case, counted from 0, of which something else is built.
+// Returns the number of the first case (from 0) with another result.
 fn wrong_case(alloc: Global, cases: &[Case]) -> Option<usize> {
     for (row, (steps, wanted)) in cases.iter().enumerate() {
         let trees = [
@@ -110,7 +110,7 @@ fn what_is_built() {
     assert!(wrong_case(rt.alloc(), &CASES).is_none());
 }
 
-// Why a builder with room for so many nodes is refused; None where it is made.
+// Returns why a builder with room for that many nodes is refused, or `None` if it is made.
 fn refusal(alloc: Global, nodes: u64) -> Option<GrowError> {
     BpBuilder::<8, Global>::with_capacity(alloc, nodes).err()
 }

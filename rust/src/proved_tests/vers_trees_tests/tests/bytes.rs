@@ -3,7 +3,7 @@
 use crate::rattle::prelude::*;
 use crate::proved::vers_trees::trees::bp::ByteTables;
 
-// The sum after a bit, from the start of a byte or from its end; each sum is 8 more than it counts.
+// Returns the sum after a bit, from the start of a byte or from its end; each sum is increased by 8.
 fn after_bit(sum: u64, byte: u8, place: u64, from_end: bool) -> u64 {
     if (u64::from(byte) >> (place % 8)) % 2 == u64::from(!from_end) {
         sum.saturating_add(1)
@@ -12,7 +12,7 @@ fn after_bit(sum: u64, byte: u8, place: u64, from_end: bool) -> u64 {
     }
 }
 
-// The first place, from one of the byte's ends, whose bit makes the sum `wanted`, or 7.
+// Returns the first position, from one of the byte's ends, whose bit makes the sum `wanted`, or 7.
 fn first_place(byte: u8, from_end: bool, wanted: u64) -> u64 {
     let mut sum = 8;
     for step in 0..8u64 {
@@ -25,7 +25,7 @@ fn first_place(byte: u8, from_end: bool, wanted: u64) -> u64 {
     7
 }
 
-// The least and the greatest of the sums along a byte.
+// Returns the least and the greatest of the sums along a byte.
 fn extremes(byte: u8, from_end: bool) -> (u64, u64) {
     let mut sum = 8;
     let mut least = 16;
@@ -39,12 +39,12 @@ fn extremes(byte: u8, from_end: bool) -> (u64, u64) {
     (least, greatest)
 }
 
-// The place that an entry has for a sum.
+// Returns the position in an entry for a sum.
 fn place_of(entry: u64, sum: u64) -> u64 {
     (entry >> (10 + 3 * (sum % 17))) % 8
 }
 
-// Whether an entry has what a plain scan of its byte meets.
+// Returns true if an entry has the sums of a plain scan of its byte.
 fn is_plain(entry: u64, byte: u8, from_end: bool) -> bool {
     let (least, greatest) = extremes(byte, from_end);
     for sum in 0..17 {
@@ -55,7 +55,7 @@ fn is_plain(entry: u64, byte: u8, from_end: bool) -> bool {
     entry % 32 == greatest && (entry >> 5) % 32 == least && entry >> 61 == 0
 }
 
-// The first byte whose entries have something else.
+// Returns the first byte with a wrong entry.
 fn wrong_byte(tables: &ByteTables) -> Option<u8> {
     for byte in 0..=255u8 {
         if !is_plain(tables.forward_entry(byte), byte, false)
@@ -73,7 +73,7 @@ fn all_entries_are_those_of_a_plain_scan() {
     assert!(wrong_byte(&ByteTables::new()).is_none());
 }
 
-// Whether an entry has these ends of its sums, and these places for sums.
+// Returns true if an entry has these least and greatest sums, and these positions for sums.
 fn has_places(entry: u64, greatest: u64, least: u64, places: &[(u64, u64)]) -> bool {
     for (sum, place) in places {
         if place_of(entry, *sum) != *place {

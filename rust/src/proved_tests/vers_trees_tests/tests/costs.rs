@@ -1,4 +1,4 @@
-//! How many blocks are begun and nodes read by searches whose cost is known.
+//! The numbers of blocks begun and nodes read by searches whose cost is known.
 
 use crate::rattle::prelude::*;
 use crate::proved_tests::vers_trees_tests::tests::lists::{asked, tree_of};
@@ -21,13 +21,13 @@ enum Counted {
     IsBalanced,
 }
 
-// What a query counts: blocks begun and nodes read.
+// The counts of a query: blocks begun and nodes read.
 type Cost = (u64, u64);
 
-// A bit beside is found by itself, and a place of the same block by its block alone. To another block a search
-// forwards from the first block climbs by the node of the second block and the one over the third, and then
-// reads the third; one backwards from the third block climbs by the node over the first two, and then reads the
-// second.
+// An adjacent bit is found by itself, and a position of the same block by its block only. To another block a
+// forward search from the first block climbs by the node of the second block and the one over the third, and
+// then reads the third; a backward one from the third block climbs by the node over the first two, and then
+// reads the second.
 const COSTS: [(Counted, Option<usize>, Cost); 11] = [
     (Counted::Close(2), Some(3), (0, 0)),
     (Counted::Close(1), Some(4), (1, 0)),
@@ -42,7 +42,7 @@ const COSTS: [(Counted, Option<usize>, Cost); 11] = [
     (Counted::IsBalanced, Some(1), (0, 1)),
 ];
 
-// The answer of a query, a truth value as 1 or 0.
+// Returns the answer of a query, a boolean as 1 or 0.
 fn answer<const N: usize, A: Allocator + Copy>(
     tree: &BpTree<N, A>,
     query: Counted,
@@ -56,7 +56,7 @@ fn answer<const N: usize, A: Allocator + Copy>(
     }
 }
 
-// The number of the first query, counted from 0, that answers or counts something else.
+// Returns the number of the first query (from 0) with another answer or other counts.
 fn wrong_cost<const N: usize, A: Allocator + Copy>(tree: &BpTree<N, A>) -> Option<usize> {
     for (row, (query, wanted, cost)) in COSTS.iter().enumerate() {
         let mut tally = Tally::new();

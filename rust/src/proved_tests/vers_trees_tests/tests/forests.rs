@@ -1,4 +1,4 @@
-//! Every balanced list of up to 12 bits, and longer ones, asked everything and compared with a plain forest.
+//! Every balanced list of up to 12 bits, and longer ones, with all queries, compared with a plain forest.
 
 use crate::rattle::prelude::*;
 
@@ -14,7 +14,7 @@ use crate::rattle::Global;
 use crate::proved::vers_bits::bit_vec::GrowError;
 use crate::proved::vers_trees::trees::bp::{BpTree, MAX_BLOCK_SIZE};
 
-// How many bits the longest of all lists have.
+// The number of bits of the longest of all lists.
 const LONGEST: usize = 12;
 
 // There are 1, 1, 2, 5, 14, 42 and 132 balanced lists of 0 to 6 nodes.
@@ -25,7 +25,7 @@ const EVERY: Compared = Compared {
     wrong: 0,
 };
 
-// What is asked of each node, beside its ancestors.
+// The queries of each node, other than for its ancestors.
 const QUESTIONS: [Question; 11] = [
     Question::Parent,
     Question::FirstChild,
@@ -48,7 +48,7 @@ const FAR: [u64; 4] = [
     u64::MAX,
 ];
 
-// How many lists, nodes and pairs of nodes were asked about, and how many answers were wrong.
+// The numbers of lists, nodes and pairs of nodes compared, and of wrong answers.
 #[derive(Clone, Copy, PartialEq)]
 struct Compared {
     lists: u64,
@@ -57,7 +57,7 @@ struct Compared {
     wrong: u64,
 }
 
-// The nodes that a walk gives.
+// Returns the nodes that a walk returns.
 fn toured(
     alloc: Global,
     nodes: &[Node],
@@ -90,7 +90,7 @@ impl Compared {
         }
     }
 
-    // A question about a node.
+    // Compares a query of a node.
     fn note_question<const N: usize, A: Allocator + Copy>(
         &mut self,
         tree: &BpTree<N, A>,
@@ -103,7 +103,7 @@ impl Compared {
         self.note(ask(tree, Query::Node(place, question)).is(wanted));
     }
 
-    // All questions about a node.
+    // Compares all queries of a node.
     fn note_node<const N: usize, A: Allocator + Copy>(
         &mut self,
         tree: &BpTree<N, A>,
@@ -122,7 +122,7 @@ impl Compared {
         }
     }
 
-    // Whether a node is an ancestor of each.
+    // Compares whether a node is an ancestor of each.
     fn note_pairs<const N: usize, A: Allocator + Copy>(
         &mut self,
         tree: &BpTree<N, A>,
@@ -137,7 +137,7 @@ impl Compared {
         }
     }
 
-    // All walks from a node, whose first step is plain or counted.
+    // Compares all walks from a node, whose first step is plain or counted.
     fn note_walks<const N: usize, A: Allocator + Copy>(
         &mut self,
         alloc: Global,
@@ -156,7 +156,7 @@ impl Compared {
         Ok(())
     }
 
-    // The ends of a level.
+    // Compares the ends of a level.
     fn note_level<const N: usize, A: Allocator + Copy>(
         &mut self,
         tree: &BpTree<N, A>,
@@ -167,7 +167,7 @@ impl Compared {
         self.note(ask(tree, Query::LevelRightmost(depth)).is(rightmost(nodes, depth)));
     }
 
-    // All queries of the tree of a forest.
+    // Compares all queries of the tree of a forest.
     fn note_forest<const N: usize, A: Allocator + Copy>(
         &mut self,
         alloc: Global,
@@ -191,7 +191,7 @@ impl Compared {
     }
 }
 
-// Adds what is asked of bits to what was compared before; nothing where they are not balanced.
+// Compares all queries of bits, and adds them to the counts; nothing if they are not balanced.
 fn with_bits<const N: usize>(
     alloc: Global,
     bits: &[u8],
@@ -220,7 +220,7 @@ fn bits_of_code(alloc: Global, n: usize, code: usize) -> Result<Vec<u8>, AllocEr
     Ok(bits)
 }
 
-// All lists of up to the longest, with blocks of `N` bits.
+// Compares all lists of up to the longest, with blocks of `N` bits.
 fn every<const N: usize>(alloc: Global) -> Result<Compared, GrowError> {
     let mut all = Compared::NONE;
     for n in 0..LONGEST + 1 {
@@ -244,7 +244,7 @@ fn every_answer_is_that_of_a_plain_forest() {
     assert!(compared == [Ok(EVERY); 4]);
 }
 
-// The parts of long lists, and how often each is repeated: one way down; a node with leaves; trees of several
+// The parts of long lists, and how often each is repeated: one path down; a node with leaves; trees of several
 // shapes, of which one has nodes in its first child and after it all the way down.
 const LONG: [[(&[u8], usize); 4]; 3] = [
     [(&[], 1), (&[1], 20), (&[0], 20), (&[], 1)],
@@ -275,7 +275,7 @@ fn long_bits(alloc: Global, parts: &[(&[u8], usize)]) -> Result<Vec<u8>, AllocEr
     Ok(bits)
 }
 
-// All long lists, with blocks of `N` bits.
+// Compares all long lists, with blocks of `N` bits.
 fn long<const N: usize>(alloc: Global) -> Result<Compared, GrowError> {
     let mut all = Compared::NONE;
     for parts in LONG {

@@ -1,4 +1,4 @@
-//! Trees of parentheses, and what is asked of them.
+//! Trees of parentheses, and their queries.
 
 use crate::rattle::prelude::*;
 
@@ -9,7 +9,7 @@ use crate::proved::vers_bits::bit_vec::{BitVec, GrowError};
 use crate::proved::vers_tally::tally::Tally;
 use crate::proved::vers_trees::trees::bp::{BpTree, MAX_BLOCK_SIZE};
 
-// The excess past a place that the tree has; None for another one.
+// Returns the excess past a position of the tree, or `None` for another one.
 fn excess<const N: usize, A: Allocator + Copy>(tree: &BpTree<N, A>, i: usize) -> Answer {
     if i >= tree.len() {
         return Answer::uncounted(None);
@@ -21,7 +21,7 @@ fn excess<const N: usize, A: Allocator + Copy>(tree: &BpTree<N, A>, i: usize) ->
     )
 }
 
-// The answers of a query about a place, or of one that asks for balanced parentheses.
+// Returns the answers of a query of a position, or of one that requires balanced parentheses.
 fn ask_place<const N: usize, A: Allocator + Copy>(tree: &BpTree<N, A>, query: Query) -> Answer {
     let mut tally = Tally::new();
     match query {
@@ -51,8 +51,8 @@ fn ask_place<const N: usize, A: Allocator + Copy>(tree: &BpTree<N, A>, query: Qu
     }
 }
 
-/// The answers of a query, a truth value as 1 or 0. The excess is asked only of places that the tree
-/// has, and the other queries only where their conditions hold.
+/// Returns the answers of a query, a boolean as 1 or 0. The excess is queried only at positions of the tree,
+/// and the other queries only if their preconditions hold.
 pub fn ask<const N: usize, A: Allocator + Copy>(tree: &BpTree<N, A>, query: Query) -> Answer {
     let mut tally = Tally::new();
     match query {
@@ -72,7 +72,7 @@ pub fn ask<const N: usize, A: Allocator + Copy>(tree: &BpTree<N, A>, query: Quer
     }
 }
 
-/// Asks what was made, or hands on why it was not.
+/// Returns the result of `ask` for a value that was made, or the error if it was not made.
 pub fn asked<T: Sized, R, E, F: FnOnce(&T) -> Result<R, E>>(
     made: Result<T, E>,
     question: F,
@@ -83,7 +83,7 @@ pub fn asked<T: Sized, R, E, F: FnOnce(&T) -> Result<R, E>>(
     }
 }
 
-/// The tree of bits, each a one where the number is odd.
+/// Returns the tree of bits, each a one where the number is odd.
 pub fn tree_of<const N: usize, A: Allocator + Copy>(
     alloc: A,
     bits: &[u8],

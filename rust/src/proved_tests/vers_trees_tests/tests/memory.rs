@@ -1,7 +1,7 @@
-//! Every call that takes memory, each of its requests refused in turn, and the calls that take none, of
-//! forests of every size.
+//! Every allocating call, each of its requests refused in turn, and the calls that allocate nothing, of forests
+//! of every size.
 //!
-//! What is made of a given block size names its allocator: its size over any allocator is not known.
+//! A structure with a given block size names its allocator: its size with a generic allocator is not known.
 
 use crate::rattle::prelude::*;
 use crate::proved_tests::vers_trees_tests::tests::builders::stepped;
@@ -27,7 +27,8 @@ use crate::proved::vers_trees::trees::bp::{BpBuilder, BpTree, BuildError};
 
 type Heap = Refusing<Global>;
 
-// The bits of a path of so many nodes, each but the last with one child. Of three nodes, one has two leaves.
+// Returns the bits of a path of that many nodes, each but the last with one child. Of three nodes, one has two
+// leaves.
 fn forest_bits<A: Allocator + Copy>(alloc: A, nodes: usize) -> Result<Vec<u8, A>, AllocError> {
     let mut bits = Vec::new(alloc);
     for place in 0..nodes.wrapping_mul(2) {
@@ -41,7 +42,7 @@ fn forest_bits<A: Allocator + Copy>(alloc: A, nodes: usize) -> Result<Vec<u8, A>
     Ok(bits)
 }
 
-// A forest, as its bits and as a plain list of its nodes, with their places in postorder.
+// A forest, as its bits and as a plain list of its nodes, with their positions in postorder.
 #[derive(Clone, Copy)]
 struct Forest<'a> {
     bits: &'a [u8],
@@ -49,7 +50,7 @@ struct Forest<'a> {
     closed: &'a [usize],
 }
 
-// What is asked of some nodes, beside what is asked of all.
+// The queries of some nodes, other than those of all.
 const QUESTIONS: [Question; 12] = [
     Question::FirstChild,
     Question::LastChild,
@@ -65,7 +66,7 @@ const QUESTIONS: [Question; 12] = [
     Question::LevelAncestor(1),
 ];
 
-// Whether both forms of the queries about the kin of a node answer as the list has it.
+// Returns true if both forms of the queries for the relatives of a node match the list.
 fn has_kin<const N: usize, A: Allocator + Copy>(
     tree: &BpTree<N, A>,
     nodes: &[Node],
@@ -90,7 +91,7 @@ fn has_kin<const N: usize, A: Allocator + Copy>(
 // The children of the first root, in order and backwards, of a forest of one node, of three, and of more.
 const CHILDREN: [[&[usize]; 2]; 3] = [[&[], &[]], [&[1, 3], &[3, 1]], [&[1], &[1]]];
 
-// Whether the walks from the first root give the nodes of the forest, all of which are below it.
+// Returns true if the walks from the first root return the nodes of the forest, all of which are below it.
 fn has_walks<const N: usize, A: Allocator + Copy>(tree: &BpTree<N, A>, closed: &[usize]) -> bool {
     let [children, backwards] = match closed.len() {
         0 => return true,
@@ -111,7 +112,7 @@ fn has_walks<const N: usize, A: Allocator + Copy>(tree: &BpTree<N, A>, closed: &
     true
 }
 
-// Whether the walk over the first root and what is below it gives all nodes, as they open.
+// Returns true if the walk over the first root and what is below it returns all nodes, as they open.
 fn has_subtree<const N: usize, A: Allocator + Copy>(tree: &BpTree<N, A>, nodes: &[Node]) -> bool {
     if !are_balanced(tree) {
         return false;
@@ -132,7 +133,7 @@ fn item(items: &[usize], k: usize) -> Option<usize> {
     Some(*items.get(k)?)
 }
 
-// Whether a walk in postorder gives its nodes by turns from both ends, and each by its number.
+// Returns true if a walk in postorder returns its nodes by turns from both ends, and each by its number.
 fn has_postorder<const N: usize, A: Allocator + Copy>(
     tree: &BpTree<N, A>,
     closed: &[usize],
@@ -158,7 +159,7 @@ fn has_postorder<const N: usize, A: Allocator + Copy>(
         && tree.dfs_post_iter().nth(len).is_none()
 }
 
-// Whether both forms of the queries about a node answer as the list has it.
+// Returns true if both forms of the queries of a node match the list.
 fn has_node<const N: usize, A: Allocator + Copy>(
     tree: &BpTree<N, A>,
     nodes: &[Node],
@@ -176,7 +177,7 @@ fn has_node<const N: usize, A: Allocator + Copy>(
         && ask(tree, Query::Enclose(node.open)).is(answer(nodes, k, Question::Parent))
 }
 
-// Whether a tree has the nodes of a list, and no others.
+// Returns true if a tree has the nodes of a list, and no others.
 fn has_nodes<const N: usize, A: Allocator + Copy>(tree: &BpTree<N, A>, nodes: &[Node]) -> bool {
     for (k, node) in nodes.iter().enumerate() {
         if !has_node(tree, nodes, k, *node) {
@@ -211,7 +212,7 @@ impl<const N: usize, A: Allocator + Copy> Check<BpTree<N, A>> for Forest<'_> {
     }
 }
 
-// Whether a walk gives the nodes and ends.
+// Checks whether a walk returns the nodes and ends.
 impl<A: Allocator + Copy> Check<SelectIntoIter<false, A>> for Forest<'_> {
     fn is_right(&self, walk: &mut SelectIntoIter<false, A>) -> bool {
         for node in self.nodes {
@@ -259,7 +260,7 @@ impl<'a> Conversion<BpBuilder<8, &'a Heap>> for Forest<'_> {
     }
 }
 
-// A call about a forest. The last seven take no memory.
+// A call about a forest. The last seven allocate nothing.
 #[derive(Clone, Copy)]
 enum Call {
     FromBitVector,
@@ -293,15 +294,15 @@ const CALLS: [Call; 13] = [
     Call::IntoBitVec,
 ];
 
-// A builder that is new, has room for the nodes of a forest, or has taken its steps. What stands in it is told
-// by the tree that is built of it, once nothing is refused any more.
+// A builder that is new, has room for the nodes of a forest, or has taken its steps. It is compared through the
+// tree that is built of it, once nothing is refused any more.
 struct Builder<'a, 'b> {
     heap: &'a Heap,
     call: Call,
     forest: Forest<'b>,
 }
 
-// What is built of a builder that was made, and has taken the steps where the call is of them.
+// Returns the tree of a builder that was made, after the steps if the call includes them.
 fn made_of<'a>(heap: &'a Heap, call: Call, bits: &[u8]) -> Result<BpTree<8, &'a Heap>, GrowError> {
     let made = match call {
         Call::WithCapacity => BpBuilder::with_capacity(heap, bits.len() as u64 / 2),
@@ -345,7 +346,7 @@ impl<'a> Making for Builder<'a, '_> {
     }
 }
 
-// Whether a list has a one where each node opens, and a zero where it closes.
+// Returns true if a list has a one where each node opens, and a zero where it closes.
 fn has_ranks<A: Allocator + Copy>(list: &RsVec<A>, nodes: &[Node]) -> bool {
     for (k, node) in nodes.iter().enumerate() {
         if list.select1(k) != node.open || list.select0(list.rank0(node.close)) != node.close {
@@ -359,7 +360,7 @@ fn has_ones<A: Allocator + Copy>(list: &BitVec<A>, nodes: &[Node]) -> bool {
     list.len() == nodes.len().wrapping_mul(2) && list.count_ones() == nodes.len() as u64
 }
 
-// What is turned into a walk or a list, of which the call tells whether it is right.
+// A structure that is turned into a walk or a list, which is compared.
 trait Turning: Sized {
     fn turns_right(self, call: Call, nodes: &[Node]) -> bool;
 }
@@ -393,7 +394,7 @@ fn tried_turn<B: Allocator, T: Turning, X: Sized>(
     }
 }
 
-// The clone of a walk that owns what was made.
+// Tests the clone of a walk that owns what was made.
 fn tried_walk_clone<B: Allocator, T: IntoIterator, X: Sized, C: Check<T::IntoIter>>(
     heap: &Refusing<B>,
     made: Result<T, X>,
@@ -408,7 +409,7 @@ where
     }
 }
 
-// A call of what was made, of any type, since a tree itself is slow to prove.
+// Tests a call of what was made, of a generic type, since a tree itself is slow to prove.
 fn tried_made<
     B: Allocator,
     T: Turning + Clone + IntoIterator,
@@ -451,7 +452,7 @@ fn tried(heap: &Heap, call: Call, forest: Forest) -> Ending {
     }
 }
 
-// The places of the nodes in the order in which they close. On a path the last one closes first.
+// Returns the positions of the nodes in the order in which they close. On a path the last one closes first.
 fn closing_order<A: Allocator + Copy>(
     alloc: A,
     nodes: &[Node],

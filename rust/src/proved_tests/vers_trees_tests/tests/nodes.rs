@@ -1,4 +1,4 @@
-//! What is asked of balanced parentheses alone.
+//! The queries that require balanced parentheses.
 
 use crate::rattle::prelude::*;
 
@@ -8,12 +8,12 @@ use crate::proved::vers_tally::tally::Tally;
 use crate::proved::vers_trees::laws::ones_are_nodes;
 use crate::proved::vers_trees::trees::bp::{BpTree, LevelEnd, Measure, Relative};
 
-/// Whether the parentheses are balanced.
+/// Returns true if the parentheses are balanced.
 pub fn are_balanced<const N: usize, A: Allocator + Copy>(tree: &BpTree<N, A>) -> bool {
     tree.is_balanced()
 }
 
-// The node of this number in preorder. None where there are no more.
+// Returns the node of this number in preorder. `None` if there are fewer.
 fn numbered<const N: usize, A: Allocator + Copy>(
     tree: &BpTree<N, A>,
     number: usize,
@@ -25,7 +25,7 @@ fn numbered<const N: usize, A: Allocator + Copy>(
     Some(tree.node_handle(number))
 }
 
-/// The place, where a node opens there. None for other places.
+/// Returns the position, if a node opens there. `None` for other positions.
 pub fn node_at<const N: usize, A: Allocator + Copy>(
     tree: &BpTree<N, A>,
     place: usize,
@@ -39,7 +39,7 @@ pub fn node_at<const N: usize, A: Allocator + Copy>(
     None
 }
 
-// Another node, or none, by the plain form, which a value names, and by the counted form.
+// Returns a relative of a node, or none, in the plain form, which a value names, and in the counted form.
 fn relatives<const N: usize, A: Allocator + Copy>(
     tree: &BpTree<N, A>,
     node: usize,
@@ -83,7 +83,7 @@ fn relatives<const N: usize, A: Allocator + Copy>(
     }
 }
 
-// The answers about a node.
+// Returns the answers about a node.
 fn about_node<const N: usize, A: Allocator + Copy>(
     tree: &BpTree<N, A>,
     node: usize,
@@ -114,7 +114,7 @@ fn about_node<const N: usize, A: Allocator + Copy>(
     }
 }
 
-// Whether a node is an ancestor of another one. None where a place has no node.
+// Returns true if a node is an ancestor of another one. `None` if a position has no node.
 fn about_pair<const N: usize, A: Allocator + Copy>(
     tree: &BpTree<N, A>,
     ancestor: usize,
@@ -129,7 +129,7 @@ fn about_pair<const N: usize, A: Allocator + Copy>(
     ))
 }
 
-// The answers about the node at a place. None where the place has no node.
+// Returns the answers about the node at a position. `None` if the position has no node.
 fn about_place<const N: usize, A: Allocator + Copy>(
     tree: &BpTree<N, A>,
     place: usize,
@@ -139,7 +139,7 @@ fn about_place<const N: usize, A: Allocator + Copy>(
     Some(about_node(tree, node, question))
 }
 
-// The answers about the two ends of a level.
+// Returns the answers about the two ends of a level.
 fn about_ends<const N: usize, A: Allocator + Copy>(
     tree: &BpTree<N, A>,
     depth: u64,
@@ -153,8 +153,8 @@ fn about_ends<const N: usize, A: Allocator + Copy>(
     )
 }
 
-/// The answers of a query that asks for balanced parentheses. None where they are not balanced, and
-/// where a place has no node.
+/// Returns the answers of a query that requires balanced parentheses. `None` if they are not balanced, or a
+/// position has no node.
 pub fn ask_balanced<const N: usize, A: Allocator + Copy>(
     tree: &BpTree<N, A>,
     query: Query,

@@ -1,13 +1,13 @@
-//! A forest as a plain list of its nodes, which is asked by going through all of them.
+//! A forest as a plain list of its nodes, whose queries go through all of them.
 //!
-//! A node is named by its number in preorder, the number of its place in the list.
+//! A node is named by its number in preorder, its position in the list.
 
 use crate::rattle::prelude::*;
 use crate::proved_tests::vers_trees_tests::tests::queries::{Question, number};
 use crate::rattle::AllocError;
 use crate::rattle::Allocator;
 
-/// A node: the places where it opens and closes, the number of its parent, and how many nodes it lies in.
+/// A node: the positions where it opens and closes, the number of its parent, and its depth.
 #[derive(Clone, Copy)]
 pub struct Node {
     pub open: usize,
@@ -22,7 +22,7 @@ fn close_at(nodes: &mut [Node], closed: usize, place: usize) {
     }
 }
 
-/// The nodes of balanced parentheses in preorder. A one opens a node, and a zero closes the innermost.
+/// Returns the nodes of balanced parentheses in preorder. A one opens a node, and a zero closes the innermost.
 pub fn nodes_of<A: Allocator + Copy>(alloc: A, bits: &[u8]) -> Result<Vec<Node, A>, AllocError> {
     let mut nodes: Vec<Node, A> = Vec::new(alloc);
     let mut innermost = None;
@@ -51,7 +51,7 @@ fn parent(nodes: &[Node], node: usize) -> Option<usize> {
     nodes.get(node)?.parent
 }
 
-// The node so many levels up.
+// Returns the ancestor `levels` levels up.
 fn ancestor(nodes: &[Node], node: usize, levels: u64) -> Option<usize> {
     if levels > nodes.len() as u64 {
         return None;
@@ -63,7 +63,7 @@ fn ancestor(nodes: &[Node], node: usize, levels: u64) -> Option<usize> {
     Some(above)
 }
 
-/// Whether the first node is met on the way up from the second, or is the second.
+/// Returns true if the first node is on the path up from the second, or is the second.
 pub fn is_ancestor(nodes: &[Node], above: usize, below: usize) -> bool {
     let mut met = Some(below);
     for _ in 0..nodes.len() {
@@ -96,7 +96,7 @@ fn is_in(nodes: &[Node], group: Group, node: usize) -> bool {
     }
 }
 
-// The first node of a group among those from a number on.
+// Returns the first node of a group among those from a number on.
 fn first_from(nodes: &[Node], group: Group, from: usize) -> Option<usize> {
     for node in from..nodes.len() {
         if is_in(nodes, group, node) {
@@ -106,7 +106,7 @@ fn first_from(nodes: &[Node], group: Group, from: usize) -> Option<usize> {
     None
 }
 
-// The last node of a group among those before a number.
+// Returns the last node of a group among those before a number.
 fn last_before(nodes: &[Node], group: Group, end: usize) -> Option<usize> {
     let mut last = None;
     for node in 0..end {
@@ -127,7 +127,7 @@ fn count(nodes: &[Node], group: Group) -> usize {
     found
 }
 
-/// Where a node opens.
+/// Returns where a node opens.
 pub fn opened_at(nodes: &[Node], node: usize) -> usize {
     match nodes.get(node) {
         Some(it) => it.open,
@@ -135,23 +135,23 @@ pub fn opened_at(nodes: &[Node], node: usize) -> usize {
     }
 }
 
-// The same of a node that may not be there.
+// Does the same for a node that may not be there.
 fn place(nodes: &[Node], node: Option<usize>) -> Option<i64> {
     let opened = opened_at(nodes, node?);
     number(Some(opened))
 }
 
-/// The place of the first node of a depth.
+/// Returns the position of the first node of a depth.
 pub fn leftmost(nodes: &[Node], depth: u64) -> Option<i64> {
     place(nodes, first_from(nodes, Group::Level(depth), 0))
 }
 
-/// The place of the last node of a depth.
+/// Returns the position of the last node of a depth.
 pub fn rightmost(nodes: &[Node], depth: u64) -> Option<i64> {
     place(nodes, last_before(nodes, Group::Level(depth), nodes.len()))
 }
 
-/// The answer about a node that there is.
+/// Returns the answer for a node that exists.
 pub fn answer(nodes: &[Node], node: usize, question: Question) -> Option<i64> {
     let it = *nodes.get(node)?;
     let next = node.saturating_add(1);
@@ -182,7 +182,7 @@ pub enum Order {
     Closing,
 }
 
-// The node that closes at a place.
+// Returns the node that closes at a position.
 fn closed_at(nodes: &[Node], place: usize) -> Option<usize> {
     for (node, it) in nodes.iter().enumerate() {
         if it.close == place {
@@ -192,7 +192,7 @@ fn closed_at(nodes: &[Node], place: usize) -> Option<usize> {
     None
 }
 
-// Node number `k` of an order; of the closing ones the node that closes at place `k`.
+// Returns node `k` of an order; of the closing order the node that closes at position `k`.
 fn node_by(nodes: &[Node], order: Order, k: usize) -> Option<usize> {
     match order {
         Order::Opening => (k < nodes.len()).then_some(k),
@@ -201,7 +201,7 @@ fn node_by(nodes: &[Node], order: Order, k: usize) -> Option<usize> {
     }
 }
 
-/// The places of the nodes of a group in an order. There are twice as many parentheses as nodes.
+/// Returns the positions of the nodes of a group in an order. There are twice as many parentheses as nodes.
 pub fn places<A: Allocator + Copy>(
     alloc: A,
     nodes: &[Node],

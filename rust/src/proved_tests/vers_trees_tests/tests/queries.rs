@@ -1,8 +1,8 @@
-//! What is asked of a tree, and what was answered.
+//! The queries of a tree, and their answers.
 
 use crate::rattle::prelude::*;
 
-/// What is asked of a tree. A node is named by its place.
+/// A query of a tree. A node is named by its position.
 #[derive(Clone, Copy)]
 pub enum Query {
     Len,
@@ -24,7 +24,7 @@ pub enum Query {
     LevelRightmost(u64),
 }
 
-/// What is asked of a node of balanced parentheses.
+/// A query of a node of balanced parentheses.
 #[derive(Clone, Copy)]
 pub enum Question {
     Parent,
@@ -41,7 +41,7 @@ pub enum Question {
     LevelAncestor(u64),
 }
 
-/// What the plain form of a query answered, and what its counted form did.
+/// The answers of the plain form of a query, and of its counted form.
 #[derive(Clone, Copy)]
 pub struct Answer {
     plain: Option<i64>,
@@ -49,43 +49,44 @@ pub struct Answer {
 }
 
 impl Answer {
-    /// The answers of both forms.
+    /// Returns the answers of both forms.
     pub fn of(plain: Option<i64>, counted: Option<i64>) -> Answer {
         Answer { plain, counted }
     }
 
-    /// The answer of a query that has no counted form.
+    /// Returns the answer of a query that has no counted form.
     pub fn uncounted(answer: Option<i64>) -> Answer {
         Answer::of(answer, answer)
     }
 
-    /// Both answers of a query for a place or another number.
+    /// Returns both answers of a query for a position or another number.
     pub fn of_places(plain: Option<usize>, counted: Option<usize>) -> Answer {
         Answer::of(number(plain), number(counted))
     }
 
-    /// Both answers of a query for a truth value, as 1 or 0.
+    /// Returns both answers of a query for a boolean, as 1 or 0.
     pub fn of_truths(plain: Option<bool>, counted: Option<bool>) -> Answer {
         Answer::of(truth(plain), truth(counted))
     }
 
-    /// Stands where a query was not asked, since its condition does not hold: what no query answers.
+    /// Returns the answer of a query that was not made, since its precondition does not hold: a value that no
+    /// query returns.
     pub fn not_asked() -> Answer {
         Answer::uncounted(Some(i64::MIN))
     }
 
-    /// Whether both forms gave the wanted answer.
+    /// Returns true if both forms have the expected answer.
     pub fn is(self, wanted: Option<i64>) -> bool {
         self.plain == wanted && self.counted == wanted
     }
 }
 
-/// A place as a number with a sign.
+/// Returns a position as a signed number.
 pub fn number(place: Option<usize>) -> Option<i64> {
     i64::try_from(place?).ok()
 }
 
-// A truth value as 1 or 0.
+// Returns a boolean as 1 or 0.
 fn truth(answer: Option<bool>) -> Option<i64> {
     Some(i64::from(answer?))
 }

@@ -1,4 +1,4 @@
-//! What a builder answers where it is refused memory, and what it takes and builds then.
+//! The results of a builder whose requests are refused, and what it takes and builds then.
 
 use crate::rattle::prelude::*;
 use crate::proved_tests::vers_trees_tests::tests::builders::stepped;
@@ -11,13 +11,13 @@ use crate::proved::vers_trees::trees::bp::{BpBuilder, BpTree, BuildError};
 
 type Heap = Refusing<Global>;
 
-// A builder that has entered 32 nodes and left them. Their 64 bits fill the room that it was given.
+// Returns a builder that has entered 32 nodes and left them. Their 64 bits fill its capacity.
 fn builder_of_64_bits(heap: &Heap) -> Result<BpBuilder<8, &Heap>, GrowError> {
     let entered = stepped(BpBuilder::with_capacity(heap, 32), &[1; 32]);
     stepped(entered, &[0; 32])
 }
 
-// How many bits the tree of a builder has, and whether they are balanced.
+// Returns the number of bits that the tree of a builder has, and whether they are balanced.
 fn built(builder: BpBuilder<8, &Heap>) -> Result<(usize, bool), BuildError> {
     asked(
         builder.build(),
@@ -25,7 +25,7 @@ fn built(builder: BpBuilder<8, &Heap>) -> Result<(usize, bool), BuildError> {
     )
 }
 
-// What a builder answers with every request refused, and with memory again.
+// Returns the results of a builder with every request refused, and with memory again.
 fn refused_and_taken_steps<const N: usize, A: Allocator + Copy>(
     heap: &Heap,
     builder: &mut BpBuilder<N, A>,
@@ -37,7 +37,7 @@ fn refused_and_taken_steps<const N: usize, A: Allocator + Copy>(
     [enters, leaves, builder.enter_node(), builder.leave_node()]
 }
 
-// Whether a full builder does not take what it is refused, and takes and builds what it is granted.
+// Returns true if a full builder takes no refused step, and takes and builds the granted ones.
 fn takes_what_is_granted(heap: &Heap, made: Result<BpBuilder<8, &Heap>, GrowError>) -> bool {
     let mut builder = match made { Ok(builder) => builder, _ => {
         return false;
@@ -54,7 +54,8 @@ fn after_a_refusal_nodes_are_entered() {
     assert!(takes_what_is_granted(&heap, builder_of_64_bits(&heap)));
 }
 
-// Whether a builder that has left a node too many tells so, with every request refused, and asks for no memory.
+// Returns true if a builder that has left a node too many returns that error, with every request refused, and
+// makes none.
 fn tells_excess(heap: &Heap, made: Result<BpBuilder<8, &Heap>, GrowError>) -> bool {
     let builder = match stepped(made, &[0]) { Ok(builder) => builder, _ => {
         return false;

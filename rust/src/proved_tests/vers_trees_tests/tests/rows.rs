@@ -16,13 +16,13 @@ const THREE_BYTES: [u8; 24] = [
     1, 1, 1, 0, 0, 1, 1, 1, 0, 1, 0, 1, 1, 1, 0, 0, 1, 0, 0, 1, 0, 0, 0, 0,
 ];
 
-// What is asked, and the answer.
+// A query, and its answer.
 type Row = (Query, Option<i64>);
 
-// A walk from the node at a place, and what it gives.
+// A walk from the node at a position, and its nodes.
 type Walked<'a> = (Tour, usize, &'a [usize]);
 
-// Bits, and what is asked of their tree.
+// Bits, and the queries of their tree.
 #[derive(Clone, Copy)]
 struct Case<'a> {
     bits: &'a [u8],
@@ -187,7 +187,7 @@ const CASES: [Case; 9] = [
     },
 ];
 
-// Whether a tree answers each query as wanted.
+// Returns true if a tree answers each query as expected.
 fn gives_answers<const N: usize, A: Allocator + Copy>(tree: &BpTree<N, A>, rows: &[Row]) -> bool {
     for (query, wanted) in rows {
         if !ask(tree, *query).is(*wanted) {
@@ -197,7 +197,7 @@ fn gives_answers<const N: usize, A: Allocator + Copy>(tree: &BpTree<N, A>, rows:
     true
 }
 
-// Whether each walk gives what is wanted.
+// Returns true if each walk returns the expected nodes.
 fn gives_tours<const N: usize, A: Allocator + Copy>(tree: &BpTree<N, A>, tours: &[Walked]) -> bool {
     for (tour, node, wanted) in tours {
         if tour_gives(tree, *tour, *node, First::Plain, wanted) != Some(true) {
@@ -207,7 +207,7 @@ fn gives_tours<const N: usize, A: Allocator + Copy>(tree: &BpTree<N, A>, tours: 
     true
 }
 
-// The number of the first case, counted from 0, that is answered otherwise, with blocks of `N` bits.
+// Returns the number of the first case (from 0) with a wrong answer, with blocks of `N` bits.
 fn wrong_case<const N: usize>(alloc: Global, cases: &[Case]) -> Result<Option<usize>, GrowError> {
     for (number, case) in cases.iter().enumerate() {
         let is_right = asked(
@@ -225,7 +225,7 @@ fn wrong_case<const N: usize>(alloc: Global, cases: &[Case]) -> Result<Option<us
     Ok(None)
 }
 
-// The same with blocks of each size.
+// Does the same with blocks of each size.
 fn wrong_cases(alloc: Global, cases: &[Case]) -> [Result<Option<usize>, GrowError>; 7] {
     [
         wrong_case::<1>(alloc, cases),
@@ -238,7 +238,7 @@ fn wrong_cases(alloc: Global, cases: &[Case]) -> [Result<Option<usize>, GrowErro
     ]
 }
 
-// The table stands in a function of its own, which is faster to prove than in a test.
+// The table is in a function of its own, which is faster to prove than in a test.
 fn wrong_of_all_cases(alloc: Global) -> [Result<Option<usize>, GrowError>; 7] {
     wrong_cases(alloc, &CASES)
 }
@@ -249,7 +249,7 @@ fn queries_and_walks_and_what_they_give() {
     assert!(wrong_of_all_cases(rt.alloc()) == [Ok(None); 7]);
 }
 
-// The bytes of a tree with blocks of `N` bits.
+// Returns the bytes of a tree with blocks of `N` bits.
 fn bytes<const N: usize>(alloc: Global, bits: &[u8]) -> Result<usize, GrowError> {
     asked(
         tree_of::<N, Global>(alloc, bits),

@@ -1,4 +1,4 @@
-//! Every list of up to 10 bits, asked everything and compared with a plain scan of its excesses.
+//! Every list of up to 10 bits, with all queries, compared with a plain scan of its excesses.
 
 use crate::rattle::prelude::*;
 
@@ -9,15 +9,14 @@ use crate::rattle::Global;
 use crate::proved::vers_bits::bit_vec::{BitVec, GrowError};
 use crate::proved::vers_trees::trees::bp::{BpTree, MAX_BLOCK_SIZE};
 
-// How many bits the longest lists have.
+// The number of bits of the longest lists.
 const LONGEST: usize = 10;
 
-// How far the excess is asked to rise, up and down: once more than it can.
+// The greatest rise of the excess that is searched, up and down: one more than it can be.
 const WINDOW: i64 = 11;
 
-// How many lists, searches and other queries there are for each block size: 2 ^ n lists of n bits, two
-// searches by 23 numbers at each place up to the length, and two queries of a list and five at such a
-// place.
+// The numbers of lists, searches and other queries for each block size: 2 ^ n lists of n bits, two searches for
+// 23 numbers at each position up to the length, and two queries of a list and five at such a position.
 const LISTS: u64 = 2047;
 
 const SEARCHES: u64 = 942126;
@@ -29,7 +28,7 @@ fn is_one(code: usize, k: usize) -> bool {
     k < 64 && (code >> k) % 2 == 1
 }
 
-// The excess before each place of a list of `n` bits, and at its end.
+// Returns the excess before each position of a list of `n` bits, and at its end.
 fn excesses<A: Allocator + Copy>(
     alloc: A,
     n: usize,
@@ -44,7 +43,7 @@ fn excesses<A: Allocator + Copy>(
     Ok(sums)
 }
 
-// The first place after `i` past which the excess is `r` more than past `i`.
+// Returns the first position after `i` past which the excess is `r` more than past `i`.
 fn rise_after(sums: &[i64], i: usize, r: i64) -> Option<i64> {
     let sought = sums.get(i.checked_add(1)?)?.checked_add(r)?;
     for (k, sum) in sums.iter().enumerate() {
@@ -55,7 +54,7 @@ fn rise_after(sums: &[i64], i: usize, r: i64) -> Option<i64> {
     None
 }
 
-// The last place before `i` before which the excess is `r` more than before `i`.
+// Returns the last position before `i` before which the excess is `r` more than before `i`.
 fn rise_before(sums: &[i64], i: usize, r: i64) -> Option<i64> {
     let _past = sums.get(i.checked_add(1)?)?;
     let sought = sums.get(i)?.checked_add(r)?;
@@ -68,7 +67,7 @@ fn rise_before(sums: &[i64], i: usize, r: i64) -> Option<i64> {
     met
 }
 
-// The place of one number `i`, or the length.
+// Returns the position of one `i`, or the length.
 fn place_of_one(sums: &[i64], i: usize) -> Option<i64> {
     let mut left = i;
     for (k, pair) in sums.windows(2).enumerate() {
@@ -82,7 +81,7 @@ fn place_of_one(sums: &[i64], i: usize) -> Option<i64> {
     number(sums.len().checked_sub(1))
 }
 
-// Whether no excess is below 0, and the last is 0.
+// Returns true if no excess is negative, and the last is 0.
 fn is_level(sums: &[i64]) -> bool {
     for sum in sums {
         if *sum < 0 {
@@ -92,7 +91,7 @@ fn is_level(sums: &[i64]) -> bool {
     sums.last() == Some(&0)
 }
 
-// How many answers were compared, and how many were wrong.
+// The numbers of answers compared, and of wrong ones.
 #[derive(Clone, Copy, PartialEq)]
 struct Compared {
     lists: u64,
@@ -109,7 +108,7 @@ impl Compared {
         }
     }
 
-    // Both searches at a place, for every rise of the window.
+    // Compares both searches at a position, for every rise of the window.
     fn note_searches<const N: usize, A: Allocator + Copy>(
         &mut self,
         tree: &BpTree<N, A>,
@@ -124,7 +123,7 @@ impl Compared {
         }
     }
 
-    // The other queries at a place.
+    // Compares the other queries at a position.
     fn note_others<const N: usize, A: Allocator + Copy>(
         &mut self,
         tree: &BpTree<N, A>,
@@ -142,7 +141,7 @@ impl Compared {
         self.note(ask(tree, Query::Handle(i)).is(place_of_one(sums, i)));
     }
 
-    // All queries of a tree of the list.
+    // Compares all queries of a tree of the list.
     fn note_tree<const N: usize, A: Allocator + Copy>(
         &mut self,
         tree: &BpTree<N, A>,
@@ -162,7 +161,7 @@ impl Compared {
     }
 }
 
-// The tree of list number `code` of `n` bits.
+// Returns the tree of list number `code` of `n` bits.
 fn tree_of_code<const N: usize>(
     alloc: Global,
     n: usize,
@@ -175,7 +174,7 @@ fn tree_of_code<const N: usize>(
     BpTree::from_bit_vector(bits)
 }
 
-// All lists of up to the longest, with blocks of `N` bits.
+// Compares all lists of up to the longest, with blocks of `N` bits.
 fn compared_at<const N: usize>(alloc: Global) -> Result<Compared, GrowError> {
     let mut all = Compared {
         lists: 0,

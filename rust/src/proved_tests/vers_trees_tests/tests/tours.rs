@@ -54,14 +54,14 @@ impl<'a, const N: usize, A: Allocator + Copy> Walk for PostIter<'a, N, A> {
     }
 }
 
-/// Which form the first step of a walk has. The forms take turns.
+/// The form of the first step of a walk. The forms take turns.
 #[derive(Clone, Copy, PartialEq)]
 pub enum First {
     Plain,
     Counted,
 }
 
-// Whether a walk gives just these nodes, and none ever after.
+// Returns true if a walk returns exactly these nodes, and none afterwards.
 fn gives<W: Walk>(mut walk: W, first: First, wanted: &[usize]) -> bool {
     let mut tally = Tally::new();
     let mut is_counted = first == First::Counted;
@@ -108,7 +108,7 @@ pub const TOURS: [Tour; 7] = [
     Tour::AllPost,
 ];
 
-// Whether a walk from a node gives just these nodes.
+// Returns true if a walk from a node returns exactly these nodes.
 fn tour_from<const N: usize, A: Allocator + Copy>(
     tree: &BpTree<N, A>,
     tour: Tour,
@@ -124,9 +124,9 @@ fn tour_from<const N: usize, A: Allocator + Copy>(
     }
 }
 
-/// Whether a walk gives just these nodes, from the node at a place or, where it is over all nodes, from the
-/// first. None where the parentheses are not balanced, of which the walks over all ones may be asked, and
-/// where the place has no node.
+/// Returns true if a walk returns exactly these nodes, from the node at a position or, if it is over all nodes,
+/// from the first. `None` if the parentheses are not balanced, which the walks over all ones don't require, or
+/// the position has no node.
 pub fn tour_gives<const N: usize, A: Allocator + Copy>(
     tree: &BpTree<N, A>,
     tour: Tour,

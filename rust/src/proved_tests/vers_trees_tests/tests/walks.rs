@@ -1,4 +1,4 @@
-//! Steps of a walk over the places of ones.
+//! Steps of a walk over the positions of ones.
 
 use crate::rattle::prelude::*;
 use crate::proved_tests::vers_trees_tests::tests::lists::{asked, tree_of};
@@ -10,8 +10,8 @@ use crate::proved::vers_trees::trees::bp::BpTree;
 /// A node with two leaves.
 pub const NODE_WITH_TWO: [u8; 6] = [1, 1, 0, 1, 0, 0];
 
-// Whether a walk over a node with two leaves gives its nodes, and none from then on. Each counted step reads no
-// more than a select may, and no node.
+// Returns true if a walk over a node with two leaves returns its nodes, and none from then on. Each counted
+// step reads at most what a select may, and no node.
 fn steps_are_right<const N: usize, A: Allocator + Copy>(tree: &BpTree<N, A>) -> bool {
     let mut nodes = tree.dfs_iter();
     let mut is_right = nodes.next() == Some(0);

@@ -9,13 +9,13 @@ use crate::rattle::Global;
 use crate::proved_tests::test_alloc::{Check, is_made_right};
 use crate::proved::vers_wavelet::wavelet::{GetQuery, QuantileQuery, RankQuery, SelectQuery, WaveletMatrix};
 
-// More places than a list has, so that a batch asks past the end too.
+// More positions than a list has, so that a batch also queries past the end.
 const PLACES: usize = 16;
 
-// Symbols to be asked for. Of 3 digits they are the eight that there are, and the first of them again.
+// Symbols to be searched. Of 3 digits they are all eight, and the first of them again.
 const SYMBOLS: [u64; 9] = [0, 1, 2, 3, 4, 5, 6, 7, 8];
 
-// Whether the symbols at all places, past the end too, are those of a plain list.
+// Returns true if the symbols at all positions, past the end too, are those of a plain list.
 fn gets_are_right<A: Allocator + Copy>(list: &WaveletMatrix<A>, numbers: &[u64]) -> bool {
     let mut queries = [GetQuery::new(0); PLACES];
     for (place, query) in queries.iter_mut().enumerate() {
@@ -31,7 +31,7 @@ fn gets_are_right<A: Allocator + Copy>(list: &WaveletMatrix<A>, numbers: &[u64])
     true
 }
 
-// Whether each symbol is counted as in a plain list, in so many of its first places.
+// Returns true if each symbol is counted as in a plain list, in that many of its first positions.
 fn ranks_are_right<A: Allocator + Copy>(
     list: &WaveletMatrix<A>,
     numbers: &[u64],
@@ -55,7 +55,7 @@ fn ranks_are_right<A: Allocator + Copy>(
     true
 }
 
-// Whether occurrence `rank` of each symbol is found where it is in a plain list.
+// Returns true if occurrence `rank` of each symbol is found where it is in a plain list.
 fn selects_are_right<A: Allocator + Copy>(
     list: &WaveletMatrix<A>,
     numbers: &[u64],
@@ -77,7 +77,7 @@ fn selects_are_right<A: Allocator + Copy>(
     true
 }
 
-// Whether the members by size of each range that begins at a place are those of a plain list.
+// Returns true if the members by size of each range that begins at a position are those of a plain list.
 fn quantiles_are_right<A: Allocator + Copy>(
     list: &WaveletMatrix<A>,
     numbers: &[u64],
@@ -101,7 +101,7 @@ fn quantiles_are_right<A: Allocator + Copy>(
     true
 }
 
-// Whether that is so of each range and each number of a member.
+// Returns true if that holds for each range and each number of a member.
 fn all_quantiles_are_right<A: Allocator + Copy>(list: &WaveletMatrix<A>, numbers: &[u64]) -> bool {
     for start in 0..PLACES {
         for i in 0..PLACES {
@@ -113,7 +113,7 @@ fn all_quantiles_are_right<A: Allocator + Copy>(list: &WaveletMatrix<A>, numbers
     true
 }
 
-// A plain list, as which symbols answer every batch.
+// A plain list, which symbols must match in every batch.
 struct Plain<'a>(&'a [u64]);
 
 impl<A: Allocator + Copy> Check<WaveletMatrix<A>> for Plain<'_> {
@@ -135,8 +135,7 @@ fn batches_as_a_plain_list() {
     }
 }
 
-// Batches with answers that were worked out by hand for the first of the lists. What was an answer before is
-// overwritten.
+// Batches with answers that were worked out by hand for the first of the lists. The old answers are overwritten.
 struct Worked;
 
 impl<A: Allocator + Copy> Check<WaveletMatrix<A>> for Worked {
@@ -199,10 +198,10 @@ fn batches_with_worked_answers() {
     assert!(is_made_right(symbols_of(rt.alloc(), LISTS[0], 3), &Worked));
 }
 
-// Falling numbers from 64 on, each of them there twice.
+// Falling numbers from 64 on, each of them twice.
 struct Twice;
 
-// More queries than ask a level together, some of which are for symbols that are not there.
+// More queries than a group has, some of which are for symbols that don't occur.
 impl<A: Allocator + Copy> Check<WaveletMatrix<A>> for Twice {
     fn is_right(&self, list: &mut WaveletMatrix<A>) -> bool {
         let mut queries = [SelectQuery::new(0, 0); 200];

@@ -7,14 +7,14 @@ use crate::rattle::Allocator;
 use crate::proved_tests::test_alloc::{Check, is_made_right};
 use crate::proved::vers_wavelet::wavelet::WaveletMatrix;
 
-/// Lists of symbols of 3 bits, which fit in a few symbols more than one limb too.
+/// Lists of symbols of 3 bits.
 pub const LISTS: [&[u64]; 3] = [
     &[1, 4, 4, 1, 3, 1, 4, 3, 2, 0],
     &[7, 7, 7],
     &[0, 1, 2, 3, 4, 5, 6, 7, 6, 5, 4, 3, 2],
 ];
 
-/// How many members of a range are not below one number, but below another.
+/// Returns the number of members of a range that are at least one number and below another.
 pub fn count(numbers: &[u64], from: u64, end: u64) -> usize {
     let mut found = 0usize;
     for it in numbers {
@@ -25,12 +25,12 @@ pub fn count(numbers: &[u64], from: u64, end: u64) -> usize {
     found
 }
 
-// How many members of a range are below a number.
+// Returns the number of members of a range below a number.
 fn below(numbers: &[u64], number: u64) -> usize {
     count(numbers, 0, number)
 }
 
-/// The least number of 3 bits of which more than `i` members of a range are not above it.
+/// Returns the least number of 3 bits that more than `i` members of a range are at most.
 pub fn kth(numbers: &[u64], i: usize) -> Option<u64> {
     for number in 0..8 {
         if below(numbers, number + 1) > i {
@@ -40,7 +40,7 @@ pub fn kth(numbers: &[u64], i: usize) -> Option<u64> {
     None
 }
 
-/// The place of occurrence `rank` of a number.
+/// Returns the position of occurrence `rank` of a number.
 pub fn found(numbers: &[u64], rank: usize, number: u64) -> Option<u64> {
     let mut left = rank;
     for (place, it) in numbers.iter().enumerate() {
@@ -54,13 +54,13 @@ pub fn found(numbers: &[u64], rank: usize, number: u64) -> Option<u64> {
     None
 }
 
-// The greatest member that is not above a number.
+// Returns the greatest member that is at most a number.
 fn predecessor(numbers: &[u64], number: u64) -> Option<u64> {
     let n = below(numbers, number.saturating_add(1));
     if n == 0 { None } else { kth(numbers, n - 1) }
 }
 
-// The ends of the range that a query is about.
+// Returns the ends of the range that a query is about.
 fn range_of(query: Query) -> Option<(usize, usize)> {
     match query {
         Query::RankRange(a, b, _) | Query::Predecessor(a, b, _) | Query::Successor(a, b, _) => {
@@ -71,7 +71,7 @@ fn range_of(query: Query) -> Option<(usize, usize)> {
     }
 }
 
-// The answer of a query by the members of its range.
+// Returns the answer of a query by the members of its range.
 fn plain_of_range(part: &[u64], query: Query) -> Option<u64> {
     match query {
         Query::RankRange(_, _, s) => Some(count(part, s, s.saturating_add(1)) as u64),
@@ -82,7 +82,7 @@ fn plain_of_range(part: &[u64], query: Query) -> Option<u64> {
     }
 }
 
-// The answer of a query by the plain list.
+// Returns the answer of a query by the plain list.
 fn plain_answer(numbers: &[u64], query: Query) -> Option<u64> {
     match query {
         Query::Select(r, s) => found(numbers, r, s),
@@ -102,7 +102,7 @@ struct Part {
     s: u64,
 }
 
-// Whether numbers and lists of bits answer each query about a part as the plain list does.
+// Returns true if numbers and lists of bits answer each query about a part as the plain list does.
 fn is_right_about<A: Allocator + Copy>(
     alloc: A,
     list: &WaveletMatrix<A>,
@@ -128,13 +128,13 @@ fn is_right_about<A: Allocator + Copy>(
     true
 }
 
-// A plain list, which stands for its symbols.
+// A plain list, which represents its symbols.
 struct Plain<'a, A: Allocator + Copy> {
     alloc: A,
     numbers: &'a [u64],
 }
 
-// Whether symbols answer as it does about each part.
+// Checks whether symbols answer as it does about each part.
 impl<A: Allocator + Copy> Check<WaveletMatrix<A>> for Plain<'_, A> {
     fn is_right(&self, list: &mut WaveletMatrix<A>) -> bool {
         let end = self.numbers.len().saturating_add(2);
@@ -151,7 +151,7 @@ impl<A: Allocator + Copy> Check<WaveletMatrix<A>> for Plain<'_, A> {
     }
 }
 
-// The first list whose symbols answer a query otherwise.
+// Returns the first list whose symbols answer a query otherwise.
 fn first_wrong_list<A: Allocator + Copy>(alloc: A, lists: &[&[u64]]) -> Option<usize> {
     for (case, numbers) in lists.iter().enumerate() {
         if !is_made_right(symbols_of(alloc, numbers, 3), &Plain { alloc, numbers }) {

@@ -1,4 +1,4 @@
-//! Where symbols are gathered, compared with a plain list and with values that were worked out by hand.
+//! Gathered positions, compared with a plain list and with values that were worked out by hand.
 
 use crate::rattle::prelude::*;
 use crate::proved_tests::vers_wavelet_tests::tests::compared::{LISTS, count};
@@ -9,17 +9,17 @@ use crate::proved_tests::test_alloc::{Check, is_made_right};
 use crate::proved::vers_tally::tally::Tally;
 use crate::proved::vers_wavelet::wavelet::{Gathered, GatheredQuery, WaveletMatrix};
 
-// The number that the three digits of each symbol make from the lowest to the highest.
+// The number of the three digits of each symbol in reverse order.
 const TURNED: [u64; 8] = [0, 4, 2, 6, 1, 5, 3, 7];
 
-// The most rank calls: two for each of three digits.
+// The greatest number of rank calls: two for each of three digits.
 const MOST: u64 = 6;
 
 fn turned(symbol: u64) -> u64 {
     TURNED[(symbol % 8) as usize]
 }
 
-// How many of the first places hold a symbol.
+// Returns the number of occurrences of a symbol in the first positions.
 fn seen(numbers: &[u64], end: usize, symbol: u64) -> usize {
     count(
         numbers.get(0..end).unwrap_or(&[]),
@@ -28,7 +28,7 @@ fn seen(numbers: &[u64], end: usize, symbol: u64) -> usize {
     )
 }
 
-// Where the first of a symbol from a place on goes in the order of the digits from the lowest to the highest.
+// Returns the gathered position of the first of a symbol from a position on.
 fn gathered(numbers: &[u64], place: usize, symbol: u64) -> usize {
     let mut before = seen(numbers, place, symbol % 8);
     for it in numbers {
@@ -46,7 +46,8 @@ fn ends(range: Option<Range<usize>>) -> Option<(usize, usize)> {
     }
 }
 
-// Whether both forms of the call give the symbol at a place and where it goes, within their reads.
+// Returns true if both forms of the call return the symbol at a position and its gathered position, within
+// their bounds.
 fn is_gathered<A: Allocator + Copy>(
     list: &WaveletMatrix<A>,
     numbers: &[u64],
@@ -65,7 +66,8 @@ fn is_gathered<A: Allocator + Copy>(
         && tally.rank_calls() <= MOST
 }
 
-// Whether all forms of the call give where the first of each symbol from a place on goes, within their reads.
+// Returns true if all forms of the call return the gathered position of the first of each symbol from a
+// position on, within their bounds.
 fn is_place_gathered<A: Allocator + Copy>(
     list: &WaveletMatrix<A>,
     numbers: &[u64],
@@ -93,7 +95,7 @@ fn is_place_gathered<A: Allocator + Copy>(
     true
 }
 
-// Whether a batch gives where the first of each symbol from a place on goes.
+// Returns true if a batch returns the gathered position of the first of each symbol from a position on.
 fn are_gathered_together<A: Allocator + Copy>(
     list: &WaveletMatrix<A>,
     numbers: &[u64],
@@ -116,7 +118,7 @@ fn are_gathered_together<A: Allocator + Copy>(
     true
 }
 
-// Where the places from `a` on, before `b`, that hold a symbol go.
+// Returns the gathered positions of a symbol from `a` on, before `b`.
 fn range_gathered(numbers: &[u64], a: usize, b: usize, symbol: u64) -> Option<(usize, usize)> {
     numbers.get(a..b)?;
     let start = gathered(numbers, a, symbol);
@@ -128,7 +130,8 @@ fn range_gathered(numbers: &[u64], a: usize, b: usize, symbol: u64) -> Option<(u
     }
 }
 
-// Whether both forms of the call give where the symbols of a range go, within their reads.
+// Returns true if both forms of the call return the gathered positions of the symbols of a range, within their
+// bounds.
 fn is_range_gathered<A: Allocator + Copy>(
     list: &WaveletMatrix<A>,
     numbers: &[u64],
@@ -149,7 +152,7 @@ fn is_range_gathered<A: Allocator + Copy>(
     true
 }
 
-// A plain list, as which symbols are gathered.
+// A plain list, which gathered symbols must match.
 struct Plain<'a>(&'a [u64]);
 
 impl<A: Allocator + Copy> Check<WaveletMatrix<A>> for Plain<'_> {
@@ -180,8 +183,7 @@ fn gathered_as_a_plain_list() {
     }
 }
 
-// Values for the first of the lists, whose symbols are 0, 4, 4, 4, 2, 1, 1, 1, 3, 3 in the order of their digits from
-// the lowest to the highest.
+// Values for the first of the lists, whose symbols are 0, 4, 4, 4, 2, 1, 1, 1, 3, 3 in gathered order.
 struct Worked;
 
 impl<A: Allocator + Copy> Check<WaveletMatrix<A>> for Worked {

@@ -1,4 +1,4 @@
-//! Iterators over symbols, and items that are refused.
+//! Iterators over symbols, and items whose allocation is refused.
 
 use crate::rattle::prelude::*;
 use crate::proved_tests::vers_wavelet_tests::tests::lists::number_of;
@@ -14,7 +14,7 @@ use crate::proved::vers_wavelet::wavelet::WaveletMatrix;
 
 const SYMBOLS: [u64; 3] = [1, 5, 3];
 
-// The steps of one iterator over the symbols in their order, and what they answer.
+// The steps of one iterator over the symbols in their order, and their answers.
 const IN_ORDER: [(Step, Option<u64>); 6] = [
     (Step::Len, Some(3)),
     (Step::Next, Some(1)),
@@ -24,7 +24,7 @@ const IN_ORDER: [(Step, Option<u64>); 6] = [
     (Step::Len, Some(0)),
 ];
 
-// The same by size.
+// Returns the same walk, ascending.
 const BY_SIZE: [(Step, Option<u64>); 6] = [
     (Step::Len, Some(3)),
     (Step::NthBack(1), Some(3)),
@@ -34,7 +34,7 @@ const BY_SIZE: [(Step, Option<u64>); 6] = [
     (Step::Nth(usize::MAX), None),
 ];
 
-// One step of an iterator over numbers.
+// Returns one step of an iterator over numbers.
 fn number_step<S: Source<Item = u64>>(walk: &mut BothEnds<S>, step: Step) -> Option<u64> {
     match step {
         Step::Next => walk.next(),
@@ -45,7 +45,7 @@ fn number_step<S: Source<Item = u64>>(walk: &mut BothEnds<S>, step: Step) -> Opt
     }
 }
 
-// The number of an item, if there is one, or why it was refused.
+// Returns the number of an item, if there is one, or why it was refused.
 fn told<A: Allocator + Copy>(
     item: Option<Result<BitVec<A>, AllocError>>,
 ) -> Result<Option<u64>, AllocError> {
@@ -56,12 +56,12 @@ fn told<A: Allocator + Copy>(
     }
 }
 
-// The number of an item.
+// Returns the number of an item.
 fn item_number<A: Allocator + Copy>(item: Option<Result<BitVec<A>, AllocError>>) -> Option<u64> {
     told(item).unwrap_or(None)
 }
 
-// One step of an iterator over lists of bits.
+// Returns one step of an iterator over lists of bits.
 fn list_step<A: Allocator + Copy, M: Maker<Item = BitVec<A>>>(
     walk: &mut MadeEnds<M>,
     step: Step,
@@ -75,7 +75,7 @@ fn list_step<A: Allocator + Copy, M: Maker<Item = BitVec<A>>>(
     }
 }
 
-// The number of the first step of an iterator over numbers that is wrong. All are where there is none.
+// Returns the number of the first wrong step of an iterator over numbers, or 0 if there is none.
 fn wrong_number_step<S: Source<Item = u64>>(
     walk: Option<BothEnds<S>>,
     rows: &[(Step, Option<u64>)],
@@ -86,7 +86,7 @@ fn wrong_number_step<S: Source<Item = u64>>(
     }
 }
 
-// The same of an iterator over lists of bits.
+// Does the same for an iterator over lists of bits.
 fn wrong_list_step<A: Allocator + Copy, M: Maker<Item = BitVec<A>>>(
     mut walk: MadeEnds<M>,
     rows: &[(Step, Option<u64>)],
@@ -94,7 +94,7 @@ fn wrong_list_step<A: Allocator + Copy, M: Maker<Item = BitVec<A>>>(
     first_wrong_step(&mut walk, rows, list_step)
 }
 
-// The first wrong steps of the iterators over a list in its order and by size, as numbers and as lists.
+// Returns the first wrong steps of the iterators over a list in its order and ascending, as numbers and as lists.
 fn wrong_steps<A: Allocator + Copy>(list: &WaveletMatrix<A>) -> [Option<usize>; 4] {
     [
         wrong_number_step(list.iter_u64(), &IN_ORDER),
@@ -111,7 +111,7 @@ fn steps_and_their_answers() {
     assert_eq!(wrong, Ok([None; 4]));
 }
 
-// Whether the second of three items is refused and counts as passed, and the others are as they were.
+// Returns true if the second of three items is refused and counts as passed, and the others are unchanged.
 fn passes_the_second<A: Allocator + Copy, M: Maker<Item = BitVec<A>>>(
     mut walk: MadeEnds<M>,
 ) -> bool {
@@ -121,13 +121,13 @@ fn passes_the_second<A: Allocator + Copy, M: Maker<Item = BitVec<A>>>(
     first == [Ok(Some(1)), Err(AllocError)] && left == 1 && last == [Ok(Some(3)), Ok(None)]
 }
 
-// The same of symbols whose items are refused from here on.
+// Does the same for symbols whose items are refused from here on.
 fn passes_refused<A: Allocator + Copy>(heap: &Refusing<Global>, list: &WaveletMatrix<A>) -> bool {
     heap.start();
     passes_the_second(list.iter())
 }
 
-// The same of symbols that are made first.
+// Does the same for symbols that are made first.
 fn passes_of_symbols(heap: &Refusing<Global>) -> bool {
     asked(
         symbols_of(heap, &SYMBOLS, 3),

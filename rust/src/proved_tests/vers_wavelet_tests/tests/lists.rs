@@ -1,6 +1,6 @@
-//! Symbols that are lists of their bits, asked for the same answers as numbers.
+//! Symbols that are lists of their bits, with the same queries as numbers.
 //!
-//! A refused answer stays one: it is never taken for none.
+//! A refused request is an error: it is never taken for none.
 
 use crate::rattle::prelude::*;
 use crate::proved_tests::vers_wavelet_tests::tests::numbers::{Query, answer, as_number, is_within, place_below};
@@ -11,10 +11,10 @@ use crate::proved::vers_bits::bit_vec::{BitVec, GrowError};
 use crate::proved::vers_tally::tally::Tally;
 use crate::proved::vers_wavelet::wavelet::WaveletMatrix;
 
-/// What a query for lists of bits answers, as a number.
+/// The result of a query for lists of bits, as a number.
 pub type Told = Result<Option<u64>, AllocError>;
 
-/// The low bits of a number.
+/// Returns the low bits of a number.
 pub fn symbol_of<A: Allocator + Copy>(
     alloc: A,
     number: u64,
@@ -23,12 +23,12 @@ pub fn symbol_of<A: Allocator + Copy>(
     BitVec::pack_sequence_u64(alloc, &[number], width)
 }
 
-/// The number of a list of at most 64 bits.
+/// Returns the number of a list of at most 64 bits.
 pub fn number_of<A: Allocator + Copy>(symbol: &BitVec<A>) -> u64 {
     symbol.get_bits(0, symbol.len()).unwrap_or(0)
 }
 
-// The number of three digits that stand at the first, the middle and the last place.
+// Returns the number of the three digits at the first, the middle and the last position.
 fn number_of_digits<A: Allocator + Copy>(symbol: &BitVec<A>) -> u64 {
     let first = symbol.get(0).unwrap_or(0);
     let middle = symbol.get(symbol.len() / 2).unwrap_or(0);
@@ -36,7 +36,7 @@ fn number_of_digits<A: Allocator + Copy>(symbol: &BitVec<A>) -> u64 {
     (first | middle << 1) | last << 2
 }
 
-/// What number a symbol that is a list of bits stands for.
+/// The number that a list of bits represents.
 #[derive(Clone, Copy)]
 pub enum Coding {
     /// That of its bits, of which there are at most 64.
@@ -45,7 +45,7 @@ pub enum Coding {
     Digits,
 }
 
-// The number that a symbol stands for.
+// Returns the number that a symbol represents.
 fn number_by<A: Allocator + Copy>(coding: Coding, symbol: &BitVec<A>) -> u64 {
     match coding {
         Coding::Bits => number_of(symbol),
@@ -53,7 +53,7 @@ fn number_by<A: Allocator + Copy>(coding: Coding, symbol: &BitVec<A>) -> u64 {
     }
 }
 
-// The number of an answer that may be none.
+// Returns the number in an answer, or `None`.
 fn told<A: Allocator + Copy>(coding: Coding, found: Result<Option<BitVec<A>>, AllocError>) -> Told {
     match found {
         Ok(Some(symbol)) => Ok(Some(number_by(coding, &symbol))),
@@ -62,7 +62,7 @@ fn told<A: Allocator + Copy>(coding: Coding, found: Result<Option<BitVec<A>>, Al
     }
 }
 
-// The number of an answer that is there.
+// Returns the number in an answer.
 fn told_one<A: Allocator + Copy>(coding: Coding, found: Result<BitVec<A>, AllocError>) -> Told {
     match found {
         Ok(symbol) => Ok(Some(number_by(coding, &symbol))),
@@ -70,7 +70,7 @@ fn told_one<A: Allocator + Copy>(coding: Coding, found: Result<BitVec<A>, AllocE
     }
 }
 
-// The answer of a query for a symbol that is a list of bits.
+// Returns the answer of a query for a symbol that is a list of bits.
 fn answer_for<A: Allocator + Copy>(
     list: &WaveletMatrix<A>,
     query: Query,
@@ -89,7 +89,7 @@ fn answer_for<A: Allocator + Copy>(
     }
 }
 
-// The same of the counted form.
+// Does the same for the counted form.
 fn counted_for<A: Allocator + Copy>(
     list: &WaveletMatrix<A>,
     query: Query,
@@ -111,7 +111,7 @@ fn counted_for<A: Allocator + Copy>(
     }
 }
 
-// The same of the unchecked form, where there is one and its condition holds.
+// Does the same for the unchecked form, if there is one and its precondition holds.
 fn unchecked_for<A: Allocator + Copy>(
     list: &WaveletMatrix<A>,
     query: Query,
@@ -138,7 +138,7 @@ fn unchecked_for<A: Allocator + Copy>(
     }
 }
 
-// The answer of a query that answers a symbol.
+// Returns the answer of a query that returns a symbol.
 fn symbol_answer<A: Allocator + Copy>(
     list: &WaveletMatrix<A>,
     query: Query,
@@ -155,7 +155,7 @@ fn symbol_answer<A: Allocator + Copy>(
     }
 }
 
-// The same of the counted form.
+// Does the same for the counted form.
 fn counted_symbol<A: Allocator + Copy>(
     list: &WaveletMatrix<A>,
     query: Query,
@@ -173,7 +173,7 @@ fn counted_symbol<A: Allocator + Copy>(
     }
 }
 
-// The same of the unchecked form, where its condition holds.
+// Does the same for the unchecked form, if its precondition holds.
 fn unchecked_symbol<A: Allocator + Copy>(
     list: &WaveletMatrix<A>,
     query: Query,
@@ -195,7 +195,7 @@ fn unchecked_symbol<A: Allocator + Copy>(
     }
 }
 
-/// The number of the symbol that a query is for, if it is for one.
+/// Returns the number of the symbol in a query, if it has one.
 pub fn symbol_asked(query: Query) -> Option<u64> {
     match query {
         Query::RankRange(_, _, s)
@@ -209,7 +209,7 @@ pub fn symbol_asked(query: Query) -> Option<u64> {
     }
 }
 
-/// In which form a query is asked. One whose condition doesn't hold is not asked unchecked.
+/// The form of a query. One whose precondition doesn't hold is not called unchecked.
 #[derive(Clone, Copy)]
 pub enum Form {
     Plain,
@@ -217,7 +217,7 @@ pub enum Form {
     Unchecked,
 }
 
-/// The answer of a form of a query, for which a symbol of at most 64 bits is at hand.
+/// Returns the answer of a form of a query, for which there is a symbol of at most 64 bits.
 pub fn answer_in<A: Allocator + Copy>(
     list: &WaveletMatrix<A>,
     query: Query,
@@ -238,7 +238,7 @@ pub fn answer_in<A: Allocator + Copy>(
     }
 }
 
-/// A query of a list, how its symbols are read, and what it should answer.
+/// A query of a list, how its symbols are read, and its expected answer.
 pub struct Asked<'a, A: Allocator + Copy> {
     pub list: &'a WaveletMatrix<A>,
     pub query: Query,
@@ -246,7 +246,7 @@ pub struct Asked<'a, A: Allocator + Copy> {
     pub wanted: Option<u64>,
 }
 
-/// Whether all forms of a query for a symbol answer so, and the counted one within its reads.
+/// Returns true if all forms of a query for a symbol answer so, and the counted one within its bound.
 pub fn is_answered_to<A: Allocator + Copy>(asked: &Asked<'_, A>, symbol: &BitVec<A>) -> bool {
     let wanted = Ok(asked.wanted);
     let mut tally = Tally::new();
@@ -262,7 +262,7 @@ impl<A: Allocator + Copy> Check<BitVec<A>> for Asked<'_, A> {
     }
 }
 
-/// The same of a query that answers a symbol.
+/// Does the same for a query that returns a symbol.
 pub fn is_symbol_answered<A: Allocator + Copy>(asked: &Asked<'_, A>) -> bool {
     let wanted = Ok(asked.wanted);
     let mut tally = Tally::new();
@@ -272,7 +272,7 @@ pub fn is_symbol_answered<A: Allocator + Copy>(asked: &Asked<'_, A>) -> bool {
         && unchecked_symbol(asked.list, asked.query, asked.coding) == wanted
 }
 
-/// Whether all forms of a query answer so, asked for the symbol where it is for one.
+/// Returns true if all forms of a query answer so, with the symbol if it has one.
 pub fn is_answered_for<A: Allocator + Copy>(
     asked: &Asked<'_, A>,
     symbol: Result<BitVec<A>, GrowError>,
@@ -283,7 +283,7 @@ pub fn is_answered_for<A: Allocator + Copy>(
     }
 }
 
-/// The same for a symbol of the low bits of the query's number.
+/// Does the same for a symbol of the low bits of the query's number.
 pub fn is_answered_in_lists<A: Allocator + Copy>(
     alloc: A,
     list: &WaveletMatrix<A>,

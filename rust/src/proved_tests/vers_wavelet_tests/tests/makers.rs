@@ -1,4 +1,4 @@
-//! Makers of symbols: by stable sorting and by counting prefixes, of numbers and of lists of bits.
+//! Constructors of symbols: by stable sorting and by counting prefixes, of numbers and of lists of bits.
 
 use crate::rattle::prelude::*;
 use crate::rattle::AllocError;
@@ -8,14 +8,14 @@ use crate::proved_tests::test_alloc::asked;
 use crate::proved::vers_bits::bit_vec::{BitVec, GrowError};
 use crate::proved::vers_wavelet::wavelet::WaveletMatrix;
 
-/// By which method symbols are made.
+/// The method by which symbols are made.
 #[derive(Clone, Copy)]
 pub enum Method {
     Sorting,
     Counting,
 }
 
-/// The symbols of numbers. Out of memory for a width that the maker isn't asked for.
+/// Returns the symbols of numbers. Out of memory for a width that the constructor doesn't allow.
 pub fn of_numbers<A: Allocator + Copy>(
     alloc: A,
     method: Method,
@@ -36,7 +36,7 @@ pub fn of_numbers<A: Allocator + Copy>(
     }
 }
 
-/// The symbols of a list of bits. Out of memory where the maker isn't asked for them.
+/// Returns the symbols of a list of bits. Out of memory if the constructor doesn't allow them.
 pub fn of_bits<A: Allocator + Copy>(
     method: Method,
     bits: &BitVec<A>,
@@ -56,7 +56,7 @@ pub fn of_bits<A: Allocator + Copy>(
     }
 }
 
-/// Whether a matrix has the numbers as its symbols.
+/// Returns true if a matrix has the numbers as its symbols.
 pub fn has_numbers<A: Allocator + Copy>(
     symbols: &WaveletMatrix<A>,
     width: u16,
@@ -80,7 +80,7 @@ struct Row<'a> {
 
 const HIGHEST: u64 = 1 << 63;
 
-// The number of the first row of which a maker makes other symbols.
+// Returns the number of the first row of which a constructor makes other symbols.
 fn first_wrong_numbers(alloc: Global, method: Method, rows: &[Row]) -> Option<usize> {
     for (at, row) in rows.iter().enumerate() {
         let made = of_numbers(alloc, method, row.numbers, row.width);
@@ -92,7 +92,7 @@ fn first_wrong_numbers(alloc: Global, method: Method, rows: &[Row]) -> Option<us
     None
 }
 
-// Numbers that count by their low bits.
+// Numbers of which only the low bits count.
 const LOW_BITS: [Row; 5] = [
     Row {
         numbers: &[9, 5, 3],
@@ -130,7 +130,7 @@ fn numbers_count_by_their_low_bits() {
     assert!(wrong.is_none());
 }
 
-// Numbers of no bits, and of as many as there are.
+// Numbers of 0 bits, and of all 64.
 const ENDS: [Row; 5] = [
     Row {
         numbers: &[7, 7],
@@ -166,7 +166,7 @@ fn numbers_of_no_bits_and_of_64_bits() {
     assert!(wrong.is_none());
 }
 
-// How many symbols a maker makes of numbers.
+// Returns the number of symbols that a constructor makes of numbers.
 fn len_of(alloc: Global, method: Method, numbers: &[u64], width: u16) -> Result<usize, AllocError> {
     asked(of_numbers(alloc, method, numbers, width), |it| it.len())
 }
@@ -180,12 +180,12 @@ fn no_table_is_given_from_60_bits_on() {
     }
 }
 
-// Bit `i` of symbol `e`.
+// Returns bit `i` of symbol `e`.
 fn is_one(e: usize, i: usize) -> bool {
     e.wrapping_mul(e).wrapping_add(i.wrapping_mul(5)) % 7 < 3
 }
 
-/// Symbols of so many bits, one after another.
+/// Returns symbols of that many bits, one after another.
 pub fn packed<A: Allocator + Copy>(
     alloc: A,
     count: usize,
@@ -200,7 +200,7 @@ pub fn packed<A: Allocator + Copy>(
     Ok(bits)
 }
 
-// Whether a list has the bits of symbol `e`.
+// Returns true if a list has the bits of symbol `e`.
 fn has_bits<A: Allocator + Copy>(symbol: &BitVec<A>, width: u16, e: usize) -> bool {
     for i in 0..width as usize {
         if symbol.is_bit_set(i) != Some(is_one(e, i)) {
@@ -210,7 +210,7 @@ fn has_bits<A: Allocator + Copy>(symbol: &BitVec<A>, width: u16, e: usize) -> bo
     symbol.len() == width as usize
 }
 
-// What is asked of a symbol that may not be there.
+// Compares a symbol that may not be there.
 fn is_symbol<A: Allocator + Copy>(symbol: &Option<BitVec<A>>, width: u16, e: usize) -> bool {
     match symbol {
         Some(symbol) => has_bits(symbol, width, e),
@@ -218,7 +218,7 @@ fn is_symbol<A: Allocator + Copy>(symbol: &Option<BitVec<A>>, width: u16, e: usi
     }
 }
 
-/// Whether a matrix has those symbols.
+/// Returns true if a matrix has those symbols.
 pub fn has_symbols<A: Allocator + Copy>(
     symbols: &WaveletMatrix<A>,
     count: usize,
@@ -232,7 +232,7 @@ pub fn has_symbols<A: Allocator + Copy>(
     symbols.len() == count && symbols.bit_len() == width
 }
 
-// Whether a maker makes them.
+// Returns true if a constructor makes them.
 fn makes_symbols(alloc: Global, method: Method, count: usize, width: u16) -> bool {
     let made = |bits: &BitVec<Global>| {
         asked(
@@ -243,13 +243,13 @@ fn makes_symbols(alloc: Global, method: Method, count: usize, width: u16) -> boo
     matches!(asked(packed(alloc, count, width), made), Ok(Ok(true)))
 }
 
-// How many symbols there are: none, and numbers around the ends of 16 lanes, of words, of blocks and of
-// superblocks of a level.
+// Numbers of symbols: none, and numbers around the ends of 16 lanes, of words, of blocks and of superblocks of
+// a level.
 const COUNTS: [usize; 17] = [
     0, 1, 2, 15, 16, 17, 63, 64, 65, 130, 511, 512, 513, 8191, 8192, 8193, 16385,
 ];
 
-// The first width at which a maker does not make them, and how many they are.
+// Returns the first width at which a constructor does not make them, and their number.
 fn first_wrong_symbols(alloc: Global, method: Method, widths: &[u16]) -> Option<(u16, usize)> {
     for width in widths {
         for count in COUNTS {
@@ -276,7 +276,7 @@ fn counting_makes_the_same_symbols() {
     assert!(wrong.is_none());
 }
 
-// The number of symbol `e`, of whose bits there are at most 64.
+// Returns the number of symbol `e`, which has at most 64 bits.
 fn number(e: usize, width: u16) -> u64 {
     let mut number: u64 = 0;
     for i in 0..u64::from(width.min(64)) {
@@ -285,7 +285,7 @@ fn number(e: usize, width: u16) -> u64 {
     number
 }
 
-// The numbers of so many symbols.
+// Returns the numbers of that many symbols.
 fn numbers(alloc: Global, count: usize, width: u16) -> Result<Vec<u64>, AllocError> {
     let mut numbers = Vec::new(alloc);
     for e in 0..count {
@@ -294,7 +294,7 @@ fn numbers(alloc: Global, count: usize, width: u16) -> Result<Vec<u64>, AllocErr
     Ok(numbers)
 }
 
-// Whether a maker makes the symbols of those numbers.
+// Returns true if a constructor makes the symbols of those numbers.
 fn makes_numbers(alloc: Global, method: Method, count: usize, width: u16) -> bool {
     let numbers = match numbers(alloc, count, width) { Ok(numbers) => numbers, _ => {
         return false;
@@ -307,7 +307,7 @@ fn makes_numbers(alloc: Global, method: Method, count: usize, width: u16) -> boo
     first_wrong_numbers(alloc, method, &[row]).is_none()
 }
 
-// How many symbols of 9 bits a maker does not make of their numbers.
+// Returns the first number of symbols of 9 bits that a constructor does not make of their numbers.
 fn first_wrong_count(alloc: Global, method: Method) -> Option<usize> {
     for count in COUNTS {
         if !makes_numbers(alloc, method, count, 9) {

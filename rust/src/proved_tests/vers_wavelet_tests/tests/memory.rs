@@ -1,4 +1,4 @@
-//! Makers and clones, each of their requests for memory refused in turn, of lists of every length.
+//! Constructors and clones, each of their requests for memory refused in turn, of lists of every length.
 
 use crate::rattle::prelude::*;
 use crate::proved_tests::vers_wavelet_tests::tests::makers::{Method, has_numbers, has_symbols, of_bits, of_numbers, packed};
@@ -16,18 +16,18 @@ use crate::proved::vers_wavelet::wavelet::{
     WaveletIter, WaveletMatrix, WaveletNumIter, WaveletSortedIter, WaveletSortedNumIter,
 };
 
-/// The allocator of a try.
+/// The allocator of a trial.
 pub type Heap = Refusing<Global>;
 
 /// Lengths at and around the ends of limbs, and one past a block.
 pub const LENGTHS: [usize; 8] = [0, 1, 2, 63, 64, 65, 130, 513];
 
-// The numbers as lists of bits, one after another.
+// Returns the numbers as lists of bits, one after another.
 fn bits_of<A: Allocator + Copy>(alloc: A, numbers: &[u64]) -> Result<BitVec<A>, GrowError> {
     BitVec::pack_sequence_u64(alloc, numbers, WIDTH as usize)
 }
 
-/// A walk over the symbols of numbers, as lists of bits.
+/// Returns a walk over the symbols of numbers, as lists of bits.
 pub fn walk_over<A: Allocator + Copy>(
     alloc: A,
     numbers: &[u64],
@@ -38,7 +38,7 @@ pub fn walk_over<A: Allocator + Copy>(
     }
 }
 
-/// The same by size.
+/// Returns the same walk, ascending.
 pub fn sorted_walk_over<A: Allocator + Copy>(
     alloc: A,
     numbers: &[u64],
@@ -49,7 +49,7 @@ pub fn sorted_walk_over<A: Allocator + Copy>(
     }
 }
 
-/// A walk over the symbols of numbers, as numbers. There is always one.
+/// Returns a walk over the symbols of numbers, as numbers. There is always one.
 pub fn number_walk_over<A: Allocator + Copy>(
     alloc: A,
     numbers: &[u64],
@@ -60,7 +60,7 @@ pub fn number_walk_over<A: Allocator + Copy>(
     }
 }
 
-/// The same by size.
+/// Returns the same walk, ascending.
 pub fn sorted_number_walk_over<A: Allocator + Copy>(
     alloc: A,
     numbers: &[u64],
@@ -71,7 +71,7 @@ pub fn sorted_number_walk_over<A: Allocator + Copy>(
     }
 }
 
-// A maker of the symbols of numbers, or of their bits.
+// A constructor of the symbols of numbers, or of their bits.
 struct OfNumbers<'a, 'b> {
     heap: &'a Heap,
     method: Method,
@@ -135,14 +135,14 @@ impl<'a> Tried<BitVec<&'a Heap>> for OfNumbers<'a, '_> {
     }
 }
 
-// Whether a clone has the numbers.
+// Checks whether a clone has the numbers.
 impl<'a> Check<WaveletMatrix<&'a Heap>> for OfNumbers<'a, '_> {
     fn is_right(&self, symbols: &mut WaveletMatrix<&'a Heap>) -> bool {
         has_numbers(symbols, WIDTH, self.numbers)
     }
 }
 
-/// A plain list of what a walk has left, and whether its items are given memory.
+/// A plain list of what a walk has left, and whether its items can be allocated.
 pub struct Going<'a, B: Allocator> {
     pub heap: &'a Refusing<B>,
     pub plain: Falling,
@@ -158,10 +158,10 @@ impl<W: Walk, B: Allocator> Check<W> for Going<'_, B> {
     }
 }
 
-// How many bits symbols have that are no numbers.
+// The width of symbols that don't fit in a word.
 const WIDE: u16 = 65;
 
-// So many symbols that are no numbers.
+// Symbols that don't fit in a word.
 struct Wide<'a> {
     heap: &'a Heap,
     count: usize,
@@ -187,7 +187,7 @@ impl<'a> Making for OfWideBits<'a, '_> {
     }
 
     fn is_right(&self, symbols: &WaveletMatrix<&'a Heap>) -> bool {
-        // The symbols that are read take memory too.
+        // The symbols that are read are allocated too.
         self.heap.allow_all();
         has_symbols(symbols, self.count, WIDE)
     }
@@ -280,7 +280,7 @@ impl Trial<Global> for Call {
         }
     }
 
-    // Each takes memory, for the list of levels at least.
+    // Each allocates, for the list of levels at least.
     fn takes_memory(self, _: usize) -> bool {
         true
     }

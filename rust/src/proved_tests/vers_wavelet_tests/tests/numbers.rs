@@ -1,4 +1,4 @@
-//! Symbols that are numbers, and what is asked of them.
+//! Symbols that are numbers, and their queries.
 
 use crate::rattle::prelude::*;
 use crate::rattle::AllocError;
@@ -7,7 +7,7 @@ use crate::proved_tests::test_alloc::Step;
 use crate::proved::vers_tally::tally::Tally;
 use crate::proved::vers_wavelet::wavelet::WaveletMatrix;
 
-/// The symbols of so many low bits of each number.
+/// Returns the symbols of that many low bits of each number.
 pub fn symbols_of<A: Allocator + Copy>(
     alloc: A,
     numbers: &[u64],
@@ -16,10 +16,10 @@ pub fn symbols_of<A: Allocator + Copy>(
     WaveletMatrix::from_slice(alloc, numbers, width.min(64))
 }
 
-/// How many bits the symbols of falling numbers have.
+/// The number of bits that the symbols of falling numbers have.
 pub const WIDTH: u16 = 10;
 
-/// Numbers that fall to 0, each but the first or the last there twice.
+/// Returns numbers that fall to 0, each but the first or the last of them twice.
 pub fn falling_numbers<A: Allocator + Copy>(
     alloc: A,
     len: usize,
@@ -31,7 +31,7 @@ pub fn falling_numbers<A: Allocator + Copy>(
     Ok(numbers)
 }
 
-/// Those of falling numbers that a walk has left, in their order or by size.
+/// Those of falling numbers that a walk has left, in their order or ascending.
 #[derive(Clone, Copy)]
 pub struct Falling {
     count: usize,
@@ -41,7 +41,7 @@ pub struct Falling {
 }
 
 impl Falling {
-    /// All of so many numbers, in their order.
+    /// Returns all of `count` numbers, in their order.
     pub fn new(count: usize) -> Falling {
         Falling {
             count,
@@ -51,7 +51,7 @@ impl Falling {
         }
     }
 
-    /// The same numbers by size.
+    /// Returns the same numbers, ascending.
     pub fn by_size(self) -> Falling {
         Falling {
             is_by_size: true,
@@ -59,12 +59,12 @@ impl Falling {
         }
     }
 
-    /// How many are left.
+    /// Returns the number of items left.
     pub fn len(&self) -> usize {
         self.to.saturating_sub(self.from)
     }
 
-    // The number at a place.
+    // Returns the number at a position.
     fn number(&self, place: usize) -> u64 {
         if self.is_by_size {
             place as u64 / 2
@@ -73,7 +73,7 @@ impl Falling {
         }
     }
 
-    // Drops `n` numbers and takes the next.
+    // Skips `n` numbers and takes the next.
     fn front(&mut self, n: usize) -> Option<u64> {
         if n >= self.len() {
             self.from = self.to;
@@ -84,7 +84,7 @@ impl Falling {
         Some(self.number(place))
     }
 
-    // The same from the back.
+    // Does the same from the back.
     fn back(&mut self, n: usize) -> Option<u64> {
         if n >= self.len() {
             self.from = self.to;
@@ -94,7 +94,7 @@ impl Falling {
         Some(self.number(self.to))
     }
 
-    /// What a step of a walk answers.
+    /// Returns the answer of a step of a walk.
     pub fn take(&mut self, step: Step) -> Option<u64> {
         match step {
             Step::Next => self.front(0),
@@ -106,7 +106,7 @@ impl Falling {
     }
 }
 
-/// What is asked of symbols. A range is given by its two ends.
+/// The queries of symbols. A range is given by its two ends.
 #[derive(Clone, Copy)]
 pub enum Query {
     Len,
@@ -129,7 +129,7 @@ pub enum Query {
     Successor(usize, usize, u64),
 }
 
-/// A place or a count as a number.
+/// Returns a position or a count as a number.
 pub fn as_number(n: Option<usize>) -> Option<u64> {
     match n {
         Some(n) => Some(n as u64),
@@ -137,7 +137,7 @@ pub fn as_number(n: Option<usize>) -> Option<u64> {
     }
 }
 
-// The answer of a query about a range of symbols, asked for numbers.
+// Returns the answer of a query of a range of symbols, for numbers.
 fn range_answer<A: Allocator + Copy>(list: &WaveletMatrix<A>, query: Query) -> Option<u64> {
     match query {
         Query::RankRange(a, b, s) => as_number(list.rank_range_u64(a..b, s)),
@@ -152,7 +152,7 @@ fn range_answer<A: Allocator + Copy>(list: &WaveletMatrix<A>, query: Query) -> O
     }
 }
 
-/// The answer of one query, asked for numbers.
+/// Returns the answer of one query, for numbers.
 pub fn answer<A: Allocator + Copy>(list: &WaveletMatrix<A>, query: Query) -> Option<u64> {
     match query {
         Query::Len => Some(list.len() as u64),
@@ -169,7 +169,7 @@ pub fn answer<A: Allocator + Copy>(list: &WaveletMatrix<A>, query: Query) -> Opt
     }
 }
 
-// The answer of the counted form of a query about a range of symbols, asked for numbers.
+// Returns the answer of the counted form of a query of a range of symbols, for numbers.
 fn counted_range_answer<A: Allocator + Copy>(
     list: &WaveletMatrix<A>,
     query: Query,
@@ -188,7 +188,7 @@ fn counted_range_answer<A: Allocator + Copy>(
     }
 }
 
-/// The answer of the counted form of a query. A query that has none is asked as it is.
+/// Returns the answer of the counted form of a query, or of its plain form if it has none.
 pub fn counted_answer<A: Allocator + Copy>(
     list: &WaveletMatrix<A>,
     query: Query,
@@ -204,12 +204,13 @@ pub fn counted_answer<A: Allocator + Copy>(
     }
 }
 
-/// The place that an unchecked select answers, where it is one. The length stands for none.
+/// Returns the position that an unchecked select returns, or `None` if it is the length.
 pub fn place_below(place: usize, len: usize) -> Option<u64> {
     (place < len).then_some(place as u64)
 }
 
-// The answer of the unchecked form of a query by size. Where its condition does not hold, that of the query.
+// Returns the answer of the unchecked form of a query by size, or of its plain form if the precondition doesn't
+// hold.
 fn unchecked_by_size<A: Allocator + Copy>(list: &WaveletMatrix<A>, query: Query) -> Option<u64> {
     let len = list.len();
     if list.bits_per_element() > 64 {
@@ -227,8 +228,8 @@ fn unchecked_by_size<A: Allocator + Copy>(list: &WaveletMatrix<A>, query: Query)
     }
 }
 
-/// The answer of the unchecked form of a query, where its condition holds and the query has an answer or finds
-/// nothing; else that of the query.
+/// Returns the answer of the unchecked form of a query, if its precondition holds and the query has an answer
+/// or finds nothing; otherwise that of its plain form.
 pub fn unchecked_answer<A: Allocator + Copy>(list: &WaveletMatrix<A>, query: Query) -> Option<u64> {
     let len = list.len();
     if list.bits_per_element() > 64 {
@@ -251,12 +252,12 @@ pub fn unchecked_answer<A: Allocator + Copy>(list: &WaveletMatrix<A>, query: Que
     }
 }
 
-/// Whether a query made at most four rank calls for each bit of a symbol.
+/// Returns true if a query made at most four rank calls for each bit of a symbol.
 pub fn is_within<A: Allocator + Copy>(list: &WaveletMatrix<A>, tally: &Tally) -> bool {
     tally.rank_calls() <= 4 * u64::from(list.bit_len())
 }
 
-/// Whether all forms of a query for numbers give an answer, and the counted one within its reads.
+/// Returns true if all forms of a query for numbers have that answer, and the counted one within its bound.
 pub fn is_answered<A: Allocator + Copy>(
     list: &WaveletMatrix<A>,
     query: Query,

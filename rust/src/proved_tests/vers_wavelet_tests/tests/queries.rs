@@ -9,7 +9,7 @@ use crate::proved_tests::test_alloc::{Check, is_made_right};
 use crate::proved::vers_bits::bit_vec::BitVec;
 use crate::proved::vers_wavelet::wavelet::WaveletMatrix;
 
-// The symbols, their width, what is asked and the answers.
+// The symbols, their width, queries and their answers.
 type Case<'a> = (&'a [u64], u16, &'a [(Query, Option<u64>)]);
 
 const CASES: [Case; 5] = [
@@ -100,13 +100,13 @@ const CASES: [Case; 5] = [
     ),
 ];
 
-// What is asked of symbols, and the answers.
+// Queries of symbols, and their answers.
 struct Rows<'a, A: Allocator + Copy> {
     alloc: A,
     rows: &'a [(Query, Option<u64>)],
 }
 
-// Whether all forms of the queries answer so, for numbers and for lists of bits.
+// Checks whether all forms of the queries answer so, for numbers and for lists of bits.
 impl<A: Allocator + Copy> Check<WaveletMatrix<A>> for Rows<'_, A> {
     fn is_right(&self, list: &mut WaveletMatrix<A>) -> bool {
         for (query, wanted) in self.rows.iter() {
@@ -120,7 +120,7 @@ impl<A: Allocator + Copy> Check<WaveletMatrix<A>> for Rows<'_, A> {
     }
 }
 
-// The first case that is answered wrong.
+// Returns the first case that has a wrong answer.
 fn first_wrong_case<A: Allocator + Copy>(alloc: A, cases: &[Case]) -> Option<usize> {
     for (case, (numbers, width, rows)) in cases.iter().enumerate() {
         if !is_made_right(symbols_of(alloc, numbers, *width), &Rows { alloc, rows }) {
@@ -130,7 +130,7 @@ fn first_wrong_case<A: Allocator + Copy>(alloc: A, cases: &[Case]) -> Option<usi
     None
 }
 
-// The table stands in a function of its own, which is faster to prove than in a test.
+// The table is in a function of its own, which is faster to prove than in a test.
 fn first_wrong_of_all<A: Allocator + Copy>(alloc: A) -> Option<usize> {
     first_wrong_case(alloc, &CASES)
 }
@@ -141,8 +141,8 @@ fn answers() {
     assert!(first_wrong_of_all(rt.alloc()).is_none());
 }
 
-// Where unchecked selects of `[1, 5, 3]` find an occurrence: the first place, the occurrence, the symbol and the
-// place that is answered, which is the length where there is none.
+// Unchecked selects of `[1, 5, 3]`: the first position, the occurrence, the symbol and the returned position,
+// which is the length if there is no such occurrence.
 const PLACES: [(usize, usize, u64, usize); 6] = [
     (0, 1, 3, 3),
     (0, 0, 3, 2),
@@ -152,7 +152,7 @@ const PLACES: [(usize, usize, u64, usize); 6] = [
     (0, usize::MAX, 1, 3),
 ];
 
-// Whether unchecked selects for numbers find them.
+// Returns true if unchecked selects for numbers find them.
 fn finds_places<A: Allocator + Copy>(list: &WaveletMatrix<A>) -> bool {
     if list.len() != 3 || list.bits_per_element() > 64 {
         return false;
@@ -168,7 +168,7 @@ fn finds_places<A: Allocator + Copy>(list: &WaveletMatrix<A>) -> bool {
     true
 }
 
-// Occurrence `rank` of a symbol from a place on, and where it is.
+// Occurrence `rank` of a symbol from a position on, and its position.
 struct Found<'a, A: Allocator + Copy> {
     list: &'a WaveletMatrix<A>,
     offset: usize,
@@ -176,7 +176,7 @@ struct Found<'a, A: Allocator + Copy> {
     place: usize,
 }
 
-// Whether unchecked selects for a list of bits find it.
+// Checks whether unchecked selects for a list of bits find it.
 impl<A: Allocator + Copy> Check<BitVec<A>> for Found<'_, A> {
     fn is_right(&self, symbol: &mut BitVec<A>) -> bool {
         if symbol.len() != self.list.bits_per_element() || self.offset > self.list.len() {
@@ -190,7 +190,7 @@ impl<A: Allocator + Copy> Check<BitVec<A>> for Found<'_, A> {
     }
 }
 
-// The places where unchecked selects find an occurrence.
+// The positions that unchecked selects find.
 struct Places(Global);
 
 impl Check<WaveletMatrix<Global>> for Places {

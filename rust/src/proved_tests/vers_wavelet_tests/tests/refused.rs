@@ -1,4 +1,4 @@
-//! Symbols that are handed out as lists of bits, each request for one refused in turn. A refused item of a walk
+//! Symbols that are returned as lists of bits, each of their requests refused in turn. A refused item of a walk
 //! counts as passed.
 
 use crate::rattle::prelude::*;
@@ -17,7 +17,7 @@ use crate::proved::vers_bits::bit_vec::BitVec;
 use crate::proved::vers_tally::tally::Tally;
 use crate::proved::vers_wavelet::wavelet::WaveletMatrix;
 
-// What is asked of all symbols, for the place in the middle or for its number by size.
+// The queries of all symbols, for the position in the middle or for its number by size.
 #[derive(Clone, Copy)]
 enum Topic {
     Get,
@@ -31,7 +31,7 @@ enum Topic {
 }
 
 impl Topic {
-    // The query about so many symbols.
+    // Returns the query about that many symbols.
     fn query(self, len: usize) -> Query {
         let i = len / 2;
         let number = i as u64 / 2;
@@ -47,7 +47,7 @@ impl Topic {
         }
     }
 
-    // What it answers about falling numbers, if there are any.
+    // Returns its answer for falling numbers, if there are any.
     fn answer(self, len: usize) -> Option<u64> {
         let last = len.checked_sub(1)? as u64;
         let i = len as u64 / 2;
@@ -79,13 +79,13 @@ struct Asking {
     form: Form,
 }
 
-// The same of symbols that were made with a heap.
+// The same for symbols that were made with a heap.
 struct Answering<'a> {
     heap: &'a Heap,
     asking: Asking,
 }
 
-// The same where a symbol is at hand for which the query is.
+// The same with a symbol for the query.
 struct AnsweringFor<'a, 'b> {
     heap: &'a Heap,
     asking: Asking,
@@ -156,13 +156,13 @@ impl Trial<Global> for Asking {
         }
     }
 
-    // An empty range has no symbol, and needs none.
+    // An empty range has no symbol, and needs no memory.
     fn takes_memory(self, len: usize) -> bool {
         len > 0
     }
 }
 
-// The first length at which a form of a query goes wrong.
+// Returns the first length at which a form of a query is wrong.
 fn first_wrong_answer(alloc: Global) -> Option<(usize, usize)> {
     for topic in TOPICS {
         let forms = [
@@ -193,7 +193,7 @@ fn symbols_as_answers_are_refused_in_turn() {
     assert!(first_wrong_answer(rt.alloc()).is_none());
 }
 
-// Which walk over lists of bits is taken.
+// A walk over lists of bits.
 #[derive(Clone, Copy)]
 enum Way {
     Borrowed,
@@ -209,7 +209,7 @@ const WAYS: [Way; 4] = [
     Way::OwnedSorted,
 ];
 
-// How an item is taken from a walk.
+// A way to take an item from a walk.
 #[derive(Clone, Copy)]
 enum How {
     Plain(Step),
@@ -237,7 +237,7 @@ struct Taking {
 }
 
 impl Taking {
-    // What the walk has to go through.
+    // Returns the expected items of the walk.
     fn plain(self, len: usize) -> Falling {
         match self.way {
             Way::Borrowed | Way::Owned => Falling::new(len),
@@ -246,7 +246,8 @@ impl Taking {
     }
 }
 
-// A step of a walk whose item may be refused. After it the walk goes on with the items that a plain list has then.
+// Tests a step of a walk whose item may be refused. After it the walk continues with the items that a plain
+// list has then.
 fn tried_step<B: Allocator, W: Walk>(
     heap: &Refusing<B>,
     walk: &mut W,
@@ -278,7 +279,7 @@ fn tried_last<B: Allocator, W: Walk>(heap: &Refusing<B>, walk: W, plain: Falling
     }
 }
 
-// An item of a walk that was made.
+// Tests an item of a walk that was made.
 fn tried_walk<B: Allocator, W: Walk, X: Sized>(
     heap: &Refusing<B>,
     made: Result<W, X>,
@@ -295,7 +296,7 @@ fn tried_walk<B: Allocator, W: Walk, X: Sized>(
     }
 }
 
-// The same of a walk that borrows symbols.
+// The same for a walk that borrows symbols.
 struct Borrowing<'a, B: Allocator> {
     heap: &'a Refusing<B>,
     taking: Taking,
@@ -347,7 +348,7 @@ impl Trial<Global> for Taking {
         }
     }
 
-    // Only an item that is there takes memory.
+    // Only an item that exists is allocated.
     fn takes_memory(self, len: usize) -> bool {
         let mut plain = self.plain(len);
         match self.how {
@@ -357,7 +358,7 @@ impl Trial<Global> for Taking {
     }
 }
 
-// The first length at which an item goes wrong.
+// Returns the first length at which an item is wrong.
 fn first_wrong_item(alloc: Global) -> Option<(usize, usize)> {
     for way in WAYS {
         for how in HOWS {

@@ -16,18 +16,18 @@ use crate::proved::vers_tally::made_ends::{MadeEnds, Maker};
 use crate::proved::vers_tally::tally::Tally;
 use crate::proved::vers_wavelet::wavelet::WaveletMatrix;
 
-/// A walk over symbols, whose items are told as numbers.
+/// A walk over symbols, whose items are compared as numbers.
 pub trait Walk: Sized {
-    /// What a step answers, by its plain form.
+    /// Returns the answer of a step, in its plain form.
     fn told(&mut self, step: Step) -> Told;
 
-    /// What a step answers, by its counted form.
+    /// Returns the answer of a step, in its counted form.
     fn told_counted(&mut self, step: Step, tally: &mut Tally) -> Told;
 
-    /// The last item.
+    /// Returns the last item.
     fn told_last(self) -> Told;
 
-    /// Whether a `for` over it gives what a plain list has left.
+    /// Returns true if a `for` loop over it returns what a plain list has left.
     fn loops(self, plain: Falling) -> bool;
 }
 
@@ -67,7 +67,7 @@ impl<S: Source<Item = u64>> Walk for BothEnds<S> {
     }
 }
 
-// The number of an item, if there is one, or why it was refused.
+// Returns the number of an item, if there is one, or why it was refused.
 fn told_item<A: Allocator + Copy>(item: Option<Result<BitVec<A>, AllocError>>) -> Told {
     match item {
         Some(Ok(symbol)) => Ok(Some(number_of(&symbol))),
@@ -128,7 +128,7 @@ const STEPS: [Step; 12] = [
     Step::NextBack,
 ];
 
-// A step of a walk, by its counted form in two of five turns.
+// Returns a step of a walk, in its counted form in two of five turns.
 fn taken<W: Walk>(walk: &mut W, turn: usize, step: Step, tally: &mut Tally) -> Told {
     if turn % 5 < 2 {
         walk.told_counted(step, tally)
@@ -137,8 +137,8 @@ fn taken<W: Walk>(walk: &mut W, turn: usize, step: Step, tally: &mut Tally) -> T
     }
 }
 
-/// Whether a walk gives the items of a plain list that are left, by steps from both ends, and stays at its end. A
-/// step makes at most four rank calls for each bit of a symbol.
+/// Returns true if a walk returns the items that a plain list has left, by steps from both ends, and stays at
+/// its end. A step makes at most four rank calls for each bit of a symbol.
 pub fn goes_on<W: Walk>(walk: &mut W, plain: Falling) -> bool {
     let mut plain = plain;
     for turn in 0..plain.len().saturating_add(STEPS.len()) {
@@ -153,7 +153,7 @@ pub fn goes_on<W: Walk>(walk: &mut W, plain: Falling) -> bool {
     true
 }
 
-/// By which calls a walk is taken to its end.
+/// The calls by which a walk is taken to its end.
 #[derive(Clone, Copy)]
 pub enum Pass {
     Steps,
@@ -164,7 +164,7 @@ pub enum Pass {
 /// All of them.
 const PASSES: [Pass; 3] = [Pass::Steps, Pass::Last, Pass::Loop];
 
-/// Whether a walk gives the items of a plain list.
+/// Returns true if a walk returns the items of a plain list.
 pub fn is_walked<W: Walk>(walk: W, plain: Falling, pass: Pass) -> bool {
     let mut plain = plain;
     let mut walk = walk;
@@ -175,7 +175,7 @@ pub fn is_walked<W: Walk>(walk: W, plain: Falling, pass: Pass) -> bool {
     }
 }
 
-/// The same of a walk that may not be there.
+/// Does the same for a walk that may not be there.
 pub fn is_walked_if<W: Walk>(walk: Option<W>, plain: Falling, pass: Pass) -> bool {
     match walk {
         Some(walk) => is_walked(walk, plain, pass),
@@ -183,7 +183,7 @@ pub fn is_walked_if<W: Walk>(walk: Option<W>, plain: Falling, pass: Pass) -> boo
     }
 }
 
-// The same of a walk that was made.
+// Does the same for a walk that was made.
 fn is_made_and_walked<W: Walk, E: Sized>(made: Result<W, E>, plain: Falling, pass: Pass) -> bool {
     match made {
         Ok(walk) => is_walked(walk, plain, pass),
@@ -191,7 +191,7 @@ fn is_made_and_walked<W: Walk, E: Sized>(made: Result<W, E>, plain: Falling, pas
     }
 }
 
-/// Whether the walks over numbers that borrow symbols give those of a plain list.
+/// Returns true if the walks over numbers that borrow symbols return those of a plain list.
 pub fn numbers_are_walked<A: Allocator + Copy>(
     list: &WaveletMatrix<A>,
     plain: Falling,
@@ -201,7 +201,7 @@ pub fn numbers_are_walked<A: Allocator + Copy>(
         && is_walked_if(list.iter_sorted_u64(), plain.by_size(), pass)
 }
 
-// Whether the walks over lists of bits do.
+// Returns true if the walks over lists of bits do.
 fn lists_are_walked<A: Allocator + Copy>(
     list: &WaveletMatrix<A>,
     plain: Falling,
@@ -210,7 +210,7 @@ fn lists_are_walked<A: Allocator + Copy>(
     is_walked(list.iter(), plain, pass) && is_walked(list.iter_sorted(), plain.by_size(), pass)
 }
 
-// Whether a `for` over a borrow of symbols gives the numbers of a plain list.
+// Returns true if a `for` loop over a borrow of symbols passes the numbers of a plain list.
 fn loops_over<A: Allocator + Copy>(list: &WaveletMatrix<A>, plain: Falling) -> bool {
     is_walked(list.into_iter(), plain, Pass::Loop)
 }
@@ -219,7 +219,7 @@ fn loops_over_mut<A: Allocator + Copy>(list: &mut WaveletMatrix<A>, plain: Falli
     is_walked(list.into_iter(), plain, Pass::Loop)
 }
 
-// Whether all walks that borrow symbols give the numbers of a plain list.
+// Checks whether all walks that borrow symbols return the numbers of a plain list.
 impl<A: Allocator + Copy> Check<WaveletMatrix<A>> for Falling {
     fn is_right(&self, list: &mut WaveletMatrix<A>) -> bool {
         for pass in PASSES {
@@ -231,7 +231,7 @@ impl<A: Allocator + Copy> Check<WaveletMatrix<A>> for Falling {
     }
 }
 
-/// Which walk owns the symbols.
+/// A walk that owns the symbols.
 #[derive(Clone, Copy)]
 pub enum Owned {
     Lists,
@@ -248,7 +248,7 @@ const OWNED: [Owned; 4] = [
     Owned::SortedNumbers,
 ];
 
-// Whether a walk that owns the symbols of numbers gives those of a plain list.
+// Returns true if a walk that owns the symbols of numbers returns those of a plain list.
 fn owned_is_walked(
     alloc: Global,
     numbers: &[u64],
@@ -267,7 +267,7 @@ fn owned_is_walked(
     }
 }
 
-// Whether all walks that own symbols do.
+// Returns true if all walks that own symbols do.
 fn all_owned_are_walked(alloc: Global, numbers: &[u64], plain: Falling) -> bool {
     for owned in OWNED {
         for pass in PASSES {
@@ -282,7 +282,7 @@ fn all_owned_are_walked(alloc: Global, numbers: &[u64], plain: Falling) -> bool 
 // Lengths at and around the ends of words and blocks, and one past two blocks.
 const LENGTHS: [usize; 10] = [0, 1, 2, 63, 64, 65, 130, 512, 513, 1030];
 
-// The first length at which a walk gives something else, or its numbers were not made.
+// Returns the first length at which a walk returns something else, or its numbers were not made.
 fn first_wrong_length(alloc: Global, lengths: &[usize]) -> Result<Option<usize>, AllocError> {
     for len in lengths {
         let numbers = falling_numbers(alloc, *len)?;

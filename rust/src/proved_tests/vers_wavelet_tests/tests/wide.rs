@@ -1,7 +1,7 @@
 //! The queries for symbols of one bit, of a word and a bit, and of many more.
 //!
-//! A number of three digits stands for the symbol that has them at its first, its middle and its last place,
-//! and zeros elsewhere: so symbols stand in the order of their numbers.
+//! A number of three digits represents the symbol that has them at its first, its middle and its last position,
+//! and zeros elsewhere: so symbols are in the order of their numbers.
 
 use crate::rattle::prelude::*;
 use crate::proved_tests::vers_wavelet_tests::tests::lists::{Asked, Coding, is_answered_for, symbol_asked};
@@ -16,7 +16,7 @@ use crate::proved::vers_wavelet::wavelet::{GetQuery, QuantileQuery, RankQuery, S
 
 const NUMBERS: [u64; 6] = [1, 5, 3, 7, 0, 5];
 
-// What is asked of symbols for these numbers.
+// Queries of symbols for these numbers.
 const ROWS: [(Query, Option<u64>); 34] = [
     (Query::Get(1), Some(5)),
     (Query::Get(6), None),
@@ -54,7 +54,7 @@ const ROWS: [(Query, Option<u64>); 34] = [
     (Query::Successor(0, 3, 6), None),
 ];
 
-// What is asked of no symbols.
+// Queries of an empty list.
 const ROWS_OF_NONE: [(Query, Option<u64>); 8] = [
     (Query::Get(0), None),
     (Query::RankRange(0, 0, 5), None),
@@ -66,14 +66,14 @@ const ROWS_OF_NONE: [(Query, Option<u64>); 8] = [
     (Query::Successor(0, 0, 0), None),
 ];
 
-// Whether a place of the symbol for a number holds a one.
+// Returns true if a position of the symbol for a number has a one.
 fn is_one(number: u64, place: usize, width: usize) -> bool {
     (place == 0 && number % 2 == 1)
         || (place == width / 2 && number / 2 % 2 == 1)
         || (place == width.saturating_sub(1) && number / 4 % 2 == 1)
 }
 
-// The symbols for some numbers, one after another.
+// Returns the symbols for some numbers, one after another.
 fn bits_of<A: Allocator + Copy>(
     alloc: A,
     numbers: &[u64],
@@ -88,8 +88,8 @@ fn bits_of<A: Allocator + Copy>(
     Ok(bits)
 }
 
-// Whether all forms of a query answer so, for a symbol of so many bits, which may be another width than the
-// list's.
+// Returns true if all forms of a query answer so, for a symbol of that many bits, which may be another width
+// than the list's.
 fn is_answered_at<A: Allocator + Copy>(
     alloc: A,
     list: &WaveletMatrix<A>,
@@ -107,7 +107,7 @@ fn is_answered_at<A: Allocator + Copy>(
     is_answered_for(&asked, bits_of(alloc, &[number], width))
 }
 
-// Whether all queries are answered as their rows say.
+// Returns true if all queries have the answers in their rows.
 fn are_answered<A: Allocator + Copy>(
     alloc: A,
     list: &WaveletMatrix<A>,
@@ -121,7 +121,7 @@ fn are_answered<A: Allocator + Copy>(
     true
 }
 
-// Whether queries that take a number, or answer one, have no answer.
+// Returns true if queries that take a number, or return one, have no answer.
 fn has_none<A: Allocator + Copy>(list: &WaveletMatrix<A>, rows: &[(Query, Option<u64>)]) -> bool {
     for (query, _) in rows.iter() {
         if answer(list, *query).is_some() {
@@ -136,7 +136,7 @@ fn has_none<A: Allocator + Copy>(list: &WaveletMatrix<A>, rows: &[(Query, Option
         && batches_have_none(list)
 }
 
-// Whether no query of a batch has an answer, also where it had one before.
+// Returns true if no query of a batch has an answer, also if it had one before.
 fn batches_have_none<A: Allocator + Copy>(list: &WaveletMatrix<A>) -> bool {
     let mut gets = [GetQuery {
         place: 0,
@@ -168,7 +168,7 @@ fn batches_have_none<A: Allocator + Copy>(list: &WaveletMatrix<A>) -> bool {
         && quantiles[0].answer.is_none()
 }
 
-// What is asked for a symbol of another width, and has no answer.
+// Queries for a symbol of another width, which have no answer.
 const OF_ANOTHER_WIDTH: [Query; 7] = [
     Query::RankRange(0, 6, 5),
     Query::RankOffset(0, 6, 5),
@@ -193,7 +193,7 @@ fn refuses_width<A: Allocator + Copy>(
     true
 }
 
-// Whether a symbol is there, of so many ones.
+// Returns true if a symbol is there, of that many ones.
 fn is_of_ones<A: Allocator + Copy>(
     symbol: Result<Option<BitVec<A>>, AllocError>,
     width: usize,
@@ -204,27 +204,27 @@ fn is_of_ones<A: Allocator + Copy>(
     }
 }
 
-// Whether there is one symbol, of ones, which is no number.
+// Returns true if there is one symbol, of ones, which doesn't fit in a word.
 fn is_one_of_ones<A: Allocator + Copy>(list: &WaveletMatrix<A>) -> bool {
     list.len() == 1
         && list.iter_u64().is_none()
         && is_of_ones(list.get_value(0), list.bits_per_element())
 }
 
-// What has to hold of symbols.
+// A property of symbols.
 #[derive(Clone, Copy)]
 enum Property<'a> {
-    // Queries are answered as their rows say.
+    // Queries have the answers in their rows.
     Rows(&'a [(Query, Option<u64>)]),
-    // Nothing is answered to numbers.
+    // Queries for numbers have no answer.
     NoNumbers(&'a [(Query, Option<u64>)]),
-    // Nothing is answered to symbols of so many bits.
+    // Queries for symbols of that many bits have no answer.
     OtherWidth(usize),
-    // There is one, whose bits are ones.
+    // There is one symbol, whose bits are ones.
     OneOfOnes,
 }
 
-// Symbols of so many bits, and what has to hold of them.
+// Symbols of that many bits, and a property of them.
 struct Wide<'a> {
     alloc: Global,
     width: u16,
@@ -244,14 +244,14 @@ impl Check<WaveletMatrix<Global>> for Wide<'_> {
     }
 }
 
-// Whether it holds of the symbols that a list of bits has.
+// Checks the property for the symbols in a list of bits.
 impl Check<BitVec<Global>> for Wide<'_> {
     fn is_right(&self, bits: &mut BitVec<Global>) -> bool {
         is_made_right(of_bits(Method::Sorting, bits, self.width), self)
     }
 }
 
-// The first of some widths at which a property does not hold of the symbols for some numbers.
+// Returns the first of several widths at which a property does not hold for the symbols of some numbers.
 fn first_wrong_width(
     alloc: Global,
     numbers: &[u64],
@@ -273,7 +273,7 @@ fn first_wrong_width(
 
 const WIDTHS: [u16; 5] = [3, 64, 65, 127, u16::MAX];
 
-// The rows stand in a function of its own, which is faster to prove than in a test.
+// The rows are in a function of its own, which is faster to prove than in a test.
 fn rows() -> &'static [(Query, Option<u64>)] {
     &ROWS
 }

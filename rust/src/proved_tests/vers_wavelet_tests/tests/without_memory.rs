@@ -1,4 +1,4 @@
-//! The calls that take no memory, with every request refused, of lists of every length.
+//! The calls that allocate nothing, with every request refused, of lists of every length.
 
 use crate::rattle::prelude::*;
 use crate::proved_tests::vers_wavelet_tests::tests::lists::{Asked, Coding, Form, answer_in, is_answered_to, symbol_of};
@@ -17,7 +17,7 @@ use crate::proved::vers_tally::ends::{Borrowing, BothEnds, Source};
 use crate::proved::vers_tally::tally::Tally;
 use crate::proved::vers_wavelet::wavelet::{GetQuery, QuantileQuery, RankQuery, SelectQuery, WaveletMatrix};
 
-// Whether all forms of the queries for numbers answer the same of so many symbols.
+// Returns true if all forms of the queries for numbers agree on that many symbols.
 fn answers_numbers<A: Allocator + Copy>(list: &WaveletMatrix<A>, len: usize) -> bool {
     let i = len / 2;
     let s = i as u64 / 2;
@@ -46,7 +46,7 @@ fn answers_numbers<A: Allocator + Copy>(list: &WaveletMatrix<A>, len: usize) -> 
     true
 }
 
-// Whether batches of queries answer what single queries do of so many symbols.
+// Returns true if batches of queries answer as single queries do for that many symbols.
 fn answers_batches<A: Allocator + Copy>(list: &WaveletMatrix<A>, len: usize) -> bool {
     let i = len / 2;
     let s = i as u64 / 2;
@@ -68,7 +68,7 @@ fn answers_batches<A: Allocator + Copy>(list: &WaveletMatrix<A>, len: usize) -> 
         && quantiles[1].answer == list.quantile_u64(i..len, 0)
 }
 
-// Whether ranks and selects for a list of bits answer what those for its number do.
+// Returns true if ranks and selects for a list of bits answer what those for its number do.
 fn answers_lists<A: Allocator + Copy>(
     list: &WaveletMatrix<A>,
     len: usize,
@@ -96,7 +96,7 @@ fn answers_lists<A: Allocator + Copy>(
     true
 }
 
-// Whether queries that have no answer say so, in both forms that are checked.
+// Returns true if queries that have no answer say so, in both forms that are checked.
 fn answer_none<A: Allocator + Copy>(
     list: &WaveletMatrix<A>,
     queries: &[Query],
@@ -112,7 +112,7 @@ fn answer_none<A: Allocator + Copy>(
     true
 }
 
-// Whether places and ranges that so many symbols don't have have no answer.
+// Returns true if positions and ranges out of bounds have no answer.
 fn refuses_ranges<A: Allocator + Copy>(
     list: &WaveletMatrix<A>,
     len: usize,
@@ -143,7 +143,7 @@ fn refuses_ranges<A: Allocator + Copy>(
     answer_none(list, &queries, symbol)
 }
 
-// Whether a symbol of another width has no answer.
+// Returns true if a symbol of another width has no answer.
 fn refuses_width<A: Allocator + Copy>(
     list: &WaveletMatrix<A>,
     len: usize,
@@ -161,7 +161,7 @@ fn refuses_width<A: Allocator + Copy>(
     answer_none(list, &queries, symbol)
 }
 
-// Whether a clone of a walk over numbers goes through them.
+// Returns true if a clone of a walk over numbers goes through them.
 fn clone_is_walked<S: Source<Item = u64> + Borrowing>(
     walk: Option<BothEnds<S>>,
     plain: Falling,
@@ -172,7 +172,7 @@ fn clone_is_walked<S: Source<Item = u64> + Borrowing>(
     }
 }
 
-// Whether a walk over lists has so many items, and none past its end.
+// Returns true if a walk over lists has that many items, and none past its end.
 fn is_as_long<W: Walk>(walk: W, len: usize) -> bool {
     let mut walk = walk;
     walk.told(Step::Len) == Ok(Some(len as u64))
@@ -189,7 +189,7 @@ fn clones_are_right<A: Allocator + Copy>(list: &WaveletMatrix<A>, plain: Falling
         && is_as_long(list.iter_sorted().clone(), len)
 }
 
-// A symbol that is at hand, perhaps of another width, and the plain list of the symbols that are asked.
+// A symbol, perhaps of another width, and the plain list of the symbols that are queried.
 struct Using<'a, A: Allocator + Copy> {
     symbol: &'a BitVec<A>,
     plain: Falling,
@@ -211,7 +211,7 @@ impl<A: Allocator + Copy> Check<WaveletMatrix<A>> for Using<'_, A> {
     }
 }
 
-// Numbers whose symbols are asked.
+// Numbers whose symbols are queried.
 struct Numbers<'a, B: Allocator, A: Allocator + Copy> {
     heap: &'a Refusing<B>,
     alloc: A,
@@ -232,15 +232,15 @@ impl<B: Allocator, A: Allocator + Copy> Tried<BitVec<A>> for Numbers<'_, B, A> {
     }
 }
 
-// Calls that take no memory.
+// Calls that allocate nothing.
 #[derive(Clone, Copy)]
 enum Call {
-    // Queries, for a symbol of so many bits, and walks over numbers that borrow symbols.
+    // Queries, for a symbol of that many bits, and walks over numbers that borrow symbols.
     OfWidth(usize),
     // Walks over numbers that own symbols.
     Walk,
     SortedWalk,
-    // The maker of symbols that have no digits.
+    // The constructor of symbols without digits.
     NoDigits,
 }
 
@@ -254,7 +254,7 @@ const CALLS: [Call; 7] = [
     Call::NoDigits,
 ];
 
-// A maker of symbols that have no digits, which there are none of.
+// Tests a constructor of symbols without digits, which makes an empty list.
 fn tried_no_digits<B: Allocator, A: Allocator + Copy>(
     heap: &Refusing<B>,
     alloc: A,
@@ -268,7 +268,7 @@ fn tried_no_digits<B: Allocator, A: Allocator + Copy>(
     }
 }
 
-// A walk whose items take none.
+// Returns a walk whose items are refused.
 fn going<B: Allocator>(heap: &Refusing<B>, plain: Falling) -> Going<'_, B> {
     Going {
         heap,

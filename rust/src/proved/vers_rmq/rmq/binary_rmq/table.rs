@@ -1,4 +1,4 @@
-//! The table of the places of least items, by powers of two.
+//! The table of the positions of least items, by powers of two.
 
 use crate::rattle::prelude::*;
 
@@ -6,25 +6,25 @@ use crate::proved::vers_rmq::rmq::least::lesser_place;
 use crate::rattle::AllocError;
 use crate::rattle::Allocator;
 
-// The exponent of the greatest power of two that is not above a number.
+// Returns the exponent of the greatest power of two that is at most `a`.
 #[inline(always)]
 pub(super) fn log2(a: usize) -> usize {
     63 - a.leading_zeros() as usize
 }
 
-// Two to the power of `k`.
+// Returns two to the power of `k`.
 #[inline(always)]
 pub(super) fn width(k: usize) -> usize {
     1 << k
 }
 
-// How many levels the table of `n` items has: one for each power of two up to the first that is not
-// below `n`.
+// Returns the number of levels in the table of `n` items: one for each power of two up to the first that is at
+// least `n`.
 fn level_count(n: usize) -> usize {
     if n < 2 { 1 } else { log2(n - 1) + 2 }
 }
 
-// The entry of level `k + 1` for the range from `i` on, from two entries of level `k`.
+// Returns the entry of level `k + 1` for the range from `i` on, from two entries of level `k`.
 fn next_place(items: &[u64], table: &[u32], k: usize, i: usize) -> u32 {
     let m = table[items.len() * k + i];
     let h = i + width(k);
@@ -34,8 +34,8 @@ fn next_place(items: &[u64], table: &[u32], k: usize, i: usize) -> u32 {
     m
 }
 
-// The table: a level for each power of two up to the first that is not below the number of items,
-// and on it an entry for each item. Room is asked for once.
+// Returns the table: a level for each power of two up to the first that is at least the number of items, and on
+// it an entry for each item. Allocates once.
 pub(super) fn places<A: Allocator + Copy>(
     items: &[u64],
     alloc: A,

@@ -1,4 +1,4 @@
-//! What is kept of blocks of 128 items.
+//! The data of blocks of 128 items.
 
 use crate::rattle::prelude::*;
 
@@ -7,21 +7,21 @@ use crate::proved::vers_rmq::rmq::fast_rmq::{BLOCK, MAX_LEN, PART};
 use crate::rattle::AllocError;
 use crate::rattle::Allocator;
 
-// The masks of a block, which take 64 bytes: those of all of it, and those of its parts of 16 items.
+// The masks of a block, which take 64 bytes: those of the whole block, and those of its parts of 16 items.
 #[derive(Clone, Copy)]
 pub(super) struct BlockMasks {
     pub(super) whole: Masks,
     pub(super) parts: Masks,
 }
 
-// Of each block the least item, how far its first place is from the block's start, and the masks.
+// For each block the least item, the distance of its first position to the block's start, and the masks.
 pub(super) struct Blocks<A: Allocator + Copy> {
     pub(super) minima: Vec<u64, A>,
     pub(super) places: Vec<u8, A>,
     pub(super) masks: Vec<BlockMasks, A>,
 }
 
-// The masks of the block from `start` to before `end`, and the first place of its least item.
+// Returns the masks of the block from `start` to before `end`, and the first position of its least item.
 fn block_masks(items: &[u64], start: usize, end: usize) -> (BlockMasks, usize) {
     let (prefixes, part_prefixes, least) = prefix_masks(items, start, end);
     let (suffixes, part_suffixes) = suffix_masks(items, start, end);
@@ -35,7 +35,7 @@ fn block_masks(items: &[u64], start: usize, end: usize) -> (BlockMasks, usize) {
     (masks, least)
 }
 
-// Adds what is kept of block `b`.
+// Appends the data of block `b`.
 fn add_block<A: Allocator + Copy>(
     items: &[u64],
     blocks: &mut Blocks<A>,
@@ -50,7 +50,7 @@ fn add_block<A: Allocator + Copy>(
     Ok(())
 }
 
-// What is kept of all blocks, with room asked for once.
+// Returns the data of all blocks. Allocates each vector once.
 pub(super) fn all_blocks<A: Allocator + Copy>(
     items: &[u64],
     alloc: A,

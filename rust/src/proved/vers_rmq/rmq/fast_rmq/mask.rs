@@ -1,43 +1,43 @@
-//! Masks of a block of up to 128 items: where the least item of each start and of each end of its
-//! parts stands. All of the block is one part, or each 16 items are.
+//! Masks of a block of up to 128 items: the positions of the least items of all prefixes and suffixes of its
+//! parts. The whole block is one part, or each 16 items are.
 
 use crate::rattle::prelude::*;
 
 use crate::proved::vers_rmq::rmq::fast_rmq::{BLOCK, PART};
 
-// The two masks of a block by one width of its parts.
+// The two masks of a block for one width of its parts.
 #[derive(Clone, Copy)]
 pub(super) struct Masks {
     pub(super) prefixes: u128,
     pub(super) suffixes: u128,
 }
 
-// A mask as far as it is made, and the first place of the least of the items that it stands for.
+// A mask so far, and the first position of the least of the items that it covers.
 #[derive(Clone, Copy)]
 pub(super) struct Partial {
     pub(super) mask: u128,
     pub(super) least: usize,
 }
 
-// The bits with a 1 more, at `d`.
+// Returns the bits with one more 1, at `d`.
 #[inline(always)]
 fn with_one(bits: u64, d: usize) -> u64 {
     bits | 1 << d
 }
 
-// The mask with one 1, at `d`.
+// Returns the mask with one 1, at `d`.
 #[inline(always)]
 fn one_at(d: usize) -> u128 {
     1 << d
 }
 
-// The mask with the bits, of which the first goes to `d`.
+// Returns the mask with the bits, of which the first goes to `d`.
 #[inline(always)]
 fn with_bits(mask: u128, bits: u64, d: usize) -> u128 {
     mask | (bits as u128) << d
 }
 
-// The prefix mask that reaches to before `from`, with the items from there to before `to`.
+// Returns the prefix mask up to before `from`, extended by the items from there to before `to`.
 #[inline(always)]
 fn more_prefixes(items: &[u64], start: usize, from: usize, to: usize, done: Partial) -> Partial {
     let mut bits = 0;
@@ -55,7 +55,7 @@ fn more_prefixes(items: &[u64], start: usize, from: usize, to: usize, done: Part
     Partial { mask, least }
 }
 
-// The prefix mask of the part from `from` to before `to`.
+// Returns the prefix mask of the part from `from` to before `to`.
 #[inline(always)]
 fn part_prefixes(items: &[u64], start: usize, from: usize, to: usize) -> Partial {
     let first = Partial {
@@ -65,7 +65,7 @@ fn part_prefixes(items: &[u64], start: usize, from: usize, to: usize) -> Partial
     more_prefixes(items, start, from + 1, to, first)
 }
 
-// The prefix mask that reaches to before `from`, with a part of which the least item stands at `least`.
+// Returns the prefix mask up to before `from`, extended by a part whose least item is at `least`.
 #[inline(always)]
 fn prefixes_past(
     items: &[u64],
@@ -82,8 +82,8 @@ fn prefixes_past(
     }
 }
 
-// The prefix masks of the block from `start` to before `end`, of all of it and by parts of 16 items, and
-// the first place of its least item.
+// Returns the prefix masks of the block from `start` to before `end`, of all of it and by parts of 16 items,
+// and the first position of its least item.
 pub(super) fn prefix_masks(items: &[u64], start: usize, end: usize) -> (u128, u128, usize) {
     let mut at = end.min(start + PART);
     let mut whole = part_prefixes(items, start, start, at);
@@ -98,7 +98,7 @@ pub(super) fn prefix_masks(items: &[u64], start: usize, end: usize) -> (u128, u1
     (whole.mask, parts, whole.least)
 }
 
-// The suffix mask that begins at `to`, with the items before it from `from` on.
+// Returns the suffix mask from `to` on, extended by the items before it from `from` on.
 #[inline(always)]
 fn more_suffixes(items: &[u64], start: usize, from: usize, to: usize, done: Partial) -> Partial {
     let mut bits = 0;
@@ -118,7 +118,7 @@ fn more_suffixes(items: &[u64], start: usize, from: usize, to: usize, done: Part
     Partial { mask, least }
 }
 
-// The suffix mask of the part from `from` to before `to`.
+// Returns the suffix mask of the part from `from` to before `to`.
 #[inline(always)]
 fn part_suffixes(items: &[u64], start: usize, from: usize, to: usize) -> Partial {
     let last = Partial {
@@ -128,7 +128,7 @@ fn part_suffixes(items: &[u64], start: usize, from: usize, to: usize) -> Partial
     more_suffixes(items, start, from, to - 1, last)
 }
 
-// The suffix mask that begins at `to`, with a part before it of which the least item stands at `least`.
+// Returns the suffix mask from `to` on, extended by the part before it whose least item is at `least`.
 #[inline(always)]
 fn suffixes_past(
     items: &[u64],
@@ -145,7 +145,7 @@ fn suffixes_past(
     }
 }
 
-// The suffix masks of the block from `start` to before `end`: of all of it, and by parts of 16 items.
+// Returns the suffix masks of the block from `start` to before `end`: of all of it, and by parts of 16 items.
 pub(super) fn suffix_masks(items: &[u64], start: usize, end: usize) -> (u128, u128) {
     let mut at = start + (end - 1 - start) / PART * PART;
     let mut whole = part_suffixes(items, start, at, end);
@@ -160,13 +160,13 @@ pub(super) fn suffix_masks(items: &[u64], start: usize, end: usize) -> (u128, u1
     (whole.mask, parts)
 }
 
-// The last place up to `j` with a 1.
+// Returns the last position up to `j` with a 1.
 #[inline(always)]
 pub(super) fn last_set(mask: u128, j: usize) -> usize {
     127 - (mask & u128::MAX >> (127 - j)).leading_zeros() as usize
 }
 
-// The first place from `i` on with a 1.
+// Returns the first position from `i` on with a 1.
 #[inline(always)]
 pub(super) fn first_set(mask: u128, i: usize) -> usize {
     i + (mask >> i).trailing_zeros() as usize

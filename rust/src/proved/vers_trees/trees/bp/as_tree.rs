@@ -1,4 +1,4 @@
-//! A tree of balanced parentheses as a tree.
+//! `Tree` for balanced parentheses.
 
 use crate::rattle::prelude::*;
 

@@ -12,10 +12,9 @@ use crate::proved::vers_bits::bit_vec::{BitVec, GrowError};
 /// Why a tree was not built.
 #[derive(Clone, Copy, PartialEq, Eq, Debug)]
 pub enum BuildError {
-    /// The nodes entered are not as many as those left: how many more they are, or below 0 how many
-    /// fewer.
+    /// The number of nodes entered minus the number of nodes left, if these differ.
     Excess(i64),
-    /// The allocator has no memory.
+    /// The allocator refused a request.
     Memory,
 }
 
@@ -33,9 +32,9 @@ pub struct BpBuilder<const BLOCK_SIZE: usize, A: Allocator + Copy> {
 }
 
 impl<const BLOCK_SIZE: usize, A: Allocator + Copy> BpBuilder<BLOCK_SIZE, A> {
-    /// A list of no parentheses. Takes no memory.
+    /// Returns an empty list of parentheses. Allocates nothing.
     ///
-    /// The block size is from 1 to `MAX_BLOCK_SIZE`.
+    /// Precondition: `BLOCK_SIZE` is from 1 to `MAX_BLOCK_SIZE`.
     pub fn new(alloc: A) -> Self {
         BpBuilder {
             bits: BitVec::new(alloc),
@@ -43,10 +42,14 @@ impl<const BLOCK_SIZE: usize, A: Allocator + Copy> BpBuilder<BLOCK_SIZE, A> {
         }
     }
 
-    /// A list of no parentheses, with room for those of `nodes` nodes. TooLong where twice the number
-    /// is above the most bits that a tree has.
+    /// Returns an empty list of parentheses, with room for those of `nodes` nodes.
     ///
-    /// The block size is from 1 to `MAX_BLOCK_SIZE`.
+    /// Precondition: `BLOCK_SIZE` is from 1 to `MAX_BLOCK_SIZE`.
+    ///
+    /// # Errors
+    ///
+    /// `TooLong` if twice the number is above the greatest number of bits of a tree; `Memory` if the allocator
+    /// refuses a request.
     pub fn with_capacity(alloc: A, nodes: u64) -> Result<Self, GrowError> {
         if nodes > MAX_LEN as u64 / 2 {
             return Err(GrowError::TooLong);
@@ -65,19 +68,33 @@ impl<const BLOCK_SIZE: usize, A: Allocator + Copy> BpBuilder<BLOCK_SIZE, A> {
         Ok(())
     }
 
-    /// Enters a node: appends a one. TooLong where the list has as many bits as a tree may have.
+    /// Enters a node: appends a one.
+    ///
+    /// # Errors
+    ///
+    /// `TooLong` if the list has the greatest number of bits of a tree; `Memory` if the allocator refuses a
+    /// request.
     pub fn enter_node(&mut self) -> Result<(), GrowError> {
         self.append(true)
     }
 
-    /// Leaves a node: appends a zero. TooLong where the list has as many bits as a tree may have.
+    /// Leaves a node: appends a zero.
+    ///
+    /// # Errors
+    ///
+    /// `TooLong` if the list has the greatest number of bits of a tree; `Memory` if the allocator refuses a
+    /// request.
     pub fn leave_node(&mut self) -> Result<(), GrowError> {
         self.append(false)
     }
 
-    /// The tree of the list, whose ones and zeros are as many; that it is balanced is not asked. Where
-    /// they are not as many it is refused with their excess, which is tested before memory is asked
-    /// for. The list is dropped where the tree is refused.
+    /// Returns the tree of the list if it has as many ones as zeros, balanced or not. The list is dropped on
+    /// error.
+    ///
+    /// # Errors
+    ///
+    /// `Excess` with the excess of the list if it isn't 0, which is tested before any allocation; `Memory` if
+    /// the allocator refuses a request.
     pub fn build(self) -> Result<BpTree<BLOCK_SIZE, A>, BuildError> {
         if self.excess != 0 {
             return Err(BuildError::Excess(self.excess));

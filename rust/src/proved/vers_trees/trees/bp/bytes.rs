@@ -1,23 +1,22 @@
-//! Tables that answer a whole byte of parentheses at once.
+//! Lookup tables for whole bytes of parentheses.
 
 use crate::rattle::prelude::*;
 
-/// For each byte of parentheses what a search meets in it, from its start and from its end. An entry
-/// holds the greatest of the sums along the byte in bits 0 to 4 and the least in bits 5 to 9, each
-/// plus 8, and from bit 10 on three bits for each sum from -8 to 8: the first place met whose bit
-/// makes it, or 7 where there is none.
+/// For each byte of parentheses the sums along it, from its start and from its end. An entry contains the
+/// greatest of the sums along the byte in bits 0 to 4 and the least in bits 5 to 9, each plus 8, and from bit
+/// 10 on three bits for each sum from -8 to 8: the first position whose bit makes it, or 7 if there is none.
 pub struct ByteTables {
     forward: [u64; 256],
     backward: [u64; 256],
 }
 
-// What a table holds of a byte. It can't be made otherwise, so what takes one has looked the byte up.
+// An entry of a table. Only a lookup makes one, so a function that takes one knows that the byte was looked up.
 pub(super) struct Entry {
     packed: u64,
 }
 
 impl ByteTables {
-    /// The tables of all bytes. Takes no memory.
+    /// Returns the tables of all bytes. Allocates nothing.
     pub fn new() -> ByteTables {
         let mut forward = [0; 256];
         let mut backward = [0; 256];
@@ -30,7 +29,7 @@ impl ByteTables {
         ByteTables { forward, backward }
     }
 
-    // The same tables once more.
+    // Returns a copy of the tables.
     pub(super) fn copied(&self) -> ByteTables {
         ByteTables {
             forward: self.forward,
@@ -38,19 +37,19 @@ impl ByteTables {
         }
     }
 
-    /// The entry of a byte from its start, where a one adds 1 and a zero takes 1.
+    /// Returns the entry of a byte from its start, where a one adds 1 and a zero subtracts 1.
     #[inline(always)]
     pub fn forward_entry(&self, byte: u8) -> u64 {
         self.met_forward(byte).packed
     }
 
-    /// The entry of a byte from its end, where a one takes 1 and a zero adds 1.
+    /// Returns the entry of a byte from its end, where a one subtracts 1 and a zero adds 1.
     #[inline(always)]
     pub fn backward_entry(&self, byte: u8) -> u64 {
         self.met_backward(byte).packed
     }
 
-    // What is met in a byte from its start.
+    // Returns the entry of a byte from its start.
     #[inline(always)]
     pub(super) fn met_forward(&self, byte: u8) -> Entry {
         Entry {
@@ -58,7 +57,7 @@ impl ByteTables {
         }
     }
 
-    // What is met in a byte from its end.
+    // Returns the entry of a byte from its end.
     #[inline(always)]
     pub(super) fn met_backward(&self, byte: u8) -> Entry {
         Entry {
@@ -67,8 +66,8 @@ impl ByteTables {
     }
 }
 
-// What was met along a byte so far: the least and the greatest sum, each plus 8, and the first place
-// met for each sum, 7 where there is none.
+// The sums along a byte so far: the least and the greatest sum, each plus 8, and the first position of each
+// sum, 7 if there is none.
 struct Met {
     places: [u64; 17],
     least: usize,
@@ -76,7 +75,7 @@ struct Met {
 }
 
 impl Met {
-    // Takes note of a sum, plus 8, at a place.
+    // Records a sum, plus 8, at a position.
     fn meet(&mut self, value: usize, place: u64) {
         if value < self.least || value > self.greatest {
             self.places[value] = place;
@@ -85,13 +84,13 @@ impl Met {
         self.greatest = self.greatest.max(value);
     }
 
-    // The entry of what was met.
+    // Returns the entry of the recorded sums.
     fn entry(&self) -> u64 {
         1024 * number_of(&self.places) + 32 * self.least as u64 + self.greatest as u64
     }
 }
 
-// The number with these octal digits, the lowest first.
+// Returns the number with these octal digits, the lowest first.
 fn number_of(digits: &[u64; 17]) -> u64 {
     let mut number = 0;
     let mut x = 17;
@@ -102,12 +101,12 @@ fn number_of(digits: &[u64; 17]) -> u64 {
     number
 }
 
-// The place of the bit at which a step along a byte is made.
+// Returns the position of the bit at which a step along a byte is made.
 fn place_of(step: u64, from_end: bool) -> u64 {
     if from_end { 7 - step } else { step }
 }
 
-// The sum, plus 8, after a step at a bit.
+// Returns the sum, plus 8, after a step at a bit.
 fn stepped(value: usize, opens: bool, from_end: bool) -> usize {
     if opens == from_end {
         value - 1
@@ -116,7 +115,7 @@ fn stepped(value: usize, opens: bool, from_end: bool) -> usize {
     }
 }
 
-// The entry of a byte, from its end or from its start.
+// Returns the entry of a byte, from its end or from its start.
 fn entry_of(byte: usize, from_end: bool) -> u64 {
     let mut met = Met {
         places: [7; 17],
@@ -132,19 +131,19 @@ fn entry_of(byte: usize, from_end: bool) -> u64 {
     met.entry()
 }
 
-// The sum that is `x`, less 8, above the one at which a byte begins.
+// Returns the sum that is `x - 8` above the one at which a byte begins.
 #[inline(always)]
 fn sum_at(rise: i64, x: u64) -> i64 {
     rise - 8 + x as i64
 }
 
-// How far a sum is above the one at which a byte begins, plus 8.
+// Returns the difference of a sum to the one at which a byte begins, plus 8.
 #[inline(always)]
 fn above(rise: i64, target: i64) -> u64 {
     (target - (rise - 8)) as u64
 }
 
-// The place in a byte of the given entry at which a sum that begins at `rise` first is `target`.
+// Returns the position in a byte of the given entry at which a sum that begins at `rise` first is `target`.
 #[inline(always)]
 pub(super) fn place_met(entry: Entry, rise: i64, target: i64) -> Option<usize> {
     let packed = entry.packed;

@@ -1,4 +1,4 @@
-//! The iterators over the children of a node.
+//! Iterators over the children of a node.
 
 use crate::rattle::prelude::*;
 
@@ -8,12 +8,12 @@ use crate::rattle::Allocator;
 use std::marker::PhantomData;
 use crate::proved::vers_tally::tally::Tally;
 
-/// Marks an iterator that goes forwards where `FORWARD` is true, and else backwards.
+/// Marks an iterator that goes forwards if `FORWARD` is true, otherwise backwards.
 pub struct Direction<const FORWARD: bool>;
 
-/// A walk from tree to tree among siblings, forwards or backwards from a place between them, in the
-/// direction that `D` names. Contracts see it as the nodes `left`, which are still to come, and what
-/// a `step` reads at most. A walk that has ended stays ended.
+/// A walk from tree to tree among siblings, forwards or backwards from a position between them, in the
+/// direction that `D` names. Contracts see it as the nodes `left`, and the bound on the reads of a `step`. A
+/// walk that has ended stays ended.
 pub struct Siblings<'a, const BLOCK_SIZE: usize, D, A: Allocator + Copy> {
     searched: Searched<'a, BLOCK_SIZE, A>,
     forward: bool,
@@ -21,8 +21,7 @@ pub struct Siblings<'a, const BLOCK_SIZE: usize, D, A: Allocator + Copy> {
     direction: PhantomData<D>,
 }
 
-/// An iterator over the children of a node: in order where `FORWARD` is true, and else the last one
-/// first.
+/// An iterator over the children of a node: in order if `FORWARD` is true, otherwise in reverse.
 pub type ChildrenIter<'a, const BLOCK_SIZE: usize, const FORWARD: bool, A> = Siblings<
     'a,
     BLOCK_SIZE,
@@ -40,14 +39,14 @@ impl<'a, const BLOCK_SIZE: usize, D, A: Allocator + Copy> Siblings<'a, BLOCK_SIZ
         }
     }
 
-    /// The first of the nodes left, which is taken.
+    /// Takes the first of the nodes left. `None` if none is left.
     #[inline]
     pub fn next(&mut self) -> Option<usize> {
         let mut tally = Tally::new();
         self.next_counted(&mut tally)
     }
 
-    /// The same as `next`, by one bit read and the reads of one search.
+    /// Takes the first of the nodes left. `None` if none is left. Reads at most one bit and what one search does.
     #[inline(always)]
     pub fn next_counted(&mut self, tally: &mut Tally) -> Option<usize> {
         let (node, place) = self.searched.tree_beside(self.forward, self.place, tally)?;
@@ -67,7 +66,7 @@ impl<'a, const BLOCK_SIZE: usize, D, A: Allocator + Copy> Iterator
 }
 
 impl<'a, const BLOCK_SIZE: usize, A: Allocator + Copy> Searched<'a, BLOCK_SIZE, A> {
-    // The next tree forwards or backwards from a place, and the place on its other side.
+    // Returns the next tree forwards or backwards from a position, and the position on its other side.
     #[inline(always)]
     fn tree_beside(self, forward: bool, place: usize, tally: &mut Tally) -> Option<(usize, usize)> {
         if forward {
@@ -77,7 +76,7 @@ impl<'a, const BLOCK_SIZE: usize, A: Allocator + Copy> Searched<'a, BLOCK_SIZE, 
         }
     }
 
-    // The tree that opens at a place, and the place past it.
+    // Returns the tree that opens at a position, and the position past it.
     #[inline(always)]
     fn tree_from(self, place: usize, tally: &mut Tally) -> Option<(usize, usize)> {
         if place >= self.bits.len() {
@@ -90,7 +89,7 @@ impl<'a, const BLOCK_SIZE: usize, A: Allocator + Copy> Searched<'a, BLOCK_SIZE, 
         Some((place, close + 1))
     }
 
-    // The tree that closes right before a place, and the place where it opens.
+    // Returns the tree that closes right before a position, and the position where it opens.
     #[inline(always)]
     fn tree_before(self, place: usize, tally: &mut Tally) -> Option<(usize, usize)> {
         if place == 0 || place > self.bits.len() {
@@ -105,12 +104,14 @@ impl<'a, const BLOCK_SIZE: usize, A: Allocator + Copy> Searched<'a, BLOCK_SIZE, 
 }
 
 impl<const BLOCK_SIZE: usize, A: Allocator + Copy> BpTree<BLOCK_SIZE, A> {
-    /// An iterator over the children of a node, in order. The parentheses are balanced.
+    /// Returns an iterator over the children of a node, in order. Precondition: the parentheses are balanced,
+    /// and a node opens at `node`.
     pub fn children(&self, node: usize) -> ChildrenIter<'_, BLOCK_SIZE, true, A> {
         Siblings::new(self.searched(), true, node + 1)
     }
 
-    /// An iterator over the children of a node, the last one first. The parentheses are balanced.
+    /// Returns an iterator over the children of a node, in reverse. Precondition: the parentheses are balanced,
+    /// and a node opens at `node`.
     pub fn rev_children(&self, node: usize) -> ChildrenIter<'_, BLOCK_SIZE, false, A> {
         let end = self.end(node);
         Siblings::new(self.searched(), false, end)

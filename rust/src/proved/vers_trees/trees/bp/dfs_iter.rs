@@ -6,18 +6,17 @@ use super::BpTree;
 use crate::rattle::Allocator;
 use crate::proved::vers_rank::fast_rs_vec::SelectIter;
 
-/// An iterator over the places of the ones of a list, ascending. Each step reads at most what one
-/// select does.
+/// An iterator over the positions of the ones of a list, ascending. Each step reads at most what one select does.
 pub type DfsIter<'a, A> = SelectIter<'a, false, A>;
 
 impl<const BLOCK_SIZE: usize, A: Allocator + Copy> BpTree<BLOCK_SIZE, A> {
-    /// An iterator over the places of the ones, ascending: in balanced parentheses, the nodes in
+    /// Returns an iterator over the positions of the ones, ascending: in balanced parentheses, the nodes in
     /// preorder.
     pub fn iter(&self) -> DfsIter<'_, A> {
         self.bits.iter1()
     }
 
-    /// The same as `iter`.
+    /// Returns an iterator over the positions of the ones, ascending, as `iter` does.
     pub fn dfs_iter(&self) -> DfsIter<'_, A> {
         self.iter()
     }

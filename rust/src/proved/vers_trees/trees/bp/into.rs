@@ -1,4 +1,4 @@
-//! What a tree is turned into.
+//! Conversions of a tree.
 
 use crate::rattle::prelude::*;
 
@@ -8,7 +8,7 @@ use crate::proved::vers_bits::bit_vec::BitVec;
 use crate::proved::vers_rank::fast_rs_vec::{RsVec, SelectIntoIter};
 
 impl<const BLOCK_SIZE: usize, A: Allocator + Copy> BpTree<BLOCK_SIZE, A> {
-    /// The parentheses alone, with ranks and selects. Takes no memory.
+    /// Returns the parentheses without the tree, with rank and select. Allocates nothing.
     pub fn into_parentheses_vec(self) -> RsVec<A> {
         let BpTree { bits, tree: _ } = self;
         bits
@@ -16,14 +16,14 @@ impl<const BLOCK_SIZE: usize, A: Allocator + Copy> BpTree<BLOCK_SIZE, A> {
 }
 
 impl<const BLOCK_SIZE: usize, A: Allocator + Copy> From<BpTree<BLOCK_SIZE, A>> for RsVec<A> {
-    /// The parentheses alone, with ranks and selects. Takes no memory.
+    /// Returns the parentheses without the tree, with rank and select. Allocates nothing.
     fn from(tree: BpTree<BLOCK_SIZE, A>) -> Self {
         tree.into_parentheses_vec()
     }
 }
 
 impl<const BLOCK_SIZE: usize, A: Allocator + Copy> From<BpTree<BLOCK_SIZE, A>> for BitVec<A> {
-    /// The parentheses alone. Takes no memory.
+    /// Returns the parentheses without any index. Allocates nothing.
     fn from(tree: BpTree<BLOCK_SIZE, A>) -> Self {
         tree.into_parentheses_vec().into_bit_vec()
     }
@@ -34,7 +34,7 @@ impl<const BLOCK_SIZE: usize, A: Allocator + Copy> IntoIterator for BpTree<BLOCK
 
     type IntoIter = SelectIntoIter<false, A>;
 
-    /// An iterator over the places of the ones, ascending, which owns the list. Takes no memory.
+    /// Returns an iterator over the positions of the ones, ascending, which owns the list. Allocates nothing.
     fn into_iter(self) -> SelectIntoIter<false, A> {
         self.into_parentheses_vec().into_iter1()
     }

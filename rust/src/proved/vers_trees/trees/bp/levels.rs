@@ -1,4 +1,4 @@
-//! Up from a node of balanced parentheses by so many levels, and along the nodes of one depth.
+//! Ancestors by level, and walks along the nodes of one depth.
 
 use crate::rattle::prelude::*;
 
@@ -7,16 +7,16 @@ use crate::rattle::Allocator;
 use crate::proved::vers_tally::tally::Tally;
 
 impl<const BLOCK_SIZE: usize, A: Allocator + Copy> BpTree<BLOCK_SIZE, A> {
-    /// The ancestor of a node that is so many levels up, itself at 0. None where there is none.
+    /// Returns the ancestor of a node `levels` levels up, itself at 0. `None` if there is none.
     ///
-    /// The parentheses are balanced, and a node opens at the place.
+    /// Precondition: the parentheses are balanced, and a node opens at `node`.
     #[inline]
     pub fn level_ancestor(&self, node: usize, levels: u64) -> Option<usize> {
         let mut tally = Tally::new();
         self.level_ancestor_counted(node, levels, &mut tally)
     }
 
-    /// The same as `level_ancestor`, by the reads of one search.
+    /// Returns `level_ancestor(node, levels)`. Reads at most what one search does.
     #[inline(always)]
     pub fn level_ancestor_counted(
         &self,
@@ -33,48 +33,48 @@ impl<const BLOCK_SIZE: usize, A: Allocator + Copy> BpTree<BLOCK_SIZE, A> {
         self.bwd_search_counted(node, -(levels as i64), tally)
     }
 
-    /// The next node of the same depth. None where there is none.
+    /// Returns the next node of the same depth, or `None` if there is none.
     ///
-    /// The parentheses are balanced, and a node opens at the place.
+    /// Precondition: the parentheses are balanced, and a node opens at `node`.
     #[inline]
     pub fn level_next(&self, node: usize) -> Option<usize> {
         let mut tally = Tally::new();
         self.level_next_counted(node, &mut tally)
     }
 
-    /// The same as `level_next`, by the reads of two searches.
+    /// Returns `level_next(node)`. Reads at most what two searches do.
     #[inline(always)]
     pub fn level_next_counted(&self, node: usize, tally: &mut Tally) -> Option<usize> {
         let close = self.end_counted(node, tally);
         self.fwd_search_counted(close, 1, tally)
     }
 
-    /// The node of the same depth before. None where there is none.
+    /// Returns the previous node of the same depth, or `None` if there is none.
     ///
-    /// The parentheses are balanced, and a node opens at the place.
+    /// Precondition: the parentheses are balanced, and a node opens at `node`.
     #[inline]
     pub fn level_prev(&self, node: usize) -> Option<usize> {
         let mut tally = Tally::new();
         self.level_prev_counted(node, &mut tally)
     }
 
-    /// The same as `level_prev`, by the reads of two searches.
+    /// Returns `level_prev(node)`. Reads at most what two searches do.
     #[inline(always)]
     pub fn level_prev_counted(&self, node: usize, tally: &mut Tally) -> Option<usize> {
         let close = self.bwd_search_counted(node, 1, tally)?;
         self.open_counted(close, tally)
     }
 
-    /// The first node of a depth, where roots have depth 0. None where no node is so deep.
+    /// Returns the first node of a depth; roots have depth 0. `None` if no node has that depth.
     ///
-    /// The parentheses are balanced.
+    /// Precondition: the parentheses are balanced.
     #[inline]
     pub fn level_leftmost(&self, depth: u64) -> Option<usize> {
         let mut tally = Tally::new();
         self.level_leftmost_counted(depth, &mut tally)
     }
 
-    /// The same as `level_leftmost`, by the reads of one search.
+    /// Returns `level_leftmost(depth)`. Reads at most what one search does.
     #[inline(always)]
     pub fn level_leftmost_counted(&self, depth: u64, tally: &mut Tally) -> Option<usize> {
         if depth >= self.len() as u64 {
@@ -86,16 +86,16 @@ impl<const BLOCK_SIZE: usize, A: Allocator + Copy> BpTree<BLOCK_SIZE, A> {
         self.fwd_search_counted(0, depth as i64, tally)
     }
 
-    /// The last node of a depth, where roots have depth 0. None where no node is so deep.
+    /// Returns the last node of a depth; roots have depth 0. `None` if no node has that depth.
     ///
-    /// The parentheses are balanced.
+    /// Precondition: the parentheses are balanced.
     #[inline]
     pub fn level_rightmost(&self, depth: u64) -> Option<usize> {
         let mut tally = Tally::new();
         self.level_rightmost_counted(depth, &mut tally)
     }
 
-    /// The same as `level_rightmost`, by the reads of two searches.
+    /// Returns `level_rightmost(depth)`. Reads at most what two searches do.
     #[inline(always)]
     pub fn level_rightmost_counted(&self, depth: u64, tally: &mut Tally) -> Option<usize> {
         let len = self.len();

@@ -1,4 +1,4 @@
-//! The tree of excesses over the blocks of a list.
+//! The min-max tree of excesses over the blocks of a list.
 
 use crate::rattle::prelude::*;
 
@@ -20,7 +20,7 @@ pub(super) struct Node {
 }
 
 impl Node {
-    // What a node over no block holds: no sum lies from its least to its greatest.
+    // Returns the node over no block: no sum is between its least and its greatest.
     fn empty() -> Node {
         Node {
             total: 0,
@@ -29,30 +29,30 @@ impl Node {
         }
     }
 
-    // Whether some place of the part has the sum `left` after it, counted from before the part.
+    // Returns true if some position of the part has the sum `left` after it, counted from before the part.
     #[inline]
     fn reaches(&self, left: i64) -> bool {
         self.least <= left && left <= self.greatest
     }
 
-    // Whether some place of the part has the sum `left` before it, counted from before the part, or
+    // Returns true if some position of the part has the sum `left` before it, counted from before the part, or
     // the part's end has it.
     #[inline]
     fn meets(&self, left: i64) -> bool {
         self.least.min(0) <= left && left <= self.greatest.max(0)
     }
 
-    // Whether the part's total is 0 and no place of it is below its start.
+    // Returns true if the part's total is 0 and no position of it is below its start.
     #[inline]
     pub(super) fn is_level(&self) -> bool {
         self.total == 0 && self.least >= 0
     }
 }
 
-// The tree of excesses over the blocks of a list, as a heap: the root is node 0, and the children of
-// node `i` are the nodes `2 * i + 1` and `2 * i + 2`. The nodes before `first` stand over two
-// children each, and from `first` on stand those of the blocks, in order. No node stands for a
-// block that the list doesn't have. With it stand the tables for the bytes of a block.
+// The tree of excesses over the blocks of a list, as a heap: the root is node 0, and the children of node `i`
+// are the nodes `2 * i + 1` and `2 * i + 2`. The nodes before `first` have two children each, and the nodes
+// from `first` on are those of the blocks, in order. Each of these has its block in the list. The tables for
+// the bytes of a block are stored with it.
 pub(super) struct MinMaxTree<A: Allocator + Copy> {
     alloc: A,
     nodes: CountedNodes<Node, A>,
@@ -61,7 +61,7 @@ pub(super) struct MinMaxTree<A: Allocator + Copy> {
 }
 
 impl<A: Allocator + Copy> MinMaxTree<A> {
-    // The tree over the blocks of `size` bits of a list.
+    // Returns the tree over the blocks of `size` bits of a list.
     pub(super) fn over(bits: &BitVec<A>, size: usize) -> Result<Self, AllocError> {
         let alloc = bits.allocator();
         let len = bits.len();
@@ -83,7 +83,7 @@ impl<A: Allocator + Copy> MinMaxTree<A> {
         })
     }
 
-    // A second tree of the same nodes.
+    // Returns a copy of the tree.
     pub(super) fn copied(&self) -> Result<Self, AllocError> {
         let nodes = Vec::from_slice(self.alloc, self.nodes.as_slice(Uncounted))?;
         Ok(MinMaxTree {
@@ -94,12 +94,12 @@ impl<A: Allocator + Copy> MinMaxTree<A> {
         })
     }
 
-    // The bytes that the nodes take, 24 each, up to the greatest number of the machine.
+    // Returns the number of bytes that the nodes take, 24 each, at most the greatest `usize`.
     pub(super) fn heap_size(&self) -> usize {
         self.nodes.len().saturating_mul(24)
     }
 
-    // Node `i`, or one over no block past the end.
+    // Returns node `i`, or one over no block past the end.
     #[inline(always)]
     fn node_counted(&self, i: usize, tally: &mut Tally) -> Node {
         if i < self.nodes.len() {
@@ -109,19 +109,19 @@ impl<A: Allocator + Copy> MinMaxTree<A> {
         }
     }
 
-    // The node over all blocks.
+    // Returns the node over all blocks.
     #[inline(always)]
     pub(super) fn root_counted(&self, tally: &mut Tally) -> Node {
         self.node_counted(0, tally)
     }
 
-    // The first block below the node at `place` that has a place with the sum of a search, given what is left to it
-    // there; and what is left at that block.
+    // Returns the first block below the node at `place` that has a position with the sum of a search, whose
+    // remainder there is `left`; and the remainder at that block.
     #[inline(always)]
     fn descend_counted(&self, place: usize, mut left: i64, tally: &mut Tally) -> (usize, i64) {
         let mut node = place;
         while node < self.first {
-            // With no branch on where the sum lies, which would often be guessed wrong.
+            // No branch on where the sum is, which would often be mispredicted.
             let below = self.node_counted(2 * node + 1, tally);
             let is_past = !below.reaches(left);
             left -= if is_past { below.total } else { 0 };
@@ -130,8 +130,8 @@ impl<A: Allocator + Copy> MinMaxTree<A> {
         (node - self.first, left)
     }
 
-    // The first block after `begin` that has a place with the sum of a search, which is `left` above that past
-    // `begin`; and what is left at that block's start.
+    // Returns the first block after `begin` that has a position with the sum of a search, which is `left` above
+    // that past `begin`; and the remainder at that block's start.
     #[inline(always)]
     pub(super) fn next_block_counted(
         &self,
@@ -155,8 +155,8 @@ impl<A: Allocator + Copy> MinMaxTree<A> {
         None
     }
 
-    // The last block below the node at `place` that has a place with the sum of a search, given what is left to it at
-    // the node's end; and what is left at that block's end.
+    // Returns the last block below the node at `place` that has a position with the sum of a search, whose
+    // remainder at the node's end is `left`; and the remainder at that block's end.
     #[inline(always)]
     fn descend_back_counted(&self, place: usize, mut left: i64, tally: &mut Tally) -> (usize, i64) {
         let mut node = place;
@@ -170,8 +170,8 @@ impl<A: Allocator + Copy> MinMaxTree<A> {
         (node - self.first, left)
     }
 
-    // The last block before `begin` that has a place with the sum of a search, which is `left` above that before
-    // `begin`; and what is left at that block's end.
+    // Returns the last block before `begin` that has a position with the sum of a search, which is `left` above
+    // that before `begin`; and the remainder at that block's end.
     #[inline(always)]
     pub(super) fn previous_block_counted(
         &self,
@@ -194,22 +194,22 @@ impl<A: Allocator + Copy> MinMaxTree<A> {
     }
 }
 
-// The node over the blocks right after those of `node`: the right child beside it, or beside the nearest node above
-// it that is a left child. 0 where no block comes after.
+// Returns the node over the blocks right after those of `node`: the right sibling of it, or of the nearest
+// ancestor that is a left child. 0 if no block follows.
 #[inline(always)]
 fn node_after(node: usize) -> usize {
     odd_part(node + 2) - 1
 }
 
-// The node over the blocks right before those of `node`: the left child beside it, or beside the nearest node above
-// it that is a right child. 0 where no block comes before.
+// Returns the node over the blocks right before those of `node`: the left sibling of it, or of the nearest
+// ancestor that is a right child. 0 if no block precedes.
 #[inline(always)]
 fn node_before(node: usize) -> usize {
     odd_part(node + 1).saturating_sub(2)
 }
 
-// A number without the zeros at its end. With it a climb takes all levels at once that it passes on one side, and has
-// no branch on the side, which would be guessed wrong every other time.
+// Returns a number without its trailing zeros. It lets a climb skip at once all levels that it passes on one
+// side, with no branch on the side, which would be mispredicted every other time.
 #[inline(always)]
 fn odd_part(number: usize) -> usize {
     number >> number.trailing_zeros()

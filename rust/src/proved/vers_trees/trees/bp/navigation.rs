@@ -1,5 +1,4 @@
-//! From a node of balanced parentheses to its parent, its children and its siblings; its depth and its
-//! tree.
+//! Navigation in balanced parentheses: the parent, children and siblings of a node, its depth and its subtree.
 
 use crate::rattle::prelude::*;
 
@@ -8,46 +7,46 @@ use crate::rattle::Allocator;
 use crate::proved::vers_tally::tally::Tally;
 
 impl<const BLOCK_SIZE: usize, A: Allocator + Copy> BpTree<BLOCK_SIZE, A> {
-    /// The parent of a node. None for a root.
+    /// Returns the parent of a node, or `None` for a root.
     ///
-    /// The parentheses are balanced, and a node opens at the place.
+    /// Precondition: the parentheses are balanced, and a node opens at `node`.
     #[inline]
     pub fn parent(&self, node: usize) -> Option<usize> {
         let mut tally = Tally::new();
         self.parent_counted(node, &mut tally)
     }
 
-    /// The same as `parent`, by the reads of one search.
+    /// Returns `parent(node)`. Reads at most what one search does.
     #[inline(always)]
     pub fn parent_counted(&self, node: usize, tally: &mut Tally) -> Option<usize> {
         self.bwd_search_counted(node, -1, tally)
     }
 
-    /// The first child of a node. None for a leaf.
+    /// Returns the first child of a node, or `None` for a leaf.
     ///
-    /// The parentheses are balanced, and a node opens at the place.
+    /// Precondition: the parentheses are balanced, and a node opens at `node`.
     #[inline]
     pub fn first_child(&self, node: usize) -> Option<usize> {
         let mut tally = Tally::new();
         self.first_child_counted(node, &mut tally)
     }
 
-    /// The same as `first_child`, by one bit read.
+    /// Returns `first_child(node)`. Reads at most one bit.
     #[inline(always)]
     pub fn first_child_counted(&self, node: usize, tally: &mut Tally) -> Option<usize> {
         self.opens_after(node, tally)
     }
 
-    /// The last child of a node. None for a leaf.
+    /// Returns the last child of a node, or `None` for a leaf.
     ///
-    /// The parentheses are balanced, and a node opens at the place.
+    /// Precondition: the parentheses are balanced, and a node opens at `node`.
     #[inline]
     pub fn last_child(&self, node: usize) -> Option<usize> {
         let mut tally = Tally::new();
         self.last_child_counted(node, &mut tally)
     }
 
-    /// The same as `last_child`, by the reads of two searches.
+    /// Returns `last_child(node)`. Reads at most what two searches do.
     #[inline(always)]
     pub fn last_child_counted(&self, node: usize, tally: &mut Tally) -> Option<usize> {
         let close = self.end_counted(node, tally);
@@ -58,32 +57,32 @@ impl<const BLOCK_SIZE: usize, A: Allocator + Copy> BpTree<BLOCK_SIZE, A> {
         self.open_counted(last, tally)
     }
 
-    /// The next node with the same parent; roots are siblings. None for the last of them.
+    /// Returns the next node with the same parent; roots are siblings. `None` for the last of them.
     ///
-    /// The parentheses are balanced, and a node opens at the place.
+    /// Precondition: the parentheses are balanced, and a node opens at `node`.
     #[inline]
     pub fn next_sibling(&self, node: usize) -> Option<usize> {
         let mut tally = Tally::new();
         self.next_sibling_counted(node, &mut tally)
     }
 
-    /// The same as `next_sibling`, by one bit read and the reads of one search.
+    /// Returns `next_sibling(node)`. Reads at most one bit and what one search does.
     #[inline(always)]
     pub fn next_sibling_counted(&self, node: usize, tally: &mut Tally) -> Option<usize> {
         let close = self.end_counted(node, tally);
         self.opens_after(close, tally)
     }
 
-    /// The node before with the same parent; roots are siblings. None for the first of them.
+    /// Returns the previous node with the same parent; roots are siblings. `None` for the first of them.
     ///
-    /// The parentheses are balanced, and a node opens at the place.
+    /// Precondition: the parentheses are balanced, and a node opens at `node`.
     #[inline]
     pub fn previous_sibling(&self, node: usize) -> Option<usize> {
         let mut tally = Tally::new();
         self.previous_sibling_counted(node, &mut tally)
     }
 
-    /// The same as `previous_sibling`, by one bit read and the reads of one search.
+    /// Returns `previous_sibling(node)`. Reads at most one bit and what one search does.
     #[inline(always)]
     pub fn previous_sibling_counted(&self, node: usize, tally: &mut Tally) -> Option<usize> {
         if node == 0 {
@@ -95,46 +94,46 @@ impl<const BLOCK_SIZE: usize, A: Allocator + Copy> BpTree<BLOCK_SIZE, A> {
         self.open_counted(node - 1, tally)
     }
 
-    /// Whether a node has no children.
+    /// Returns true if a node has no children.
     ///
-    /// The parentheses are balanced, and a node opens at the place.
+    /// Precondition: the parentheses are balanced, and a node opens at `node`.
     #[inline]
     pub fn is_leaf(&self, node: usize) -> bool {
         let mut tally = Tally::new();
         self.is_leaf_counted(node, &mut tally)
     }
 
-    /// The same as `is_leaf`, by one bit read.
+    /// Returns `is_leaf(node)`. Reads at most one bit.
     #[inline(always)]
     pub fn is_leaf_counted(&self, node: usize, tally: &mut Tally) -> bool {
         self.first_child_counted(node, tally).is_none()
     }
 
-    /// The number of a node in preorder, counted from 0.
+    /// Returns the number of a node in preorder (from 0).
     ///
-    /// The parentheses are balanced, and a node opens at the place.
+    /// Precondition: the parentheses are balanced, and a node opens at `node`.
     #[inline]
     pub fn node_index(&self, node: usize) -> usize {
         let mut tally = Tally::new();
         self.node_index_counted(node, &mut tally)
     }
 
-    /// The same as `node_index`, by the reads of one rank.
+    /// Returns `node_index(node)`. Reads at most what one rank does.
     #[inline(always)]
     pub fn node_index_counted(&self, node: usize, tally: &mut Tally) -> usize {
         self.bits.rank1_counted(node, tally)
     }
 
-    /// How many nodes a node lies in: 0 for a root.
+    /// Returns the depth of a node, the number of its proper ancestors: 0 for a root.
     ///
-    /// The parentheses are balanced, and a node opens at the place.
+    /// Precondition: the parentheses are balanced, and a node opens at `node`.
     #[inline]
     pub fn depth(&self, node: usize) -> u64 {
         let mut tally = Tally::new();
         self.depth_counted(node, &mut tally)
     }
 
-    /// The same as `depth`, by the reads of one rank.
+    /// Returns `depth(node)`. Reads at most what one rank does.
     #[inline(always)]
     pub fn depth_counted(&self, node: usize, tally: &mut Tally) -> u64 {
         let ones = self.bits.rank1_counted(node, tally);
@@ -142,16 +141,16 @@ impl<const BLOCK_SIZE: usize, A: Allocator + Copy> BpTree<BLOCK_SIZE, A> {
         (ones - zeros) as u64
     }
 
-    /// How many nodes the tree of a node has, itself among them. It is never None.
+    /// Returns the number of nodes in the subtree of a node, including itself. Never `None`.
     ///
-    /// The parentheses are balanced, and a node opens at the place.
+    /// Precondition: the parentheses are balanced, and a node opens at `node`.
     #[inline]
     pub fn subtree_size(&self, node: usize) -> Option<usize> {
         let mut tally = Tally::new();
         self.subtree_size_counted(node, &mut tally)
     }
 
-    /// The same as `subtree_size`, by the reads of one search.
+    /// Returns `subtree_size(node)`. Reads at most what one search does.
     #[inline(always)]
     pub fn subtree_size_counted(&self, node: usize, tally: &mut Tally) -> Option<usize> {
         let close = self.end_counted(node, tally);
@@ -159,16 +158,16 @@ impl<const BLOCK_SIZE: usize, A: Allocator + Copy> BpTree<BLOCK_SIZE, A> {
         Some(places.div_ceil(2))
     }
 
-    /// Whether the first node is an ancestor of the second; each node is its own. It is never None.
+    /// Returns true if the first node is an ancestor of the second; each node is its own. Never `None`.
     ///
-    /// The parentheses are balanced, and nodes open at both places.
+    /// Precondition: the parentheses are balanced, and nodes open at both positions.
     #[inline]
     pub fn is_ancestor(&self, ancestor: usize, descendant: usize) -> Option<bool> {
         let mut tally = Tally::new();
         self.is_ancestor_counted(ancestor, descendant, &mut tally)
     }
 
-    /// The same as `is_ancestor`, by the reads of two searches.
+    /// Returns `is_ancestor(ancestor, descendant)`. Reads at most what two searches do.
     #[inline(always)]
     pub fn is_ancestor_counted(
         &self,
@@ -181,20 +180,20 @@ impl<const BLOCK_SIZE: usize, A: Allocator + Copy> BpTree<BLOCK_SIZE, A> {
         Some(ancestor <= descendant && inner <= outer)
     }
 
-    // Where the tree of a node closes.
+    // Returns where the subtree of a node closes.
     #[inline]
     pub(super) fn end(&self, node: usize) -> usize {
         let mut tally = Tally::new();
         self.end_counted(node, &mut tally)
     }
 
-    // The same as `end`, by the reads of one search.
+    // Returns `end(node)`. Reads at most what one search does.
     #[inline(always)]
     pub(super) fn end_counted(&self, node: usize, tally: &mut Tally) -> usize {
         self.close_counted(node, tally).unwrap_or(node)
     }
 
-    // The place after another, where a one stands there.
+    // Returns the position after `place`, if it has a one.
     #[inline(always)]
     fn opens_after(&self, place: usize, tally: &mut Tally) -> Option<usize> {
         let len = self.len();

@@ -1,4 +1,4 @@
-//! The iterators over nodes in postorder.
+//! Iterators over nodes in postorder.
 
 use crate::rattle::prelude::*;
 
@@ -9,8 +9,8 @@ use crate::proved::vers_rank::fast_rs_vec::{Places, RsVec};
 use crate::proved::vers_tally::ends::{Borrowing, BothEnds, Source};
 use crate::proved::vers_tally::tally::Tally;
 
-/// The nodes that `count` zeros of a list close, from zero number `first` on, which iterators find
-/// one by one: the place of a zero, and then by a search where it opens.
+/// The nodes that `count` zeros of a list close, from zero `first` on, which iterators find one by one: the
+/// position of a zero, then by a search where it opens.
 pub struct ClosedNodes<'a, const BLOCK_SIZE: usize, A: Allocator + Copy> {
     searched: Searched<'a, BLOCK_SIZE, A>,
     zeros: Places<(), &'a RsVec<A>>,
@@ -46,29 +46,28 @@ impl<'a, const BLOCK_SIZE: usize, A: Allocator + Copy> Borrowing
     }
 }
 
-/// An iterator over all nodes, each after those below it. Each step reads at most what one select
-/// and one search do.
+/// An iterator over all nodes in postorder. Each step reads at most what one select and one search do.
 pub type PostIter<'a, const BLOCK_SIZE: usize, A> = BothEnds<ClosedNodes<'a, BLOCK_SIZE, A>>;
 
-/// An iterator over a node and all below it, each after those below it. Each step reads at most what
-/// one select and one search do.
+/// An iterator over the subtree of a node in postorder. Each step reads at most what one select and one search
+/// do.
 pub type SubtreePostIter<'a, const BLOCK_SIZE: usize, A> = BothEnds<ClosedNodes<'a, BLOCK_SIZE, A>>;
 
 impl<const BLOCK_SIZE: usize, A: Allocator + Copy> BpTree<BLOCK_SIZE, A> {
-    /// An iterator over all nodes, each after those below it. The parentheses are balanced.
+    /// Returns an iterator over all nodes in postorder. Precondition: the parentheses are balanced.
     pub fn dfs_post_iter(&self) -> PostIter<'_, BLOCK_SIZE, A> {
         self.closed_by(0, self.bits.zeros())
     }
 
-    /// An iterator over a node and all below it, each after those below it. The parentheses are
-    /// balanced.
+    /// Returns an iterator over the subtree of a node in postorder. Precondition: the parentheses are balanced,
+    /// and a node opens at `node`.
     pub fn subtree_post_iter(&self, node: usize) -> SubtreePostIter<'_, BLOCK_SIZE, A> {
         let first = self.bits.rank0(node);
         let count = self.nodes_within(node);
         self.closed_by(first, count)
     }
 
-    // The nodes that `count` zeros close, from zero number `first` on.
+    // Returns an iterator over the nodes that `count` zeros close, from zero `first` on.
     fn closed_by(&self, first: usize, count: usize) -> PostIter<'_, BLOCK_SIZE, A> {
         let searched = self.searched();
         BothEnds::new(ClosedNodes {

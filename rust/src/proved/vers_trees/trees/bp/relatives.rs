@@ -1,12 +1,12 @@
-//! Queries of balanced parentheses of which a value says which one is asked: for a node beside another,
-//! for a number of a node, and for an end of a level.
+//! Queries of balanced parentheses with a parameter for the kind: a relative of a node, a number of a node, and
+//! an end of a level.
 
 use crate::rattle::prelude::*;
 
 use super::BpTree;
 use crate::rattle::Allocator;
 
-/// How a node stands to another one.
+/// A relative of a node.
 #[derive(Clone, Copy)]
 pub enum Relative {
     /// Its parent.
@@ -17,24 +17,24 @@ pub enum Relative {
     LastChild,
     /// The next node with the same parent; roots are siblings.
     NextSibling,
-    /// The node before with the same parent; roots are siblings.
+    /// The previous node with the same parent; roots are siblings.
     PreviousSibling,
     /// The next node of the same depth.
     LevelNext,
-    /// The node of the same depth before.
+    /// The previous node of the same depth.
     LevelPrev,
 }
 
 /// A number of a node.
 #[derive(Clone, Copy)]
 pub enum Measure {
-    /// Its number in preorder, counted from 0.
+    /// Its number in preorder (from 0).
     NodeIndex,
-    /// 1 where it has no children, else 0.
+    /// 1 if it has no children, otherwise 0.
     IsLeaf,
-    /// How many nodes it lies in: 0 for a root.
+    /// Its depth, the number of its proper ancestors: 0 for a root.
     Depth,
-    /// How many nodes its tree has, itself among them.
+    /// The number of nodes in its subtree, including itself.
     SubtreeSize,
 }
 
@@ -48,9 +48,9 @@ pub enum LevelEnd {
 }
 
 impl<const BLOCK_SIZE: usize, A: Allocator + Copy> BpTree<BLOCK_SIZE, A> {
-    /// The node that stands to a node as `which` says. None where there is none.
+    /// Returns the relative of a node that `which` names, or `None` if there is none.
     ///
-    /// The parentheses are balanced, and a node opens at the place.
+    /// Precondition: the parentheses are balanced, and a node opens at `node`.
     #[inline(always)]
     pub fn relative(&self, node: usize, which: Relative) -> Option<usize> {
         match which {
@@ -64,24 +64,24 @@ impl<const BLOCK_SIZE: usize, A: Allocator + Copy> BpTree<BLOCK_SIZE, A> {
         }
     }
 
-    /// The number of a node that `which` names.
+    /// Returns the number of a node that `which` names.
     ///
-    /// The parentheses are balanced, and a node opens at the place.
+    /// Precondition: the parentheses are balanced, and a node opens at `node`.
     #[inline(always)]
     pub fn measure(&self, node: usize, which: Measure) -> u64 {
         match which {
             Measure::NodeIndex => self.node_index(node) as u64,
             Measure::IsLeaf => u64::from(self.is_leaf(node)),
             Measure::Depth => self.depth(node),
-            // It is never None.
+            // Never `None`.
             Measure::SubtreeSize => self.subtree_size(node).unwrap_or(0) as u64,
         }
     }
 
-    /// The first or the last node of a depth, as `which` says; roots have depth 0. None where no node is
-    /// so deep.
+    /// Returns the first or the last node of a depth, as `which` says; roots have depth 0. `None` if no node
+    /// has that depth.
     ///
-    /// The parentheses are balanced.
+    /// Precondition: the parentheses are balanced.
     #[inline(always)]
     pub fn level_end(&self, depth: u64, which: LevelEnd) -> Option<usize> {
         match which {

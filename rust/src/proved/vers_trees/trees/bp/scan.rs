@@ -9,40 +9,40 @@ use crate::proved::vers_bits::bit_vec::BitVec;
 use crate::proved::vers_rank::fast_rs_vec::RsVec;
 use crate::proved::vers_tally::tally::Tally;
 
-// What a bit adds to the excess.
+// Returns the change of the excess by a bit.
 #[inline]
 pub(super) fn step(bit: bool) -> i64 {
     if bit { 1 } else { -1 }
 }
 
-// What a byte of parentheses adds to the excess.
+// Returns the change of the excess by a byte of parentheses.
 #[inline(always)]
 fn byte_step(byte: u8) -> i64 {
     2 * byte.count_ones() as i64 - 8
 }
 
-// What a word of parentheses adds to the excess.
+// Returns the change of the excess by a word of parentheses.
 #[inline(always)]
 fn word_step(word: u64) -> i64 {
     2 * word.count_ones() as i64 - 64
 }
 
-// Whether each sum along a word is above `target`, as far as is told by its zeros that no one stands
-// right before: each other zero only takes back what the one before it gave.
+// Returns true only if each sum along a word is above `target`. Tests only the zeros without a one right before
+// them: each other zero only undoes the step before it.
 #[inline(always)]
 fn stays_above(word: u64, rise: i64, target: i64) -> bool {
     let falls = 64 - (word | word << 1).count_ones() as i64;
     target < rise - falls
 }
 
-// The same along a word from its end, by its ones that no zero stands right after.
+// Does the same along a word from its end. Tests only the ones without a zero right after them.
 #[inline(always)]
 fn stays_above_back(word: u64, rise: i64, target: i64) -> bool {
     let rises = (word & ((word >> 1) + (1 << 63))).count_ones() as i64;
     target < rise - rises
 }
 
-// Goes on with a scan forwards that has come to `begin` and has risen by `rise` there, bit by bit.
+// Continues a forward scan at `begin`, where the excess has risen by `rise`, bit by bit.
 #[inline(always)]
 fn bits_forward<A: Allocator + Copy>(
     bits: &RsVec<A>,
@@ -61,8 +61,8 @@ fn bits_forward<A: Allocator + Copy>(
     Err(rise)
 }
 
-// Begins such a scan at `begin`, by whole bytes: a word is read once, and passed over where all its sums
-// are above the target, or else each of its bytes is looked up.
+// Begins such a scan at `begin`, by whole bytes: it reads a word once, and skips it if all its sums are above
+// the target, otherwise looks up each of its bytes.
 #[inline(always)]
 fn bytes_forward<A: Allocator + Copy>(
     bits: &RsVec<A>,
@@ -96,9 +96,9 @@ fn bytes_forward<A: Allocator + Copy>(
     Err(rise)
 }
 
-// The first place from `from` on and before `end` after which the excess is `target` above that
-// before `from`. If there is none, how much the excess rises from `from` to `end`. Whole bytes are
-// looked up, and the bits after the last, fewer than eight, are scanned. The scan is counted as begun.
+// Returns the first position from `from` on and before `end` after which the excess is `target` above that
+// before `from`. If there is none, returns the rise of the excess from `from` to `end`. Looks up whole bytes,
+// and scans the bits after the last, fewer than eight. Counts the beginning of the scan.
 #[inline(always)]
 pub(super) fn scan_forward<A: Allocator + Copy>(
     bits: &RsVec<A>,
@@ -117,7 +117,7 @@ pub(super) fn scan_forward<A: Allocator + Copy>(
     bits_forward(bits, tail, end, rise, target, tally)
 }
 
-// Goes on with a scan backwards that has come to `end` and has risen by `rise` there, bit by bit.
+// Continues a backward scan at `end`, where the excess has risen by `rise`, bit by bit.
 #[inline(always)]
 fn bits_backward<A: Allocator + Copy>(
     bits: &RsVec<A>,
@@ -138,8 +138,8 @@ fn bits_backward<A: Allocator + Copy>(
     Err(rise)
 }
 
-// Begins such a scan at `end`, by whole bytes: a word is read once, and passed over where all its sums
-// are above the target, or else each of its bytes is looked up.
+// Begins such a scan at `end`, by whole bytes: it reads a word once, and skips it if all its sums are above the
+// target, otherwise looks up each of its bytes.
 #[inline(always)]
 fn bytes_backward<A: Allocator + Copy>(
     bits: &RsVec<A>,
@@ -174,10 +174,9 @@ fn bytes_backward<A: Allocator + Copy>(
     Err(rise)
 }
 
-// The last place from `from` on and before `end` before which the excess is `target` above that
-// before `end`. If there is none, how much the excess before `from` is above that before `end`.
-// Whole bytes are looked up, and the bits before the first, fewer than eight, are scanned. The scan is
-// counted as begun.
+// Returns the last position from `from` on and before `end` before which the excess is `target` above that
+// before `end`. If there is none, returns how much the excess before `from` is above that before `end`. Looks
+// up whole bytes, and scans the bits before the first, fewer than eight. Counts the beginning of the scan.
 #[inline(always)]
 pub(super) fn scan_backward<A: Allocator + Copy>(
     bits: &RsVec<A>,
@@ -196,7 +195,7 @@ pub(super) fn scan_backward<A: Allocator + Copy>(
     bits_backward(bits, from, head, rise, target, tally)
 }
 
-// The total, least and greatest excess of the places from `from` up to `end`.
+// Returns the total, least and greatest excess of the positions from `from` up to `end`.
 pub(super) fn node_of<A: Allocator + Copy>(bits: &BitVec<A>, from: usize, end: usize) -> Node {
     let first = step(bits.is_bit_set_unchecked(from));
     let mut node = Node {

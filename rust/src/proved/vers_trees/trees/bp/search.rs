@@ -1,4 +1,4 @@
-//! Searches for a sum: first in the block of a place, then in the tree for another block, then there.
+//! Searches for a sum: first in the block of a position, then in the tree for another block, then there.
 
 use crate::rattle::prelude::*;
 
@@ -8,7 +8,7 @@ use crate::rattle::Allocator;
 use crate::proved::vers_rank::fast_rs_vec::RsVec;
 use crate::proved::vers_tally::tally::Tally;
 
-// Whether the place right after `i` is what a search forwards looks for.
+// Returns true if the position right after `i` is the result of a forward search.
 #[inline(always)]
 fn is_right_after<A: Allocator + Copy>(bits: &RsVec<A>, i: usize, r: i64, tally: &mut Tally) -> bool {
     let next = i + 1;
@@ -18,7 +18,7 @@ fn is_right_after<A: Allocator + Copy>(bits: &RsVec<A>, i: usize, r: i64, tally:
     step(bits.is_one_counted(next, tally)) == r
 }
 
-// Whether the place right before `i` is what a search backwards looks for.
+// Returns true if the position right before `i` is the result of a backward search.
 #[inline(always)]
 fn is_right_before<A: Allocator + Copy>(
     bits: &RsVec<A>,
@@ -37,8 +37,8 @@ pub(super) struct Searched<'a, const BLOCK_SIZE: usize, A: Allocator + Copy> {
 }
 
 impl<'a, const BLOCK_SIZE: usize, A: Allocator + Copy> Searched<'a, BLOCK_SIZE, A> {
-    // The first place after `i` past which the excess is `r` more than past `i`. A place right beside
-    // is found by its bit alone.
+    // Returns the first position after `i` past which the excess is `r` more than past `i`. An adjacent
+    // position is found by its bit.
     #[inline(always)]
     pub(super) fn forward(self, i: usize, r: i64, tally: &mut Tally) -> Option<usize> {
         let len = self.bits.len();
@@ -56,7 +56,7 @@ impl<'a, const BLOCK_SIZE: usize, A: Allocator + Copy> Searched<'a, BLOCK_SIZE, 
         }
     }
 
-    // The same where the block of `i` has no such place and rises by `rise` to its end.
+    // Does the same if the block of `i` has no such position and rises by `rise` to its end.
     #[inline(always)]
     fn forward_past(self, i: usize, r: i64, rise: i64, tally: &mut Tally) -> Option<usize> {
         let left = r.checked_sub(rise)?;
@@ -66,8 +66,8 @@ impl<'a, const BLOCK_SIZE: usize, A: Allocator + Copy> Searched<'a, BLOCK_SIZE, 
         scan_forward(self.bits, &self.tree.tables, start, stop, rest, tally).ok()
     }
 
-    // The last place before `i` before which the excess is `r` more than before `i`. A place right
-    // beside is found by its bit alone.
+    // Returns the last position before `i` before which the excess is `r` more than before `i`. An adjacent
+    // position is found by its bit.
     #[inline(always)]
     pub(super) fn backward(self, i: usize, r: i64, tally: &mut Tally) -> Option<usize> {
         if i == 0 || i >= self.bits.len() {
@@ -84,7 +84,7 @@ impl<'a, const BLOCK_SIZE: usize, A: Allocator + Copy> Searched<'a, BLOCK_SIZE, 
         }
     }
 
-    // The same where the block of the place before `i` has no such place and is `rise` higher at its
+    // Does the same if the block of the position before `i` has no such position and is `rise` higher at its
     // start.
     #[inline(always)]
     fn backward_past(self, i: usize, r: i64, rise: i64, tally: &mut Tally) -> Option<usize> {

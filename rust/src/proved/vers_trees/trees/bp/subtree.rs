@@ -1,4 +1,4 @@
-//! The iterator over a node and all below it.
+//! The iterator over the subtree of a node.
 
 use crate::rattle::prelude::*;
 
@@ -7,11 +7,10 @@ use crate::rattle::Allocator;
 use crate::proved::vers_rank::fast_rs_vec::SelectIter;
 use crate::proved::vers_tally::ends::{BothEnds, Source};
 
-/// An iterator over a node and all below it, each before those below it. Each step reads at most
-/// what one select does.
+/// An iterator over the subtree of a node in preorder. Each step reads at most what one select does.
 pub type SubtreeIter<'a, A> = SelectIter<'a, false, A>;
 
-// The `count` items from number `first` on.
+// Returns the `count` items from item `first` on.
 fn part_of<S: Source<Item = usize>>(
     mut items: BothEnds<S>,
     first: usize,
@@ -28,15 +27,15 @@ fn part_of<S: Source<Item = usize>>(
 }
 
 impl<const BLOCK_SIZE: usize, A: Allocator + Copy> BpTree<BLOCK_SIZE, A> {
-    /// An iterator over a node and all below it, each before those below it. The parentheses are
-    /// balanced.
+    /// Returns an iterator over the subtree of a node in preorder. Precondition: the parentheses are balanced,
+    /// and a node opens at `node`.
     pub fn subtree_iter(&self, node: usize) -> SubtreeIter<'_, A> {
         let first = self.bits.rank1(node);
         let count = self.nodes_within(node);
         part_of(self.bits.iter1(), first, count)
     }
 
-    // How many nodes stand below a node, itself among them.
+    // Returns the number of nodes in the subtree of a node, including itself.
     pub(super) fn nodes_within(&self, node: usize) -> usize {
         let end = self.end(node);
         (end - node) / 2 + 1

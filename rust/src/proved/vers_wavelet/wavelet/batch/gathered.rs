@@ -1,4 +1,4 @@
-//! Where symbols are gathered, asked many times.
+//! Positions of symbols in gathered order, for many queries.
 
 use crate::rattle::prelude::*;
 
@@ -10,19 +10,19 @@ use crate::rattle::Allocator;
 use crate::proved::vers_rank::fast_rs_vec::RsVec;
 use crate::proved::vers_tally::tally::Tally;
 
-/// A place and a symbol that is to be gathered from there on, and the answer.
+/// A position, a symbol to be found from there on, and the answer.
 #[derive(Clone, Copy)]
 pub struct GatheredQuery {
-    /// The place.
+    /// The position.
     pub place: usize,
-    /// The symbol, of which the low digits count.
+    /// The symbol, of which only the low bits count.
     pub symbol: u64,
-    /// Where the first such symbol from the place on goes, once the query is answered.
+    /// The gathered position of the first such symbol from the position on, once the query is answered.
     pub answer: Option<usize>,
 }
 
 impl GatheredQuery {
-    /// A query for where the first of a symbol from a place on goes.
+    /// Returns a query for the gathered position of the first of a symbol from `place` on.
     #[inline]
     pub fn new(place: usize, symbol: u64) -> Self {
         GatheredQuery {
@@ -59,14 +59,14 @@ impl Query for GatheredQuery {
 }
 
 impl<A: Allocator + Copy> WaveletMatrix<A> {
-    /// Where the first of many symbols go, each from a place on, as `gathered_u64` answers: none takes memory, and all
-    /// are asked level by level, which is faster than one after the other where there are many.
+    /// Answers each query as `gathered_u64` does. Allocates nothing. All queries go level by level, which is
+    /// faster than one after another if there are many.
     pub fn gathered_u64_each(&self, queries: &mut [GatheredQuery]) {
         let mut tally = Tally::new();
         self.gathered_u64_each_counted(queries, &mut tally)
     }
 
-    /// The same as `gathered_u64_each`, by at most two ranks of each level for each query.
+    /// Answers each query as `gathered_u64_each` does. Reads at most two ranks of each level for each query.
     #[inline(always)]
     pub fn gathered_u64_each_counted(&self, queries: &mut [GatheredQuery], tally: &mut Tally) {
         ask_each(self.levels(), self.len(), queries, tally);

@@ -1,4 +1,4 @@
-//! The symbols at many places.
+//! The symbols at many positions.
 
 use crate::rattle::prelude::*;
 
@@ -10,17 +10,17 @@ use crate::rattle::Allocator;
 use crate::proved::vers_rank::fast_rs_vec::RsVec;
 use crate::proved::vers_tally::tally::Tally;
 
-/// A place to be asked for its symbol, and the answer.
+/// A position and the answer, its symbol.
 #[derive(Clone, Copy)]
 pub struct GetQuery {
-    /// The place. The call that answers works in it, and leaves a place of its own.
+    /// The position. Answering overwrites it.
     pub place: usize,
-    /// The symbol at the place, once the query is answered.
+    /// The symbol at the position, once the query is answered.
     pub answer: Option<u64>,
 }
 
 impl GetQuery {
-    /// A query for the symbol at a place.
+    /// Returns a query for the symbol at `place`.
     #[inline]
     pub fn new(place: usize) -> Self {
         GetQuery {
@@ -55,14 +55,14 @@ impl Query for GetQuery {
 }
 
 impl<A: Allocator + Copy> WaveletMatrix<A> {
-    /// The symbols at many places, each as `get_u64` answers: none takes memory, and all are read level by level, which
-    /// is faster than one after the other where there are many.
+    /// Answers each query as `get_u64` does. Allocates nothing. All queries go level by level, which is faster
+    /// than one after another if there are many.
     pub fn get_u64_each(&self, queries: &mut [GetQuery]) {
         let mut tally = Tally::new();
         self.get_u64_each_counted(queries, &mut tally)
     }
 
-    /// The same as `get_u64_each`, by the reads of `get_u64` at most for each query.
+    /// Answers each query as `get_u64_each` does. Reads at most what `get_u64` does for each query.
     #[inline(always)]
     pub fn get_u64_each_counted(&self, queries: &mut [GetQuery], tally: &mut Tally) {
         ask_each(self.levels(), self.len(), queries, tally);

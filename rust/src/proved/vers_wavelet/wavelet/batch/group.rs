@@ -1,4 +1,4 @@
-//! Queries that are led one level up together: those of zeros, and those of ones.
+//! Queries that go up one level together: those of zeros, and those of ones.
 
 use crate::rattle::prelude::*;
 
@@ -8,10 +8,10 @@ use crate::rattle::Allocator;
 use crate::proved::vers_rank::fast_rs_vec::RsVec;
 use crate::proved::vers_tally::tally::Tally;
 
-/// How many queries ask a level together: so many that the processor has their reads in flight at once.
+/// The queries that search a level together: enough that the processor has their reads in flight at once.
 pub(super) const GROUP: usize = 64;
 
-// Numbers of the zeros of a level or of its ones, the first `count` of them, or their places.
+// Numbers of the zeros of a level or of its ones, the first `count` of them, or their positions.
 #[derive(Clone, Copy)]
 pub(super) struct Asked {
     pub(super) numbers: [usize; GROUP],
@@ -19,14 +19,14 @@ pub(super) struct Asked {
 }
 
 impl Asked {
-    // Appends a number where that is wanted. With no branch on that, which would be guessed wrong.
+    // Appends a number if `is_wanted`, with no branch, which would be mispredicted.
     #[inline(always)]
     fn append_if(&mut self, number: usize, is_wanted: bool) {
         self.numbers[self.count] = number;
         self.count += if is_wanted { 1 } else { 0 };
     }
 
-    // Puts in the stead of each number the place of that zero or one.
+    // Replaces each number by the position of that zero or one.
     #[inline(always)]
     fn find_each<A: Allocator + Copy>(&mut self, bit: bool, level: &RsVec<A>, tally: &mut Tally) {
         let numbers = &mut self.numbers[..self.count];
@@ -38,7 +38,7 @@ impl Asked {
     }
 }
 
-// What queries of a group ask of a level, and for each query which of these numbers is its own.
+// The numbers that the queries of a group search on a level, and for each query the index of its own.
 #[derive(Clone, Copy)]
 pub(super) struct Group {
     pub(super) slots: [usize; GROUP],
@@ -47,7 +47,8 @@ pub(super) struct Group {
 }
 
 impl Group {
-    // What `n` queries, from number `from` on, ask of a level, of which they have digit `i`.
+    // Returns the numbers that `n` queries, from query `from` on, search on a level, of which they have digit
+    // `i`.
     #[inline(always)]
     pub(super) fn new<A: Allocator + Copy>(
         level: &RsVec<A>,
@@ -73,7 +74,7 @@ impl Group {
         group
     }
 
-    // How many ask for ones, or for zeros.
+    // Returns the number of queries for ones, or for zeros.
     #[inline(always)]
     fn next_slot(&self, bit: bool) -> usize {
         if bit {
@@ -91,7 +92,7 @@ impl Group {
         self.ones.append_if(number, bit);
     }
 
-    // Finds what is asked.
+    // Finds all positions.
     #[inline(always)]
     pub(super) fn find_all<A: Allocator + Copy>(
         &mut self,
@@ -103,7 +104,7 @@ impl Group {
         self.ones.find_each(true, level, tally);
     }
 
-    // What was found for query `j`.
+    // Returns the position found for query `j`.
     #[inline(always)]
     pub(super) fn found(&self, j: usize, bit: bool) -> usize {
         let slot = self.slots[j];

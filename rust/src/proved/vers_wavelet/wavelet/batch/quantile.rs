@@ -1,4 +1,4 @@
-//! Members of many ranges by size.
+//! Quantiles of many ranges.
 
 use crate::rattle::prelude::*;
 
@@ -10,22 +10,21 @@ use crate::rattle::Allocator;
 use crate::proved::vers_rank::fast_rs_vec::RsVec;
 use crate::proved::vers_tally::tally::Tally;
 
-/// A range and a number of one of its members by size, to be asked for the member, and the answer.
+/// A range, the rank of one of its members by size, and the answer, that member.
 #[derive(Clone, Copy)]
 pub struct QuantileQuery {
-    /// The first place of the range. The call that answers works in it, in `end` and in `i`, and leaves
-    /// numbers of its own.
+    /// The first position of the range. Answering overwrites it, `end` and `i`.
     pub start: usize,
-    /// The place that the range ends before.
+    /// The position after the range.
     pub end: usize,
-    /// The number of the member by size, counted from 0, equal ones too.
+    /// The rank of the member by size (from 0, counting duplicates).
     pub i: usize,
     /// The member, once the query is answered.
     pub answer: Option<u64>,
 }
 
 impl QuantileQuery {
-    /// A query for member `i` by size of the places from `start` on, before `end`.
+    /// Returns a query for the `i`-th smallest symbol of the positions from `start` on, before `end`.
     #[inline]
     pub fn new(start: usize, end: usize, i: usize) -> Self {
         QuantileQuery {
@@ -36,7 +35,7 @@ impl QuantileQuery {
         }
     }
 
-    // Whether there is such a member, and it is a number of the machine.
+    // Returns true if there is such a member, and it fits in a word.
     #[inline(always)]
     fn has_answer(self, levels: usize, len: usize) -> bool {
         levels <= 64 && self.end <= len && self.i < self.end.saturating_sub(self.start)
@@ -81,14 +80,14 @@ impl Query for QuantileQuery {
 }
 
 impl<A: Allocator + Copy> WaveletMatrix<A> {
-    /// The members of many ranges by size, each as `quantile_u64` answers: none takes memory, and all are
-    /// asked level by level, which is faster than one after the other where there are many.
+    /// Answers each query as `quantile_u64` does. Allocates nothing. All queries go level by level, which is
+    /// faster than one after another if there are many.
     pub fn quantile_u64_each(&self, queries: &mut [QuantileQuery]) {
         let mut tally = Tally::new();
         self.quantile_u64_each_counted(queries, &mut tally)
     }
 
-    /// The same as `quantile_u64_each`, by the reads of `quantile_u64` at most for each query.
+    /// Answers each query as `quantile_u64_each` does. Reads at most what `quantile_u64` does for each query.
     #[inline(always)]
     pub fn quantile_u64_each_counted(&self, queries: &mut [QuantileQuery], tally: &mut Tally) {
         ask_each(self.levels(), self.len(), queries, tally);

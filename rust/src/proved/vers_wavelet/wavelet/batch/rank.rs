@@ -1,4 +1,4 @@
-//! How many of the first places hold a symbol, asked many times.
+//! Ranks of symbols, for many queries.
 
 use crate::rattle::prelude::*;
 
@@ -10,19 +10,19 @@ use crate::rattle::Allocator;
 use crate::proved::vers_rank::fast_rs_vec::RsVec;
 use crate::proved::vers_tally::tally::Tally;
 
-/// A number of places from the first on and a symbol to be counted in them, and the answer.
+/// A length of a prefix, a symbol to be counted in it, and the answer.
 #[derive(Clone, Copy)]
 pub struct RankQuery {
-    /// How many places. The call that answers works in it, and leaves a place of its own.
+    /// The length of the prefix. Answering overwrites it.
     pub end: usize,
-    /// The symbol, of which the low digits count.
+    /// The symbol, of which only the low bits count.
     pub symbol: u64,
-    /// How many of the places hold the symbol, once the query is answered.
+    /// The number of occurrences of the symbol in the prefix, once the query is answered.
     pub answer: Option<usize>,
 }
 
 impl RankQuery {
-    /// A query for how many of the first `end` places hold a symbol.
+    /// Returns a query for the number of occurrences of a symbol in the first `end` positions.
     #[inline]
     pub fn new(end: usize, symbol: u64) -> Self {
         RankQuery {
@@ -44,7 +44,7 @@ impl Query for RankQuery {
         }
     }
 
-    // Where no place is left, the level is not read.
+    // If no position is left, the level is not read.
     #[inline(always)]
     fn step<A: Allocator + Copy>(self, level: &RsVec<A>, i: usize, tally: &mut Tally) -> Self {
         let count = match self.answer { Some(count) => count, _ => {
@@ -65,15 +65,14 @@ impl Query for RankQuery {
 }
 
 impl<A: Allocator + Copy> WaveletMatrix<A> {
-    /// How many of the first places hold a symbol, asked many times, each as `rank_u64` answers: none
-    /// takes memory, and all are asked level by level, which is faster than one after the other where
-    /// there are many.
+    /// Answers each query as `rank_u64` does. Allocates nothing. All queries go level by level, which is faster
+    /// than one after another if there are many.
     pub fn rank_u64_each(&self, queries: &mut [RankQuery]) {
         let mut tally = Tally::new();
         self.rank_u64_each_counted(queries, &mut tally)
     }
 
-    /// The same as `rank_u64_each`, by the reads of `rank_u64` at most for each query.
+    /// Answers each query as `rank_u64_each` does. Reads at most what `rank_u64` does for each query.
     #[inline(always)]
     pub fn rank_u64_each_counted(&self, queries: &mut [RankQuery], tally: &mut Tally) {
         ask_each(self.levels(), self.len(), queries, tally);

@@ -1,4 +1,4 @@
-//! The places of many occurrences.
+//! The positions of many occurrences.
 
 use crate::rattle::prelude::*;
 
@@ -11,19 +11,19 @@ use crate::rattle::Allocator;
 use crate::proved::vers_rank::fast_rs_vec::RsVec;
 use crate::proved::vers_tally::tally::Tally;
 
-/// A symbol and a number of one of its occurrences, to be asked for the place, and the answer.
+/// A symbol, the number of one of its occurrences, and the answer, its position.
 #[derive(Clone, Copy)]
 pub struct SelectQuery {
-    /// The number of the occurrence, counted from 0.
+    /// The number of the occurrence (from 0).
     pub rank: usize,
-    /// The symbol, of which the low digits count.
+    /// The symbol, of which only the low bits count.
     pub symbol: u64,
-    /// The place of the occurrence, once the query is answered.
+    /// The position of the occurrence, once the query is answered.
     pub answer: Option<usize>,
 }
 
 impl SelectQuery {
-    /// A query for the place of occurrence `rank` of a symbol, counted from 0.
+    /// Returns a query for the position of occurrence `rank` (from 0) of a symbol.
     #[inline]
     pub fn new(rank: usize, symbol: u64) -> Self {
         SelectQuery {
@@ -33,7 +33,7 @@ impl SelectQuery {
         }
     }
 
-    // The query with the place of the occurrence below the last level, from that of the first one
+    // Returns the query with the position of the occurrence below the last level, from that of the first one
     // that may be.
     #[inline(always)]
     fn turn(self, len: usize) -> Self {
@@ -54,7 +54,7 @@ impl SelectQuery {
         }
     }
 
-    // The number of the query's place among the zeros or the ones of the level above.
+    // Returns the number of the query's position among the zeros or the ones of the level above.
     #[inline(always)]
     pub(super) fn number_above<A: Allocator + Copy>(self, level: &RsVec<A>, bit: bool) -> usize {
         let place = match self.answer { Some(place) => place, _ => {
@@ -67,8 +67,8 @@ impl SelectQuery {
         }
     }
 
-    // The query one level up, on level `k`, from the place of its number there. Where another symbol's place was
-    // reached, no answer is left.
+    // Returns the query one level up, on level `k`, from the position of its number there. If the position of
+    // another symbol was reached, there is no answer.
     #[inline(always)]
     fn rise<A: Allocator + Copy>(
         self,
@@ -120,7 +120,7 @@ impl Query for SelectQuery {
     }
 }
 
-// Has each query stand where its occurrence does below the last level.
+// Moves each query to the position of its occurrence below the last level.
 #[inline(always)]
 fn turn_each(queries: &mut [SelectQuery], len: usize) {
     for j in 0..queries.len() {
@@ -128,7 +128,7 @@ fn turn_each(queries: &mut [SelectQuery], len: usize) {
     }
 }
 
-// Leads `n` queries one level up, to level `k`, from number `from` on.
+// Moves `n` queries one level up, to level `k`, from query `from` on.
 #[inline(always)]
 fn rise_group<A: Allocator + Copy>(
     levels: &[RsVec<A>],
@@ -150,7 +150,7 @@ fn rise_group<A: Allocator + Copy>(
     }
 }
 
-// Leads the queries one level up, to level `k`, group by group.
+// Moves the queries one level up, to level `k`, group by group.
 #[inline(always)]
 fn rise_each<A: Allocator + Copy>(
     levels: &[RsVec<A>],
@@ -168,7 +168,8 @@ fn rise_each<A: Allocator + Copy>(
     }
 }
 
-// Leads the queries up through all levels, from where the occurrences of their symbols begin below the last.
+// Moves the queries up through all levels, from the positions where the occurrences of their symbols begin
+// below the last.
 #[inline(always)]
 fn climb_each<A: Allocator + Copy>(
     levels: &[RsVec<A>],
@@ -183,14 +184,14 @@ fn climb_each<A: Allocator + Copy>(
 }
 
 impl<A: Allocator + Copy> WaveletMatrix<A> {
-    /// The places of many occurrences, each as `select_u64` answers: none takes memory, and all are asked
-    /// level by level, which is faster than one after the other where there are many.
+    /// Answers each query as `select_u64` does. Allocates nothing. All queries go level by level, which is
+    /// faster than one after another if there are many.
     pub fn select_u64_each(&self, queries: &mut [SelectQuery]) {
         let mut tally = Tally::new();
         self.select_u64_each_counted(queries, &mut tally)
     }
 
-    /// The same as `select_u64_each`, by the reads of `select_u64` at most for each query.
+    /// Answers each query as `select_u64_each` does. Reads at most what `select_u64` does for each query.
     #[inline(always)]
     pub fn select_u64_each_counted(&self, queries: &mut [SelectQuery], tally: &mut Tally) {
         let levels = self.levels();

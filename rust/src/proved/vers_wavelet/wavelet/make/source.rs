@@ -1,27 +1,27 @@
-//! What lists of symbols are made of.
+//! The sources of lists of symbols.
 
 use crate::rattle::prelude::*;
 
 use crate::rattle::Allocator;
 use crate::proved::vers_bits::bit_vec::{BitVec, MAX_LEN};
 
-// Items that stand for numbers, of which as many low digits count as the width says.
+// Items that represent numbers, of which only the `width` low digits count.
 pub(super) trait Source {
     type Item: Copy;
 
-    // How many items there are.
+    // Returns the number of items.
     fn len(&self) -> usize;
 
-    // How many digits count.
+    // Returns the number of digits that count.
     fn width(&self) -> usize;
 
-    // Item `i`.
+    // Returns item `i`.
     fn item(&self, i: usize) -> Self::Item;
 
-    // Whether digit `i` of an item's number is 1.
+    // Returns true if digit `i` of an item's number is 1.
     fn digit(&self, item: Self::Item, i: usize) -> bool;
 
-    // The `n` highest of the digits that count, as a number.
+    // Returns the `n` highest of the digits that count, as a number.
     fn prefix(&self, item: Self::Item, n: usize) -> usize;
 }
 
@@ -32,7 +32,7 @@ pub(super) struct Words<'a> {
 }
 
 impl<'a> Words<'a> {
-    // The low digits of the numbers; no items where no digits count.
+    // Returns the low digits of the numbers; no items if no digits count.
     pub(super) fn new(numbers: &'a [u64], width: usize) -> Self {
         let kept = if width == 0 { 0 } else { numbers.len() };
         Words {
@@ -68,14 +68,14 @@ impl<'a> Source for Words<'a> {
     }
 }
 
-// The numbers that a list of bits holds, one after another. An item is the number of its place.
+// The packed numbers of a list of bits. An item is the index of a number.
 pub(super) struct Packed<'a, A: Allocator + Copy> {
     bits: &'a BitVec<A>,
     width: usize,
 }
 
 impl<'a, A: Allocator + Copy> Packed<'a, A> {
-    // The numbers of `width` bits each.
+    // Returns the numbers of `width` bits each.
     pub(super) fn new(bits: &'a BitVec<A>, width: usize) -> Self {
         // The length is known to be at most `MAX_LEN`.
         let _ = bits.len();

@@ -30,7 +30,8 @@ const COPYINGS: [Copying; 6] = [
     Copying::Masked(Mask::AndNot),
 ];
 
-// A mask of two lists of one length: the first has the bits of the pattern, the second those from place 5 on.
+// A mask of two lists of the same length: the first has the bits of the pattern, the second those from position
+// 5 on.
 struct Masking<'a, A: Allocator + Copy> {
     mask: Mask,
     left: &'a BitVec<A>,
@@ -76,7 +77,7 @@ fn tried_mask<B: Allocator, A: Allocator + Copy>(
     }
 }
 
-// The start of the pattern, of so many bits.
+// The start of the pattern, of that many bits.
 struct Start {
     len: usize,
 }
@@ -87,7 +88,7 @@ impl<A: Allocator + Copy> Check<BitVec<A>> for Start {
     }
 }
 
-// Whether a walk gives the bits of the pattern and ends.
+// Checks whether a walk returns the bits of the pattern and ends.
 impl<A: Allocator + Copy> Check<BitVecIter<A>> for Start {
     fn is_right(&self, bits: &mut BitVecIter<A>) -> bool {
         for place in 0..self.len {

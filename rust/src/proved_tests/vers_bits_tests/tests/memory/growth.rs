@@ -10,12 +10,12 @@ use crate::rattle::Global;
 use crate::proved_tests::test_alloc::{Edit, Ending, LENGTHS, Refusing, Trial, first_wrong_trial, try_edit};
 use crate::proved::vers_bits::bit_vec::{BitVec, GrowError};
 
-// How many bits the last limb of a list has room for.
+// Returns the number of bits that the last limb of a list has room for.
 fn room(len: usize) -> usize {
     (64 - len % 64) % 64
 }
 
-// A call that appends the next bits of the pattern; where it may, with how many.
+// A call that appends the next bits of the pattern, with their number if it varies.
 #[derive(Clone, Copy)]
 enum Growth {
     Append,
@@ -49,7 +49,7 @@ const GROWTHS: [Growth; 17] = [
     Growth::ExtendBitvec(130),
 ];
 
-// How many bits a call appends.
+// Returns the number of bits that a call appends.
 fn added(growth: Growth) -> usize {
     match growth {
         Growth::AppendWord => 64,
@@ -137,7 +137,7 @@ fn growth_is_refused_in_turn() {
     assert_none_wrong(&rt, first_wrong_trial(rt.alloc(), &LENGTHS, &GROWTHS));
 }
 
-// Lists by which a list is extended, with the bits of the pattern from a place on.
+// Returns lists by which a list is extended, with the bits of the pattern from a position on.
 fn pieces_of<A: Allocator + Copy>(
     alloc: A,
     from: usize,
@@ -152,7 +152,7 @@ fn pieces_of<A: Allocator + Copy>(
     Ok(pieces)
 }
 
-// By what lists a list is extended, and how.
+// The lists by which a list is extended, and how.
 #[derive(Clone, Copy)]
 enum Extension {
     ByValue(&'static [usize]),
@@ -172,7 +172,7 @@ fn lengths_of(extension: Extension) -> &'static [usize] {
     }
 }
 
-// The sum of the first lengths, `count` of them.
+// Returns the sum of the first lengths, `count` of them.
 fn sum_of_first(lengths: &[usize], count: usize) -> usize {
     let mut sum = 0usize;
     for (k, length) in lengths.iter().enumerate() {
@@ -183,7 +183,7 @@ fn sum_of_first(lengths: &[usize], count: usize) -> usize {
     sum
 }
 
-/// Extends a list by pieces. Answers what the call answered, and how many pieces it did not take.
+/// Extends a list by pieces. Returns the result, and the number of pieces not taken.
 pub fn extend<A: Allocator + Copy>(
     list: &mut BitVec<A>,
     pieces: Vec<BitVec<A>, A>,
@@ -193,7 +193,7 @@ pub fn extend<A: Allocator + Copy>(
     (answer, walk.len())
 }
 
-/// The same by references to them.
+/// Does the same by references to them.
 pub fn extend_ref<A: Allocator + Copy>(
     list: &mut BitVec<A>,
     pieces: &[BitVec<A>],
@@ -214,8 +214,8 @@ fn extend_by<A: Allocator + Copy>(
     }
 }
 
-// Tries an extension of a list of the pattern. Where it is refused, the pieces before the last one that was
-// taken stay appended, and no bit more.
+// Tests an extension of a list of the pattern. On error, the pieces before the last one that was taken stay
+// appended, and no bit more.
 fn tried_pieces<B: Allocator, A: Allocator + Copy>(
     heap: &Refusing<B>,
     list: &mut BitVec<A>,
@@ -278,8 +278,8 @@ const KEPT: [(Query, Option<u64>); 2] = [(Query::Len, Some(64)), (Query::GetBits
 
 const GROWN: [(Query, Option<u64>); 2] = [(Query::Len, Some(65)), (Query::Get(64), Some(1))];
 
-// Whether a list of one limb in memory for just as many bits is kept by a refused `append`, grows by one
-// that is granted, and then takes no memory for a bit that the last limb has room for.
+// Returns true if a refused `append` keeps a list of one limb in memory for exactly as many bits, a granted one
+// appends, and a bit that the last limb has room for then needs no memory.
 fn appends_as_told<A: Allocator + Copy, B: Allocator>(
     heap: &Refusing<B>,
     list: &mut BitVec<A>,

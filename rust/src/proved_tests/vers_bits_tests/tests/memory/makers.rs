@@ -1,4 +1,4 @@
-//! The makers, at every length.
+//! The constructors, at every length.
 
 use crate::rattle::prelude::*;
 use crate::proved_tests::vers_bits_tests::tests::assert_none_wrong;
@@ -44,7 +44,7 @@ const WIDE: [Maker; 10] = [
     Maker::PackIterU64(70),
 ];
 
-// How many bits a maker makes of each item.
+// Returns the number of bits that a constructor makes of each item.
 fn width(maker: Maker) -> usize {
     match maker {
         Maker::WithCapacity => 0,
@@ -61,7 +61,7 @@ fn width(maker: Maker) -> usize {
     }
 }
 
-// The bits that a maker makes.
+// Returns the bits that a constructor makes.
 impl Bits for Maker {
     fn bit_at(&self, place: usize) -> bool {
         match *self {
@@ -72,7 +72,7 @@ impl Bits for Maker {
     }
 }
 
-// The bit at a place of the items of the pattern, of `width` bits each.
+// Returns the bit at a position of the items of the pattern, of `width` bits each.
 fn digit(place: usize, width: usize) -> bool {
     if width == 0 || place % width > 7 {
         return false;
@@ -80,7 +80,7 @@ fn digit(place: usize, width: usize) -> bool {
     (item(place / width) >> (place % width)) % 2 == 1
 }
 
-// A maker, and its items, of which there are `len`.
+// A constructor, and its items, of which there are `len`.
 struct OfItems<'a, A: Allocator + Copy> {
     maker: Maker,
     items: &'a Items<A>,

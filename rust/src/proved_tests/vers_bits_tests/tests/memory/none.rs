@@ -1,4 +1,4 @@
-//! The calls that take no memory, of lists of every length, with each request refused.
+//! The calls that allocate nothing, of lists of every length, with each request refused.
 
 use crate::rattle::prelude::*;
 use crate::proved_tests::vers_bits_tests::tests::assert_none_wrong;
@@ -21,7 +21,7 @@ use crate::proved_tests::test_alloc::{
 use crate::proved::vers_bits::bit_vec::{BitVec, BitVecIter, GrowError};
 use crate::proved::vers_bits::list_ends::{BorrowedList, ListEnds};
 
-// Calls that are tried together.
+// Calls that are tested together.
 #[derive(Clone, Copy)]
 enum Calls {
     New,
@@ -47,7 +47,7 @@ const ALL: [Calls; 9] = [
     Calls::Masks,
 ];
 
-// The bits of the pattern as limbs.
+// Returns the bits of the pattern as limbs.
 fn limbs_of<A: Allocator + Copy>(alloc: A, limbs: usize) -> Result<Vec<u64, A>, AllocError> {
     let mut words = Vec::new(alloc);
     for k in 0..limbs {
@@ -80,7 +80,7 @@ fn queries_work<A: Allocator + Copy>(list: &BitVec<A>, len: usize) -> bool {
         && reads_work(list, len)
 }
 
-// Whether a place is read as the pattern has it, or as none past the end.
+// Returns true if a position is read as the pattern has it, or as none past the end.
 fn reads_work<A: Allocator + Copy>(list: &BitVec<A>, place: usize) -> bool {
     let wanted = (place < list.len()).then_some(u64::from(bit(place)));
     for query in &[
@@ -100,7 +100,8 @@ fn reads_work<A: Allocator + Copy>(list: &BitVec<A>, place: usize) -> bool {
     true
 }
 
-// Whether walks have so many items, of which the last one is at both ends of what is left when it is taken.
+// Returns true if walks have that many items, of which the last one is at both ends of what is left when it is
+// taken.
 fn walks_work<A: Allocator + Copy>(list: &BitVec<A>, len: usize) -> bool {
     let bit = answer(list, Query::Get(len.wrapping_sub(1)));
     let limb = answer(list, Query::Limb(len.div_ceil(64).wrapping_sub(1)));
@@ -129,7 +130,7 @@ fn steps_work<A: Allocator + Copy>(bits: &mut BitVecIter<A>, len: usize) -> bool
         && take(bits, Step::NthBack(2)).is_some() == (len > 7)
 }
 
-// Whether the bit at a place of the list is changed as told, and none past the end is.
+// Returns true if the bit at a position of the list is changed as expected, and none past the end is.
 fn edits_work<A: Allocator + Copy>(list: &mut BitVec<A>, place: usize) -> bool {
     if place >= list.len() {
         return !is_made(list, Change::Set(place, 1));
@@ -165,8 +166,8 @@ const READS: [Query; 6] = [
     Query::GetBitsUnchecked(0, 1),
 ];
 
-// Whether the first bit of two lists, if they have one, is read right through both masks, which have each other's
-// zeros as ones.
+// Returns true if the first bit of two lists, if they have one, is read rightly through both masks, which have
+// each other's zeros as ones.
 fn masks_are_read<A: Allocator + Copy>(left: &BitVec<A>, right: &BitVec<A>) -> bool {
     let is_one = answer(left, READS[0]) == Some(1) || answer(right, READS[0]) == Some(1);
     let has_one = !left.is_empty();
@@ -316,8 +317,7 @@ impl Trial<Global> for Calls {
     }
 }
 
-// What appends bits within the last limb, and splits at the length, stands in the tables of growth and
-// of splits.
+// Appending bits within the last limb, and splits at the length, are in the tables of growth and of splits.
 #[test]
 fn these_calls_take_no_memory() {
     let rt = HostRuntime;

@@ -8,12 +8,12 @@ use crate::rattle::Global;
 use crate::proved_tests::test_alloc::{Conversion, Ending, LENGTHS, Refusing, Trial, first_wrong_trial, try_conversion};
 use crate::proved::vers_bits::bit_vec::{BitVec, SplitCause, SplitError};
 
-// Whether two lists are the halves of the pattern.
+// Returns true if two lists are the halves of the pattern.
 fn are_halves<A: Allocator + Copy>(halves: &(BitVec<A>, BitVec<A>), len: usize, at: usize) -> bool {
     has_pattern(&halves.0, 0, at) && has_pattern(&halves.1, at, len.wrapping_sub(at))
 }
 
-// Whether a list that was handed back is as it was, and is split where there is memory.
+// Returns true if the list in an error is unchanged, and is split once there is memory.
 fn is_kept<A: Allocator + Copy>(list: BitVec<A>, len: usize, at: usize) -> bool {
     if !has_pattern(&list, 0, len) {
         return false;
@@ -48,7 +48,7 @@ impl<A: Allocator + Copy> Conversion<BitVec<A>> for Checked {
     }
 }
 
-// `split_at_unchecked`, at the end where the place lies past it.
+// `split_at_unchecked`, at the end if the position is past it.
 struct Unchecked {
     len: usize,
     at: usize,
@@ -137,7 +137,7 @@ impl Trial<Global> for Split {
         tried(heap, heap, self, len)
     }
 
-    // Where both halves have bits, and nowhere else.
+    // Exactly if both halves have bits.
     fn takes_memory(self, len: usize) -> bool {
         match self {
             Split::Checked(at) | Split::Unchecked(at) => {

@@ -1,4 +1,4 @@
-//! Building the tree of excesses of a list, from its blocks up to the root.
+//! Construction of the tree of excesses of a list, from its blocks up to the root.
 
 use crate::rattle::prelude::*;
 
@@ -8,7 +8,7 @@ use crate::rattle::AllocError;
 use crate::rattle::Allocator;
 use crate::proved::vers_bits::bit_vec::BitVec;
 
-// The least power of two, from 2, that is not below the number.
+// Returns the least power of two, from 2, that is at least the number.
 pub(super) fn width(leaves: usize) -> usize {
     let mut width = 2;
     while width < leaves {
@@ -17,7 +17,7 @@ pub(super) fn width(leaves: usize) -> usize {
     width
 }
 
-// The nodes of the blocks of `size` bits, after `first` nodes that are still to be filled.
+// Returns the nodes of the blocks of `size` bits, after `first` nodes that are still to be filled.
 fn leaves_of<A: Allocator + Copy>(
     bits: &BitVec<A>,
     size: usize,
@@ -47,7 +47,7 @@ fn push_blocks<A: Allocator + Copy>(
     Ok(())
 }
 
-// The nodes of the tree over the blocks of `size` bits of a list that has some bits.
+// Returns the nodes of the tree over the blocks of `size` bits of a nonempty list.
 pub(super) fn nodes_over<A: Allocator + Copy>(
     bits: &BitVec<A>,
     size: usize,
@@ -58,7 +58,7 @@ pub(super) fn nodes_over<A: Allocator + Copy>(
     Ok(nodes)
 }
 
-// The node over two neighbouring parts.
+// Returns the node over two adjacent parts.
 fn joined(left: Node, right: Node) -> Node {
     if right.least > right.greatest {
         return left;
@@ -70,7 +70,7 @@ fn joined(left: Node, right: Node) -> Node {
     }
 }
 
-// Node i of nodes that are not yet counted, or one over no block past the end.
+// Returns node `i`, not counted, or one over no block past the end.
 fn node_or_empty(nodes: &[Node], i: usize) -> Node {
     if i < nodes.len() {
         nodes[i]
