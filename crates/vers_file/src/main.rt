@@ -12,7 +12,7 @@ use vers_files::{
     FilePlace, SaveFault, Shown, ask, ask_text, fault_line, read, save_to, show, text_fault_line,
 };
 
-const VERSION: &str = "vers_file 0.13.0";
+const VERSION: &str = "vers_file 0.14.0";
 
 const HELP: &str = "Usage: vers_file save FILE < LINE
        vers_file ask FILE < LINES
