@@ -1,4 +1,4 @@
-//! What lines are answered by.
+//! The answers to lines.
 use crate::devices::answers;
 use std::alloc::{AllocError, Global};
 use std::test::Fail;
@@ -7,7 +7,7 @@ use vers_cli::RunError;
 /// What a case shows, its input and its output.
 pub type Case = (&'static str, &'static [u8], &'static [u8]);
 
-/// What the first case shows that is answered otherwise; nothing where all are answered so.
+/// Returns what the first wrong case shows, or nothing if all are right.
 pub fn first_wrong(alloc: Global, cases: &[Case]) -> Result<&'static str, RunError> {
     for (case, input, output) in cases {
         if answers(alloc, *input)?.as_slice() != *output {
@@ -117,7 +117,7 @@ const CASES: [Case; 21] = [
     ),
 ];
 
-// The same of parentheses.
+// The same for parentheses.
 const TREE_CASES: [Case; 9] = [
     (
         "every query of parentheses",
@@ -166,7 +166,7 @@ const TREE_CASES: [Case; 9] = [
     ),
 ];
 
-// The same of symbols.
+// The same for symbols.
 const SYMBOLS_CASES: [Case; 8] = [
     (
         "every query of symbols",
@@ -210,7 +210,7 @@ const SYMBOLS_CASES: [Case; 8] = [
     ),
 ];
 
-// The same of documents with costs.
+// The same for documents with costs.
 const POSTINGS_CASES: [Case; 8] = [
     (
         "documents with costs, and lines of them that are malformed or refused",
@@ -263,7 +263,7 @@ fn lines_and_their_answers(rt: HostRuntime) -> Result<(), Fail> {
     Ok(())
 }
 
-/// An input whose first line has two texts, each so many times.
+/// An input whose first line has two texts, each that many times.
 pub struct LongCase {
     case: &'static str,
     start: &'static [u8],
@@ -326,7 +326,7 @@ const LONG_CASES: [LongCase; 6] = [
     },
 ];
 
-/// Adds a text so many times.
+/// Appends a text that many times.
 pub fn push_repeated(whole: &mut Vec<u8>, text: &[u8], times: usize) -> Result<(), AllocError> {
     for _ in 0..times {
         whole.extend_from_slice(text)?;
@@ -343,7 +343,7 @@ fn long_input(alloc: Global, long: &LongCase) -> Result<Vec<u8>, AllocError> {
     Ok(input)
 }
 
-// What the first long case shows that is answered otherwise; nothing where all are answered so.
+// Returns what the first wrong long case shows, or nothing if all are right.
 fn first_wrong_long(alloc: Global) -> Result<&'static str, RunError> {
     for long in &LONG_CASES {
         if answers(alloc, long_input(alloc, long)?.as_slice())?.as_slice() != long.output {

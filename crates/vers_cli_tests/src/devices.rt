@@ -6,14 +6,14 @@ use std::io;
 use std::io::{Read, Write};
 use vers_cli::{Device, RunError, Sink, Source, run};
 
-// Counts a call, and answers its number.
+// Counts a call, and returns its number.
 fn count_call(calls: &mut u64) -> u64 {
     *calls = calls.saturating_add(1);
     *calls
 }
 
-/// Gives `rest` in pieces of at most `piece` bytes. The read of number `fails_at` fails, and those
-/// before and after it work. `reads` counts them all.
+/// Returns `rest` in pieces of at most `piece` bytes. The read with number `fails_at` fails, and those before
+/// and after it work. `reads` counts them all.
 #[derive(Drop)]
 pub struct FailingReader<'a> {
     pub rest: &'a [u8],
@@ -37,9 +37,8 @@ impl Read for FailingReader<'_> {
     }
 }
 
-/// Takes at most `piece` bytes at once. The write or flush of number `fails_at` fails, or takes no
-/// byte where it is a write and `takes_none`, and those before and after it work. `calls` counts
-/// them all.
+/// Takes at most `piece` bytes at once. The write or flush with number `fails_at` fails, or takes no byte if it
+/// is a write and `takes_none`, and those before and after it work. `calls` counts them all.
 #[derive(Drop)]
 pub struct FailingWriter {
     pub text: Vec<u8>,
@@ -50,7 +49,7 @@ pub struct FailingWriter {
 }
 
 impl FailingWriter {
-    /// A writer that takes all and never fails.
+    /// Returns a writer that takes all and never fails.
     pub fn whole(alloc: Global) -> FailingWriter {
         FailingWriter {
             text: Vec::new(alloc),
@@ -84,7 +83,7 @@ impl Write for FailingWriter {
     }
 }
 
-/// How a run ended, with the reader and the writer after it.
+/// The result of a run, with the reader and the writer after it.
 #[derive(Drop)]
 pub struct Ended<R, W> {
     pub result: Result<(), RunError>,
@@ -94,7 +93,7 @@ pub struct Ended<R, W> {
     pub writer_failed: bool,
 }
 
-/// A run over any reader and writer.
+/// Runs the program over any reader and writer.
 pub fn run_over<A: Allocator + Copy, R: Source, W: Sink>(
     alloc: A,
     reader: R,
@@ -114,7 +113,7 @@ pub fn run_over<A: Allocator + Copy, R: Source, W: Sink>(
     }
 }
 
-/// What a run over memory writes for an input.
+/// Returns the output of a run over memory for an input.
 pub fn answers(alloc: Global, input: &[u8]) -> Result<Vec<u8>, RunError> {
     let Ended { result, writer, .. } = run_over(alloc, input, Vec::new(alloc));
     result?;

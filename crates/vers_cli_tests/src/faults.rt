@@ -1,4 +1,4 @@
-//! Runs whose reader or writer fails at one call, and devices alone.
+//! Runs whose reader or writer fails at one call, and devices by themselves.
 use crate::devices::{FailingReader, FailingWriter, run_over};
 use std::alloc::{AllocError, Global};
 use std::io::{Read, Write};
@@ -18,7 +18,7 @@ fn lines_of_faults(rt: HostRuntime) {
     assert_eq!(rt; fault_line(&RunError::Memory), "out of memory");
 }
 
-// The answers of the first lines.
+// Returns the answers of the first lines.
 fn first_answers(alloc: Global, lines: usize) -> Result<Vec<u8>, AllocError> {
     let mut text = Vec::new(alloc);
     for answer in ANSWERS.iter().take(lines) {
@@ -27,7 +27,7 @@ fn first_answers(alloc: Global, lines: usize) -> Result<Vec<u8>, AllocError> {
     Ok(text)
 }
 
-// How many lines end in the first bytes of the input.
+// Returns how many lines end in the first bytes of the input.
 fn lines_ended(bytes: usize) -> usize {
     INPUT
         .iter()
@@ -36,7 +36,7 @@ fn lines_ended(bytes: usize) -> usize {
         .count()
 }
 
-// Whether a run whose read of this number fails, if the run comes so far, answers the lines that ended
+// Returns true if a run whose read with this number fails, if it gets that far, answers the lines that ended
 // before it, and reads nothing after it.
 fn is_right_at_read(alloc: Global, piece: usize, fails_at: u64) -> Result<bool, AllocError> {
     let reader = FailingReader {
@@ -74,8 +74,8 @@ fn each_read_fails_in_turn(rt: HostRuntime) -> Result<(), Fail> {
     Ok(())
 }
 
-// Whether a run whose write of this number fails or takes none, if the run comes so far, to a writer that
-// takes one byte at once, has written a beginning of the answers before, and writes nothing after it.
+// Returns true if a run whose write with this number fails or takes none, if it gets that far, to a writer that
+// takes one byte at once, has written a prefix of the answers before, and writes nothing after it.
 fn is_right_at_write(alloc: Global, takes_none: bool, fails_at: u64) -> bool {
     let writer = FailingWriter {
         piece: 1,
@@ -108,7 +108,7 @@ fn each_write_fails_in_turn(rt: HostRuntime) {
     }
 }
 
-// Whether a run to a writer that takes so many bytes of each piece writes all answers.
+// Returns true if a run to a writer that takes that many bytes of each piece writes all answers.
 fn is_whole_in_parts(alloc: Global, piece: usize) -> bool {
     let writer = FailingWriter {
         piece,
@@ -118,7 +118,7 @@ fn is_whole_in_parts(alloc: Global, piece: usize) -> bool {
     end.result == Ok(()) && end.writer.text.as_slice() == OUTPUT
 }
 
-// A writer that takes some bytes of each piece is asked again for the rest.
+// A writer that takes some bytes of each piece is called again for the rest.
 #[test]
 fn a_writer_takes_pieces_in_parts(rt: HostRuntime) {
     for piece in 1..12usize {
@@ -126,8 +126,8 @@ fn a_writer_takes_pieces_in_parts(rt: HostRuntime) {
     }
 }
 
-// A device over a reader that fails once passes each read on once. It has failed from the fault on,
-// and the reads after it work.
+// A device over a reader that fails once forwards each read once. It has failed from the error on, and the
+// reads after it work.
 #[test]
 fn a_device_reads_once_a_call(rt: HostRuntime) {
     let mut reader = Device::new(FailingReader {
@@ -149,7 +149,7 @@ fn a_device_reads_once_a_call(rt: HostRuntime) {
     assert_eq!(rt; reader.into_inner().reads, 5);
 }
 
-// The same of writes, by an error or by a write that takes no byte. A write of no byte is no fault.
+// Does the same for writes, by an error or by a write that takes no byte. A write of no byte is no error.
 #[test]
 fn a_device_writes_once_a_call(rt: HostRuntime) {
     for (takes_none, fault) in [(false, None), (true, Some(0usize))] {
@@ -172,7 +172,7 @@ fn a_device_writes_once_a_call(rt: HostRuntime) {
     }
 }
 
-// The same of flushes.
+// Does the same for flushes.
 #[test]
 fn a_device_flushes_once_a_call(rt: HostRuntime) {
     let mut writer = Device::new(FailingWriter {

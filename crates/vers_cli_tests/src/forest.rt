@@ -1,4 +1,4 @@
-//! What lines of balanced parentheses are answered by.
+//! The answers to lines of balanced parentheses.
 use crate::answers::{Case, first_wrong};
 use std::test::Fail;
 

@@ -1,4 +1,4 @@
-//! Tests of the line program over memory: its answers, and runs that meet a fault.
+//! Tests of the line program over memory: its answers, and runs with an error.
 #![tactic(auto)]
 
 #[cfg(test)]

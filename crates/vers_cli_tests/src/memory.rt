@@ -29,13 +29,13 @@ const RUNS: [(&[u8], &[u8]); 4] = [
 
 type End<'a> = Ended<FailingReader<'a>, Vec<u8>>;
 
-// Whether a run ended with all its answers, and gave its memory back.
+// Returns true if a run ended with all its answers, and freed its memory.
 fn is_whole(end: &End, heap: &Refusing<Global>, output: &[u8]) -> bool {
     end.result == Ok(()) && end.writer.as_slice() == output && heap.asked() == heap.freed()
 }
 
-// Whether a run ended at a request of this number that was refused, after the answers of a first part of
-// the lines, and gave its memory back.
+// Returns true if a run ended at a refused request with this number, after the answers of the first lines, and
+// freed its memory.
 fn is_cut_off(end: &End, heap: &Refusing<Global>, output: &[u8], request: u64) -> bool {
     let text = end.writer.as_slice();
     end.result == Err(RunError::Memory)
@@ -45,8 +45,8 @@ fn is_cut_off(end: &End, heap: &Refusing<Global>, output: &[u8], request: u64) -
         && (request == 1) == (end.reader.reads == 0)
 }
 
-// How a run ended of which a request may have been refused: whether as it must, and how many bytes of
-// whole answer lines it wrote, or None where no request was refused.
+// The end of a run of which a request may have been refused: whether it is right, and how many bytes of whole
+// answer lines it wrote, or `None` if no request was refused.
 #[derive(Clone, Copy, Drop)]
 struct Outcome {
     is_right: bool,
@@ -67,7 +67,7 @@ fn outcome_of(end: &End, heap: &Refusing<Global>, output: &[u8], request: u64) -
     }
 }
 
-// A run over one of these inputs whose request of this number is refused, if it comes so far.
+// Runs one of these inputs with the request of this number refused, if it gets that far.
 fn refused_at(alloc: Global, run: (&[u8], &[u8]), piece: usize, request: u64) -> Outcome {
     let heap = Refusing::nth(alloc, request);
     let reader = FailingReader {
@@ -80,9 +80,8 @@ fn refused_at(alloc: Global, run: (&[u8], &[u8]), piece: usize, request: u64) ->
     outcome_of(&end, &heap, run.1, request)
 }
 
-// Whether each run ends as it must where its first request is refused, then the second, and so on,
-// until a run ends with none refused. The later the request, the more answers are written, at last
-// nearly half of them.
+// Returns true if each run ends as it must if its first request is refused, then the second, and so on, until a
+// run ends with none refused. The later the request, the more answers are written, at last nearly half of them.
 fn is_right_at_each_request(alloc: Global, run: (&[u8], &[u8]), piece: usize) -> bool {
     let mut most = 0usize;
     for request in 1..400u64 {
@@ -107,7 +106,7 @@ fn each_request_is_refused_in_turn(rt: HostRuntime) {
     }
 }
 
-// With ample memory a load line that isn't admitted is refused, and what was held is kept.
+// With ample memory a load line that isn't admitted is refused, and the current structure is kept.
 const REFUSED: [Case; 12] = [
     (
         "sorted 3 1",
@@ -177,15 +176,15 @@ fn refused_load_lines(rt: HostRuntime) -> Result<(), Fail> {
     Ok(())
 }
 
-// A text so many times.
+// Returns a text, repeated.
 fn repeated(alloc: Global, text: &[u8], times: usize) -> Result<Vec<u8>, AllocError> {
     let mut whole = Vec::new(alloc);
     push_repeated(&mut whole, text, times)?;
     Ok(whole)
 }
 
-// Whether a run over lines that lie across the reads in every way writes these answers, by at most so
-// many writes, and gives its memory back.
+// Returns true if a run over lines that cross the reads in every way writes these answers, with at most that
+// many writes, and frees its memory.
 fn is_right_in_pieces(
     alloc: Global,
     input: &[u8],
@@ -227,7 +226,7 @@ fn many_lines(rt: HostRuntime) -> Result<(), Fail> {
     Ok(())
 }
 
-// How many writes a run takes over the input, or None where it writes other answers.
+// Returns the number of writes that a run takes over the input, or `None` if it writes other answers.
 fn writes_of(alloc: Global, input: &[u8], output: &[u8]) -> Option<u64> {
     let end = run_over(alloc, input, FailingWriter::whole(alloc));
     if end.result == Ok(()) && end.writer.text.as_slice() == output {

@@ -1,4 +1,4 @@
-//! The most memory that a run holds while it loads a long line.
+//! The most memory that a run uses while it loads a long line.
 ghost use Rattle.std.specs.Prelude.{◌≡◌, Some};
 
 use crate::devices::{Ended, run_over};
@@ -9,8 +9,8 @@ use std::test::Fail;
 use test_alloc::Refusing;
 use vers_cli::RunError;
 
-// Gives a text, and notes what is held before its last `measured` bytes are read and after them. From
-// there on the most is measured anew.
+// Returns a text, and records the memory in use before its last `measured` bytes are read and after them. From
+// there on the greatest use is measured anew.
 #[derive(Drop)]
 struct MeasuringReader<'a> {
     rest: &'a [u8],
@@ -46,8 +46,8 @@ impl Read for MeasuringReader<'_> {
     }
 }
 
-// A load line: its start, and what is repeated after it. Before that stands a number that is one more each time,
-// in as many digits as `below` has zeros, or none where that is 0.
+// A load line: its start, and what is repeated after it. Before that is a number that grows by one each time,
+// in as many digits as `below` has zeros, or none if that is 0.
 #[derive(Clone, Copy, Drop)]
 struct Line {
     start: &'static [u8],
@@ -113,7 +113,7 @@ const LINES: [Line; 9] = [
     },
 ];
 
-// A space and a number in as many digits as `below` has zeros, or nothing where that is 0.
+// Appends a space and a number in as many digits as `below` has zeros, or nothing if that is 0.
 fn push_number(text: &mut Vec<u8>, number: usize, below: usize) -> Result<(), AllocError> {
     if below == 0 {
         return Ok(());
@@ -127,7 +127,7 @@ fn push_number(text: &mut Vec<u8>, number: usize, below: usize) -> Result<(), Al
     Ok(())
 }
 
-// A line, with so many of its repetitions.
+// Appends a line, with that many of its repetitions.
 fn push_line(text: &mut Vec<u8>, line: Line, times: usize) -> Result<(), AllocError> {
     text.extend_from_slice(line.start)?;
     for number in 0..times {
@@ -138,7 +138,7 @@ fn push_line(text: &mut Vec<u8>, line: Line, times: usize) -> Result<(), AllocEr
     Ok(())
 }
 
-// What is held before a line is read, at most while it is read and loaded, and after it.
+// The memory in use before a line is read, at most while it is read and loaded, and after it.
 #[derive(Clone, Copy, Drop)]
 struct Held {
     before: usize,
@@ -146,7 +146,7 @@ struct Held {
     after: usize,
 }
 
-// What a run holds at the last `measured` bytes of an input.
+// Returns the memory that a run uses at the last `measured` bytes of an input.
 fn held_at(alloc: Global, input: &[u8], measured: usize) -> Result<Held, RunError> {
     let heap = Refusing::none(alloc);
     let reader = MeasuringReader {
@@ -165,15 +165,15 @@ fn held_at(alloc: Global, input: &[u8], measured: usize) -> Result<Held, RunErro
     })
 }
 
-// What a run holds with no list: room for a read, for a long line and for a short answer.
+// The memory that a run uses without a list: room for a read, for a long line and for a short answer.
 const READ_ROOM: usize = 65536;
 
 const LINE_ROOM: usize = 262144;
 
 const ANSWER_ROOM: usize = 64;
 
-// Whether a long line is loaded with at most three times the room of what is made of it and of the line
-// itself, beside the room for a read.
+// Returns true if a long line is loaded with at most three times the memory of its structure and of the line
+// itself, in addition to the room for a read.
 fn is_loaded_in_room(alloc: Global, line: Line) -> Result<bool, RunError> {
     let mut text = Vec::new(alloc);
     push_line(&mut text, line, line.times)?;
@@ -189,7 +189,7 @@ fn is_loaded_in_room(alloc: Global, line: Line) -> Result<bool, RunError> {
     )
 }
 
-// The first line that takes more room.
+// Returns the first line that takes more memory.
 fn first_without_room(alloc: Global) -> Result<Option<&'static [u8]>, RunError> {
     for line in LINES {
         if !is_loaded_in_room(alloc, line)? {
@@ -205,7 +205,7 @@ fn a_long_line_takes_three_times_its_room(rt: HostRuntime) -> Result<(), Fail> {
     Ok(())
 }
 
-// Whether a line is loaded over a longer list with no more room than that one takes.
+// Returns true if a line is loaded over a longer list with no more memory than that one takes.
 fn is_loaded_in_its_place(alloc: Global, line: Line) -> Result<bool, RunError> {
     let mut text = Vec::new(alloc);
     push_line(&mut text, LINES[2], LINES[2].times)?;
@@ -215,7 +215,7 @@ fn is_loaded_in_its_place(alloc: Global, line: Line) -> Result<bool, RunError> {
     Ok(held.after < held.before && held.most <= held.before)
 }
 
-// The first line that takes more room.
+// Returns the first line that takes more memory.
 fn first_beside(alloc: Global) -> Result<Option<&'static [u8]>, RunError> {
     for line in LINES {
         if !is_loaded_in_its_place(alloc, line)? {
@@ -225,7 +225,7 @@ fn first_beside(alloc: Global) -> Result<Option<&'static [u8]>, RunError> {
     Ok(None)
 }
 
-// What was held is let go before a list comes in its place.
+// The current structure is dropped before the next one is made.
 #[test]
 fn a_line_is_loaded_where_a_longer_list_was(rt: HostRuntime) -> Result<(), Fail> {
     assert!(rt; first_beside(rt.alloc())?.is_none());
