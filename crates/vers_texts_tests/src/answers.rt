@@ -1,4 +1,4 @@
-//! What lines are answered by.
+//! The answers to lines.
 use std::alloc::{Allocator, Global};
 use std::test::Fail;
 use vers_texts::{Device, RunError, run};
@@ -6,14 +6,14 @@ use vers_texts::{Device, RunError, run};
 /// What a case shows, its input and its output.
 type Case = (&'static str, &'static [u8], &'static [u8]);
 
-/// How a run over memory ended, and what it wrote.
+/// The result of a run over memory, and its output.
 #[derive(Drop)]
 pub struct Ended {
     pub result: Result<(), RunError>,
     pub text: Vec<u8>,
 }
 
-/// A run over an input in memory, whose answers go into memory of the host.
+/// Runs an input in memory, with the answers in memory of the host.
 pub fn run_over<A: Allocator + Copy>(alloc: A, host: Global, input: &[u8]) -> Ended {
     let mut reader = Device::new(input);
     let mut writer = Device::new(Vec::new(host));
@@ -24,14 +24,14 @@ pub fn run_over<A: Allocator + Copy>(alloc: A, host: Global, input: &[u8]) -> En
     }
 }
 
-/// What a run over memory writes for an input.
+/// Returns the output of a run over memory for an input.
 pub fn answers(alloc: Global, input: &[u8]) -> Result<Vec<u8>, RunError> {
     let ended = run_over(alloc, alloc, input);
     ended.result?;
     Ok(ended.text)
 }
 
-// What the first case shows that is answered otherwise; nothing where all are answered so.
+// Returns what the first wrong case shows, or nothing if all are right.
 fn first_wrong(alloc: Global, cases: &[Case]) -> Result<&'static str, RunError> {
     for (case, input, output) in cases {
         if answers(alloc, *input)?.as_slice() != *output {

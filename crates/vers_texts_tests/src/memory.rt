@@ -1,4 +1,4 @@
-//! Runs that are refused memory, and the most that a run holds.
+//! Runs that are refused memory, and the most memory that a run uses.
 use crate::answers::{Ended, run_over};
 use std::alloc::{AllocError, Global};
 use std::test::Fail;
@@ -21,16 +21,16 @@ const RUNS: [(&[u8], &[u8]); 3] = [
     ),
 ];
 
-// How a run ended of which a request may have been refused: whether as it must, and how many bytes of
-// whole answer lines it wrote, or None where no request was refused.
+// The end of a run of which a request may have been refused: whether it is right, and how many bytes of whole
+// answer lines it wrote, or `None` if no request was refused.
 #[derive(Clone, Copy, Drop)]
 struct Outcome {
     is_right: bool,
     written: Option<usize>,
 }
 
-// How a run must end: with all its answers, or at the refused request after those of a first part of the lines.
-// It gives its memory back.
+// Returns the outcome of a run: it must end with all its answers, or at the refused request after those of the
+// first lines, and free its memory.
 fn outcome_of(end: &Ended, heap: &Refusing<Global>, output: &[u8]) -> Outcome {
     let text = end.text.as_slice();
     if heap.refused() == 0 {
@@ -48,14 +48,14 @@ fn outcome_of(end: &Ended, heap: &Refusing<Global>, output: &[u8]) -> Outcome {
     }
 }
 
-// A run over an input whose request of this number is refused, if it comes so far.
+// Runs an input with the request of this number refused, if it gets that far.
 fn refused_at(alloc: Global, run: (&[u8], &[u8]), request: u64) -> Outcome {
     let heap = Refusing::nth(alloc, request);
     let end = run_over(&heap, alloc, run.0);
     outcome_of(&end, &heap, run.1)
 }
 
-// Whether a run ends as it must where its first request is refused, then the second, and so on, until it
+// Returns true if a run ends as it must if its first request is refused, then the second, and so on, until it
 // ends with none refused. The later the request, the more answers are written.
 fn is_right_at_each_request(alloc: Global, run: (&[u8], &[u8])) -> bool {
     let mut most = 0usize;
@@ -79,7 +79,7 @@ fn each_request_is_refused_in_turn(rt: HostRuntime) {
     }
 }
 
-// A load line of 10000 symbols of two bits.
+// Appends a load line of 10000 symbols of two bits.
 fn push_long_line(text: &mut Vec<u8>) -> Result<(), AllocError> {
     text.extend_from_slice(b"text 2")?;
     for number in 0..5000usize {
@@ -92,7 +92,7 @@ fn push_long_line(text: &mut Vec<u8>) -> Result<(), AllocError> {
     Ok(())
 }
 
-// The most bytes that a run holds over a long line that is there so many times.
+// Returns the most bytes that a run uses over a long line that is repeated that many times.
 fn most_held(alloc: Global, times: usize) -> Result<usize, RunError> {
     let mut text = Vec::new(alloc);
     for _ in 0..times {
@@ -104,8 +104,8 @@ fn most_held(alloc: Global, times: usize) -> Result<usize, RunError> {
     Ok(heap.most_held_bytes())
 }
 
-// What was held is let go before a text comes in its place: a second one takes no more room than the first,
-// but for the answers that are gathered.
+// The current text is dropped before the next one is made: a second one takes no more memory than the first,
+// except for the answers that are gathered.
 #[test]
 fn a_text_is_loaded_where_another_was(rt: HostRuntime) -> Result<(), Fail> {
     let once = most_held(rt.alloc(), 1)?;

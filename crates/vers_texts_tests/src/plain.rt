@@ -1,10 +1,10 @@
-//! Answers about longer texts, beside a plain scan.
+//! Answers about longer texts, compared with a plain scan.
 use crate::answers::answers;
 use std::alloc::{AllocError, Global};
 use std::test::Fail;
 use vers_texts::RunError;
 
-// How texts are made: symbols below a limit, each the next number of a rule, or the same again and again.
+// The rule of a text: symbols below a limit, each the next number of a rule, or the same again and again.
 #[derive(Clone, Copy, Drop)]
 struct Rule {
     width: u64,
@@ -40,7 +40,7 @@ const RULES: [Rule; 4] = [
     },
 ];
 
-// The text of a rule. Its numbers are those of a generator by a product and a sum.
+// Returns the text of a rule. Its numbers are those of a linear congruential generator.
 fn text_of(alloc: Global, rule: Rule) -> Result<Vec<u64>, AllocError> {
     let mut symbols = Vec::new(alloc);
     let mut state = 12345u64;
@@ -58,7 +58,7 @@ fn text_of(alloc: Global, rule: Rule) -> Result<Vec<u64>, AllocError> {
     Ok(symbols)
 }
 
-// A decimal of at most seven digits.
+// Appends a decimal of at most seven digits.
 fn push_decimal(text: &mut Vec<u8>, number: u64) -> Result<(), AllocError> {
     for power in [1000000u64, 100000, 10000, 1000, 100, 10, 1] {
         if number >= power || power == 1 {
@@ -68,7 +68,7 @@ fn push_decimal(text: &mut Vec<u8>, number: u64) -> Result<(), AllocError> {
     Ok(())
 }
 
-// A name and numbers after it, as a line.
+// Appends a name and numbers after it, as a line.
 fn push_line(text: &mut Vec<u8>, name: &[u8], numbers: &[u64]) -> Result<(), AllocError> {
     text.extend_from_slice(name)?;
     for number in numbers {
@@ -79,7 +79,7 @@ fn push_line(text: &mut Vec<u8>, name: &[u8], numbers: &[u64]) -> Result<(), All
     Ok(())
 }
 
-// Numbers with one space between them, as a line.
+// Appends numbers with one space between them, as a line.
 fn push_answer(text: &mut Vec<u8>, numbers: &[u64]) -> Result<(), AllocError> {
     let mut is_first = true;
     for number in numbers {
@@ -93,7 +93,7 @@ fn push_answer(text: &mut Vec<u8>, numbers: &[u64]) -> Result<(), AllocError> {
     Ok(())
 }
 
-// The places of a pattern, by a look at each.
+// Returns the positions of a pattern, by testing each.
 fn places_by_scan(alloc: Global, symbols: &[u64], pattern: &[u64]) -> Result<Vec<u64>, AllocError> {
     let mut places = Vec::new(alloc);
     for place in 0..symbols.len() + 1 {
@@ -112,7 +112,7 @@ struct Asked {
 }
 
 impl Asked {
-    // Asks for the places of a pattern, and how many they are.
+    // Appends a query for the positions of a pattern, and one for their number, and the answers.
     fn ask(&mut self, alloc: Global, symbols: &[u64], pattern: &[u64]) -> Result<(), AllocError> {
         let places = places_by_scan(alloc, symbols, pattern)?;
         push_line(&mut self.input, b"count", pattern)?;
@@ -121,7 +121,7 @@ impl Asked {
         push_answer(&mut self.output, places.as_slice())
     }
 
-    // Asks for every other piece of a length as a pattern, for itself, and for it with another symbol behind it.
+    // Appends queries for every other piece of a length as a pattern, by itself, and followed by another symbol.
     fn ask_pieces(&mut self, alloc: Global, symbols: &[u64], len: usize) -> Result<(), AllocError> {
         for number in 0..symbols.len().saturating_sub(len) / 2 {
             let from = number * 2;
@@ -142,7 +142,7 @@ impl Asked {
     }
 }
 
-// Lines about the text of a rule, and their answers.
+// Returns lines about the text of a rule, and their answers.
 fn asked_of(alloc: Global, rule: Rule) -> Result<Asked, AllocError> {
     let symbols = text_of(alloc, rule)?;
     let mut asked = Asked {
@@ -160,7 +160,7 @@ fn asked_of(alloc: Global, rule: Rule) -> Result<Asked, AllocError> {
     Ok(asked)
 }
 
-// Whether lines about the text of a rule are answered as a plain scan does.
+// Returns true if lines about the text of a rule are answered as a plain scan does.
 fn is_answered(alloc: Global, rule: Rule) -> Result<bool, RunError> {
     let asked = asked_of(alloc, rule)?;
     Ok(answers(alloc, asked.input.as_slice())?.as_slice() == asked.output.as_slice())
