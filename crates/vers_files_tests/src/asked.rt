@@ -7,7 +7,7 @@ use vers_cli::Device;
 use vers_files::{ask, fault_line};
 use vers_saved::fault::LoadError;
 
-// Whether the answers of lines about the list of a file are these.
+// Returns true if the answers of lines about the list of a file are these.
 fn are_answers(alloc: Global, file: &[u8], lines: &[u8], answers: &[u8]) -> bool {
     let mut rest = file;
     let mut reader = Device::new(lines);
@@ -50,7 +50,7 @@ fn a_load_line_takes_its_place(rt: HostRuntime) {
     assert!(rt; are_answers(rt.alloc(), &BITS, lines, answers));
 }
 
-// Whether a file has this fault, and then no line is read and nothing written.
+// Returns true if a file has this error, and then no line is read and nothing written.
 fn is_fault(alloc: Global, file: &[u8], fault: LoadError) -> bool {
     let mut rest = file;
     let lines: &[u8] = b"len\n";
@@ -61,7 +61,7 @@ fn is_fault(alloc: Global, file: &[u8], fault: LoadError) -> bool {
     result == Err(fault) && written.is_empty() && reader.into_inner() == lines
 }
 
-// Whether a file is refused where one of its bits is another.
+// Returns true if a file with one flipped bit is refused.
 fn is_told(alloc: Global, file: &[u8], place: usize, bit: u32) -> bool {
     let Ok(mut other) = Vec::from_slice(alloc, file) else {
         return false;

@@ -1,4 +1,4 @@
-//! Each request for memory refused in turn, and how much a file takes.
+//! Each request for memory refused in turn, and the memory of a file.
 use crate::files::{BITS, POSTINGS, SORTED, SPARSE, SYMBOLS, TREE, VALUES};
 use crate::places::holding;
 use std::alloc::{AllocError, Global};
@@ -20,8 +20,8 @@ struct Case<'a> {
     answers: &'a [u8],
 }
 
-// How lines about a file end where a request is refused: the file isn't loaded, and then no line is read and nothing
-// written, or the answers of a first part of the lines are written.
+// Tests lines about a file with a refused request: the file isn't loaded, and then no line is read and nothing
+// written, or the answers of the first lines are written.
 fn tried_asking(alloc: Global, heap: &Heap, case: Case) -> Ending {
     heap.start();
     let mut rest = case.file;
@@ -41,7 +41,7 @@ fn tried_asking(alloc: Global, heap: &Heap, case: Case) -> Ending {
     }
 }
 
-// Whether lines about a file end as they have to, whichever request is refused, and some are made.
+// Returns true if lines about a file end as they must, whichever request is refused, and some are made.
 fn are_asked_well(alloc: Global, file: &[u8], lines: &[u8], answers: &[u8]) -> bool {
     let case = Case {
         file,
@@ -66,8 +66,8 @@ fn each_request_of_lines_refused(rt: HostRuntime) {
     assert!(rt; are_asked_well(alloc, &POSTINGS, b"cheapest 2 9\n", b"5\n"));
 }
 
-// How a save of a line ends where a request is refused: what stood in the place stands there, with nothing beside it,
-// or the list is put there and settled.
+// Tests a save of a line with a refused request: the place has its old bytes, with no temporary file, or the
+// list is put there and settled.
 fn tried_saving(alloc: Global, heap: &Heap, line: &[u8], file: &[u8]) -> Ending {
     let Ok(mut place) = holding(alloc, b"old", 0) else {
         return Ending::Wrong;
@@ -82,7 +82,7 @@ fn tried_saving(alloc: Global, heap: &Heap, line: &[u8], file: &[u8]) -> Ending 
     }
 }
 
-// Whether a line is saved as this file, and each try with a request refused leaves the place as it was.
+// Returns true if a line is saved as this file, and each trial with a refused request leaves the place unchanged.
 fn is_saved_well(alloc: Global, line: &[u8], file: &[u8]) -> bool {
     match each_refused(alloc, |heap: &Heap| tried_saving(alloc, heap, line, file)) {
         Ok(requests) => requests > 0,
@@ -102,10 +102,10 @@ fn each_request_of_a_save_refused(rt: HostRuntime) {
     assert!(rt; is_saved_well(alloc, b"postings 2 7 5 3 9 3", &POSTINGS));
 }
 
-/// How many bytes are read at once.
+/// The number of bytes read at once.
 const BLOCK: usize = 65536;
 
-// The file of so many words of zeros, as bits.
+// Returns the file of that many words of zeros, as bits.
 fn zeros_saved(alloc: Global, words: usize) -> Result<Vec<u8>, SaveError> {
     let limbs = Vec::from_elem(alloc, 0u64, words)?;
     let mut bytes = Vec::new(alloc);
@@ -115,7 +115,7 @@ fn zeros_saved(alloc: Global, words: usize) -> Result<Vec<u8>, SaveError> {
     Ok(bytes)
 }
 
-// Whether a file of so many words is loaded with no more held at once than twice its bytes and a block.
+// Returns true if a file of that many words is loaded with at most twice its bytes and a block in use at once.
 fn is_held_twice_at_most(alloc: Global, words: usize) -> bool {
     let Ok(bytes) = zeros_saved(alloc, words) else {
         return false;

@@ -7,7 +7,7 @@ use std::io;
 use std::io::Write;
 use vers_files::{Place, SaveFault, save_line, save_to};
 
-// Whether a line is saved as these bytes.
+// Returns true if a line is saved as these bytes.
 fn is_saved_as(alloc: Global, line: &[u8], file: &[u8]) -> bool {
     let mut out: Vec<u8> = Vec::new(alloc);
     save_line(alloc, line, &mut out) == Ok(()) && out.as_slice() == file
@@ -25,7 +25,7 @@ fn load_lines_are_saved(rt: HostRuntime) {
     assert!(rt; is_saved_as(alloc, b"postings 2 7 5 3 9 3", &POSTINGS));
 }
 
-// Whether a line has this fault, and nothing is written.
+// Returns true if a line has this error, and nothing is written.
 fn is_fault(alloc: Global, line: &[u8], fault: SaveFault) -> bool {
     let mut out: Vec<u8> = Vec::new(alloc);
     save_line(alloc, line, &mut out) == Err(fault) && out.is_empty()
@@ -42,7 +42,7 @@ fn other_lines_are_not_saved(rt: HostRuntime) {
     assert!(rt; is_fault(alloc, b"postings 2", SaveFault::BadLine));
 }
 
-/// A place in memory, of which the call of number `fails_at` fails, a write too.
+/// A place in memory, of which the call with number `fails_at` fails, which may be a write.
 #[derive(Drop)]
 pub struct Memory {
     alloc: Global,
@@ -54,7 +54,7 @@ pub struct Memory {
     calls: u64,
 }
 
-/// What is written beside a place, whose write of number `fails_at` fails.
+/// The temporary file of a place, whose write with number `fails_at` fails.
 #[derive(Drop)]
 pub struct Beside {
     bytes: Vec<u8>,
@@ -62,13 +62,13 @@ pub struct Beside {
     writes: u64,
 }
 
-// Counts a call, and tells whether it is that of a number.
+// Counts a call, and returns true if it has the given number.
 fn is_call(calls: &mut u64, number: u64) -> bool {
     *calls = calls.saturating_add(1);
     *calls == number
 }
 
-// What a call that fails answers.
+// Returns the error of a call that fails.
 fn failure<T>() -> io::Result<T>
     ensures { IsErr result }
 {
@@ -155,7 +155,7 @@ impl Place for Memory {
     }
 }
 
-/// A place that holds these bytes, which are settled.
+/// Returns a place with these bytes, which are settled.
 pub fn holding(alloc: Global, bytes: &[u8], fails_at: u64) -> Result<Memory, AllocError> {
     Ok(Memory {
         alloc,
@@ -168,8 +168,8 @@ pub fn holding(alloc: Global, bytes: &[u8], fails_at: u64) -> Result<Memory, All
     })
 }
 
-// Whether a save whose call of this number fails, if it comes so far, leaves the place as it was or fills it
-// whole, leaves nothing beside it, and is a save only where the place is settled.
+// Returns true if a save whose call with this number fails, if it gets that far, leaves the place unchanged or
+// replaces it completely, leaves no temporary file, and succeeds only if the place is settled.
 fn is_whole_or_not_at_all(alloc: Global, fails_at: u64) -> bool {
     let Ok(mut place) = holding(alloc, b"old", fails_at) else {
         return false;

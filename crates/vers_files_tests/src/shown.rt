@@ -1,10 +1,10 @@
-//! What is told of files.
+//! The descriptions of files.
 use crate::files::{BITS, OTHER_KIND, POSTINGS, SORTED, SPARSE, SYMBOLS, TREE, VALUES};
 use std::alloc::Global;
 use vers_files::show;
 use vers_saved::fault::LoadError;
 
-// Whether this is told of a file: its kind, length and width.
+// Returns true if a file has this description: its kind, length and width.
 fn is_shown(alloc: Global, file: &[u8], kind: &str, len: u64, width: u64) -> bool {
     match show(alloc, file) {
         Ok(list) => {

@@ -1,4 +1,4 @@
-//! Lines about the text of a file, files that hold none, and runs that are refused memory.
+//! Lines about the text of a file, files without a text, and runs that are refused memory.
 use crate::files::{BITS, NARROW_TEXT, OTHER_KIND, POSTINGS, SORTED, SYMBOLS, TREE, WIDE_SYMBOLS};
 use std::alloc::{Allocator, Global};
 use test_alloc::Refusing;
@@ -6,7 +6,7 @@ use vers_cli::{Device, RunError};
 use vers_files::{TextFault, ask_text, text_fault_line};
 use vers_saved::fault::LoadError;
 
-// How lines about the text of a file ended, what they wrote, and what was left of them.
+// The result of lines about the text of a file, their output, and what was left of them.
 #[derive(Drop)]
 struct Ended<'a> {
     result: Result<Result<(), RunError>, TextFault>,
@@ -31,7 +31,7 @@ fn asked<'a, A: Allocator + Copy>(
     }
 }
 
-// Whether the answers of lines about the text of a file are these.
+// Returns true if the answers of lines about the text of a file are these.
 fn are_answers(alloc: Global, file: &[u8], lines: &[u8], answers: &[u8]) -> bool {
     let ended = asked(alloc, alloc, file, lines);
     ended.result == Ok(Ok(())) && ended.written.as_slice() == answers
@@ -65,7 +65,7 @@ fn a_load_line_takes_its_place(rt: HostRuntime) {
     assert!(rt; are_answers(rt.alloc(), &SYMBOLS, lines, answers));
 }
 
-// Whether a file has this fault, and then no line is read and nothing written.
+// Returns true if a file has this error, and then no line is read and nothing written.
 fn is_fault(alloc: Global, file: &[u8], fault: TextFault) -> bool {
     let lines: &[u8] = b"len\n";
     let ended = asked(alloc, alloc, file, lines);
@@ -87,8 +87,8 @@ fn files_without_a_text_are_told(rt: HostRuntime) {
     assert!(rt; text_fault_line(&TextFault::File(LoadError::TooShort)).starts_with("TooShort: "));
 }
 
-// Whether lines end as they must where a request for memory is refused: before the first line where it was for the
-// text, and else after the answers of a first part of the lines, or of all where a smaller request was granted.
+// Returns true if lines end as they must if a request for memory is refused: before the first line if it was
+// for the text, otherwise after the answers of the first lines, or of all if a smaller request was granted.
 fn is_refused_right(ended: &Ended<'_>, answers: &[u8]) -> bool {
     let written = ended.written.as_slice();
     match &ended.result {
