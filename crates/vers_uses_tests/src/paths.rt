@@ -5,14 +5,14 @@ use vers_vecs::bit_vec::{GrowError, MAX_LEN, fast_rs_vec};
 use vers_vecs::rmq::fast_rmq;
 use vers_vecs::{BitVec, FastRmq, RsVec};
 
-// A list of a one.
+// Returns a list of a single one.
 fn one_bit<A: Allocator + Copy>(alloc: A) -> Result<BitVec<A>, GrowError> {
     let mut bits = BitVec::new(alloc);
     bits.append(true)?;
     Ok(bits)
 }
 
-// The same list with an index, by the name that it has below its module.
+// Returns the same list with an index, by the name that it has below its module.
 fn indexed<A: Allocator + Copy>(
     bits: Result<BitVec<A>, GrowError>,
 ) -> Result<fast_rs_vec::RsVec<A>, GrowError> {
@@ -29,7 +29,7 @@ fn ranks_through_the_facade(rt: HostRuntime) {
     assert!(rt; asked(made, has_a_one::<Global>) == Ok(true));
 }
 
-// A list of range minima, by the name that it has below its module.
+// Returns a list of range minima, by the name that it has below its module.
 fn minima<A: Allocator + Copy>(alloc: A) -> Result<fast_rmq::FastRmq<A>, AllocError> {
     FastRmq::from_vec(Vec::from_slice(alloc, &[9, 6, 10])?)
 }

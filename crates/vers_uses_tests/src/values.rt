@@ -12,10 +12,10 @@ use vers_vecs::tally::Tally;
 use vers_vecs::trees::TreeBuilder;
 use vers_vecs::trees::bp::{BpBuilder, BpTree, BuildError};
 
-// Where four documents start, in a text of 40 bytes.
+// The starts of four documents, in a text of 40 bytes.
 const STARTS: [u64; 4] = [2, 10, 10, 25];
 
-// Bytes, and the document that holds each.
+// Bytes, and the document that contains each.
 const HOLDERS: [(u64, Option<usize>); 5] = [
     (1, None),
     (2, Some(0)),
@@ -24,7 +24,7 @@ const HOLDERS: [(u64, Option<usize>); 5] = [
     (40, None),
 ];
 
-// The first of the bytes that is said to be held otherwise.
+// Returns the first of the bytes with a wrong document.
 fn wrong_byte<A: Allocator + Copy>(texts: &Documents<A>) -> Option<u64> {
     for (byte, document) in HOLDERS.iter() {
         if texts.document_of(*byte) != *document {
@@ -42,10 +42,11 @@ fn documents_of_bytes(rt: HostRuntime) -> Result<(), Fail> {
     Ok(())
 }
 
-// The bases of which the Gs and Cs are asked.
+// The bases whose Gs and Cs are queried.
 const BASES: [u8; 8] = *b"ACGTGGCA";
 
-// How many Gs and Cs a stretch has, the places of two of them, and those of the next after two places.
+// Returns the number of Gs and Cs of a range, the positions of two of them, and those of the next after two
+// positions.
 fn told<A: Allocator + Copy>(genome: &Genome<A>) -> (usize, [Option<usize>; 2], [Option<u64>; 2]) {
     (
         genome.gc_between(1, 5),
@@ -62,7 +63,8 @@ fn bases_of_a_genome(rt: HostRuntime) -> Result<(), Fail> {
     Ok(())
 }
 
-// Whether the second half of the bases has more Gs and Cs than the first, and how many ranks tell it.
+// Returns true if the second half of the bases has more Gs and Cs than the first, and the number of ranks that
+// it took.
 fn more_in_the_second<A: Allocator + Copy>(genome: &Genome<A>) -> (bool, u64) {
     let mut tally = Tally::new();
     let first = Window { from: 0, to: 4 };
@@ -86,7 +88,7 @@ const CHEAPEST: [((usize, usize), Option<usize>); 4] = [
     ((2, 2), None),
 ];
 
-// The first of the days of which another one is said to be the cheapest.
+// Returns the first of the day ranges with another cheapest day.
 fn wrong_days<A: Allocator + Copy>(prices: &Prices<A>) -> Option<(usize, usize)> {
     for ((from, to), day) in CHEAPEST.iter() {
         if prices.cheapest(*from, *to) != *day {
@@ -113,10 +115,10 @@ const STEPS: [bool; 12] = [
     true, true, true, false, false, true, true, false, false, false, true, false,
 ];
 
-// The places of the nodes of each depth.
+// The positions of the nodes of each depth.
 const LEVELS: [(u64, &[usize]); 4] = [(0, &[0, 10]), (1, &[1, 5]), (2, &[2, 6]), (3, &[])];
 
-// The trees that the steps build.
+// Returns the trees that the steps build.
 fn built<B: TreeBuilder + Drop>(mut builder: B) -> Result<B::Tree, BuildError> {
     match take_steps(&mut builder, &STEPS) {
         Ok(()) => builder.build(),
@@ -124,7 +126,7 @@ fn built<B: TreeBuilder + Drop>(mut builder: B) -> Result<B::Tree, BuildError> {
     }
 }
 
-// Whether the nodes of a depth stand at these places. Only balanced parentheses have levels.
+// Returns true if the nodes of a depth are at these positions. Only balanced parentheses have levels.
 fn has_level(alloc: Global, tree: &BpTree<8, Global>, depth: u64, places: &[usize]) -> bool {
     if !tree.is_balanced() {
         return false;
@@ -135,7 +137,7 @@ fn has_level(alloc: Global, tree: &BpTree<8, Global>, depth: u64, places: &[usiz
     }
 }
 
-// The first depth whose nodes stand elsewhere.
+// Returns the first depth whose nodes are elsewhere.
 fn wrong_depth(alloc: Global, tree: &BpTree<8, Global>) -> Option<u64> {
     for (depth, places) in LEVELS.iter() {
         if !has_level(alloc, tree, *depth, places) {
