@@ -149,8 +149,11 @@ macro_rules! loaded_as {
 }
 
 impl Kept {
-    /// Returns the structure of a kind whose saved form the bytes are. Errors: that of the first test that
-    /// fails; `Memory` if the allocator refuses a request.
+    /// Loads a structure of a kind from its saved form.
+    ///
+    /// # Errors
+    ///
+    /// That of the first test that fails; `Memory` if the allocator refuses a request.
     pub fn load(alloc: Global, kind: Kind, bytes: &[u8]) -> Result<Kept, LoadError>
         ensures kind { IfOk result (λ kept. kind_of (structure_of kept) ≡ Some kind) }
         ensures form { IfOk result (λ kept. form_of (structure_of kept) ≡ Some bytes.now) }
@@ -172,8 +175,8 @@ impl Kept {
     }
 }
 
-/// Builds the structure of a kind whose saved form the bytes are. Refuses other bytes, with the status of the
-/// first test that fails.
+/// Builds a structure of a kind from its saved form. Refuses other bytes, with the status of the first test
+/// that fails.
 #[unsafe(no_mangle)]
 pub extern "C" fn vers_load(alloc: Global, code: u32, bytes: &[u8], handle: &mut VersHandle) -> u32
     ensures { IsLoaded code bytes.now (contents handle.old) (contents handle.new) result }

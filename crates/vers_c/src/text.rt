@@ -26,7 +26,7 @@ pub fn is_text(width: u32, symbols: &[u64]) -> bool
     1 <= width && width <= 16 && symbols.len() <= MAX_LEN && are_below(symbols, symbol_limit(width))
 }
 
-/// Returns positions as plain numbers.
+/// Returns positions as plain numbers. Errors: `AllocError` if the allocator refuses a request.
 pub fn as_numbers(alloc: Global, places: &[usize]) -> Result<Vec<u64, Global>, AllocError>
     ensures { IfOk result (λ numbers. numbers.items ≡ places.now) }
 {

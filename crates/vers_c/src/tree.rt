@@ -25,7 +25,7 @@ pub type Parentheses = BpTree<512, Global>;
 ///
 /// # Errors
 ///
-/// `TooLong` if the words are too many; `Memory` if the allocator refuses a request.
+/// `TooLong` if there are too many bits; `Memory` if the allocator refuses a request.
 pub fn tree(alloc: Global, words: &[u64], len: usize) -> Result<Box<Parentheses, Global>, GrowError>
     ensures made { IfOk result (λ tree. tree.value ≡ take len (pack words.now 64)) }
     ensures too_long { result ≡ Err GrowError.TooLong
@@ -46,8 +46,11 @@ fn boxed(alloc: Global, bits: BitVec<Global>) -> Result<Box<Parentheses, Global>
     }
 }
 
-/// Returns the parentheses whose saved form the bytes are. Errors: that of the first test that fails; `Memory`
-/// if the allocator refuses a request.
+/// Loads parentheses from their saved form.
+///
+/// # Errors
+///
+/// That of the first test that fails; `Memory` if the allocator refuses a request.
 pub fn load_parentheses(alloc: Global, bytes: &[u8]) -> Result<Box<Parentheses, Global>, LoadError>
     ensures loaded { IfOk result (λ tree. bytes.now ≡ saved_parentheses 512 tree.value) }
     ensures none { OnOk result (fault_of (tree_kind 512) bytes.now ≡ None) }

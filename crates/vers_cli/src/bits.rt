@@ -27,7 +27,7 @@ pub fn is_accepted(arguments: &[u8]) -> bool
     }
 }
 
-/// Returns the result of the load line `bits S`.
+/// Returns the result of the load line `bits S`. Errors: `AllocError` if the allocator refuses a request.
 pub fn load<'a, A: Allocator + Copy>(
     alloc: &'a A,
     arguments: &[u8],

@@ -30,7 +30,8 @@ pub fn is_accepted(arguments: &[u8]) -> bool
     }
 }
 
-/// Returns the result of the load line `postings d c ..`.
+/// Returns the result of the load line `postings d c ..`. Errors: `AllocError` if the allocator refuses a
+/// request.
 pub fn load<'a, A: Allocator + Copy>(
     alloc: &'a A,
     arguments: &[u8],
@@ -48,7 +49,7 @@ pub fn load<'a, A: Allocator + Copy>(
     }
 }
 
-/// Returns the reply to a query of these documents.
+/// Returns the reply to a query of these documents. Errors: `AllocError` if the allocator refuses a request.
 pub fn reply<A: Allocator + Copy>(
     alloc: A,
     postings: &Postings<A>,

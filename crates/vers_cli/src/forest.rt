@@ -13,7 +13,8 @@ use vers_trees::trees::bp::{BpTree, LevelEnd, Measure, Relative};
 use vers_words::arguments::{no_arguments, one_number, two_numbers};
 use vers_words::reply::Reply;
 
-/// Returns the reply to a query that only balanced parentheses have.
+/// Returns the reply to a query that only balanced parentheses have. Errors: `AllocError` if the allocator
+/// refuses a request.
 pub fn reply<A: Allocator + Copy>(
     alloc: A,
     tree: &BpTree<512, &A>,

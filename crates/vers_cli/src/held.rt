@@ -46,7 +46,7 @@ pub fn is_accepted(load: Load, arguments: &[u8]) -> bool
     }
 }
 
-/// Returns the result of a load line.
+/// Returns the result of a load line. Errors: `AllocError` if the allocator refuses a request.
 pub fn load<'a, A: Allocator + Copy>(
     alloc: &'a A,
     load: Load,

@@ -119,7 +119,7 @@ pub fn is_accepted(arguments: &[u8]) -> bool
     rise_of(arguments, false).is_some()
 }
 
-/// Returns the result of the load line `sorted n ..`.
+/// Returns the result of the load line `sorted n ..`. Errors: `AllocError` if the allocator refuses a request.
 pub fn load<'a, A: Allocator + Copy>(
     alloc: &'a A,
     arguments: &[u8],
@@ -139,7 +139,7 @@ pub fn load<'a, A: Allocator + Copy>(
     }
 }
 
-/// Returns the reply to a query of these members.
+/// Returns the reply to a query of these members. Errors: `AllocError` if the allocator refuses a request.
 pub fn reply<A: Allocator + Copy>(
     alloc: A,
     members: &EliasFanoVec<A>,
@@ -182,7 +182,8 @@ fn found<A: Allocator + Copy>(members: &EliasFanoVec<A>, query: Query, n: u64) -
     }
 }
 
-/// Returns the reply with the numbers that an iterator has left.
+/// Returns the reply with the numbers that an iterator has left. Errors: `AllocError` if the allocator refuses
+/// a request.
 pub fn members_reply<A: Allocator + Copy, S: Source<Item = u64>>(
     alloc: A,
     members: BothEnds<S>,

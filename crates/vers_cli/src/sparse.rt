@@ -33,7 +33,8 @@ pub fn is_accepted(arguments: &[u8]) -> bool
     }
 }
 
-/// Returns the result of the load line `sparse LEN p ..`.
+/// Returns the result of the load line `sparse LEN p ..`. Errors: `AllocError` if the allocator refuses a
+/// request.
 pub fn load<'a, A: Allocator + Copy>(
     alloc: &'a A,
     arguments: &[u8],
@@ -62,7 +63,7 @@ pub fn load<'a, A: Allocator + Copy>(
     }
 }
 
-/// Returns the reply to a query of these bits.
+/// Returns the reply to a query of these bits. Errors: `AllocError` if the allocator refuses a request.
 pub fn reply<A: Allocator + Copy>(
     alloc: A,
     bits: &SparseRSVec<A>,

@@ -80,7 +80,8 @@ impl<'a, A: Allocator + Copy> Store<'a, A> {
     }
 }
 
-/// Returns the result of a line that must be a load line: a store with its structure.
+/// Returns the result of a line that must be a load line: a store with its structure. Errors: `AllocError` if
+/// the allocator refuses a request.
 pub fn load_line<'a, A: Allocator + Copy>(
     alloc: &'a A,
     line: &[u8],

@@ -37,7 +37,8 @@ pub fn is_accepted(arguments: &[u8]) -> bool
     }
 }
 
-/// Returns the result of the load line `symbols K n ..`. Its numbers are packed as they are read.
+/// Returns the result of the load line `symbols K n ..`. Its numbers are packed as they are read. Errors:
+/// `AllocError` if the allocator refuses a request.
 pub fn load<'a, A: Allocator + Copy>(
     alloc: &'a A,
     arguments: &[u8],
@@ -131,7 +132,7 @@ fn of_packed<A: Allocator + Copy>(
     WaveletMatrix::from_bit_vec(packed, width)
 }
 
-/// Returns the reply to a query of these symbols.
+/// Returns the reply to a query of these symbols. Errors: `AllocError` if the allocator refuses a request.
 pub fn reply<A: Allocator + Copy>(
     alloc: A,
     symbols: &WaveletMatrix<A>,

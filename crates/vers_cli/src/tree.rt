@@ -29,7 +29,7 @@ pub fn is_accepted(arguments: &[u8]) -> bool
     }
 }
 
-/// Returns the result of the load line `tree S`.
+/// Returns the result of the load line `tree S`. Errors: `AllocError` if the allocator refuses a request.
 pub fn load<'a, A: Allocator + Copy>(
     alloc: &'a A,
     arguments: &[u8],
@@ -63,7 +63,7 @@ fn boxed<T: Drop, E: Drop, A: Allocator>(
     }
 }
 
-/// Returns the reply to a query of these parentheses.
+/// Returns the reply to a query of these parentheses. Errors: `AllocError` if the allocator refuses a request.
 pub fn reply<A: Allocator + Copy>(
     alloc: A,
     tree: &BpTree<512, &A>,

@@ -26,7 +26,7 @@ pub fn is_accepted(arguments: &[u8]) -> bool
     }
 }
 
-/// Returns the result of the load line `values n ..`.
+/// Returns the result of the load line `values n ..`. Errors: `AllocError` if the allocator refuses a request.
 pub fn load<'a, A: Allocator + Copy>(
     alloc: &'a A,
     arguments: &[u8],

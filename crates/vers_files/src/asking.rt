@@ -12,9 +12,9 @@ use std::io::Read;
 use vers_cli::{Device, RunError, Sink, Source, run_from};
 use vers_saved::fault::LoadError;
 
-/// Reads lines to the end of the input and writes the answer of each, with the list whose saved form `file` is
-/// as the first structure. The answers are those of `run`, and so are the errors of reader and writer, which
-/// are the inner error.
+/// Reads lines to the end of the input and writes the answer of each, with the list loaded from `file` as the
+/// first structure. The answers are those of `run`, and so are the errors of reader and writer, which are the
+/// inner error.
 ///
 /// # Errors
 ///

@@ -75,7 +75,7 @@ macro_rules! stored_by_kind {
     };
 }
 
-// Returns a store with the tree whose saved form the bytes are.
+// Loads a tree from its saved form, as a store.
 fn tree_of_slice<'a, A: Allocator + Copy>(
     alloc: &'a A,
     bytes: &[u8],
@@ -91,7 +91,7 @@ fn tree_of_slice<'a, A: Allocator + Copy>(
     )
 }
 
-// Returns a store with the tree whose saved form the rest of a reader is.
+// Loads a tree from its saved form, the rest of a reader, as a store.
 fn tree_of_reader<'a, A: Allocator + Copy, R: Source>(
     alloc: &'a A,
     reader: &mut R,
@@ -102,8 +102,11 @@ fn tree_of_reader<'a, A: Allocator + Copy, R: Source>(
     stored!(alloc, boxed(alloc, load_tree(alloc, reader)), Held::Tree)
 }
 
-/// Returns a store with the list whose saved form the bytes are. Errors: that of the bytes as a form of the
-/// kind that they name; `Memory` if the allocator refuses a request.
+/// Loads a list from its saved form, as a store.
+///
+/// # Errors
+///
+/// That of the bytes as a form of the kind that they name; `Memory` if the allocator refuses a request.
 #[tactic(auto, using(crate::proofs::Numbered::kinds))]
 pub fn load<'a, A: Allocator + Copy>(alloc: &'a A, bytes: &[u8]) -> Result<Store<'a, A>, LoadError>
     ensures loaded { IfOk result (λ held. (bytes.now ≡ saved_form held) × HasForm held) }
@@ -118,7 +121,7 @@ pub fn load<'a, A: Allocator + Copy>(alloc: &'a A, bytes: &[u8]) -> Result<Store
     )
 }
 
-// Returns a store with the list of the kind with a number whose saved form the rest of a reader is.
+// Loads a list of the kind with a number from its saved form, the rest of a reader, as a store.
 #[tactic(auto, using(crate::proofs::Numbered::kinds))]
 fn load_numbered<'a, A: Allocator + Copy, R: Source>(
     alloc: &'a A,
@@ -137,6 +140,10 @@ fn load_numbered<'a, A: Allocator + Copy, R: Source>(
 }
 
 /// Returns all bytes that a reader has left.
+///
+/// # Errors
+///
+/// `Read` if the reader fails; `Memory` if the allocator refuses a request.
 pub fn read<A: Allocator, F: Read>(alloc: A, file: &mut F) -> Result<Vec<u8, A>, LoadError>
     ensures bytes { IfOk result (λ bytes. IfSome (F.remaining file.old) (λ left. left ≡ bytes.items)) }
     ensures refused { IfErr result (λ e. (e ≡ LoadError.Read) ⊎ (e ≡ LoadError.Memory)) }
@@ -152,8 +159,12 @@ pub fn read<A: Allocator, F: Read>(alloc: A, file: &mut F) -> Result<Vec<u8, A>,
 // The number of bytes of a file up to the end of the word that names its kind.
 const NAMED: usize = 24;
 
-/// Returns a store with the list whose saved form the rest of a reader is. It is read by blocks, and only its
-/// words are kept, with no copy of the bytes.
+/// Loads a list from its saved form, the rest of a reader, as a store. It is read by blocks, and only its words
+/// are kept, with no copy of the bytes.
+///
+/// # Errors
+///
+/// Those of `load`; `Read` if the reader fails.
 pub fn load_file<'a, A: Allocator + Copy, F: Read>(
     alloc: &'a A,
     file: &mut F,

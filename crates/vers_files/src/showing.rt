@@ -52,7 +52,7 @@ fn width_of<A: Allocator + Copy>(held: &Held<'_, A>) -> u64
     }
 }
 
-/// Returns the description of the list whose saved form the bytes are.
+/// Returns the description of the list in a saved form. Errors as for `load`.
 pub fn show<A: Allocator + Copy>(alloc: A, bytes: &[u8]) -> Result<Shown, LoadError>
     ensures shown { IfOk result (λ shown. (held : Holding) × (bytes.now ≡ saved_form held) × HasForm held
         × (shown.kind.now ≡ kind_text held) × (shown.len ≡ length_of held)

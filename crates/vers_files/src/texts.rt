@@ -50,10 +50,10 @@ struct PlainSymbols<A: Allocator> {
     items: Vec<u64, A>,
 }
 
-/// Reads lines to the end of the input and writes the answer of each, with the text of `file`, the saved form
-/// of a list of symbols of 1 to 16 bits. The answers are those of the program over texts, and so are the errors
-/// of reader and writer, which are the inner error. The text is indexed before the first line; what was loaded
-/// is dropped before.
+/// Reads lines to the end of the input and writes the answer of each, with the text loaded from `file`, the
+/// saved form of a list of symbols of 1 to 16 bits. The answers are those of the program over texts, and so are
+/// the errors of reader and writer, which are the inner error. The text is indexed before the first line, and
+/// the loaded list dropped before that.
 ///
 /// # Errors
 ///
@@ -85,7 +85,7 @@ pub fn ask_text<A: Allocator + Copy, F: Read, R: Source, W: Sink>(
     }
 }
 
-// Returns the index of the text whose saved form the rest of a reader is.
+// Loads a text from its saved form, the rest of a reader, and returns its index.
 fn load_text<A: Allocator + Copy, F: Read>(
     alloc: A,
     file: &mut F,
@@ -98,7 +98,7 @@ fn load_text<A: Allocator + Copy, F: Read>(
     indexed(alloc, symbols.items.as_slice(), symbols.width)
 }
 
-// Returns the symbols whose saved form the rest of a reader is. Their index is dropped.
+// Loads symbols from their saved form, the rest of a reader. Their index is dropped.
 fn load_symbols<A: Allocator + Copy, F: Read>(
     alloc: A,
     file: &mut F,

@@ -12,7 +12,8 @@ pub fn index_is_small()
     ensures { IndexIsSmall }
 {}
 
-/// Makes an indexed list and takes it apart again: returns the same bits.
+/// Returns the same bits, after making an indexed list of them. Errors: `AllocError` if the allocator refuses a
+/// request.
 pub fn bits_come_back<A: Allocator + Copy>(bits: BitVec<A>) -> Result<BitVec<A>, AllocError>
     ensures { IfOk result (λ v. v ≡ bits) }
 {

@@ -34,7 +34,8 @@ fn read_behind<R: Source>(reader: &mut R, block: &mut [u8], filled: usize) -> io
     reader.read_once(&mut block[filled..])
 }
 
-/// Reads until a block is full, or the reader ends. Returns the number of bytes read.
+/// Reads until a block is full, or the reader ends. Returns the number of bytes read. Errors: `Read` if the
+/// reader fails.
 pub fn fill<R: Source>(reader: &mut R, block: &mut [u8]) -> Result<usize, LoadError>
     ensures within { IfOk result (λ n. n ≤ length block.new) }
     ensures read { IfOk result (λ n. Consumes (R.remaining reader.old) (R.remaining reader.new)
@@ -236,8 +237,8 @@ fn gather_body<R: Source, A: Allocator>(
     test_body(kind.order, n, &TwoParts { front: head, rest })
 }
 
-// Returns the shape of the list whose saved form the rest of a reader is, of a list of that kind, and gathers
-// its words; none was gathered before.
+// Returns the shape in the saved form that is the rest of a reader, for a list of that kind, and gathers its
+// words; none was gathered before.
 fn gather_form<R: Source, A: Allocator>(
     kind: &Kind,
     reader: &mut R,
@@ -263,7 +264,7 @@ fn gather_form<R: Source, A: Allocator>(
     Ok(said.shape)
 }
 
-// Returns the shape and the words of the saved form that the rest of a reader is, of a list of that kind.
+// Returns the shape and the words of the saved form that is the rest of a reader, for a list of that kind.
 pub(crate) fn form_from<R: Source, A: Allocator + Copy>(
     alloc: A,
     kind: Kind,

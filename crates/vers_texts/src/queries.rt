@@ -11,7 +11,7 @@ use text_index::TextIndex;
 use vers_words::arguments::{all_numbers, no_arguments, two_numbers};
 use vers_words::reply::Reply;
 
-/// Returns the reply to a query of this text.
+/// Returns the reply to a query of this text. Errors: `AllocError` if the allocator refuses a request.
 pub fn reply<A: Allocator + Copy>(
     alloc: A,
     text: &TextIndex<A>,

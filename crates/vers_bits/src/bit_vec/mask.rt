@@ -189,7 +189,7 @@ impl<'a, 'b, F: Fn(u64, u64) -> u64, A: Allocator + Copy> MaskedBitVec<'a, 'b, F
         self.left.len() as u64 - self.count_ones()
     }
 
-    /// Returns a list of its own with the bits.
+    /// Returns a new list of the bits. Errors: `AllocError` if the allocator refuses a request.
     pub fn to_bit_vec(&self) -> Result<BitVec<A>, AllocError>
         requires { OnEveryPair (F.pre self.now.mask) }
         ensures { IfOk result (λ v. OfMasked (F.post self.now.mask) self.now (λ bits. v ≡ bits)) }
@@ -394,7 +394,7 @@ impl<'s, 'b, A: Allocator + Copy> BitMask<'s, 'b, A> {
         .count_zeros()
     }
 
-    /// Returns a list of its own with the bits.
+    /// Returns a new list of the bits. Errors: `AllocError` if the allocator refuses a request.
     #[tactic(auto, using(crate::proofs::Masks::lengths))]
     pub fn to_bit_vec(&self) -> Result<BitVec<A>, AllocError>
         ensures { IfOk result (λ v. v ≡ self.now) }
