@@ -42,7 +42,8 @@ fn add_entry<A: Allocator + Copy>(
     Ok(base)
 }
 
-/// Appends the entries of each block, and returns the number of zeros.
+/// Appends the entries of each block, and returns the number of zeros. Precondition: there are no entries yet.
+/// Errors: `AllocError` if the allocator refuses a request.
 pub fn add_entries<A: Allocator + Copy>(
     bits: &BitVec<A>,
     blocks: &mut Vec<u16, A>,
@@ -89,7 +90,7 @@ fn next_sample<A: Allocator + Copy>(
     s
 }
 
-/// Returns the first `n` samples of a bit.
+/// Returns the first `n` samples of a bit. Errors: `AllocError` if the allocator refuses a request.
 pub fn samples<A: Allocator + Copy>(
     bits: &BitVec<A>,
     superblocks: &[u64],

@@ -153,7 +153,7 @@ pub(crate) struct Form<A: Allocator> {
     pub(crate) words: Vec<u64, A>,
 }
 
-// Returns the shape and the words of the saved form in `bytes`, of a list of that kind.
+// Returns the shape and the words of a saved form, for a list of that kind.
 pub(crate) fn form_of<A: Allocator>(
     alloc: A,
     kind: Kind,

@@ -21,7 +21,8 @@ fn read_behind<R: Source>(reader: &mut R, block: &mut [u8], filled: usize) -> io
     reader.read_once(&mut block[filled..])
 }
 
-/// Reads until a block is full, or the reader ends. Returns the number of bytes read.
+/// Reads until a block is full, or the reader ends. Returns the number of bytes read. Errors: `Read` if the
+/// reader fails.
 pub fn fill<R: Source>(reader: &mut R, block: &mut [u8]) -> Result<usize, LoadError> {
     let mut filled = 0;
     while filled < block.len() {
@@ -143,8 +144,8 @@ fn gather_body<R: Source, A: Allocator>(
     test_body(kind.order, n, &TwoParts { front: head, rest })
 }
 
-// Returns the shape of the list whose saved form the rest of a reader is, of a list of that kind, and gathers
-// its words; none was gathered before.
+// Returns the shape in the saved form that is the rest of a reader, for a list of that kind, and gathers its
+// words; none was gathered before.
 fn gather_form<R: Source, A: Allocator>(
     kind: &Kind,
     reader: &mut R,
@@ -160,7 +161,7 @@ fn gather_form<R: Source, A: Allocator>(
     Ok(said.shape)
 }
 
-// Returns the shape and the words of the saved form that the rest of a reader is, of a list of that kind.
+// Returns the shape and the words of the saved form that is the rest of a reader, for a list of that kind.
 pub(crate) fn form_from<R: Source, A: Allocator + Copy>(
     alloc: A,
     kind: Kind,

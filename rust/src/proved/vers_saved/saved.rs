@@ -97,7 +97,7 @@ pub fn save_to_vec<S: Saved, B: Allocator>(list: &S, out: &mut Vec<u8, B>) -> Re
     Ok(())
 }
 
-/// Returns the list whose saved form the bytes are.
+/// Loads a list from its saved form.
 ///
 /// # Errors
 ///

@@ -80,12 +80,13 @@ pub fn save<S: Saved, A: Allocator, W: Sink>(
     write_words(writer, buffer, shape, list)
 }
 
-/// Returns the list whose saved form the rest of a reader is. It is read in blocks of 64 KiB, and kept as
-/// words. Memory is allocated as bytes come, however great a length the head says.
+/// Loads a list from its saved form, the rest of a reader. Reads blocks of 64 KiB, and keeps the words. Memory
+/// is allocated as bytes come, however great a length the head says.
 ///
 /// # Errors
 ///
-/// `Read` if the reader fails; `Memory` if the allocator refuses a request; otherwise the test that fails.
+/// `Read` if the reader fails; `Memory` if the allocator refuses a request; otherwise that of the test that
+/// fails.
 pub fn load<S: Loaded<A>, A: Allocator + Copy, R: Source>(
     alloc: A,
     reader: &mut R,

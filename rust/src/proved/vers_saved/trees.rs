@@ -72,7 +72,7 @@ impl<'a, const BLOCK_SIZE: usize, A: Allocator> Loaded<&'a A> for BpTree<BLOCK_S
     }
 }
 
-/// Returns the parentheses whose saved form the bytes are, of a tree with blocks of `size` bits.
+/// Loads parentheses from the saved form of a tree with blocks of `size` bits.
 ///
 /// # Errors
 ///
@@ -86,7 +86,7 @@ pub fn load_parentheses_from_slice<A: Allocator + Copy>(
     Ok(parentheses_of(size, shape, words))
 }
 
-/// Returns the tree whose saved form the bytes are, as `load_from_slice` does.
+/// Loads a tree from its saved form.
 ///
 /// # Errors
 ///
@@ -102,7 +102,7 @@ pub fn load_tree_from_slice<'a, const BLOCK_SIZE: usize, A: Allocator>(
     }
 }
 
-/// Returns the tree whose saved form the rest of a reader is, as `load` does.
+/// Loads a tree from its saved form, the rest of a reader. Errors as for `load`.
 pub fn load_tree<'a, const BLOCK_SIZE: usize, A: Allocator, R: Source>(
     alloc: &'a A,
     reader: &mut R,

@@ -6,13 +6,13 @@ use std::io;
 use std::io::Read;
 use std::io::Write;
 
-// Counts a call, and answers its number.
+// Counts a call, and returns its number.
 fn count_call(calls: &mut u64) -> u64 {
     *calls = calls.saturating_add(1);
     *calls
 }
 
-/// Gives `rest` in pieces of at most `piece` bytes. The read of number `fails_at` fails.
+/// Returns `rest` in pieces of at most `piece` bytes. The read with number `fails_at` fails.
 pub struct Pieces<'a> {
     pub rest: &'a [u8],
     pub piece: usize,
@@ -30,7 +30,7 @@ impl Read for Pieces<'_> {
     }
 }
 
-/// Takes at most `piece` bytes at once. The write of number `fails_at` fails.
+/// Takes at most `piece` bytes at once. The write with number `fails_at` fails.
 pub struct Held {
     pub bytes: Vec<u8>,
     pub piece: usize,
@@ -39,7 +39,7 @@ pub struct Held {
 }
 
 impl Held {
-    /// A writer that takes pieces of at most so many bytes.
+    /// Returns a writer that takes pieces of at most that many bytes.
     pub fn of(alloc: Global, piece: usize, fails_at: u64) -> Held {
         Held {
             bytes: Vec::new(alloc),

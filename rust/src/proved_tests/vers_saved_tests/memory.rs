@@ -21,7 +21,7 @@ use crate::proved::vers_wavelet::wavelet::WaveletMatrix;
 /// An allocator of which requests are refused.
 pub type Heap = Refusing<Global>;
 
-// How a load from a slice ends where a request is refused.
+// Tests a load from a slice with a refused request.
 fn tried<'a, S: Loaded<&'a Heap>>(heap: &'a Heap, bytes: &[u8]) -> Ending {
     heap.start();
     let loaded: Result<S, LoadError> = load_from_slice(heap, bytes);
@@ -63,8 +63,8 @@ fn tried_documents<'a>(heap: &'a Heap) -> Ending {
     tried::<Postings<&'a Heap>>(heap, &POSTINGS)
 }
 
-/// Whether a load ends as out of memory or right, whichever request is refused, and right where none is.
-/// Each gives all memory back.
+/// Returns true if a load ends as out of memory or right, whichever request is refused, and right if none is.
+/// Each frees all memory.
 pub fn ends_well<F: Fn(&Heap) -> Ending>(alloc: Global, tried: F) -> bool {
     for n in 1..100 {
         let heap = Refusing::after_start(alloc, n);
@@ -92,7 +92,7 @@ fn each_request_refused() {
     assert!(ends_well(rt.alloc(), |heap: &Heap| tried_documents(heap)));
 }
 
-// The fault of a load from a slice whose first request is refused.
+// Returns the error of a load from a slice whose first request is refused.
 fn fault_without_memory<'a>(heap: &'a Heap, bytes: &[u8]) -> Option<LoadError> {
     heap.start();
     let loaded: Result<BitVec<&'a Heap>, LoadError> = load_from_slice(heap, bytes);
@@ -115,7 +115,7 @@ fn faults_are_told_where_no_memory_is() {
     }
 }
 
-// How a load from a reader ends where a request is refused.
+// Tests a load from a reader with a refused request.
 fn tried_reading<'a>(heap: &'a Heap) -> Ending {
     heap.start();
     let mut rest: &[u8] = &POSTINGS;
@@ -132,7 +132,7 @@ fn each_request_of_a_reader_refused() {
     assert!(ends_well(rt.alloc(), |heap: &Heap| tried_reading(heap)));
 }
 
-// Whether bytes are too short, and no memory was asked for to tell it.
+// Returns true if bytes are too short, and no memory was requested to find that out.
 fn is_told_without_memory<'a, S: Loaded<&'a Heap>>(heap: &'a Heap, bytes: &[u8]) -> bool {
     let loaded: Result<S, LoadError> = load_from_slice(heap, bytes);
     loaded.err() == Some(LoadError::TooShort) && heap.asked() == 0
@@ -149,18 +149,18 @@ fn a_hostile_length_takes_no_memory() {
     assert!(hostile_bits(&heap));
 }
 
-/// How many bytes are read at once.
+/// The number of bytes read at once.
 const BLOCK: usize = 65536;
 
-// A head that says 2 ^ 62 bits, and zeros after it, so many bytes in all.
+// Returns a head that says 2 ^ 62 bits, and zeros after it, that many bytes in all.
 fn hostile(alloc: Global, len: usize) -> Result<Vec<u8>, AllocError> {
     let mut bytes = Vec::from_slice(alloc, &HOSTILE[..40])?;
     bytes.resize(len, 0)?;
     Ok(bytes)
 }
 
-// Whether a reader of so many bytes, whose head says more, is too short, and no more was held at once to tell
-// it than three times these bytes and a block.
+// Returns true if a reader of that many bytes, whose head says more, is too short, and at most three times
+// these bytes and a block were in use at once to find that out.
 fn is_told_by_what_came(alloc: Global, len: usize) -> bool {
     let bytes = match hostile(alloc, len) { Ok(bytes) => bytes, _ => {
         return false;
@@ -180,8 +180,8 @@ fn a_hostile_length_takes_no_more_memory_than_comes() {
     }
 }
 
-// Whether a list of zeros, so many words of them, is read with no more held at once than twice its form and a
-// block.
+// Returns true if a list of zeros, of that many words, is read with at most twice its form and a block in use
+// at once.
 fn is_held_twice_at_most(alloc: Global, words: usize) -> bool {
     let bytes = match zeros_saved(alloc, words) { Ok(bytes) => bytes, _ => {
         return false;
@@ -193,7 +193,7 @@ fn is_held_twice_at_most(alloc: Global, words: usize) -> bool {
     loaded.is_ok() && heap.most_held_bytes() <= most
 }
 
-// The saved form of so many words of zeros.
+// Returns the saved form of that many words of zeros.
 fn zeros_saved(alloc: Global, words: usize) -> Result<Vec<u8>, SaveError> {
     let limbs = Vec::from_elem(alloc, 0u64, words)?;
     let mut bytes = Vec::new(alloc);

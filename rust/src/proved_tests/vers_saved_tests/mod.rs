@@ -1,4 +1,4 @@
-//! Tests over all structures: of saved forms, and of the sizes that structures tell.
+//! Tests over all structures: of saved forms, and of reported sizes.
 
 use crate::rattle::prelude::*;
 

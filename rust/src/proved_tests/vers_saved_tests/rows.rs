@@ -20,7 +20,7 @@ use crate::proved::vers_sorted::elias_fano::EliasFanoVec;
 use crate::proved::vers_sorted::sparse::SparseRSVec;
 use crate::proved::vers_wavelet::wavelet::WaveletMatrix;
 
-/// Whether a list is saved as these bytes, behind those that are there.
+/// Returns true if a list is saved as these bytes, after those that are there.
 pub fn is_saved_as<S: Saved, A: Allocator>(alloc: A, list: &S, bytes: &[u8]) -> bool {
     let mut out: Vec<u8, A> = Vec::new(alloc);
     if out.push(7).is_err() || save_to_vec(list, &mut out).is_err() {
@@ -29,7 +29,7 @@ pub fn is_saved_as<S: Saved, A: Allocator>(alloc: A, list: &S, bytes: &[u8]) -> 
     saved_size(list) == Some(bytes.len()) && out.len() > 0 && out[0] == 7 && &out[1..] == bytes
 }
 
-// Whether bytes are loaded, and the list that was loaded is saved as they are.
+// Returns true if bytes are loaded, and the loaded list is saved as the same bytes.
 fn is_loaded<S: Loaded<A>, A: Allocator + Copy>(alloc: A, bytes: &[u8]) -> bool {
     let loaded: Result<S, LoadError> = load_from_slice(alloc, bytes);
     match loaded {
@@ -38,7 +38,7 @@ fn is_loaded<S: Loaded<A>, A: Allocator + Copy>(alloc: A, bytes: &[u8]) -> bool 
     }
 }
 
-// The fault of bytes, or None where they are loaded.
+// Returns the error of bytes, or `None` if they are loaded.
 fn slice_fault<S: Loaded<A>, A: Allocator + Copy>(
     alloc: A,
     bytes: &[u8],
@@ -47,7 +47,7 @@ fn slice_fault<S: Loaded<A>, A: Allocator + Copy>(
     loaded.err()
 }
 
-// The fault of a reader of these bytes, or None where they are loaded.
+// Returns the error of a reader of these bytes, or `None` if they are loaded.
 fn reader_fault<S: Loaded<A>, A: Allocator + Copy>(
     alloc: A,
     bytes: &[u8],
@@ -57,7 +57,8 @@ fn reader_fault<S: Loaded<A>, A: Allocator + Copy>(
     loaded.err()
 }
 
-// The fault of bytes, from a slice and from a reader, or None where both load them. Read where these differ.
+// Returns the error of bytes, from a slice and from a reader, or `None` if both load them. `Read` if these
+// differ.
 fn fault_of<S: Loaded<A>, A: Allocator + Copy>(alloc: A, bytes: &[u8]) -> Option<LoadError> {
     let fault = slice_fault::<S, A>(alloc, bytes);
     if reader_fault::<S, A>(alloc, bytes) == fault {
@@ -67,7 +68,7 @@ fn fault_of<S: Loaded<A>, A: Allocator + Copy>(alloc: A, bytes: &[u8]) -> Option
     }
 }
 
-// Bytes with one bit changed.
+// Returns bytes with one bit changed.
 fn flipped<A: Allocator>(
     alloc: A,
     bytes: &[u8],
@@ -81,7 +82,7 @@ fn flipped<A: Allocator>(
     Ok(other)
 }
 
-// Whether no form with one bit changed is loaded, and none is refused for memory or the reader.
+// Returns true if no form with one bit changed is loaded, and none is refused for memory or the reader.
 fn flips_are_told<F: Fn(&[u8]) -> Option<LoadError>>(alloc: Global, bytes: &[u8], fault: F) -> bool {
     for i in 0..bytes.len() {
         for bit in 0..8 {
@@ -97,7 +98,7 @@ fn flips_are_told<F: Fn(&[u8]) -> Option<LoadError>>(alloc: Global, bytes: &[u8]
     true
 }
 
-// Whether each beginning of a form is too short.
+// Returns true if each prefix of a form is too short.
 fn cuts_are_told<F: Fn(&[u8]) -> Option<LoadError>>(bytes: &[u8], fault: F) -> bool {
     for i in 0..bytes.len() {
         if fault(&bytes[..i]) != Some(LoadError::TooShort) {
@@ -107,7 +108,7 @@ fn cuts_are_told<F: Fn(&[u8]) -> Option<LoadError>>(bytes: &[u8], fault: F) -> b
     true
 }
 
-// Whether a form with a byte more has a wrong length.
+// Returns true if a form with one more byte has a wrong length.
 fn more_is_told<F: Fn(&[u8]) -> Option<LoadError>>(alloc: Global, bytes: &[u8], fault: F) -> bool {
     let mut longer = match Vec::from_slice(alloc, bytes) { Ok(longer) => longer, _ => {
         return false;
@@ -115,7 +116,7 @@ fn more_is_told<F: Fn(&[u8]) -> Option<LoadError>>(alloc: Global, bytes: &[u8], 
     longer.push(0).is_ok() && fault(longer.as_slice()) == Some(LoadError::BadLength)
 }
 
-/// Whether a form has no fault, and each change of it has one.
+/// Returns true if a form has no error, and each change of it has one.
 pub fn changes_are_told<F: Fn(&[u8]) -> Option<LoadError>>(
     alloc: Global,
     bytes: &[u8],
@@ -127,7 +128,7 @@ pub fn changes_are_told<F: Fn(&[u8]) -> Option<LoadError>>(
         && more_is_told(alloc, bytes, &fault)
 }
 
-// Whether a form is that of the list that it is loaded as, and each change of it has a fault.
+// Returns true if a form is that of the list that it is loaded as, and each change of it has an error.
 fn is_kept<S: Loaded<Global>>(alloc: Global, bytes: &[u8]) -> bool {
     is_loaded::<S, Global>(alloc, bytes)
         && changes_are_told(

@@ -1,7 +1,7 @@
-//! The sizes that structures tell, against the memory that they hold: each structure and its clone at lengths
-//! around the ends of limbs, blocks and superblocks.
+//! The sizes that structures report, compared with the memory that they use: each structure and its clone at
+//! lengths around the ends of limbs, blocks and superblocks.
 //!
-//! What is made of a given block size names its allocator: its size over any allocator is not known.
+//! A structure with a given block size names its allocator: its size with a generic allocator is not known.
 
 use crate::rattle::prelude::*;
 
@@ -25,10 +25,10 @@ mod bits;
 
 type Heap = Refusing<Global>;
 
-// How many levels a matrix of symbols of three bits has.
+// The number of levels of a matrix of symbols of three bits.
 const LEVELS: usize = 3;
 
-// `len` ascending numbers.
+// Returns `len` ascending numbers.
 fn numbers_of<A: Allocator + Copy>(alloc: A, len: usize) -> Result<Vec<u64, A>, AllocError> {
     let mut numbers = Vec::with_capacity(alloc, len)?;
     for k in 0..len as u64 {
@@ -37,7 +37,7 @@ fn numbers_of<A: Allocator + Copy>(alloc: A, len: usize) -> Result<Vec<u64, A>, 
     Ok(numbers)
 }
 
-// The size that each structure tells.
+// The size that each structure reports.
 #[derive(Clone, Copy)]
 struct HeapSize;
 
@@ -167,7 +167,7 @@ fn posted<A: Allocator + Copy>(alloc: A, numbers: &[u64]) -> Result<Postings<A>,
     Postings::from_sorted(numbers, Vec::from_slice(alloc, numbers)?)
 }
 
-// What the two lists of documents and of costs tell.
+// Returns the size that the two lists of documents and of costs report.
 fn told_of_parts(inner: Global, numbers: &[u64]) -> Result<usize, AllocError> {
     let documents = asked(
         ascending(inner, numbers),
@@ -231,7 +231,7 @@ fn spare_of_made(made: Made, inner: Global, heap: &Heap, numbers: &[u64]) -> Opt
     }
 }
 
-// The bytes that are held beside the lists: a matrix has a vector of its levels.
+// Returns the bytes in use in addition to the lists: a matrix has a vector of its levels.
 fn structs(made: Made) -> usize {
     match made {
         Made::Symbols | Made::SymbolsCounted => LEVELS.wrapping_mul(size_of::<RsVec<&Heap>>()),
@@ -239,8 +239,8 @@ fn structs(made: Made) -> usize {
     }
 }
 
-// The most bytes by which the vectors of a made value are rounded up. A vector that grows has room for four
-// words at least.
+// Returns the most bytes by which the vectors of a made value are rounded up. A vector that grows has room for
+// four words at least.
 fn rounded(made: Made) -> usize {
     match made {
         Made::Ascending | Made::Sparse | Made::Posted => 24,
@@ -249,7 +249,7 @@ fn rounded(made: Made) -> usize {
     }
 }
 
-// A clone holds just what is told.
+// A clone uses exactly what it reports.
 impl Sizing<Global> for Made {
     fn spare(self, inner: Global, heap: &Heap, len: usize) -> Option<Spare> {
         match numbers_of(inner, len) {

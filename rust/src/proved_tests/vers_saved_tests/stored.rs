@@ -65,7 +65,7 @@ pub const DESCENDING: [u8; 64] = [
     35, 152, 132, 6, 226, 213, 80,
 ];
 
-/// Places of ones that do not ascend to a length.
+/// Positions of ones that do not ascend to a length.
 pub const NO_LENGTH: [u8; 64] = [
     119, 111, 108, 116, 115, 106, 101, 109, 1, 0, 0, 0, 0, 0, 0, 0, 4, 0, 0, 0, 0, 0, 0, 0, 64, 0,
     0, 0, 0, 0, 0, 0, 2, 0, 0, 0, 0, 0, 0, 0, 3, 0, 0, 0, 0, 0, 0, 0, 3, 0, 0, 0, 0, 0, 0, 0, 60,
@@ -113,7 +113,7 @@ pub const SYMBOLS: [u8; 56] = [
     91, 252,
 ];
 
-/// Four symbols of 33 bits, which lie in three words.
+/// Four symbols of 33 bits, which span three words.
 pub const WIDE_SYMBOLS: [u8; 72] = [
     119, 111, 108, 116, 115, 106, 101, 109, 1, 0, 0, 0, 0, 0, 0, 0, 3, 0, 0, 0, 0, 0, 0, 0, 33, 0,
     0, 0, 0, 0, 0, 0, 4, 0, 0, 0, 0, 0, 0, 0, 255, 255, 255, 255, 11, 0, 0, 0, 0, 0, 0, 0, 60, 0,

@@ -12,8 +12,8 @@ use crate::proved::vers_saved::saved::{Loaded, Saved, load_from_slice};
 use crate::proved::vers_saved::stream::{load, save};
 use crate::proved::vers_sorted::elias_fano::EliasFanoVec;
 
-// How a load ends of a reader that gives so many bytes at once and fails at one read: None where the
-// list is that of the bytes.
+// Returns the error of a load from a reader that returns that many bytes at once and fails at one read, or
+// `None` if the list is that of the bytes.
 fn read_fault<S: Loaded<A>, A: Allocator + Copy>(
     alloc: A,
     bytes: &[u8],
@@ -34,7 +34,7 @@ fn read_fault<S: Loaded<A>, A: Allocator + Copy>(
     }
 }
 
-// Whether a list is written in pieces, and a beginning of it where a write fails.
+// Returns true if a list is written in pieces, and a prefix of it if a write fails.
 fn is_written<S: Saved>(alloc: Global, list: &S, bytes: &[u8], piece: usize) -> bool {
     let mut whole = Held::of(alloc, piece, 0);
     if save(alloc, list, &mut whole).is_err() || whole.bytes.as_slice() != bytes {

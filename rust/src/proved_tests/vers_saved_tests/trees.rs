@@ -1,4 +1,4 @@
-//! Trees, which are loaded by calls of their own.
+//! Trees, which are loaded by functions of their own.
 
 use crate::rattle::prelude::*;
 use crate::proved_tests::vers_saved_tests::memory::{Heap, ends_well};
@@ -10,19 +10,19 @@ use crate::proved::vers_saved::fault::LoadError;
 use crate::proved::vers_saved::trees::{load_tree, load_tree_from_slice};
 use crate::proved::vers_trees::trees::bp::BpTree;
 
-// A tree that is loaded from a slice.
+// Returns a tree that is loaded from a slice.
 fn loaded<'a>(heap: &'a Heap, bytes: &[u8]) -> Result<BpTree<8, &'a Heap>, LoadError> {
     load_tree_from_slice(heap, bytes)
 }
 
-// The fault of bytes as those of a tree, from a reader.
+// Returns the error of bytes as those of a tree, from a reader.
 fn reader_fault<'a>(heap: &'a Heap, bytes: &[u8]) -> Option<LoadError> {
     let mut rest = bytes;
     let read: Result<BpTree<8, &'a Heap>, LoadError> = load_tree(heap, &mut rest);
     read.err()
 }
 
-// The fault of bytes as those of a tree, from a slice and from a reader. Read where these differ.
+// Returns the error of bytes as those of a tree, from a slice and from a reader. `Read` if these differ.
 fn tree_fault<'a>(heap: &'a Heap, bytes: &[u8]) -> Option<LoadError> {
     let fault = loaded(heap, bytes).err();
     if reader_fault(heap, bytes) == fault {
@@ -32,7 +32,7 @@ fn tree_fault<'a>(heap: &'a Heap, bytes: &[u8]) -> Option<LoadError> {
     }
 }
 
-// Whether a tree is loaded that is saved as the bytes again.
+// Returns true if the loaded tree is saved as the same bytes.
 fn is_loaded<'a>(alloc: Global, heap: &'a Heap, bytes: &[u8]) -> bool {
     let is_saved = asked(loaded(heap, bytes), |tree: &BpTree<8, &Heap>| {
         is_saved_as(alloc, tree, bytes)
@@ -54,7 +54,7 @@ fn parentheses() {
     assert!(tree_fault(&heap, &BITS) == Some(LoadError::OtherKind));
 }
 
-// How the load of a tree ends where a request is refused.
+// Tests a load of a tree with a refused request.
 fn tried_tree<'a>(heap: &'a Heap) -> Ending {
     heap.start();
     match loaded(heap, &PARENTHESES) {

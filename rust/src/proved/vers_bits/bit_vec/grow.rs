@@ -58,7 +58,8 @@ impl<A: Allocator + Copy> BitVec<A> {
         Ok(())
     }
 
-    /// Appends the low `len` bits of a number, as `append_bits` does.
+    /// Appends the low `len` bits of a number, least significant first. Precondition: `len` is at most 64.
+    /// Errors as for `append_bits`.
     pub fn append_bits_unchecked(&mut self, bits: u64, len: usize) -> Result<(), GrowError> {
         self.append_bits(bits, len)
     }
@@ -183,7 +184,7 @@ impl<A: Allocator + Copy> BitVec<A> {
         self.extend_by(&mut lists)
     }
 
-    /// Appends the lists of a finite iterator over references, as `extend` does.
+    /// Appends the lists of a finite iterator over references, in order. Errors as for `extend`.
     pub fn extend_ref<'a, I: Iterator<Item = &'a BitVec<A>>>(
         &mut self,
         mut lists: I,

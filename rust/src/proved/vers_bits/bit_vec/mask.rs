@@ -104,7 +104,7 @@ impl<'a, 'b, F: Fn(u64, u64) -> u64, A: Allocator + Copy> MaskedBitVec<'a, 'b, F
         self.left.len() as u64 - self.count_ones()
     }
 
-    /// Returns a list of its own with the bits.
+    /// Returns a new list of the bits. Errors: `AllocError` if the allocator refuses a request.
     pub fn to_bit_vec(&self) -> Result<BitVec<A>, AllocError> {
         let mut bits = self.left.clone()?;
         bits.combine(self.right, &self.mask);
@@ -253,7 +253,7 @@ impl<'s, 'b, A: Allocator + Copy> BitMask<'s, 'b, A> {
         .count_zeros()
     }
 
-    /// Returns a list of its own with the bits.
+    /// Returns a new list of the bits. Errors: `AllocError` if the allocator refuses a request.
     pub fn to_bit_vec(&self) -> Result<BitVec<A>, AllocError> {
         let kind = self.kind;
         MaskedBitVec {

@@ -17,7 +17,7 @@ mod source;
 impl<A: Allocator + Copy> WaveletMatrix<A> {
     /// Returns the matrix of the low `bits_per_element` bits of each number, by stable sorting; it is empty if
     /// that is 0. Allocates two buffers of as many numbers, in addition to the levels. Precondition:
-    /// `bits_per_element` is at most 64.
+    /// `bits_per_element` is at most 64. Errors: `AllocError` if the allocator refuses a request.
     pub fn from_slice(alloc: A, numbers: &[u64], bits_per_element: u16) -> Result<Self, AllocError> {
         let source = Words::new(numbers, bits_per_element as usize);
         WaveletMatrix::sorted(alloc, &source)
@@ -25,7 +25,8 @@ impl<A: Allocator + Copy> WaveletMatrix<A> {
 
     /// Returns the matrix of the symbols of `bits_per_element` bits each in a list of bits, by stable sorting.
     /// Allocates two buffers of as many numbers as symbols, in addition to the levels. Precondition: the list's
-    /// length is a multiple of `bits_per_element`, which isn't 0.
+    /// length is a multiple of `bits_per_element`, which isn't 0. Errors: `AllocError` if the allocator refuses
+    /// a request.
     pub fn from_bit_vec(bits: &BitVec<A>, bits_per_element: u16) -> Result<Self, AllocError> {
         let source = Packed::new(bits, bits_per_element as usize);
         WaveletMatrix::sorted(bits.allocator(), &source)
@@ -33,7 +34,8 @@ impl<A: Allocator + Copy> WaveletMatrix<A> {
 
     /// Returns the matrix that `from_slice` does, by counting prefixes. Allocates two tables of `2 ^
     /// bits_per_element` numbers, in addition to the levels; from 60 bits on this fails, out of memory.
-    /// Precondition: `bits_per_element` is from 1 to 63.
+    /// Precondition: `bits_per_element` is from 1 to 63. Errors: `AllocError` if the allocator refuses a
+    /// request.
     pub fn from_slice_pc(
         alloc: A,
         numbers: &[u64],
@@ -45,7 +47,8 @@ impl<A: Allocator + Copy> WaveletMatrix<A> {
 
     /// Returns the matrix that `from_bit_vec` does, by counting prefixes. Allocates two tables of `2 ^
     /// bits_per_element` numbers, in addition to the levels; from 60 bits on this fails, out of memory.
-    /// Precondition: `bits_per_element` is from 1 to 63, and the list's length a multiple of it.
+    /// Precondition: `bits_per_element` is from 1 to 63, and the list's length a multiple of it. Errors:
+    /// `AllocError` if the allocator refuses a request.
     pub fn from_bit_vec_pc(bits: &BitVec<A>, bits_per_element: u16) -> Result<Self, AllocError> {
         let source = Packed::new(bits, bits_per_element as usize);
         WaveletMatrix::counted(bits.allocator(), &source)

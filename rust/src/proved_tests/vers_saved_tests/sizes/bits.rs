@@ -1,4 +1,4 @@
-//! Lists of bits by themselves, made by makers, by growth and out of another list.
+//! Lists of bits, made by constructors, by growth and from another list.
 
 use crate::rattle::prelude::*;
 use crate::proved_tests::vers_saved_tests::sizes::{Heap, HeapSize, numbers_of};
@@ -133,14 +133,14 @@ fn limb_bytes(bits: usize) -> usize {
     bits.div_ceil(64).wrapping_mul(8)
 }
 
-// The most bytes by which a vector of limbs for so many bits is rounded up that has grown: it has room for
-// four limbs at least, and for twice what it holds at most.
+// Returns the most bytes by which a vector of limbs that has grown is rounded up, for that many bits: it has
+// room for at least four limbs, and for at most twice what it contains.
 fn grown_room(bits: usize) -> usize {
     limb_bytes(bits).max(24)
 }
 
-// The most bytes that a list of `len` bits, or made of so many, has room for beside its own. A list that was
-// cut keeps its room.
+// Returns the most bytes that a list of `len` bits, or made of so many, has room for in addition to its own. A
+// truncated list keeps its room.
 fn rounded(way: Way, len: usize) -> usize {
     match way {
         Way::WithCapacity | Way::Shortened | Way::FirstHalf => limb_bytes(len),
@@ -153,7 +153,7 @@ fn rounded(way: Way, len: usize) -> usize {
     }
 }
 
-// A clone holds just what is told.
+// A clone uses exactly what it reports.
 impl Sizing<Global> for Way {
     fn spare(self, inner: Global, heap: &Heap, len: usize) -> Option<Spare> {
         match numbers_of(inner, len) {
