@@ -2,9 +2,9 @@
 """Writes bindings/NAMES.md: by which name each call of a structure is asked from C, C++, Rust and Python, and what is
 left out and why.
 
-The calls are those of docs/CALLS.md. A call has its own name in each language, or that of `NAMES`, or is left out for a
-reason of `LEFT_OUT`. Each name has to be in the header, the classes and the crate; a call that is neither named nor
-left out is a fault.
+The calls are the public ones of the library, as docs/CALLS.md has them. A call has its own name in each language, or
+that of `NAMES`, or is left out for a reason of `LEFT_OUT`. Each name has to be in the header, the classes and the
+crate; a call that is neither named nor left out is a fault.
 """
 import os
 import re
@@ -13,6 +13,7 @@ import textwrap
 from glob import glob
 
 sys.path.append(os.path.join(os.path.dirname(os.path.abspath(__file__)), "../tools"))
+from pages import CRATES, public_calls
 from sources import TOP, read, write_or_check
 
 PAGE, LANGUAGES = "bindings/NAMES.md", ("C", "C++", "Rust", "Python")
@@ -79,12 +80,14 @@ except in Rust.
 
 
 def calls():
-    """Returns the calls of each structure, without those that want a condition."""
+    """Returns the calls of each structure, without those that require a condition and those with a counter."""
     found = {}
-    for part in read(f"{TOP}/docs/CALLS.md").split("\n## ")[1:]:
-        owner = re.match(r"`\w+::(\w+)`", part)
-        if owner and owner[1] in STRUCTURES:
-            found[owner[1]] = [it for it in re.findall(r"(?m)^(\w+)[(<]", part) if not it.endswith("_unchecked")]
+    for crate in CRATES.split():
+        for owner, functions in sorted(public_calls(TOP, crate).items()):
+            if owner in STRUCTURES:
+                names = [it.name for it in functions]
+                found[owner] = [it for it in names if not it.endswith("_unchecked")
+                                and it.removesuffix("_counted") not in set(names) - {it}]
     return found
 
 

@@ -1,9 +1,9 @@
 #!/usr/bin/env python3
 """Writes docs/CALLS.md and docs/DEFINITIONS.md, and the figures of README's table of times.
 
-A line of CALLS has a public call as it is declared, the first sentence of its doc comment with its preconditions unless
-`cargo doc` has a call of that name, and the bound on the reads of the counted form, which shares the line.
-`tools/definitions.py` writes DEFINITIONS.
+CALLS lists the calls that `cargo doc` describes under the same names by the bounds on their reads. Each other call is
+there as it is declared, with the first sentence of its doc comment, its preconditions, and the bound on the reads of
+its counted form. `tools/definitions.py` writes DEFINITIONS.
 
 A row of a table of PERFORMANCE is read if its first cell is a call, such as `rank1` or `FastRmq::range_min`, or a call
 and what its time is for, such as "`iter1`, a place". Nothing is measured.
@@ -68,8 +68,8 @@ def with_figures(text, found):
     return re.sub(r"(?m)^(\| `\w+`, `\w+` \| [^|\n]* \|).*$", lambda row: row[1] + rows[row[1]], text)
 
 
-CRATES = """vers_bits vers_tally vers_rank vers_sorted vers_rmq vers_trees vers_wavelet vers_saved postings text_index
-    vers_words vers_engine vers_cli vers_texts vers_files"""
+# The crates of structures; those of the line programs have their calls in the sources.
+CRATES = "vers_bits vers_tally vers_rank vers_sorted vers_rmq vers_trees vers_wavelet vers_saved postings text_index"
 # The crates whose calls the Rust crate has under the same names.
 IN_RUST = "vers_bits vers_rank vers_sorted vers_rmq vers_trees vers_wavelet vers_saved postings text_index".split()
 
@@ -91,13 +91,17 @@ def first_sentence(function):
     return re.split(r"(?<=[.]) (?=[A-Z`])", " ".join("\n".join(doc).split("\n\n")[0].split()))[0].rstrip(".")
 
 
-def call_with_comment(function, counted, is_in_rust):
+def reads_at_most(function):
+    """Returns the bound on what a counted call reads, or an empty text."""
+    return ", ".join(fact.removeprefix(ADDS) for _, fact in function.clauses if fact.startswith(ADDS))
+
+
+def call_with_comment(function, bound):
     """Returns a call as it is declared, below a comment of what this doesn't say."""
     conditions = [fact for kind, fact in function.clauses if kind == "requires"]
-    bounds = [fact.removeprefix(ADDS) for _, fact in counted.clauses if fact.startswith(ADDS)]
-    said = [] if is_in_rust else [first_sentence(function)]
-    said += [f"requires {', '.join(conditions)}"] if conditions and not is_in_rust else []
-    said += [f"reads {', '.join(bounds)}"] if bounds else []
+    said = [first_sentence(function)]
+    said += [f"requires {', '.join(conditions)}"] if conditions else []
+    said += [f"reads {bound}"] if bound else []
     declared = textwrap.wrap(declaration(function), 120, subsequent_indent="    ")
     return "\n".join([*(f"// {it}" for it in textwrap.wrap("; ".join(said), 117)), *declared])
 
@@ -107,22 +111,36 @@ def section(title, functions, in_rust):
     by_name = {it.name: it for it in functions}
     shown = [it for it in functions if not it.name.endswith("_counted")
              or it.name.removesuffix("_counted") not in by_name]
-    lines = [call_with_comment(it, by_name.get(f"{it.name}_counted", it), it.name in in_rust) for it in shown]
-    return "\n".join([f"## {title}", "", "```text", *lines, "```"])
+    bounds = {it: reads_at_most(by_name.get(f"{it.name}_counted", it)) for it in shown}
+    same = defaultdict(list)
+    for it in shown:
+        if it.name in in_rust:
+            same[bounds[it]].append(f"`{it.name}`")
+    listed = [f"{f'Reads `{bound}`: ' if bound else ''}{', '.join(names)}." for bound, names in same.items()]
+    own = [call_with_comment(it, bounds[it]) for it in shown if it.name not in in_rust]
+    code = "\n".join(["```text", *own, "```"]) if own else ""
+    texts = ("\n".join(textwrap.wrap(it, 120, break_on_hyphens=False)) for it in listed)
+    return "\n\n".join(it for it in [f"## {title}", *texts, code] if it)
+
+
+def public_calls(top, crate):
+    """Returns the public calls of a crate by their owners, without those of traits and the laws."""
+    groups = defaultdict(list)
+    for it in sorted(public_functions(read_crate(top, crate)), key=lambda it: (it.source.path, it.first)):
+        if not it.trait and not it.is_declared_by_trait and it.source.module != "laws":
+            groups[owner(it)].append(it)
+    return groups
 
 
 def page(top):
     """Returns the text of the page of calls."""
     facade = "".join(text for _, text in facade_files(f"{top}/rust/src"))
-    in_rust = set(re.findall(r"(?<=\bfn )\w+|\b\w+(?=,)", facade))
+    # functions, and what macros make functions of
+    in_rust = set(re.findall(r"(?<=\bfn )\w+|\b\w+(?=,)|\b\w+(?=\(\w+: .*\).*;\n)", facade))
     parts = [read(f"{top}/{PAGE}").split("\n\n## ")[0]]
     for crate in CRATES.split():
-        groups = defaultdict(list)
-        for it in sorted(public_functions(read_crate(top, crate)), key=lambda it: (it.source.path, it.first)):
-            if not it.trait and not it.is_declared_by_trait and it.source.module != "laws":
-                groups[owner(it)].append(it)
         parts += [section(f"`{crate}::{name}`", of, in_rust if crate in IN_RUST else ())
-                  for name, of in sorted(groups.items())]
+                  for name, of in sorted(public_calls(top, crate).items())]
     return "\n\n".join(parts) + "\n"
 
 
