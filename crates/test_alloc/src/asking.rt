@@ -23,7 +23,8 @@ pub fn asked_mut<T: Drop, R, E, F: FnOnce(&mut T) -> R>(made: Result<T, E>, ask:
     }
 }
 
-/// Returns the number of the first row (from 0) whose query has another result than the row says.
+/// Returns the number of the first row (from 0) whose query has another result than the row says, or `None` if
+/// all are right.
 pub fn first_wrong<T, Q: Copy + Drop, R: PartialEq + Drop, F: Fn(&T, Q) -> R>(
     it: &T,
     rows: &[(Q, R)],
@@ -52,7 +53,8 @@ pub fn asked_both<T: Drop, U: Drop, R, E: Drop, F: FnOnce(&T, &U) -> R>(
     Ok(ask(&one, &other))
 }
 
-/// Returns the first length, and the number of the wrong row, of values made at each length.
+/// Returns the first length, and the number of the wrong row, of values made at each length, or `None` if all
+/// are right.
 pub fn first_wrong_length<
     T: Drop,
     E: Drop,
@@ -80,7 +82,8 @@ pub enum Step {
     Len,
 }
 
-/// Returns the number of the first step of a walk (from 0) that has another result than its row says.
+/// Returns the number of the first step of a walk (from 0) that has another result than its row says, or `None`
+/// if all are right.
 pub fn first_wrong_step<W, S: Copy + Drop, R: PartialEq + Drop, F: Fn(&mut W, S) -> R>(
     walk: &mut W,
     rows: &[(S, R)],

@@ -170,7 +170,7 @@ impl<S: Source> BothEnds<S> {
         self.next_back_counted(&mut tally)
     }
 
-    /// Does what `next` does. Reads at most one item.
+    /// Does what `next` does. Reads at most one `step`.
     #[inline(always)]
     pub fn next_counted(&mut self, tally: &mut Tally) -> Option<S::Item>
         ensures steps { TakesFirst self.old.left result self.new.left }
@@ -180,7 +180,7 @@ impl<S: Source> BothEnds<S> {
         self.nth_counted(0, tally)
     }
 
-    /// Does what `next_back` does. Reads at most one item.
+    /// Does what `next_back` does. Reads at most one `step`.
     #[inline(always)]
     pub fn next_back_counted(&mut self, tally: &mut Tally) -> Option<S::Item>
         ensures steps { TakesLast self.old.left result self.new.left }
@@ -190,7 +190,7 @@ impl<S: Source> BothEnds<S> {
         self.nth_back_counted(0, tally)
     }
 
-    /// Does what `nth` does. Reads at most one item.
+    /// Does what `nth` does. Reads at most one `step`.
     #[inline(always)]
     pub fn nth_counted(&mut self, n: usize, tally: &mut Tally) -> Option<S::Item>
         ensures steps { TakesNth n self.old.left result self.new.left }
@@ -201,7 +201,7 @@ impl<S: Source> BothEnds<S> {
         Some(self.source.item_at(i, tally))
     }
 
-    /// Does what `nth_back` does. Reads at most one item.
+    /// Does what `nth_back` does. Reads at most one `step`.
     #[inline(always)]
     pub fn nth_back_counted(&mut self, n: usize, tally: &mut Tally) -> Option<S::Item>
         ensures steps { TakesNthBack n self.old.left result self.new.left }

@@ -135,7 +135,7 @@ impl<M: Maker> MadeEnds<M> {
         self.nth_back(0)
     }
 
-    /// Does what `next` does. Reads at most one item.
+    /// Does what `next` does. Reads at most one `step`.
     pub fn next_counted(&mut self, tally: &mut Tally) -> Option<Result<M::Item, AllocError>>
         ensures steps { MakesFirst self.old.left result self.new.left }
         ensures same_step { self.new.step ≡ self.old.step }
@@ -144,7 +144,7 @@ impl<M: Maker> MadeEnds<M> {
         self.nth_counted(0, tally)
     }
 
-    /// Does what `next_back` does. Reads at most one item.
+    /// Does what `next_back` does. Reads at most one `step`.
     pub fn next_back_counted(&mut self, tally: &mut Tally) -> Option<Result<M::Item, AllocError>>
         ensures steps { MakesLast self.old.left result self.new.left }
         ensures same_step { self.new.step ≡ self.old.step }
@@ -153,7 +153,7 @@ impl<M: Maker> MadeEnds<M> {
         self.nth_back_counted(0, tally)
     }
 
-    /// Does what `nth` does. Reads at most one item.
+    /// Does what `nth` does. Reads at most one `step`.
     pub fn nth_counted(
         &mut self,
         n: usize,
@@ -167,7 +167,7 @@ impl<M: Maker> MadeEnds<M> {
         Some(self.maker.make_at(i, tally))
     }
 
-    /// Does what `nth_back` does. Reads at most one item.
+    /// Does what `nth_back` does. Reads at most one `step`.
     pub fn nth_back_counted(
         &mut self,
         n: usize,

@@ -15,7 +15,7 @@ use vers_tally::tally::Tally;
 /// enough that what they read stays in the cache.
 pub(super) const GROUP: usize = 64;
 
-// Returns the numbers of the ones of the members at `n` positions, past all ones for each `None`.
+// Computes the numbers of the ones of the members at `n` positions, past all ones for each `None`.
 #[inline(always)]
 fn ask_each(places: &[Option<u64>], from: usize, n: usize, ones: &mut [usize; GROUP])
     requires within { from + n ≤ length places.now }

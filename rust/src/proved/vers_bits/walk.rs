@@ -25,7 +25,8 @@ impl Span {
         self.to.saturating_sub(self.from)
     }
 
-    /// Skips `n` positions from the front and returns the next. Skips all if at most `n` are left.
+    /// Skips `n` positions from the front and takes the next. If at most `n` are left, returns `None` and none
+    /// is left.
     #[inline]
     pub fn nth(&mut self, n: usize) -> Option<usize> {
         if n >= self.len() {
@@ -37,7 +38,8 @@ impl Span {
         Some(place)
     }
 
-    /// Skips `n` positions from the back and returns the next. Skips all if at most `n` are left.
+    /// Skips `n` positions from the back and takes the next. If at most `n` are left, returns `None` and none
+    /// is left.
     #[inline]
     pub fn nth_back(&mut self, n: usize) -> Option<usize> {
         if n >= self.len() {

@@ -84,17 +84,17 @@ impl<M: Maker> MadeEnds<M> {
         self.nth_back(0)
     }
 
-    /// Does what `next` does. Reads at most one item.
+    /// Does what `next` does. Reads at most one `step`.
     pub fn next_counted(&mut self, tally: &mut Tally) -> Option<Result<M::Item, AllocError>> {
         self.nth_counted(0, tally)
     }
 
-    /// Does what `next_back` does. Reads at most one item.
+    /// Does what `next_back` does. Reads at most one `step`.
     pub fn next_back_counted(&mut self, tally: &mut Tally) -> Option<Result<M::Item, AllocError>> {
         self.nth_back_counted(0, tally)
     }
 
-    /// Does what `nth` does. Reads at most one item.
+    /// Does what `nth` does. Reads at most one `step`.
     pub fn nth_counted(
         &mut self,
         n: usize,
@@ -104,7 +104,7 @@ impl<M: Maker> MadeEnds<M> {
         Some(self.maker.make_at(i, tally))
     }
 
-    /// Does what `nth_back` does. Reads at most one item.
+    /// Does what `nth_back` does. Reads at most one `step`.
     pub fn nth_back_counted(
         &mut self,
         n: usize,

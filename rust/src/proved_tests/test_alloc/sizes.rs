@@ -68,7 +68,7 @@ fn is_sized<B: Allocator + Copy, S: Sizing<B>>(inner: B, sizing: S, len: usize) 
 }
 
 /// Returns the first length, and the number of the first way there (from 0), of which a value has an excess
-/// that is not allowed.
+/// that is not allowed, or `None` if there is none.
 pub fn first_wrong_size<B: Allocator + Copy, S: Sizing<B>>(
     inner: B,
     lengths: &[usize],

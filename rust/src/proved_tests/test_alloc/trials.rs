@@ -36,7 +36,7 @@ fn is_right_at<B: Allocator + Copy, C: Trial<B>>(inner: B, call: C, len: usize) 
     }
 }
 
-/// Returns the first length, and the number of the first call there (from 0) that is wrong.
+/// Returns the first length, and the number of the first call there (from 0) that is wrong, or `None` if none is.
 pub fn first_wrong_trial<B: Allocator + Copy, C: Trial<B>>(
     inner: B,
     lengths: &[usize],

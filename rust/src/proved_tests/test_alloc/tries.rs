@@ -87,7 +87,7 @@ pub fn takes_memory<B: Allocator + Copy, F: Fn(&Refusing<B>) -> Ending>(
 }
 
 /// Returns the number of the first call (from 0) whose trials don't all end as they must, or that allocates
-/// exactly if it should not.
+/// exactly if it should not; `None` if all are right.
 pub fn first_wrong_call<
     B: Allocator + Copy,
     C: Copy,

@@ -15,8 +15,8 @@ impl<A: Allocator + Copy> WaveletMatrix<A> {
         self.select_offset_counted(offset, rank, symbol, &mut tally)
     }
 
-    /// Returns `select_offset(..)`. Reads at most `4k` rank calls for symbols of `k` bits, each at most one
-    /// select of a level.
+    /// Returns `select_offset(..)`. Makes at most `4k` rank calls for symbols of `k` bits, each reading at most
+    /// what one select of a level does.
     #[inline(always)]
     pub fn select_offset_counted(
         &self,
@@ -44,8 +44,8 @@ impl<A: Allocator + Copy> WaveletMatrix<A> {
         self.select_counted(rank, symbol, &mut tally)
     }
 
-    /// Returns `select(..)`. Reads at most `4k` rank calls for symbols of `k` bits, each at most one select of
-    /// a level.
+    /// Returns `select(..)`. Makes at most `4k` rank calls for symbols of `k` bits, each reading at most what
+    /// one select of a level does.
     #[inline(always)]
     pub fn select_counted(
         &self,
@@ -73,8 +73,8 @@ impl<A: Allocator + Copy> WaveletMatrix<A> {
         self.select_offset_u64_counted(offset, rank, symbol, &mut tally)
     }
 
-    /// Returns `select_offset_u64(..)`. Reads at most `4k` rank calls for symbols of `k` bits, each at most one
-    /// select of a level.
+    /// Returns `select_offset_u64(..)`. Makes at most `4k` rank calls for symbols of `k` bits, each reading at
+    /// most what one select of a level does.
     #[inline(always)]
     pub fn select_offset_u64_counted(
         &self,
@@ -103,8 +103,8 @@ impl<A: Allocator + Copy> WaveletMatrix<A> {
         self.select_u64_counted(rank, symbol, &mut tally)
     }
 
-    /// Returns `select_u64(..)`. Reads at most `4k` rank calls for symbols of `k` bits, each at most one select
-    /// of a level.
+    /// Returns `select_u64(..)`. Makes at most `4k` rank calls for symbols of `k` bits, each reading at most
+    /// what one select of a level does.
     #[inline(always)]
     pub fn select_u64_counted(&self, rank: usize, symbol: u64, tally: &mut Tally) -> Option<usize> {
         if !self.fits_word() {

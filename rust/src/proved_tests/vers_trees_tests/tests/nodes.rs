@@ -114,7 +114,7 @@ fn about_node<const N: usize, A: Allocator + Copy>(
     }
 }
 
-// Returns true if a node is an ancestor of another one. `None` if a position has no node.
+// Returns the answers to whether a node is an ancestor of another one. `None` if a position has no node.
 fn about_pair<const N: usize, A: Allocator + Copy>(
     tree: &BpTree<N, A>,
     ancestor: usize,
