@@ -29,6 +29,7 @@ from sources import TOP, has_cargo, read, write_files
 RUST = f"{TOP}/rust"
 OLDEST = "1.63"
 REGISTRY = "/usr/share/cargo/registry"
+EXAMPLES = ("quantiles", "search_engine", "xml_tree", "dictionary_column", "ip_ranges")
 FEATURES = "unchecked,simd,mem_dbg,bp_u16_lookup"
 ARM = "aarch64-unknown-linux-gnu"
 # Debian's compiler.
@@ -67,8 +68,10 @@ class Checks:
 
 
 def check_tests(checks, is_quick):
-    """Runs the tests, and those of the crate itself with other features."""
+    """Runs the tests and the examples, and the tests of the crate itself with other features."""
     checks.cargo("tests", ["test", "--quiet"])
+    for name in EXAMPLES:
+        checks.cargo(f"example {name}", ["run", "--quiet", "--example", name])
     if is_quick:
         return checks.leave_out(f"tests with {FEATURES}", "quick")
     return checks.cargo(f"tests with {FEATURES}", ["test", "--quiet", "--features", FEATURES, "--test", "*"])
