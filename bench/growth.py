@@ -2,7 +2,7 @@
 """Measures how the time of a query and of a build grows with the size of a structure, here and in the crate vers-vecs.
 
 Each structure is made in several sizes. At each size the two drivers of `compare.py` run in turns, and the least time of each series
-counts. The times are printed as tables for docs/GROWTH.md, which `plots.py` draws.
+counts. The times are printed as tables for docs/PERFORMANCE.md, which `plots.py` draws.
 """
 import argparse
 import os
@@ -11,12 +11,12 @@ from collections import namedtuple
 
 import compare
 
-SOURCE = os.path.join(compare.TOP, "docs/GROWTH.md")
+SOURCE = os.path.join(compare.TOP, "docs/PERFORMANCE.md")
 # A structure: its name in the lines, the type, what its size counts, the base and the exponents of its sizes, and the queries.
 Growth = namedtuple("Growth", "structure type unit base exponents queries")
 GROWTHS = (
     Growth("bits", "RsVec", "bits", 2, (16, 20, 24, 28), ("rank1", "select1", "select0")),
-    Growth("sorted", "EliasFanoVec", "members", 10, (4, 5, 6, 7, 8), ("get", "rank", "predecessor")),
+    Growth("sorted", "EliasFanoVec", "elements", 10, (4, 5, 6, 7, 8), ("get", "rank", "predecessor")),
     Growth("wavelet", "WaveletMatrix", "symbols of 8 bits", 10, (4, 5, 6, 7, 8), ("get_u64", "rank_u64", "select_u64", "quantile_u64")),
     Growth("rmq", "FastRmq", "items", 10, (4, 5, 6, 7), ("range_min", "range_min_short")),
     Growth("tree", "BpTree", "nodes", 10, (4, 5, 6, 7, 8), ("close", "parent", "level_ancestor")),
@@ -24,7 +24,7 @@ GROWTHS = (
 
 
 def head_of(growth):
-    return [f"`{growth.type}`", *(f"{growth.base}^{it} {growth.unit}" for it in growth.exponents)]
+    return [f"`{growth.type}`, {growth.unit}", *(f"{growth.base}^{it}" for it in growth.exponents)]
 
 
 def measured(growth, drivers, passes):
@@ -49,7 +49,7 @@ def short(time):
 
 
 def line_of(cells):
-    return f"| {' | '.join(cells)} |"
+    return f"|{'|'.join(cells)}|"
 
 
 def print_tables(drivers, passes):

@@ -1,5 +1,5 @@
 #!/usr/bin/env python3
-"""Draws the tables of docs/PERFORMANCE.md and docs/GROWTH.md by matplotlib (Debian's package `python3-matplotlib`), and measures nothing.
+"""Draws the tables of docs/PERFORMANCE.md by matplotlib (Debian's package `python3-matplotlib`), and measures nothing.
 
 docs/speed.svg has a bar for each figure that `tools/pages.py` reads there, and docs/growth.svg a line for each operation
 of the tables that `growth.py` printed.

@@ -6,7 +6,7 @@ there as it is declared, with the first sentence of its doc comment, its precond
 its counted form. `tools/definitions.py` writes DEFINITIONS.
 
 A row of a table of PERFORMANCE is read if its first cell is a call, such as `rank1` or `FastRmq::range_min`, or a call
-and what its time is for, such as "`iter1`, a place". Nothing is measured.
+and what its time is for, such as "`iter1`, a position". Nothing is measured.
 
 It also lists the names that the facade exports, and the calls of its types, that are neither in the table of our own
 names in docs/DIFFERENCES.md nor among those of vers-vecs (tools/original_names.txt), and the names in the first that
@@ -24,17 +24,17 @@ from sources import TOP, public_functions, read, read_crate, write_or_check
 PAGE, DIFFERENCES, FACADE = "docs/CALLS.md", "docs/DIFFERENCES.md", "crates/vers_vecs/src/lib.rt"
 ORIGINAL = "tools/original_names.txt"
 SOURCE, README = "docs/PERFORMANCE.md", "README.md"
-# The tables that are read: the heading, the type that it times where rows don't say it, over which data, and the times'
-# column.
-BITS = "Beside the original, in time"
+# The tables that are read: the heading (the type, unless the rows name it), the data, and the column of their times.
 SECTIONS = (
-    (BITS, "RsVec", "2^20 bits, half ones", "2^20 bits, 50%"),
-    (BITS, "RsVec", "2^26 bits, half ones", "2^26 bits, 50%"),
-    ("Ascending lists beside the original", "EliasFanoVec", "10^6 members far apart", "here"),
-    ("Range minima beside the original, in instructions", "", "10^6 items", "10^6 items"),
-    ("Symbols beside the original, in time", "WaveletMatrix", "10^6 symbols of 8 bits", "8 bits"),
-    ("Trees of parentheses beside the original, in time", "BpTree", "a random tree of 10^6 nodes", "here"),
+    ("RsVec", "2^20 bits, half ones", "2^20 bits, 50%"),
+    ("RsVec", "2^26 bits, half ones", "2^26 bits, 50%"),
+    ("EliasFanoVec", "10^6 elements far apart", "uniform"),
+    ("FastRmq and BinaryRmq", "10^6 items", "10^6 items"),
+    ("WaveletMatrix", "10^6 symbols of 8 bits", "8 bits"),
+    ("BpTree", "a random tree of 10^6 nodes", "random tree"),
 )
+# A cell: the time here, that of vers-vecs unless it is left out, and the ratio.
+CELL = re.compile(r"(\S+?)(?:, \S+)? \((\S+)\)")
 CALL = re.compile(r"`(?:(\w+)::)?(\w+)`(?:, (an? \w+)(?: asked or answered)?)?")
 # A time: of which call, over which data, how long, and its ratio to the original's.
 Figure = namedtuple("Figure", "holder call data time ratio")
@@ -44,18 +44,16 @@ def figures(top):
     """Returns the figures, in the order of the plot."""
     tables, heading, found = defaultdict(list), "", {}
     for line in read(f"{top}/{SOURCE}").splitlines():
-        heading = line.lstrip("#").strip() if line.startswith("#") else heading
+        heading = line.lstrip("#").replace("`", "").strip() if line.startswith("#") else heading
         if line.startswith("|"):
             tables[heading].append([cell.strip() for cell in line.strip("|").split("|")])
-    for heading, holder, data, column in SECTIONS:
+    for heading, data, column in SECTIONS:
         at, before = None, len(found)
         for row in tables[heading]:
             at = row.index(column) if column in row else at
-            call = CALL.fullmatch(row[0])
-            if at and call:
-                both = re.fullmatch(r"([\d.,]+) \(([\d.]+)\)", row[at])
-                time, ratio = both.groups() if both else (row[at], row[at + 2])
-                it = Figure(call[1] or holder, call[2], data, f"{time} ns {call[3] or 'a query'}", ratio)
+            call, cell = CALL.fullmatch(row[0]), at and CELL.fullmatch(row[at])
+            if call and cell:
+                it = Figure(call[1] or heading, call[2], data, f"{cell[1]} ns {call[3] or 'a query'}", cell[2])
                 found.setdefault(it[:3], it)
         if len(found) < before + 2:
             sys.exit(f"{SOURCE} has no table over {data} in the section {heading!r}")
