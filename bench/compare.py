@@ -11,7 +11,7 @@ time of each series counts. Exit status 1 where a checksum differs: the answers 
 `--checksums` builds the original's driver alone, runs its small workload, and compares its checksums with the stored run
 of `crates/vers_bench`, so it needs no Rattle toolchain. Series that only one of the two has are listed: the original has no
 `postings`, `saved` and `texts`, whose rows have no ratio, and whose checksums `plain.py` computes. Nor has it batches (`_each_` and
-a size): their rows stand beside its single calls.
+a size): their rows are compared with its single calls.
 
 `--instructions` counts, under valgrind's callgrind and with a sixteenth of the sizes, the instructions of one pass over the queries of
 each series, with its loop and its checksum. In both drivers such a pass is a function of its own, whose name ends in `_pass`.
@@ -192,7 +192,7 @@ def main():
     parser = argparse.ArgumentParser(description=__doc__, formatter_class=argparse.RawDescriptionHelpFormatter)
     parser.add_argument("structures", nargs="*", metavar="STRUCTURE", help=f"of {', '.join(STRUCTURES)}; all where none is named")
     parser.add_argument("--checksums", action="store_true", help="compare checksums with the stored run, and no times")
-    parser.add_argument("--instructions", action="store_true", help="count instructions under valgrind in place of times")
+    parser.add_argument("--instructions", action="store_true", help="count instructions under valgrind instead of times")
     parser.add_argument("--program", help="a driver of the original that is built, as for another processor, instead of building one")
     parser.add_argument("--under", default="", metavar="COMMAND", help="the command that runs it, as an emulator")
     parser.add_argument("--plain", action="store_true", help="run the crate of plain Rust too, as it is, unchecked, and from C")

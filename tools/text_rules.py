@@ -34,18 +34,18 @@ from sources import TOP, Source, by_path, closed, line_of, load_edit, public_fun
 
 DEFINITIONS = "docs/DEFINITIONS.md"
 DRAWN = "docs/LAYOUTS.md", "crates/vers_layouts/stdout"
-TEXTS = re.compile(r".*\.(?:md|rt|antt|edit|py|sh|txt)|(?:.*/)?(?:test|vers|run|stdout)")
+TEXTS = re.compile(r"(?!rust/src/(?:proved|contracts)).*\.(?:md|rt|antt|edit|py|sh|txt|rs|h|hpp|c|cpp)|(?:.*/)?(?:test|vers|run|stdout)")
 # between two words of a phrase there may be the end of a line and the marks of a comment
-GAP = r"(?:\s|//[/!]?|#|--)+"
+GAP = r"(?:\s|//[/!]?|#|--|\*)+"
 # the files that are clean of all phrases, and those whose lines have at most 120 columns
-PLAIN = (r"tools/(?!text_rules)\w+\.py|bindings/\w+\.py|test|package|vers|docs/DEFINITIONS\.md"
-         r"|crates/\w+/specs/.*\.antt")
+# all texts but the old entries of the changes, the rules of language with their examples, and what only proofs need
+PLAIN = r"(?!CHANGELOG\.md|CONTRIBUTING\.md|tools/text_rules\.py|crates/\w+/proofs/).*"
 WRAPPED = r"(?:tools|bindings)/\w+\.py|test|package|docs/(?:CALLS|DEFINITIONS)\.md"
 # the files, a phrase that isn't plain English, and what to write instead
 PHRASES = (
-    (rf".*\.(?:md|rt)|{PLAIN}", "want of memory", "out of memory"),
+    (PLAIN, "want of memory", "out of memory"),
     # `at the most recent` is plain
-    (rf".*\.(?:md|rt)|{PLAIN}", r"at the most(?! \w+[ae]nt\b)", "at most"),
+    (PLAIN, r"at the most(?! \w+[ae]nt\b)", "at most"),
     (PLAIN, "let go", "drop"),
     (PLAIN, "(?:is|are|was|were) told", "returns, prints"),
     (PLAIN, "hand(?:s|ed)? on", "passes, forwards"),
@@ -54,7 +54,7 @@ PHRASES = (
     (PLAIN, "so many", "n"),
     (PLAIN, "for want of", "without"),
     (PLAIN, "stands? (?:alone|apart|at|behind|beside|for|in|on|so|there)", "is, depends on, means"),
-    (PLAIN, "lies? (?:at|between|beside|in|on|up)", "is"),
+    (PLAIN, "lies? (?:at|between|beside|in(?! LIES)|on|up)", "is"),
     (PLAIN, "comes? to lie", "is placed"),
     (PLAIN, "as (?:it|they) stands?", "unchanged"),
     (PLAIN, "just where", "exactly if"),

@@ -3,8 +3,8 @@
 //     g++ -std=c++17 -O3 -march=x86-64-v2 -DNDEBUG bench/sdsl/texts.cpp -lsdsl -ldivsufsort -ldivsufsort64 -o texts
 //     ./texts NAME [--small] [--reps N] [--size N] [KIND..]
 //
-// A kind is one of the names of INDEXES below, and all are run where none is told. Symbols of bases count from 1 there, since
-// sdsl ends a text with a 0. Each count is compared with a plain scan (memmem) for some patterns, whose time is told as `scan_16`.
+// A kind is one of the names of INDEXES below, and all are run if none is named. Symbols of bases count from 1 there, since
+// sdsl ends a text with a 0. Each count is compared with a plain scan (memmem) for some patterns, whose time is printed as `scan_16`.
 #include <sdsl/suffix_arrays.hpp>
 
 #include <cstdint>

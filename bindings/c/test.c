@@ -722,7 +722,7 @@ static uint32_t load_changed(uint32_t kind, const uint64_t *words, size_t count,
     return status;
 }
 
-/* Each fault of a saved form is told by its status. */
+/* Each error of a saved form has its status. */
 static void test_faults(void) {
     uint64_t words[8];
     memcpy(words, worked, sizeof worked);

@@ -174,7 +174,7 @@ vers_answer vers_ask(vers_handle *handle, uint32_t query, uint64_t a, uint64_t b
  *  array. */
 uint64_t vers_value(vers_handle *handle, uint32_t query, uint64_t a);
 
-/** Puts in the place of each number what is answered to it as a, with these b and c; `other` where the status isn't
+/** Replaces each number by the answer to it as a, with these b and c; `other` where the status isn't
  *  VERS_DONE. VERS_UNKNOWN and VERS_VACANT leave the numbers as they were. One handle; writes `numbers`. */
 uint32_t vers_ask_each(vers_handle *handle, uint32_t query, uint64_t *numbers, size_t count, uint64_t b, uint64_t c,
                        uint64_t other);
@@ -235,11 +235,11 @@ vers_answer vers_quick_tree_depth(vers_handle *handle, uint64_t node);
 vers_answer vers_quick_values_get(vers_handle *handle, uint64_t place);
 vers_answer vers_quick_values_range_min(vers_handle *handle, uint64_t first, uint64_t last);
 
-/** How many bytes the saved form of a list has. VERS_VACANT, VERS_ABSENT where there is none. One handle, no array. */
+/** How many bytes the saved form of a list has. VERS_VACANT, VERS_ABSENT if there is none. One handle, no array. */
 vers_answer vers_saved_size(vers_handle *handle);
 
 /** Writes the saved form of a list over `count` bytes, which are as many as vers_saved_size says. VERS_VACANT,
- *  VERS_ABSENT where there is none, VERS_REFUSED for another count, VERS_NO_MEMORY. One handle; writes `bytes`. */
+ *  VERS_ABSENT if there is none, VERS_REFUSED for another count, VERS_NO_MEMORY. One handle; writes `bytes`. */
 uint32_t vers_save(vers_handle *handle, uint8_t *bytes, size_t count);
 
 /** Makes the list of a kind of which bytes are the saved form. Where they are none, the status says which test of them
@@ -267,7 +267,7 @@ uint32_t vers_text_build(const uint64_t *symbols, size_t count, uint32_t width, 
 
 /* Helpers. */
 
-/** The signed number that the value of an excess stands for. */
+/** The signed number that the value of an excess represents. */
 static inline int64_t vers_signed(uint64_t value) {
     return value <= INT64_MAX ? (int64_t)value : -(int64_t)~value - 1;
 }
@@ -449,7 +449,7 @@ static inline vers_answer vers_growing_get(const vers_growing *list, uint64_t pl
     return vers_asked(&list->handle, VERS_GET, place, 0, 0);
 }
 
-/** The number of the `count` bits from a place on, the lowest first. VERS_ABSENT where there are not so many, or they
+/** The number of the `count` bits from a place on, the lowest first. VERS_ABSENT if there are fewer, or they
  * are none or more than 64. */
 static inline vers_answer vers_growing_get_bits(const vers_growing *list, uint64_t place, uint64_t count) {
     return vers_asked(&list->handle, VERS_GET_BITS, place, count, 0);
@@ -475,7 +475,7 @@ static inline uint32_t vers_growing_drop_last(vers_growing *list, uint64_t count
     return vers_change(&list->handle, VERS_DROP_LAST, count, 0);
 }
 
-/** Puts in the place of each number what a query of one number answers to it, `other` where there is no answer.
+/** Replaces each number by the answer of a query of one number to it, `other` where there is no answer.
  * VERS_UNKNOWN and VERS_VACANT leave the numbers as they were. */
 static inline uint32_t vers_growing_each(const vers_growing *list, enum vers_query query, uint64_t *numbers,
                                          size_t count, uint64_t other) {
@@ -545,8 +545,8 @@ static inline vers_answer vers_bits_get(const vers_bits *list, uint64_t place) {
     return vers_quick_bits_get(vers_held(&list->handle), place);
 }
 
-/** The number of the `count` bits from a place on, the lowest first; 0 for none. VERS_ABSENT where there are not so
- * many, or they are more than 64. */
+/** The number of the `count` bits from a place on, the lowest first; 0 for none. VERS_ABSENT if there are
+ * fewer, or they are more than 64. */
 static inline vers_answer vers_bits_get_bits(const vers_bits *list, uint64_t place, uint64_t count) {
     return vers_asked(&list->handle, VERS_GET_BITS, place, count, 0);
 }
@@ -609,18 +609,18 @@ static inline vers_answer vers_bits_predecessor1(const vers_bits *list, uint64_t
     return vers_previous_bit(&list->handle, VERS_RANK1, VERS_SELECT1, place);
 }
 
-/** The least place of a zero above a place. VERS_ABSENT where there is none. Takes a rank and a select. */
+/** The least place of a zero above a place. VERS_ABSENT if there is none. Takes a rank and a select. */
 static inline vers_answer vers_bits_successor0(const vers_bits *list, uint64_t place) {
     return vers_next_bit(&list->handle, VERS_RANK0, VERS_SELECT0, place);
 }
 
-/** The greatest place of a zero below a place, which may lie past the end. VERS_ABSENT where there is none. Takes a
+/** The greatest place of a zero below a place, which may lie past the end. VERS_ABSENT if there is none. Takes a
  * rank and a select. */
 static inline vers_answer vers_bits_predecessor0(const vers_bits *list, uint64_t place) {
     return vers_previous_bit(&list->handle, VERS_RANK0, VERS_SELECT0, place);
 }
 
-/** Puts in the place of each number what a query of one number answers to it, `other` where there is no answer.
+/** Replaces each number by the answer of a query of one number to it, `other` where there is no answer.
  * VERS_UNKNOWN and VERS_VACANT leave the numbers as they were. */
 static inline uint32_t vers_bits_each(const vers_bits *list, enum vers_query query, uint64_t *numbers, size_t count,
                                       uint64_t other) {
@@ -724,7 +724,7 @@ static inline vers_answer vers_sorted_delta(const vers_sorted *list, uint64_t pl
     return vers_asked(&list->handle, VERS_DELTA, place, 0, 0);
 }
 
-/** Puts in the place of each number what a query of one number answers to it, `other` where there is no answer.
+/** Replaces each number by the answer of a query of one number to it, `other` where there is no answer.
  * VERS_UNKNOWN and VERS_VACANT leave the numbers as they were. */
 static inline uint32_t vers_sorted_each(const vers_sorted *list, enum vers_query query, uint64_t *numbers,
                                         size_t count, uint64_t other) {
@@ -738,7 +738,7 @@ typedef struct vers_sparse {
     vers_handle handle;
 } vers_sparse;
 
-/** Makes the list of `length` bits whose ones stand at `count` places. VERS_REFUSED where the places don't ascend
+/** Makes the list of `length` bits whose ones are at `count` places. VERS_REFUSED where the places don't ascend
  * strictly, or one isn't below `length`. VERS_OCCUPIED, VERS_NO_MEMORY. */
 static inline uint32_t vers_sparse_of(vers_sparse *list, const uint64_t *ones, size_t count, uint64_t length) {
     if (vers_is_missing(ones, count)) return VERS_REFUSED;
@@ -811,7 +811,7 @@ static inline vers_answer vers_sparse_places1(const vers_sparse *list, uint64_t 
     return vers_listed(&list->handle, VERS_RANK1, VERS_SELECT1, start, end, places, count);
 }
 
-/** Puts in the place of each number what a query of one number answers to it, `other` where there is no answer.
+/** Replaces each number by the answer of a query of one number to it, `other` where there is no answer.
  * VERS_UNKNOWN and VERS_VACANT leave the numbers as they were. */
 static inline uint32_t vers_sparse_each(const vers_sparse *list, enum vers_query query, uint64_t *numbers,
                                         size_t count, uint64_t other) {
@@ -881,7 +881,7 @@ static inline vers_answer vers_symbols_get(const vers_symbols *list, uint64_t pl
     return vers_quick_symbols_get(vers_held(&list->handle), place);
 }
 
-/** How many of the first `end` places hold a symbol. VERS_ABSENT where there are not so many places. */
+/** How many of the first `end` places hold a symbol. VERS_ABSENT if there are fewer places. */
 static inline vers_answer vers_symbols_rank(const vers_symbols *list, uint64_t end, uint64_t symbol) {
     return vers_quick_symbols_rank(vers_held(&list->handle), end, symbol);
 }
@@ -893,20 +893,20 @@ static inline vers_answer vers_symbols_rank_range(const vers_symbols *list, uint
     return vers_asked(&list->handle, VERS_RANK_RANGE, start, end, symbol);
 }
 
-/** The place of occurrence `number` of a symbol. VERS_ABSENT if there are not so many, while vers_bits_select1 answers
+/** The place of occurrence `number` of a symbol. VERS_ABSENT if there are fewer, while vers_bits_select1 answers
  * the length. */
 static inline vers_answer vers_symbols_select(const vers_symbols *list, uint64_t number, uint64_t symbol) {
     return vers_asked(&list->handle, VERS_SELECT_OF, number, symbol, 0);
 }
 
-/** The place of occurrence `number` of a symbol among the places from `offset` on. VERS_ABSENT where there are not so
- * many. */
+/** The place of occurrence `number` of a symbol among the places from `offset` on. VERS_ABSENT if there are
+ * fewer. */
 static inline vers_answer vers_symbols_select_offset(const vers_symbols *list, uint64_t offset, uint64_t number,
                                                      uint64_t symbol) {
     return vers_asked(&list->handle, VERS_SELECT_FROM, offset, number, symbol);
 }
 
-/** Symbol `number` of a range in ascending order. VERS_ABSENT where it hasn't so many. */
+/** Symbol `number` of a range in ascending order. VERS_ABSENT if it has fewer. */
 static inline vers_answer vers_symbols_quantile(const vers_symbols *list, uint64_t start, uint64_t end,
                                                 uint64_t number) {
     return vers_quick_symbols_quantile(vers_held(&list->handle), start, end, number);
@@ -928,19 +928,19 @@ static inline vers_answer vers_symbols_range_median(const vers_symbols *list, ui
     return vers_asked(&list->handle, VERS_MEDIAN, start, end, 0);
 }
 
-/** The greatest symbol of a range not above a symbol. VERS_ABSENT where there is none. */
+/** The greatest symbol of a range not above a symbol. VERS_ABSENT if there is none. */
 static inline vers_answer vers_symbols_predecessor(const vers_symbols *list, uint64_t start, uint64_t end,
                                                    uint64_t symbol) {
     return vers_asked(&list->handle, VERS_SYMBOLS_PREDECESSOR, start, end, symbol);
 }
 
-/** The least symbol of a range not below a symbol. VERS_ABSENT where there is none. */
+/** The least symbol of a range not below a symbol. VERS_ABSENT if there is none. */
 static inline vers_answer vers_symbols_successor(const vers_symbols *list, uint64_t start, uint64_t end,
                                                  uint64_t symbol) {
     return vers_asked(&list->handle, VERS_SYMBOLS_SUCCESSOR, start, end, symbol);
 }
 
-/** Puts in the place of each number what a query of one number answers to it, `other` where there is no answer.
+/** Replaces each number by the answer of a query of one number to it, `other` where there is no answer.
  * VERS_UNKNOWN and VERS_VACANT leave the numbers as they were. */
 static inline uint32_t vers_symbols_each(const vers_symbols *list, enum vers_query query, uint64_t *numbers,
                                          size_t count, uint64_t other) {
@@ -1015,7 +1015,7 @@ static inline vers_answer vers_fast_rmq_range_min(const vers_fast_rmq *list, uin
     return vers_quick_values_range_min(vers_held(&list->handle), first, last);
 }
 
-/** Puts in the place of each number what a query of one number answers to it, `other` where there is no answer.
+/** Replaces each number by the answer of a query of one number to it, `other` where there is no answer.
  * VERS_UNKNOWN and VERS_VACANT leave the numbers as they were. */
 static inline uint32_t vers_fast_rmq_each(const vers_fast_rmq *list, enum vers_query query, uint64_t *numbers,
                                           size_t count, uint64_t other) {
@@ -1090,7 +1090,7 @@ static inline vers_answer vers_binary_rmq_range_min(const vers_binary_rmq *list,
     return vers_asked(&list->handle, VERS_RANGE_MIN, first, last, 0);
 }
 
-/** Puts in the place of each number what a query of one number answers to it, `other` where there is no answer.
+/** Replaces each number by the answer of a query of one number to it, `other` where there is no answer.
  * VERS_UNKNOWN and VERS_VACANT leave the numbers as they were. */
 static inline uint32_t vers_binary_rmq_each(const vers_binary_rmq *list, enum vers_query query, uint64_t *numbers,
                                             size_t count, uint64_t other) {
@@ -1177,17 +1177,17 @@ static inline vers_answer vers_tree_excess(const vers_tree *list, uint64_t place
     return vers_asked(&list->handle, VERS_EXCESS, place, 0, 0);
 }
 
-/** The place that closes what opens at a place. VERS_ABSENT where there is none. */
+/** The place that closes what opens at a place. VERS_ABSENT if there is none. */
 static inline vers_answer vers_tree_close(const vers_tree *list, uint64_t place) {
     return vers_quick_tree_close(vers_held(&list->handle), place);
 }
 
-/** The place that opens what closes at a place. VERS_ABSENT where there is none. */
+/** The place that opens what closes at a place. VERS_ABSENT if there is none. */
 static inline vers_answer vers_tree_open(const vers_tree *list, uint64_t place) {
     return vers_asked(&list->handle, VERS_OPEN, place, 0, 0);
 }
 
-/** Where the nearest pair round a place opens. VERS_ABSENT where there is none. */
+/** Where the nearest pair round a place opens. VERS_ABSENT if there is none. */
 static inline vers_answer vers_tree_enclose(const vers_tree *list, uint64_t place) {
     return vers_asked(&list->handle, VERS_ENCLOSE, place, 0, 0);
 }
@@ -1198,12 +1198,12 @@ static inline vers_answer vers_tree_node_handle(const vers_tree *list, uint64_t 
     return vers_asked(&list->handle, VERS_NODE_HANDLE, number, 0, 0);
 }
 
-/** The first place past `place` where the excess has risen by `rise`. VERS_ABSENT where there is none. */
+/** The first place past `place` where the excess has risen by `rise`. VERS_ABSENT if there is none. */
 static inline vers_answer vers_tree_fwd_search(const vers_tree *list, uint64_t place, int64_t rise) {
     return vers_asked(&list->handle, VERS_FWD_SEARCH, place, (uint64_t)rise, 0);
 }
 
-/** The last place before `place` before which the excess is `rise` more. VERS_ABSENT where there is none. */
+/** The last place before `place` before which the excess is `rise` more. VERS_ABSENT if there is none. */
 static inline vers_answer vers_tree_bwd_search(const vers_tree *list, uint64_t place, int64_t rise) {
     return vers_asked(&list->handle, VERS_BWD_SEARCH, place, (uint64_t)rise, 0);
 }
@@ -1233,17 +1233,17 @@ static inline vers_answer vers_tree_previous_sibling(const vers_tree *list, uint
     return vers_asked(&list->handle, VERS_PREVIOUS_SIBLING, node, 0, 0);
 }
 
-/** The next node of the same depth. VERS_ABSENT where there is none. */
+/** The next node of the same depth. VERS_ABSENT if there is none. */
 static inline vers_answer vers_tree_level_next(const vers_tree *list, uint64_t node) {
     return vers_asked(&list->handle, VERS_LEVEL_NEXT, node, 0, 0);
 }
 
-/** The node of the same depth before. VERS_ABSENT where there is none. */
+/** The node of the same depth before. VERS_ABSENT if there is none. */
 static inline vers_answer vers_tree_level_prev(const vers_tree *list, uint64_t node) {
     return vers_asked(&list->handle, VERS_LEVEL_PREV, node, 0, 0);
 }
 
-/** The ancestor of a node that is `levels` levels up, itself at 0. VERS_ABSENT where there is none. */
+/** The ancestor of a node that is `levels` levels up, itself at 0. VERS_ABSENT if there is none. */
 static inline vers_answer vers_tree_level_ancestor(const vers_tree *list, uint64_t node, uint64_t levels) {
     return vers_asked(&list->handle, VERS_LEVEL_ANCESTOR, node, levels, 0);
 }
@@ -1295,7 +1295,7 @@ static inline vers_answer vers_tree_root(const vers_tree *list) {
     return first;
 }
 
-/** Puts in the place of each number what a query of one number answers to it, `other` where there is no answer.
+/** Replaces each number by the answer of a query of one number to it, `other` where there is no answer.
  * VERS_UNKNOWN and VERS_VACANT leave the numbers as they were. */
 static inline uint32_t vers_tree_each(const vers_tree *list, enum vers_query query, uint64_t *numbers, size_t count,
                                       uint64_t other) {
@@ -1383,17 +1383,17 @@ static inline vers_answer vers_postings_contains(const vers_postings *list, uint
     return vers_asked(&list->handle, VERS_HAS, document, 0, 0);
 }
 
-/** The first document not below a number. VERS_ABSENT where there is none. */
+/** The first document not below a number. VERS_ABSENT if there is none. */
 static inline vers_answer vers_postings_next_at_least(const vers_postings *list, uint64_t number) {
     return vers_asked(&list->handle, VERS_SUCCESSOR, number, 0, 0);
 }
 
-/** The first document of least cost from one number to another, both included. VERS_ABSENT where there is none. */
+/** The first document of least cost from one number to another, both included. VERS_ABSENT if there is none. */
 static inline vers_answer vers_postings_cheapest(const vers_postings *list, uint64_t first, uint64_t last) {
     return vers_asked(&list->handle, VERS_CHEAPEST, first, last, 0);
 }
 
-/** Puts in the place of each number what a query of one number answers to it, `other` where there is no answer.
+/** Replaces each number by the answer of a query of one number to it, `other` where there is no answer.
  * VERS_UNKNOWN and VERS_VACANT leave the numbers as they were. */
 static inline uint32_t vers_postings_each(const vers_postings *list, enum vers_query query, uint64_t *numbers,
                                           size_t count, uint64_t other) {
@@ -1453,7 +1453,7 @@ static inline uint32_t vers_postings_intersect(const vers_postings *one, const v
     return status;
 }
 
-/** Puts in the place of each number what a query of one number answers to it, `other` where there is no answer.
+/** Replaces each number by the answer of a query of one number to it, `other` where there is no answer.
  * VERS_UNKNOWN and VERS_VACANT leave the numbers as they were. */
 static inline uint32_t vers_numbers_each(const vers_numbers *list, enum vers_query query, uint64_t *numbers,
                                          size_t count, uint64_t other) {
@@ -1462,7 +1462,7 @@ static inline uint32_t vers_numbers_each(const vers_numbers *list, enum vers_que
 
 /* A text of symbols, in which patterns are found. */
 
-/** A text of symbols of at most 16 bits, in which patterns are found. A pattern stands at a place where the text goes
+/** A text of symbols of at most 16 bits, in which patterns are found. A pattern occurs at a place where the text goes
  * on with its symbols; the one without symbols at each place, and at the end. */
 typedef struct vers_text {
     vers_handle handle;

@@ -159,7 +159,7 @@ public:
     /** How many bytes of the heap the list takes. 0 for Postings and Numbers, which have no such query. */
     std::uint64_t heap_size() const noexcept { return ask(VERS_HEAP_SIZE).value; }
 
-    /** Puts in the place of each number what a query of one number answers to it, and `other` where there is no answer.
+    /** Replaces each number by the answer of a query of one number to it, and `other` where there is no answer.
      *  Status::unknown where the list has no such query, and the numbers stay. */
     Status each(vers_query query, std::uint64_t *numbers, std::size_t count,
                 std::uint64_t other = none) const noexcept {
@@ -218,7 +218,7 @@ protected:
         return list;
     }
 
-    /** A list that is refused for want of memory alone, or one that owns nothing if there is nothing to make it of. */
+    /** A list that is refused only because memory is out, or one that owns nothing if there is nothing to make it of. */
     static List needed(std::optional<List> &&list, const Status &status) {
         list = wanted(std::move(list), status);
         return list ? std::move(*list) : List(Nothing{});
@@ -263,7 +263,7 @@ public:
 
     /** The bit at a place, 1 or 0. */
     std::optional<std::uint64_t> get(std::uint64_t place) const noexcept { return find(VERS_GET, place); }
-    /** The number of the `count` bits from a place on, the lowest first. nullopt where there are not so many, or they
+    /** The number of the `count` bits from a place on, the lowest first. nullopt if there are fewer, or they
      *  are none or more than 64. */
     std::optional<std::uint64_t> get_bits(std::uint64_t place, std::uint64_t count) const noexcept {
         return find(VERS_GET_BITS, place, count);
@@ -308,8 +308,8 @@ public:
     std::optional<std::uint64_t> get(std::uint64_t place) const noexcept {
         return detail::found(vers_bits_get(&raw_, place));
     }
-    /** The number of the `count` bits from a place on, the lowest first; 0 for none. nullopt where there are not so
-     *  many, or they are more than 64. */
+    /** The number of the `count` bits from a place on, the lowest first; 0 for none. nullopt if there are
+     *  fewer, or they are more than 64. */
     std::optional<std::uint64_t> get_bits(std::uint64_t place, std::uint64_t count) const noexcept {
         return find(VERS_GET_BITS, place, count);
     }
@@ -451,7 +451,7 @@ public:
     Found get(std::uint64_t place) const noexcept { return detail::found(vers_symbols_get(&raw_, place)); }
     /** How many bits a symbol has. */
     std::uint64_t bits_per_element() const noexcept { return ask(VERS_WIDTH).value; }
-    /** How many of the first `end` places hold a symbol. nullopt where there are not so many places. */
+    /** How many of the first `end` places hold a symbol. nullopt if there are fewer places. */
     Found rank(std::uint64_t end, std::uint64_t symbol) const noexcept {
         return detail::found(vers_symbols_rank(&raw_, end, symbol));
     }
@@ -459,7 +459,7 @@ public:
     Found rank_range(std::uint64_t start, std::uint64_t end, std::uint64_t symbol) const noexcept {
         return find(VERS_RANK_RANGE, start, end, symbol);
     }
-    /** The place of occurrence `number` of a symbol. nullopt if there are not so many, while that of bits is the
+    /** The place of occurrence `number` of a symbol. nullopt if there are fewer, while that of bits is the
      *  length. */
     Found select(std::uint64_t number, std::uint64_t symbol) const noexcept {
         return find(VERS_SELECT_OF, number, symbol);
@@ -622,7 +622,7 @@ public:
     /** The next node of the same depth, or the one before. */
     Found level_next(std::uint64_t node) const noexcept { return find(VERS_LEVEL_NEXT, node); }
     Found level_prev(std::uint64_t node) const noexcept { return find(VERS_LEVEL_PREV, node); }
-    /** The ancestor so many levels up, the node itself at 0. */
+    /** The ancestor that many levels up, the node itself at 0. */
     Found level_ancestor(std::uint64_t node, std::uint64_t levels) const noexcept {
         return find(VERS_LEVEL_ANCESTOR, node, levels);
     }

@@ -6,7 +6,7 @@
 FOLDER is the original's crate, with src/ and Cargo.toml, or has its sources as text files, src--src--bit_vec--mod.rs.txt
 for src/bit_vec/mod.rs. Both crates are copied into a scratch folder, where `differential` depends on both under two names;
 the variable CARGO_TARGET_DIR keeps what is built. A panic is an answer. Each difference fails, but for those of
-differential/known.rs, whose words stand in docs/DIFFERENCES.md. A public call that was compared never fails, too. The last
+differential/known.rs, whose words are in docs/DIFFERENCES.md. A public call that was compared never fails, too. The last
 line is "N calls compared, M failed".
 """
 import argparse

@@ -18,12 +18,12 @@ HERE = os.path.dirname(os.path.abspath(__file__))
 CRATE = os.path.dirname(HERE)
 MODULE = re.compile(r"^// ===== src/(\S+)\.rs.*=====\n", re.M)
 TEST = re.compile(r"(?ms)^( *)#\[test\]\n(?:\1#\[.*?\]\n)*\1fn (\w+)\(\) \{\n.*?^\1\}\n")
-# what only the original has, with the reason that is told of a test that names it
+# what only the original has, with the reason that is named of a test that names it
 PRIVATE = {
     "SmallBitVector": "it tests a private type of range minima",
     "MinMaxTree": "it tests the private type of a tree's nodes",
 }
-# what a test module takes from the module that it stands in
+# what a test module takes from the module that it is in
 TAKEN = {"rmq/fast_rmq": "const BLOCK_SIZE: usize = 128;\n"}
 
 

@@ -44,7 +44,7 @@ pub enum BuildError {
     LengthMismatch,
     /// The sampling step is 0.
     ZeroStep,
-    /// The structure can't have so many items.
+    /// The structure can't have this many items.
     TooLong,
     /// The allocator refused the memory.
     OutOfMemory,

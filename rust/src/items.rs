@@ -236,7 +236,7 @@ macro_rules! iterator {
 
 pub(crate) use iterator;
 
-/// Skips `n` items if so many are left; otherwise skips none and returns how many are missing.
+/// Skips `n` items if at least `n` are left; otherwise skips none and returns how many are missing.
 #[cfg(test)]
 #[allow(dead_code)]
 pub(crate) fn advance(n: usize, left: usize, skip: impl FnOnce(usize) -> bool) -> Result<(), std::num::NonZeroUsize> {

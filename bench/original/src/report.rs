@@ -17,7 +17,7 @@ pub struct Settings {
     /// The structures to run; all where there are none.
     pub structures: Vec<String>,
     pub mode: Mode,
-    /// The one size of structures, in place of the usual ones: of bits, members, symbols, items or nodes. Then each has
+    /// The one size of structures, instead of the usual ones: of bits, members, symbols, items or nodes. Then each has
     /// the first kind of data alone, and no series that goes over all of it but builds.
     pub size: Option<usize>,
 }
@@ -132,7 +132,7 @@ impl Series<'_> {
     }
 
     /// Runs the making of a value of `count` items. The time is that of `make` alone: what the value is made of comes
-    /// from `input`, and the value is let go after the time is taken.
+    /// from `input`, and the value is dropped after the time is taken.
     pub fn build<I, T>(
         &self,
         operation: &str,

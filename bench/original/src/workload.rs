@@ -27,7 +27,7 @@ impl Random {
     }
 }
 
-/// What stands for no answer in a checksum.
+/// The number that represents no answer in a checksum.
 pub const NONE: u64 = u64::MAX;
 
 /// The checksum of a series of answers.

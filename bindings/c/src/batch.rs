@@ -57,7 +57,7 @@ impl Row for Ask {
     }
 }
 
-/// Many queries: their rows, what a row of one number lacks, and what stands for no answer.
+/// Many queries: their rows, what a row of one number lacks, and the number for no answer.
 pub struct Rows<'a, R> {
     pub rows: &'a mut [R],
     pub b: u64,

@@ -202,7 +202,7 @@ pub unsafe extern "C" fn vers_load(kind: u32, bytes: *const u8, count: usize, ha
     })
 }
 
-/// The first `length` bits of words, or all where there are not so many.
+/// The first `length` bits of words, or all if there are fewer.
 fn growing(words: &[u64], length: usize) -> Result<BitVec<Global>, GrowError> {
     let mut bits = BitVec::from_limbs(Global, words)?;
     bits.drop_last(bits.len().saturating_sub(length));

@@ -1,6 +1,6 @@
 """The calls of the library vers_c, by ctypes.
 
-Single calls hold Python's lock, so that no two threads are inside one handle. Calls of many queries let go of it,
+Single calls hold Python's lock, so that no two threads are inside one handle. Calls of many queries release it,
 and ask through a handle of their own.
 """
 

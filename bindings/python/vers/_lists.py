@@ -58,7 +58,7 @@ class BitVec(Bits[_BitVecQuery]):
 
     @query(codes.GET_BITS)
     def get_bits(self, place: int, count: int) -> Optional[int]:
-        """The number of the bits from a place on, the lowest first. None if there are not so many, or they are none or
+        """The number of the bits from a place on, the lowest first. None if there are fewer, or they are none or
         more than 64."""
         return self._find_by(codes.GET_BITS, place, count)
 
@@ -115,7 +115,7 @@ class RsVec(Fixed[_RsVecQuery], Bits[_RsVecQuery]):
 
     @query(codes.GET_BITS)
     def get_bits(self, place: int, count: int) -> Optional[int]:
-        """The number of the bits from a place on, the lowest first; 0 for no bits. None if there are not so many, or
+        """The number of the bits from a place on, the lowest first; 0 for no bits. None if there are fewer, or
         they are more than 64."""
         return self._find_by(codes.GET_BITS, place, count)
 
@@ -304,7 +304,7 @@ class WaveletMatrix(Fixed[_SymbolsQuery]):
 
     @query(codes.RANK_OF, True)
     def rank(self, end: int, symbol: int) -> Optional[int]:
-        """How many of the first `end` places hold a symbol. None if there are not so many places."""
+        """How many of the first `end` places hold a symbol. None if there are fewer places."""
         return self._find_by(codes.RANK_OF, end, symbol)
 
     @query(codes.RANK_RANGE, True)
@@ -314,7 +314,7 @@ class WaveletMatrix(Fixed[_SymbolsQuery]):
 
     @query(codes.SELECT_OF, True)
     def select(self, number: int, symbol: int) -> Optional[int]:
-        """The place of occurrence `number` of a symbol. None if there are not so many, while `RsVec.select1` answers
+        """The place of occurrence `number` of a symbol. None if there are fewer, while `RsVec.select1` answers
         the length."""
         return self._find_by(codes.SELECT_OF, number, symbol)
 
@@ -325,7 +325,7 @@ class WaveletMatrix(Fixed[_SymbolsQuery]):
 
     @query(codes.QUANTILE)
     def quantile(self, start: int, end: int, number: int) -> Optional[int]:
-        """Symbol `number` of a range in ascending order. None if it hasn't so many."""
+        """Symbol `number` of a range in ascending order. None if it has fewer."""
         return self._find_by(codes.QUANTILE, start, end, number)
 
     @query(codes.LEAST)
@@ -531,7 +531,7 @@ class BpTree(Shared[_TreeQuery]):
 
     @query(codes.LEVEL_ANCESTOR, True)
     def level_ancestor(self, node: int, levels: int) -> Optional[int]:
-        """The ancestor of a node that is so many levels up, itself at 0. None if there is none."""
+        """The ancestor of a node that many levels up, itself at 0. None if there is none."""
         return self._find_by(codes.LEVEL_ANCESTOR, node, levels)
 
     @query(codes.NODE_INDEX, True)

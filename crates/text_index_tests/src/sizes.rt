@@ -63,7 +63,7 @@ fn sizes_told_are_held(rt: HostRuntime) {
 // Lengths of texts that are made, up to one whose vectors would show that they grow by doubling.
 const MADE: [usize; 7] = [0, 1, 2, 99, 100, 10_000, 100_000];
 
-// The same for texts of so many symbols that each takes long to make.
+// The same for texts with enough symbols to take long to build.
 const WIDE: [usize; 3] = [0, 100, 100_000];
 
 // Returns the most bytes in use while a text is made: 24 for each position and for each symbol that there may

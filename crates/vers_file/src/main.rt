@@ -19,10 +19,10 @@ const HELP: &str = "Usage: vers_file save FILE < LINE
        vers_file text FILE < LINES
        vers_file show FILE
 
-save reads one load line, as \"bits 0110\", and puts its list into FILE, in the place of what stood there.
-ask answers query lines, as \"rank1 3\", where the list of FILE is held, and load lines.
-text answers lines about a text, as \"count 0 1\", where the symbols of FILE are the text, of 1 to 16 bits each.
-show tells which list FILE holds: its kind, its length, the bits of an item or of a tree's blocks, and the
+save reads one load line, such as \"bits 0110\", and writes its list to FILE, which it replaces.
+ask answers query lines, such as \"rank1 3\", about the list of FILE, and load lines.
+text answers lines about the text whose symbols FILE has, of 1 to 16 bits each, such as \"count 0 1\".
+show prints which list FILE contains: its kind, its length, the bits of an item or of a tree's blocks, and the
 bytes of FILE.
 
 vers_file --help prints this, and vers_file --version the version of the library.";
@@ -142,7 +142,7 @@ fn why_not_saved(fault: SaveFault) -> &'static str {
         SaveFault::Begin =>
             "FILE.new can't be made; where it stands, another save has begun, or one was cut off",
         SaveFault::Sync => "FILE.new can't be synced",
-        SaveFault::Put => "FILE.new can't be put in the place of FILE",
+        SaveFault::Put => "FILE.new can't replace FILE",
         SaveFault::Settle => "FILE has the new list, but its folder can't be synced",
     }
 }

@@ -54,7 +54,7 @@ const CASES: [Case; 14] = [
         b"4\n3\n0 1 2\n0\n\n0\n",
     ),
     (
-        "the pattern without symbols stands at each place and at the end",
+        "the pattern without symbols occurs at each place and at the end",
         b"text 4 9 9\ncount\nplaces\n",
         b"2\n3\n0 1 2\n",
     ),

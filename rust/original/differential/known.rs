@@ -2,7 +2,7 @@
 
 use crate::log::Call;
 
-/// A difference: of which calls, when, and the words that name it. A name that begins with `*` stands for all that end
+/// A difference: of which calls, when, and the words that name it. A name that begins with `*` means all that end
 /// so.
 pub struct Difference {
     pub names: &'static [&'static str],

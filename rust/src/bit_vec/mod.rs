@@ -87,7 +87,7 @@ macro_rules! makers {
     };
 }
 
-/// The same makers, which return an error in place of a panic.
+/// The same makers, which return an error instead of a panic.
 macro_rules! fallible_makers {
     ($($name:ident, $of:ident($arg:ident: $kind:ty);)*) => {
         impl BitVec {

@@ -33,7 +33,7 @@ const FILES: [&str; 2] = [
     include_str!("../../target/mutants/proved/vers_bits/bit_vec.rs"),
 ];
 
-/// Whether a read stands in such a file, in a line with a text.
+/// Whether a read is in such a file, in a line with a text.
 fn stands(read: &Read, file: &str, of: &str, text: &str) -> bool {
     let line = of.lines().nth(read.at.line() as usize - 1).unwrap_or_default();
     read.at.file().ends_with(file) && line.contains(text)
@@ -267,7 +267,7 @@ fn places(n: usize) -> Plain<usize> {
     found
 }
 
-/// An argument, as it is told.
+/// An argument, as a report shows it.
 trait Shown {
     fn shown(&self) -> String;
 }

@@ -46,19 +46,19 @@ impl<T> From<AllocFailed<T>> for AllocError {
     }
 }
 
-/// Where memory comes from: the heap of the program, in plain Rust. An allocator is told of each request before it is made, and may
+/// Where memory comes from: the heap of the program, in plain Rust. An allocator sees each request before it is made, and may
 /// refuse it.
 pub trait Allocator {
-    /// So many bytes are asked for.
+    /// Requests a number of bytes.
     ///
     /// # Errors
-    /// Where they are refused.
+    /// If it refuses them.
     #[inline(always)]
     fn request(&self, _bytes: usize) -> Result<(), AllocError> {
         Ok(())
     }
 
-    /// So many bytes, which were asked for, are given back.
+    /// Releases a number of bytes, which were requested.
     #[inline(always)]
     fn release(&self, _bytes: usize) {}
 }

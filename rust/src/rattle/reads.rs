@@ -16,7 +16,7 @@ pub enum Way {
     Lanes,
     /// By a slice of all entries.
     Handed,
-    /// Not yet: a slice was split into arrays of so many entries.
+    /// Not yet: a slice was split into arrays of that many entries.
     Split,
     /// By an array of entries.
     Array,

@@ -80,7 +80,7 @@ impl<T, A: Allocator> Vec<T, A> {
         self.handed()
     }
 
-    /// All items. Tests are told.
+    /// All items. Tests note them.
     #[inline(always)]
     #[cfg_attr(test, track_caller)]
     fn handed(&self) -> &[T] {

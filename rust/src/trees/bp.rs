@@ -677,7 +677,7 @@ impl<const BLOCK_SIZE: usize> BpBuilder<BLOCK_SIZE> {
     /// Makes a builder of no nodes, with room for `nodes` of them.
     ///
     /// # Panics
-    /// If there is no memory for so many.
+    /// If there is no memory for them.
     #[doc = contract!(BpBuilder::with_capacity)]
     #[must_use]
     pub fn with_capacity(nodes: u64) -> Self {

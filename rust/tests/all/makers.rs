@@ -1,4 +1,4 @@
-//! Makers that return an error in place of a panic, and functions of callers that panic.
+//! Makers that return an error instead of a panic, and functions of callers that panic.
 use std::panic::{catch_unwind, AssertUnwindSafe};
 use vers_vecs::error::BuildError;
 use vers_vecs::postings::Postings;

@@ -41,7 +41,7 @@ impl Plain {
     }
 }
 
-/// A random walk over a forest with so many nodes, whose nodes are deeper for a greater `down`.
+/// A random walk over a forest with a number of nodes, whose nodes are deeper for a greater `down`.
 fn walk(random: &mut Random, nodes: usize, down: u64) -> BitVec {
     let (mut builder, mut depth, mut left) = (BitVec::new(), 0, nodes);
     while left + depth > 0 {

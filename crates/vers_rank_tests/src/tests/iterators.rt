@@ -451,7 +451,7 @@ fn first_wrong_number<A: Allocator + Copy>(alloc: A) -> Option<usize> {
 
 #[test]
 fn chunks_of_equal_bits(rt: HostRuntime) {
-    assert_eq!(rt; first_wrong_number(rt.alloc()), None, "so many bits");
+    assert_eq!(rt; first_wrong_number(rt.alloc()), None, "the number of bits");
 }
 
 // Returns the bits that a loop passes, as a number of which the first is the highest: by a reference, by a

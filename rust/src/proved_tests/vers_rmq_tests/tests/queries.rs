@@ -270,7 +270,7 @@ fn sizes() {
     let rt = HostRuntime;
     let binary = first_wrong_size::<Global, BinaryRmq<Global>>(rt.alloc(), &BINARY_SIZES);
     let fast = first_wrong_size::<Global, FastRmq<Global>>(rt.alloc(), &FAST_SIZES);
-    assert_eq!((binary, fast), (None, None), "so many items");
+    assert_eq!((binary, fast), (None, None), "the number of items");
 }
 
 // Returns the number of the first row of 300 sevens that has another answer.

@@ -139,7 +139,7 @@ fn grown_room(bits: usize) -> usize {
     limb_bytes(bits).max(24)
 }
 
-// Returns the most bytes that a list of `len` bits, or made of so many, has room for in addition to its own. A
+// Returns the most bytes that a list of `len` bits, or made of `len` bits, has room for in addition to its own. A
 // truncated list keeps its room.
 fn rounded(way: Way, len: usize) -> usize {
     match way {
