@@ -40,7 +40,7 @@ GAP = r"(?:\s|//[/!]?|#|--|\*)+"
 # the files that are clean of all phrases, and those whose lines have at most 120 columns
 # all texts but the old entries of the changes, the rules of language with their examples, and what only proofs need
 PLAIN = r"(?!CHANGELOG\.md|CONTRIBUTING\.md|tools/text_rules\.py|crates/\w+/proofs/).*"
-WRAPPED = r"(?:tools|bindings)/\w+\.py|test|package|docs/(?:CALLS|DEFINITIONS)\.md"
+WRAPPED = r"(?:tools|bindings)/\w+\.py|test|package|(?!CHANGELOG|rust/src/definitions|docs/LAYOUTS).*\.md"
 # the files, a phrase that isn't plain English, and what to write instead
 PHRASES = (
     (PLAIN, "want of memory", "out of memory"),
