@@ -32,7 +32,7 @@ from pathlib import Path
 
 import plain_rust
 from mutant_plants import RIGHT
-from plain_rust import CLOSING, CRATES, Refused, Writer, real, sources
+from plain_rust import CLOSING, CRATES, MODULES, PROGRAM_TESTS, PROGRAMS, Refused, Writer, real, sources, written_of
 from sources import ROW, TOP, edited, has_cargo, read
 
 RUST = f"{TOP}/rust"
@@ -121,14 +121,15 @@ class Build:
         self.files, self.arms, self.faults, self.bodies = {}, defaultdict(list), [], 0
         for number, it in enumerate(mutants, 1):
             it.number = number
-        for crate in CRATES:
-            for path, text in sources(crate):
-                parts = split(Writer(crate, path).file(text))
-                for it in [it for it in mutants if it.file == path]:
-                    self.add(it, crate, path, text, parts)
-                self.files[path] = self.joined(path, parts)
-        lines = "".join(f"pub mod {it};\n" for it in CRATES)
-        self.files["mod.rs"] = NOTE + lines
+        for module, crates in (("proved", CRATES), ("programs", PROGRAMS)):
+            for crate in crates:
+                for name, text in sources(crate):
+                    parts, path = split(Writer(crate, name).file(text)), f"{module}/{name}"
+                    for it in [it for it in mutants if it.file == name]:
+                        self.add(it, crate, name, text, parts)
+                    self.files[path] = self.joined(path, parts)
+            self.files[f"{module}/mod.rs"] = NOTE + "".join(f"pub mod {it};\n" for it in crates)
+        self.files.update({f"program_tests/{path}": text for path, text in written_of(PROGRAM_TESTS)[0].items()})
 
     def add(self, mutant, crate, path, text, parts):
         """Adds a wrong body to the body that it changes."""
@@ -177,7 +178,7 @@ class Build:
 
     def at_fault(self, errors):
         """Returns the numbers of the wrong bodies in which errors of rustc are."""
-        spans = [(it["file_name"].partition("mutants/proved/")[2], it["line_start"]) for error in errors
+        spans = [(it["file_name"].partition("target/mutants/")[2], it["line_start"]) for error in errors
                  for it in error["spans"]]
         return {number for path, line in spans for first, last, number in self.arms.get(path, [])
                 if first <= line <= last}
@@ -196,7 +197,7 @@ def cargo(*words):
 def compiled(mutants):
     """Compiles the tests with all wrong bodies, and returns the program and the faults."""
     build = Build(mutants)
-    build.write(f"{RUST}/target/mutants/proved")
+    build.write(f"{RUST}/target/mutants")
     told = cargo("test", "--lib", "--no-run")
     errors = [it["message"] for it in told if it["reason"] == "compiler-message" and it["message"]["level"] == "error"]
     wrong = build.at_fault(errors)
@@ -209,7 +210,8 @@ def compiled(mutants):
 
 def module_of(row):
     """Returns the path of a test in the crate."""
-    return row if row.startswith("inside_tests::") else f"proved_tests::{row}"
+    crate = row.partition("::")[0]
+    return f"{next((f'{it}::' for it in MODULES if crate in MODULES[it]), '')}{row}"
 
 
 def run(program, test, mutant, seconds):
@@ -256,18 +258,20 @@ def judged(program, mutants, jobs):
 def found_rows(program, mutants):
     """Writes the quickest test that fails into the file of each wrong body, and yields the wrong bodies that none
     finds."""
+    # only the tests of programs reach programs
+    reaching = "program" if {it.crate for it in mutants} <= set(PROGRAMS) else "proved|program|inside"
     listed = subprocess.run([program, "--list"], stdout=subprocess.PIPE, text=True, check=True).stdout
     names = [it.split(": ")[0] for it in listed.splitlines() if it.endswith(": test")
-             and re.match("(proved|inside)_tests::", it)]
+             and re.match(f"({reaching})_tests::", it)]
     tests = {name: timed(program, name) for name in names}
     reached = {name: set(re.findall(r"(?m)^reached (\d+)$", it[1])) for name, it in tests.items()}
     for mutant in mutants:
         # the tests of its own crate first
         near = sorted(names, key=lambda it: (f"::{mutant.crate}_tests::" not in it, tests[it][0]))
-        for name in [it for it in near if reached[it] & mutant.functions]:
+        for name in [it for it in near if reached[it] & mutant.functions and not tests[it][2]]:
             if run(program, name, mutant.number, SECONDS + TIMES * tests[name][0])[0]:
                 text = re.sub(r"(?m)^goal: .*\n?", "", mutant.edit).rstrip("\n")
-                mutant.path.write_text(f"{text}\nrow: {name.removeprefix('proved_tests::')}\n", encoding="utf-8")
+                mutant.path.write_text(f"{text}\nrow: {re.sub('^(proved|program)_tests::', '', name)}\n", encoding="utf-8")
                 break
         else:
             yield mutant
@@ -309,7 +313,7 @@ def main():
     if not has_cargo():
         print("left out: the wrong bodies that a test refuses (no cargo 1.88 or newer)")
         return 0
-    mutants = [Mutant(crate, path) for crate in flags.crates or CRATES
+    mutants = [Mutant(crate, path) for crate in flags.crates or CRATES + PROGRAMS
                for path in sorted(Path(TOP, "crates", crate, "wrong").glob("*.edit"))]
     mutants = [it for it in mutants if bool(it.row) != flags.find]
     if not flags.find:

@@ -23,6 +23,12 @@ CRATES = """vers_bits vers_tally vers_rank vers_sorted vers_rmq vers_wavelet ver
 vers_saved""".split()
 TESTS = """test_alloc vers_bits_tests vers_rank_tests vers_sorted_tests vers_rmq_tests vers_wavelet_tests
 vers_trees_tests postings_tests text_index_tests vers_saved_tests""".split()
+# The programs as libraries, and their tests: written only for the build of wrong bodies (tools/mutants.py).
+PROGRAMS = "vers_words vers_engine vers_cli vers_texts vers_files vers_vecs vers_uses".split()
+PROGRAM_TESTS = "vers_cli_tests vers_texts_tests vers_files_tests vers_uses_tests".split()
+# The module that each belongs to, and the modules that are stored.
+MODULES = {"proved": CRATES, "proved_tests": TESTS, "programs": PROGRAMS, "program_tests": PROGRAM_TESTS}
+STORED = ("proved", "proved_tests")
 # A file that uses raw pointers in Rattle. Its Rust form is written by hand.
 BY_HAND = {"test_alloc/mod.rs"}
 
@@ -32,7 +38,7 @@ SLOW = {
     "vers_trees_tests/tests/memory.rs": ("calls_take_memory_or_none", ),
 }
 
-# What replaces a `use` of Rattle's std, or of a crate that isn't written; None for nothing.
+# What replaces a `use` of Rattle's std, or of a crate that isn't stored; None for nothing.
 HERE = "crate::rattle::"
 USES = {
     "std::alloc::Allocator": HERE + "Allocator",
@@ -51,6 +57,10 @@ SAME = """std::marker::PhantomData std::ops::Range std::ops::Bound std::mem std:
 std::io::Read std::io::Write std::fmt std::hash::Hash std::hash::Hasher std::hash::BuildHasher
 std::hash::BuildHasherDefault std::error::Error""".split()
 USES.update({it: it for it in SAME})
+# Those of programs besides.
+PROGRAM_USES = {**USES, "std::io::ErrorKind": "std::io::ErrorKind", "std::fs": HERE + "fs",
+                "std::fs::File": HERE + "fs::File", "std::fs::Files": HERE + "fs::Files",
+                "std::path::Path": HERE + "fs::Path"}
 
 # Methods that the proved sources call and don't define. Those of Rust's own types are assumed to mean the same in both
 # languages; the support module has the others.
@@ -59,6 +69,11 @@ copy_to_slice div_ceil extend_from_slice is_err is_none is_some is_sorted_by lea
 partition_point push push_reserved read_once reserve_exact resize rev reverse rotate_left saturating_add saturating_mul
 saturating_sub simd_ge simd_ne sort_unstable sort_unstable_by_key split_first to_array to_bitmask to_le_bytes
 trailing_ones trailing_zeros unwrap unwrap_or wrapping_mul wrapping_sub write_once write_str write_usize""".split())
+# Those that programs call besides.
+PROGRAM_METHODS = set("""as_chunks as_str chain checked_add_unsigned checked_sub_unsigned is_ascii_digit position
+read_all replace shrink_to sync_all take then_some unsigned_abs""".split())
+# A method that takes a list of Rust's own there, and the one of the support module that takes a list of Rattle's.
+RENAMED = {"read_to_end": "read_all"}
 
 KEPT_ATTRIBUTES = {"inline", "cfg", "test"}
 DROPPED_ATTRIBUTES = {"tactic"}
@@ -70,6 +85,8 @@ CLAUSES = {"requires", "ensures"}
 # Words that no written file may have.
 REFUSED = CLAUSES | {"ghost", "Model", "Drop", "unsafe", "macro_rules", "extern", "async", "dyn", "static_assert",
                      "Box", "Rc", "Cell"}
+# Those that programs may have: the support module has a `Box`, and a macro means the same in both languages.
+IN_PROGRAMS = {"Box", "macro_rules"}
 
 PRELUDE = "use crate::rattle::prelude::*;"
 NOTE = """//! Written by tools/plain_rust.py from the proved sources: not to be edited.
@@ -202,7 +219,12 @@ def older(tokens, chunked):
 
 def module_of(crate):
     """Returns the path of the module that a crate becomes."""
-    return f"crate::{'proved' if crate in CRATES else 'proved_tests'}::{crate}"
+    return f"crate::{next(it for it in MODULES if crate in MODULES[it])}::{crate}"
+
+
+def is_program(crate):
+    """Returns whether a crate is written for the build of wrong bodies alone."""
+    return crate in PROGRAMS + PROGRAM_TESTS
 
 
 class Writer:
@@ -210,6 +232,9 @@ class Writer:
 
     def __init__(self, crate, name):
         self.crate, self.name, self.out, self.calls, self.defines, self.chunked = crate, name, [], {}, set(), set()
+        self.refused, self.uses, self.renamed, self.macros = REFUSED, USES, {}, MACROS
+        if is_program(crate):
+            self.refused, self.uses, self.renamed = REFUSED - IN_PROGRAMS, PROGRAM_USES, RENAMED
 
     def refuse(self, token, why):
         raise Refused(f"{self.name}:{token.line}: {why}")
@@ -227,7 +252,8 @@ class Writer:
     def code(self, tokens):
         """Writes code: as it is, but for paths, bounds by Drop, macros with a handle, and the forms that the oldest
         rustc lacks."""
-        tokens = older(tokens, self.chunked)
+        if not is_program(self.crate):
+            tokens = older(tokens, self.chunked)
         places = [k for k, it in enumerate(tokens) if not it.is_blank()]
         order = {k: n for n, k in enumerate(places)}
 
@@ -262,11 +288,13 @@ class Writer:
                 k = places[order[k] + 1]
             elif it.kind == "text" and "\n" in it.text:
                 self.refuse(it, "a text of several lines")
-            elif it.kind == "ghost" or it.text == "#" or (it.kind == "word" and it.text in REFUSED):
+            elif it.kind == "ghost" or it.text == "#" or (it.kind == "word" and it.text in self.refused):
                 self.refuse(it, f"{it.text!r} in code")
             else:
                 if it.text == "." and near(k, 1).kind == "word" and near(k, 2).text in ("(", "::"):
-                    self.calls.setdefault(near(k, 1).text, it.line)
+                    name = near(k, 1)
+                    name.text = self.renamed.get(name.text, name.text)
+                    self.calls.setdefault(name.text, it.line)
                 if it.kind == "word" and near(k, 1).text == "::" and near(k, -1).text != "::":
                     self.put(self.root(it, near(k, 2).text, near(k, 4).text))
                 else:
@@ -276,7 +304,7 @@ class Writer:
     def macro(self, name, group):
         """Writes the use of a macro."""
         text = group.written()
-        if name.text in MACROS:
+        if name.text in self.macros:
             self.put(name.text + "!" + group.text)
             self.code(group.inner)
             self.put(CLOSING[group.text])
@@ -288,6 +316,9 @@ class Writer:
             self.put(f"{name.text}!(")
             self.code(group.inner[rest + 1 + (group.inner[rest + 1].kind == "space"):])
             self.put(")")
+        elif name.text == "vec" and (found := re.fullmatch(r"\[in ([^;]+); ([^;]+); ([^;]+)\]", text)):
+            # An allocator, an item, and how many times.
+            self.code(read(f"Vec::from_elem({', '.join(found.groups())})", name.line))
         elif name.text == "format" and re.match(r"\(in [^;]+; ", text):
             self.put("crate::rattle::testing::granted(format!(" + text.split("; ", 1)[1] + ")")
         else:
@@ -297,7 +328,8 @@ class Writer:
         """Returns the translation of the first word of a path."""
         if it.text == "crate":
             return module_of(self.crate)
-        if it.text in CRATES + TESTS and it.text != self.crate:
+        known = MODULES if is_program(self.crate) else STORED
+        if it.text != self.crate and any(it.text in MODULES[module] for module in known):
             return module_of(it.text)
         if it.text in ("std", "core", "alloc") and f"std::{second}::{third}" not in SAME:
             self.refuse(it, f"the path {it.text}::{second}::{third}")
@@ -364,6 +396,9 @@ class Writer:
             self.use(tokens)
         elif kind == "fn":
             self.function(tokens)
+        elif kind == "macro_rules" and is_program(self.crate):
+            self.macros = self.macros | {words[2].text}
+            self.code(tokens)
         elif fields or kind in ("const", "static", "type") or (kind in ("mod", "struct") and head[-1] == ";"):
             self.code(tokens)
         elif kind in ("mod", "struct", "enum", "trait", "impl") and tokens[-1].opens("{"):
@@ -419,14 +454,15 @@ class Writer:
         """Writes a `use`, by the list of translations of std."""
         text = re.sub(r"\s+", " ", "".join(it.written() for it in tokens))
         public, path = re.fullmatch(r"(pub(?:\([^)]*\))? )?use ([^;]*);", text).groups("")
-        if path.split("::")[0] not in ("std", "core", "alloc", "vers_engine"):
+        first = path.split("::")[0]
+        if first not in ("std", "core", "alloc") and (first != "vers_engine" or is_program(self.crate)):
             return self.code(tokens)
         whole = re.fullmatch(r"(.*::)\{(.*?),? ?\}", path)
         paths = [whole[1] + it.strip() for it in whole[2].split(",")] if whole else [path]
         for it in paths:
-            if it not in USES:
+            if it not in self.uses:
                 self.refuse(tokens[0], f"the path {it}")
-        lines = [f"{public}use {USES[it]};" for it in paths if USES[it]]
+        lines = [f"{public}use {self.uses[it]};" for it in paths if self.uses[it]]
         if not lines:
             self.unput_space()
         return self.put("\n".join(lines))
@@ -509,7 +545,8 @@ def sources(crate):
 
 
 def written_of(crates):
-    """Returns the files that crates become, by their paths, and the faults that were met."""
+    """Returns the files that crates become, by their paths, the faults that were met, where each method is called, and
+    the functions that are defined."""
     written, faults, calls, defines = {}, [], {}, set()
     for crate in crates:
         for path, text in sources(crate):
@@ -521,28 +558,30 @@ def written_of(crates):
                     faults.append(str(why))
                 calls.update({it: f"{path}:{line}" for it, line in writer.calls.items()})
                 defines |= writer.defines
-    if crates is CRATES:
-        faults += [f"{calls[it]}: the method {it}" for it in sorted(set(calls) - defines - METHODS)]
     written["mod.rs"] = NOTE + "".join(f"pub mod {it};\n" for it in crates)
-    return written, faults
+    return written, faults, calls, defines
 
 
 def written(top):
-    """Returns all files that the script writes, by their paths in the folder of the crate's sources, and the faults
-    that it met."""
+    """Returns all files that the script stores, by their paths in the folder of the crate's sources, and the faults
+    that it met, in the crates that it doesn't store too."""
     files, faults = pages(top, f"{top}/{RUST}", CRATES)
-    for folder, crates in (("proved", CRATES), ("proved_tests", TESTS)):
-        texts, wrong = written_of(crates)
-        files.update({f"{folder}/{path}": text for path, text in texts.items()})
-        faults += [f"{folder}: {it}" for it in wrong]
+    known = set(METHODS)
+    for module, crates in MODULES.items():
+        texts, wrong, calls, defines = written_of(crates)
+        if crates in (CRATES, PROGRAMS):
+            known |= defines | (PROGRAM_METHODS if crates is PROGRAMS else set())
+            wrong += [f"{calls[it]}: the method {it}" for it in sorted(set(calls) - known)]
+        if module in STORED:
+            files.update({f"{module}/{path}": text for path, text in texts.items()})
+        faults += [f"{module}: {it}" for it in wrong]
     return files, faults
 
 
 def stored(folder):
     """Returns the files of the folders that the script alone writes, by their paths in the folder of the crate's
     sources."""
-    paths = [os.path.join(at, name) for it in ("proved", "proved_tests") for at, _, names in os.walk(f"{folder}/{it}")
-             for name in names]
+    paths = [os.path.join(at, name) for it in STORED for at, _, names in os.walk(f"{folder}/{it}") for name in names]
     return {os.path.relpath(it, folder) for it in paths} - {f"proved_tests/{it}" for it in BY_HAND}
 
 
@@ -563,6 +602,9 @@ TRIED = {
     "fn f() requires x y { } { }": None,
     "#[repr(C)]\nstruct S;": None,
     "use std::collections::HashMap;": None,
+    "use std::fs::File;": None,
+    "use vers_engine::Device;": None,
+    "fn f(x: Box<u8, A>) {}": None,
     "fn f() { unsafe { g() } }": None,
     "fn f() { std::process::exit(1) }": None,
     "macro_rules! m { () => {} }": None,
@@ -570,14 +612,28 @@ TRIED = {
     "fn f( { }": None,
     "union U { a: u8 }": None,
 }
+# The same in programs.
+TRIED_IN_PROGRAMS = {
+    "use std::fs::File;\nuse vers_bits::c;\nuse vers_engine::Device;\n":
+        "use crate::rattle::fs::File;\nuse crate::proved::vers_bits::c;\nuse crate::programs::vers_engine::Device;\n",
+    "fn f() -> Box<u8, A> {\n    let Err(A { b }) = vec![in alloc; 0u8; N]? else { return; };\n    r.read_to_end(&mut b)\n}\n":
+        "fn f() -> Box<u8, A> {\n    let Err(A { b }) = Vec::from_elem(alloc, 0u8, N)? else { return; };\n    r.read_all(&mut b)\n}\n",
+    "macro_rules! m {\n    ($x:expr) => {\n        $x\n    };\n}\n\nfn f() -> u8 {\n    m!(1)\n}\n":
+        "macro_rules! m {\n    ($x:expr) => {\n        $x\n    };\n}\n\nfn f() -> u8 {\n    m!(1)\n}\n",
+    "fn f() -> u8 { m!(1) }": None,
+    "fn f() { vec![1, 2] }": None,
+    "use std::net::TcpStream;": None,
+    "fn f() { unsafe { g() } }": None,
+}
 
 
 def self_test():
     """Tries forms that are written and forms that are refused, and returns whether one goes wrong."""
     wrong = 0
-    for text, wanted in TRIED.items():
+    tried = [("vers_rank", *it) for it in TRIED.items()] + [("vers_cli", *it) for it in TRIED_IN_PROGRAMS.items()]
+    for crate, text, wanted in tried:
         try:
-            got = Writer("vers_rank", "tried").file(text).split(PRELUDE + "\n", 1)[1].lstrip("\n")
+            got = Writer(crate, "tried").file(text).split(PRELUDE + "\n", 1)[1].lstrip("\n")
         except Refused:
             got = None
         if got != wanted:
@@ -585,7 +641,7 @@ def self_test():
             wrong += 1
     faults = [*rust_contracts.self_test(TOP, f"{TOP}/{RUST}", CRATES)]
     print("".join(f"{it}\n" for it in faults), end="")
-    count, wrong = len(TRIED) + len(rust_contracts.PLANTS), wrong + len(faults)
+    count, wrong = len(tried) + len(rust_contracts.PLANTS), wrong + len(faults)
     print(f"{count - wrong} passed, {wrong} failed")
     return wrong > 0
 

@@ -32,7 +32,7 @@ from pathlib import Path
 import sources
 import wrong_plants
 from proofs import PARTS, Commands, Crates, Failure, processor_count, prove_below
-from plain_rust import CRATES
+from plain_rust import CRATES, PROGRAMS
 from sources import ROW, TOP, Source, by_path, full_names, load_edit, read, read_crate, write_files
 
 KEPT = os.path.join(os.environ.get("XDG_CACHE_HOME") or os.path.expanduser("~/.cache"), "woltsjem", "wrong_bodies")
@@ -124,7 +124,7 @@ class Tried:
         self.proofs = {os.path.relpath(it, self.folder): read(it)
                        for it in sorted(Path(self.folder, "proofs").rglob("*.antt"))}
         paths = [str(it) for part in ("must-fail", "wrong") for it in sorted(Path(self.folder, part).glob("*.edit"))]
-        paths = [it for it in paths if name not in CRATES or not ROW.search(read(it))]
+        paths = [it for it in paths if name not in CRATES + PROGRAMS or not ROW.search(read(it))]
         self.files = {Path(path).stem: path for path in paths}
         if len(self.files) < len(paths):
             raise Failure(f"two wrong bodies of {name} have one name")

@@ -41,6 +41,14 @@ mod inside_tests;
 mod items;
 #[cfg(target_pointer_width = "64")]
 pub mod postings;
+#[cfg(all(test, mutants, target_pointer_width = "64"))]
+#[rustfmt::skip]
+#[path = "../target/mutants/program_tests/mod.rs"]
+mod program_tests;
+#[cfg(all(test, mutants, target_pointer_width = "64"))]
+#[rustfmt::skip]
+#[path = "../target/mutants/programs/mod.rs"]
+mod programs;
 #[cfg(target_pointer_width = "64")]
 #[rustfmt::skip]
 #[allow(missing_docs, missing_debug_implementations, dead_code, unstable_name_collisions, clippy::all)]

@@ -3,6 +3,10 @@
 //! All of it is safe Rust. The proofs are over the contracts that Rattle's library gives these names, so each body here is to do what the
 //! contract of that name says.
 
+#[cfg(mutants)]
+pub mod boxed;
+#[cfg(mutants)]
+pub mod fs;
 pub mod io;
 pub mod lanes;
 #[cfg(mutants)]
@@ -18,6 +22,10 @@ pub use vec::Vec;
 
 /// The names that every proved file sees.
 pub mod prelude {
+    #[cfg(mutants)]
+    pub use super::boxed::Box;
+    #[cfg(mutants)]
+    pub use super::io::ReadAll;
     pub use super::older::{Arrays, AsArrays, CeilingQuotient, InOrder};
     #[cfg(test)]
     pub use super::testing::HostRuntime;

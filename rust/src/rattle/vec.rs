@@ -185,6 +185,16 @@ impl<T, A: Allocator> Vec<T, A> {
         self.items.truncate(n);
     }
 
+    /// Keeps room for `n` items, and for those that there are. The room stays as it is if the allocator refuses.
+    #[cfg(mutants)]
+    pub fn shrink_to(&mut self, n: usize) {
+        let (held, kept) = (self.bytes(), self.items.len().max(n) * size_of::<T>());
+        if held > kept && (kept == 0 || self.alloc.request(kept).is_ok()) {
+            self.items.shrink_to(n);
+            self.alloc.release(held);
+        }
+    }
+
     /// Takes all items off.
     #[inline]
     pub fn clear(&mut self) {
