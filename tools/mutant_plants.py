@@ -23,4 +23,8 @@ RIGHT = (
      "let is_known = self.end <= len && levels <= 64;"),
     ("vers_wavelet", "gathered_u64_counted--late-places-have-no-answer", "if !self.fits_word() || place > self.len() {",
      "if place > self.len() || !self.fits_word() {"),
+    ("vers_words", "append_signed_number--minus-one-is-written-without-its-sign", "if number < 0 {", "if 0 > number {"),
+    ("vers_engine", "take_line--the-end-of-a-line-is-taken-twice", "Ok(end + 1)", "Ok(1 + end)"),
+    ("vers_cli", "range_min--least-value-to-the-right", "if i <= j && j < values.len() as u64 {",
+     "if j < values.len() as u64 && i <= j {"),
 )
