@@ -1,6 +1,6 @@
 #!/usr/bin/env python3
-"""Runs the wrong bodies of the crates that are written as plain Rust: all of them in one build, each by the test that
-its file names.
+"""Runs the wrong bodies of the crates that are written as plain Rust, and of programs: all of them in one build, each
+by the test that its file names.
 
     tools/mutants.py [--jobs N] [CRATE..]    builds, and runs each wrong body; the last line is "N passed, M failed"
     tools/mutants.py --find [CRATE..]        names the quickest test that fails for each wrong body that has none
