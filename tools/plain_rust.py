@@ -252,7 +252,7 @@ class Writer:
     def code(self, tokens):
         """Writes code: as it is, but for paths, bounds by Drop, macros with a handle, and the forms that the oldest
         rustc lacks."""
-        if not is_program(self.crate):
+        if not is_program(self.crate):  # (which the oldest rustc never compiles)
             tokens = older(tokens, self.chunked)
         places = [k for k, it in enumerate(tokens) if not it.is_blank()]
         order = {k: n for n, k in enumerate(places)}
