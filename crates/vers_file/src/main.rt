@@ -136,7 +136,8 @@ fn why_not_saved(fault: SaveFault) -> &'static str {
     match fault {
         SaveFault::BadLine => "bad line",
         SaveFault::Refused => "refused",
-        SaveFault::NoForm => "the list has no saved form: its symbols have no bits, or it has too many items",
+        SaveFault::NoForm =>
+            "the list has no saved form: its symbols have no bits, or it has too many items",
         SaveFault::OutOfMemory => "out of memory",
         SaveFault::Write => "write failed",
         SaveFault::Begin =>
