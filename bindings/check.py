@@ -12,7 +12,8 @@
 - C and C++ are compiled without a warning; their tests pass, also under memcheck and helgrind. What C++ refuses doesn't
   compile.
 - The package for pkg-config leads to header and library.
-- Python's tests pass, with each Python that is there, also from an installed wheel; its examples too, on Dask's workers.
+- Python's tests pass, with each Python that is there, also of parts on processes and on Dask's workers; its examples
+  too, and an installed wheel works.
 - The package for Python says in one line what it needs if there is no library, and its source distribution makes a
   wheel.
 - Each program of each page README.md was run, and printed what the page says.
@@ -308,14 +309,14 @@ def check_python(checks, library):
     if not checks.run("shared library", [sys.executable, "-c", link], env=environment):
         return
     modules = modules_of(checks)
-    for python, test in itertools.product(modules, ("test_vers.py", "test_habits.py")):
+    for python, test in itertools.product(modules, ("test_vers.py", "test_habits.py", "test_parts.py")):
         checks.run(f"Python by {python}", [python, os.path.join(PY, "tests", test)], env=environment)
     having = {name: next((it for it in modules if name in modules[it]), None)
               for name in ("mypy", "pip", "distributed")}
     for name in GALLERY:
         checks.run("example", [sys.executable, os.path.join(PY, "examples", f"{name}.py")], env=environment)
     if having["distributed"]:
-        checks.run("Dask", [having["distributed"], os.path.join(PY, "tests", "test_dask.py")], env=environment)
+        checks.run("Dask", [having["distributed"], os.path.join(PY, "examples", "dask_parts.py")], env=environment)
     if having["mypy"]:
         sources = [os.path.join(PY, "vers"), os.path.join(PY, "tests", "typed.py")]
         types = ["--strict", "--cache-dir", checks.path("mypy"), *sources]
