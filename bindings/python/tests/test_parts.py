@@ -280,6 +280,26 @@ class InOneProcess(Tests):
             again = [parts._of_process(it, vers.RsVec.from_bytes) for it in reversed(paths)]
             self.assertEqual([it is other for it, other in zip(made[::-1], again)][1::-1], kept)
 
+    def test_one_new_pool_for_two_threads(self):
+        made, both = [], threading.Barrier(2)
+
+        class Pool(Counting):
+            def map(self, function, *columns):
+                if self is made[0]:
+                    both.wait()
+                    raise BrokenExecutor
+                return super().map(function, *columns)
+
+            def shutdown(self, wait=True):
+                self.is_shut = True
+
+        def pool():
+            made.append(Pool())
+            return made[-1]
+        with parts.Renewed(pool) as engine, ThreadPoolExecutor(2) as threads:
+            answers = list(threads.map(lambda it: engine.map(abs, iter([it])), [-1, -2]))
+        self.assertEqual((answers, [it.is_shut for it in made]), ([[1], [2]], [True, True]))
+
     def test_rounds(self):
         """How many parts of 100 a query asks in each round, as the page says."""
         engine, items = Counting(), list(range(300))

@@ -1,8 +1,10 @@
 """What mypy knows of the classes. `mypy --strict typed.py` also fails for an error that is ignored here and absent."""
 
+from concurrent.futures import ThreadPoolExecutor
 from typing import Optional
 
 import vers
+from vers import parts
 
 bits, tree = vers.RsVec([1, 0, 1]), vers.BpTree("()")
 
@@ -14,9 +16,14 @@ minimum: Optional[int] = vers.BinaryRmq([1]).range_min(0, 0)
 ranks = bits.rank1([1, 2])
 many = bits.each("rank1", [1, 2], other=3)
 
+whole = parts.Bits(parts.Renewed(ThreadPoolExecutor), ["part"])
+part_rank: int = whole.rank1(3)
+member: Optional[int] = parts.Sorted(ThreadPoolExecutor(), []).successor(3)
+
 wrong: str = bits.rank1(3)  # type: ignore[assignment]
 bits.rank1("3")  # type: ignore[arg-type]
 bits.each("rnk1", [1])  # type: ignore[arg-type]
 tree.each("depht", [0])  # type: ignore[arg-type]
 tree.each("rank1", [0])  # type: ignore[arg-type]
 maybe: int = bits.get(3)  # type: ignore[assignment]
+parts.Bits(3, [])  # type: ignore[arg-type]

@@ -7,7 +7,7 @@
 Answers are numbers, or None if there is no such thing. A query takes a number or an array of numbers. Faults are
 exceptions with their names: Refused, Unknown, NoMemory, Shared; for bytes that are no saved form, a kind of Refused
 that says why. A number outside 0 to 2**64 - 1 raises OverflowError, another type TypeError, and a place outside a list
-in brackets IndexError; the text names the position in an array.
+in brackets IndexError; the text names the position in an array. The module `vers.parts` asks lists in saved parts.
 """
 
 from ._faults import (

@@ -69,12 +69,12 @@ class Renewed:
 
     def map(self, function: Any, *columns: Any) -> List[Any]:
         """The answers of a function to the rows of some columns, in order."""
-        engine = self._engine
+        rows, engine = list(zip(*columns)), self._engine
         try:
-            return list(engine.map(function, *columns))
+            return list(engine.map(function, *zip(*rows)))
         except BrokenExecutor:
             self._replace(engine)
-        return list(self._engine.map(function, *columns))
+        return list(self._engine.map(function, *zip(*rows)))
 
     def _replace(self, broken: Executor) -> None:
         with self._lock:
@@ -137,7 +137,7 @@ def keep(most: Optional[int]) -> None:
 
 def _is_dask(engine: Any) -> bool:
     """Whether an engine is a client of Dask, which answers futures, gathers them, and takes them as arguments."""
-    return hasattr(engine, "gather")
+    return hasattr(engine, "scheduler_info")
 
 
 def _round(engine: Any, function: Any, *columns: Iterable[Any]) -> List[Any]:
@@ -598,6 +598,6 @@ class Texts:
         for before, part in zip(self._before, found):
             for document, count in part.items():
                 counts[before + document] += count
-        # the symbols before the first document are in none
+        # the symbols before the first document belong to none
         counts.pop(-1, None)
-        return dict(sorted(counts.items()))
+        return dict(counts)
