@@ -236,7 +236,7 @@ class InOneProcess(Tests):
         refused(vers.NotAscending, "^part 2 begins with 3 after 4$", parts.Sorted, *lists)
         refused(vers.NotAscending, "^part 1 begins", parts.Postings, *[vers.Postings([4], [0])] * 2)
         refused(vers.Refused, "of 3 and of 4 bits", parts.Symbols, symbols([1], 4), symbols([1], 3))
-        refused(vers.OtherKind, "", parts.Bits, members([4]))
+        refused(vers.OtherKind, "0.vers: The bytes are", parts.Bits, members([4]))
         for first in ([1, 2, 4], [3]):
             text = [symbols(first, 4), symbols([3, 4], 4)]
             refused(vers.Refused, "^part 0 does not end with the first 2", parts.Texts, *text, overlap=2)

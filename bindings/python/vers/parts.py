@@ -13,8 +13,8 @@ replaces a pool that lost a process), or a `Client` of Dask.
 - Each process of a pool loads the parts that it is asked for, and keeps the last 1024 (`keep`).
 - Dask places each part on a worker, which it prefers for queries. If the worker is lost, another one loads its parts.
 
-The file of a part does not change: if another one has replaced it, a query raises `Refused`. A query takes a number or
-an array of numbers, whose answers are a list, and asks each part at most once in a round.
+The file of a part does not change: if another one has replaced it, a query raises `Refused`. Queries of one place or
+number take an array too, and return a list. A query asks each part at most once in a round.
 
 Each query says how it merges the answers of parts. The library proves the laws that it names. A merge that is called
 tested is only compared with plain lists, by `tests/test_parts.py`.
@@ -49,7 +49,7 @@ class Engine(Protocol):
     """What runs a function on workers."""
 
     def map(self, __function: Any, *columns: Any) -> Iterable[Any]:
-        """The answers of a function to the rows of some columns, in order."""
+        """Returns the answers of a function to the rows of some columns, in order."""
 
 
 def save(path: Path, made: _bases.List[Any]) -> None:
@@ -61,14 +61,14 @@ def save(path: Path, made: _bases.List[Any]) -> None:
 
 
 class Renewed:
-    """An engine that `make` makes, and makes again if it breaks because one of its processes was lost:
-    `Renewed(lambda: ProcessPoolExecutor(4))`. What was asked is asked once more on the new one."""
+    """An engine of `make`, which makes another one if the first breaks because it lost a process:
+    `Renewed(lambda: ProcessPoolExecutor(4))`. A map that broke runs once more on the new engine."""
 
     def __init__(self, make: Callable[[], Executor]) -> None:
         self._make, self._engine, self._lock = make, make(), threading.Lock()
 
     def map(self, function: Any, *columns: Any) -> List[Any]:
-        """The answers of a function to the rows of some columns, in order."""
+        """Returns the answers of a function to the rows of some columns, in order."""
         rows, engine = list(zip(*columns)), self._engine
         try:
             return list(engine.map(function, *zip(*rows)))
@@ -91,7 +91,7 @@ class Renewed:
 
 
 class _Part:
-    """A file and the list in it, which the first query loads. It is pickled as its path, so that no list is sent."""
+    """A file and the list in it, which the first query loads. Pickles as its path, so that no list is sent."""
 
     def __init__(self, path: str, load: Load, *more: Any) -> None:
         self._path, self._load, self._more, self._lock = path, load, more, threading.Lock()
@@ -103,45 +103,52 @@ class _Part:
         return _of_process, (self._path, self._load, *self._more)
 
     def __sizeof__(self) -> int:
-        """How many bytes another worker would load, as Dask asks before it moves a query there."""
+        """Returns the bytes that another worker would load, which Dask compares before it moves a query."""
         return self._size
 
-    def loaded(self, wanted: Optional[bytes] = None) -> Any:
-        """The list of the file, which has the sum that is wanted at its end. Without one, the file is read again."""
+    def loaded(self, expected: Optional[bytes] = None) -> Any:
+        """Returns the list of a file that ends with an expected sum. Without one, reads the file again."""
         with self._lock:
-            if self.sum is None or self.sum != wanted:
+            if self.sum is None or self.sum != expected:
                 with open(self._path, "rb") as file:
                     saved = file.read()
-                if wanted not in (None, saved[-8:]):
+                if expected not in (None, saved[-8:]):
                     raise _faults.Refused(f"the file {self._path} has been replaced")
                 if self.sum != saved[-8:]:
-                    self._list = self._load(saved, *self._more)
+                    self._list = self._made(saved)
                     self._size, self.sum = len(saved), saved[-8:]
             return self._list
+
+    def _made(self, saved: bytes) -> Any:
+        """Returns the list of a saved form. Names the file if that is refused."""
+        try:
+            return self._load(saved, *self._more)
+        except _faults.VersError as fault:
+            raise type(fault)(f"{self._path}: {fault}") from None
 
 
 _kept = lru_cache(1024)(_Part)
 
 
 def _of_process(*arguments: Any) -> _Part:
-    """The part of some arguments, which a process keeps by them."""
+    """Returns the part of some arguments that this process keeps."""
     return _kept(*arguments)
 
 
 def keep(most: Optional[int]) -> None:
-    """Lets this process keep at most the last parts that it was asked, or all of them if `most` is None: the
-    `initializer` of a pool of processes."""
+    """Bounds how many parts this process keeps, or removes the bound if `most` is None. A pool of processes takes it as
+    its `initializer`."""
     global _kept
     _kept = lru_cache(most)(_Part)
 
 
 def _is_dask(engine: Any) -> bool:
-    """Whether an engine is a client of Dask, which answers futures, gathers them, and takes them as arguments."""
+    """Returns whether an engine is a client of Dask, whose `map` returns futures and takes them as arguments."""
     return hasattr(engine, "scheduler_info")
 
 
 def _round(engine: Any, function: Any, *columns: Iterable[Any]) -> List[Any]:
-    """The answers of workers to rows of arguments."""
+    """Returns the answers of workers to rows of arguments."""
     rows = list(zip(*columns))
     if not rows:
         return []
@@ -152,25 +159,25 @@ def _round(engine: Any, function: Any, *columns: Iterable[Any]) -> List[Any]:
 
 
 def _loaded(*arguments: Any) -> _Part:
-    """A part whose size is known."""
+    """Returns a part that is loaded, so that its size is known."""
     part = _Part(*arguments)
     part.loaded()
     return part
 
 
 def _begun(part: _Part, facts: Any) -> Any:
-    """The sum of a part's file, and what its maker asks of the list."""
+    """Returns the sum of a part's file, and facts of its list."""
     found = facts(part.loaded())
     return part.sum, found
 
 
-def _call(part: _Part, wanted: bytes, name: str, *arguments: Any) -> Any:
-    """What the list of a part answers."""
-    return getattr(part.loaded(wanted), name)(*arguments)
+def _call(part: _Part, expected: bytes, name: str, *arguments: Any) -> Any:
+    """Returns the answer of the list of a part to a query by name."""
+    return getattr(part.loaded(expected), name)(*arguments)
 
 
 class _Files:
-    """Parts on an engine, and what was asked of each at first."""
+    """Parts on an engine, with the facts of each."""
 
     def __init__(self, engine: Any, paths: Iterable[Path], facts: Any, load: Load, *more: Any) -> None:
         rows = [(os.fspath(it), load, *more) for it in paths]
@@ -186,27 +193,27 @@ class _Files:
         return len(self._parts)
 
     def columns(self, chosen: Iterable[int]) -> List[List[Any]]:
-        """The parts of some numbers, and the sums of their files."""
+        """Returns the parts of some numbers, and the sums of their files."""
         numbers = list(chosen)
         return [[self._parts[k] for k in numbers], [self._sums[k] for k in numbers]]
 
     def ask(self, function: Any, chosen: Iterable[int], *columns: Iterable[Any]) -> List[Any]:
-        """The answers of some parts, each to its row of arguments."""
+        """Returns the answers of some parts, each to its row of arguments."""
         return _round(self._engine, function, *self.columns(chosen), *columns)
 
     def call(self, name: str, chosen: Iterable[int], *columns: Iterable[Any]) -> List[Any]:
-        """The answers of some parts to a query by name."""
+        """Returns the answers of some parts to a query by name."""
         return self.ask(_call, chosen, repeat(name), *columns)
 
 
 def _sums(numbers: Iterable[int]) -> List[int]:
-    """The sums of the first numbers, from 0 to all of them."""
+    """Returns the sums of the first numbers, from none to all of them."""
     return [0, *accumulate(numbers)]
 
 
 def _route(bounds: List[int], asked: int, added: Optional[List[int]], absent: Optional[int]) -> Route:
-    """The route of a number to the part between whose bounds it is, which is asked for what the number is above its
-    lower bound. `absent` from the last bound on."""
+    """Returns the route of a number to the part between whose bounds it is, less the lower bound; `absent` from the
+    last bound on."""
     part = bisect_right(bounds, asked) - 1
     return (part, asked - bounds[part], added[part] if added else 0) if asked < bounds[-1] else absent
 
@@ -224,12 +231,12 @@ class _Parts:
 
     @many
     def get(self, place: int) -> Optional[int]:
-        """The item at a place. None past the end. It asks one part. The merge is tested."""
+        """Returns the item at a place. None past the end. Asks one part. The merge is tested."""
         item: Optional[int] = self._asked("get", place, lambda it: _route(self._starts, it, None, None))
         return item
 
     def _asked(self, name: str, asked: Any, route: Callable[[int], Route], *others: Any) -> Any:
-        """The answers to a number or to an array of numbers, each by its route, with further arguments."""
+        """Returns the answers to a number or to an array of numbers, each by its route, with other arguments."""
         if not _buffers.is_many(asked):
             return self._asked(name, [asked], route, *others)[0]
         answers: List[Any] = [route(number(it)) for it in asked]
@@ -246,13 +253,14 @@ class _Parts:
         return answers
 
     def _pieces(self, start: int, end: int) -> List[List[int]]:
-        """The parts that a range has elements of, the places in them where it starts, and those where it ends."""
+        """Returns the parts that have elements of a range, with the start and the end of the range in each."""
         spans = enumerate(zip(self._starts, self._starts[1:]))
         rows = [(k, max(start, first) - first, min(end, past) - first) for k, (first, past) in spans]
         return [list(it) for it in zip(*(row for row in rows if row[1] < row[2]))] or [[], [], []]
 
 
 def _counted(bits: _lists.RsVec) -> Tuple[int, int, int]:
+    """Returns the length, and the numbers of zeros and of ones."""
     return len(bits), bits.zeros(), bits.ones()
 
 
@@ -266,32 +274,32 @@ class Bits(_Parts):
 
     @many
     def rank1(self, place: int) -> int:
-        """How many ones precede a place; all of them past the end. Merged by the law `CountsOfSpansAddUp`: those
-        before the part, and those in it before the place."""
+        """Returns how many ones precede a place; all of them past the end. Merged by the law `CountsOfSpansAddUp`:
+        the ones before the part, plus those in it before the place."""
         return self._rank(1, place)
 
     @many
     def rank0(self, place: int) -> int:
-        """How many zeros precede a place; all of them past the end. Merged as `rank1`."""
+        """Returns how many zeros precede a place; all of them past the end. Merged as `rank1`."""
         return self._rank(0, place)
 
     @many
     def select1(self, number: int) -> int:
-        """The place of a one by its number from 0 on; the length if there are no more. Merged by the law
-        `CountsOfSpansAddUp`: the ones that precede it are those before its part, and those in the part."""
+        """Returns the place of a one by its number from 0 on; the length if there are no more. Merged by the law
+        `CountsOfSpansAddUp`: its number is that in its part, plus the ones before the part."""
         return self._select(1, number)
 
     @many
     def select0(self, number: int) -> int:
-        """The place of a zero by its number from 0 on; the length if there are no more. Merged as `select1`."""
+        """Returns the place of a zero by its number from 0 on; the length if there are no more. Merged as `select1`."""
         return self._select(0, number)
 
     def ones(self) -> int:
-        """How many ones there are, without a query. Merged by the law `CountsOfSpansAddUp`."""
+        """Returns the number of ones. Asks no part. Merged by the law `CountsOfSpansAddUp`."""
         return self._before[1][-1]
 
     def zeros(self) -> int:
-        """How many zeros there are, without a query. Merged by the law `CountsOfSpansAddUp`."""
+        """Returns the number of zeros. Asks no part. Merged by the law `CountsOfSpansAddUp`."""
         return self._before[0][-1]
 
     def _rank(self, bit: int, places: Any) -> int:
@@ -306,6 +314,7 @@ class Bits(_Parts):
 
 
 def _ends(members: Any) -> Tuple[int, int, int]:
+    """Returns the length, and the first and the last member if there are any."""
     return (len(members), members[0], members[-1]) if len(members) else (0, 0, 0)
 
 
@@ -323,7 +332,7 @@ class _Ascending(_Parts):
                 raise _faults.NotAscending(f"part {part} begins with {first} after {last}")
 
     def _from(self, asked: int, absent: Optional[int], is_place: bool = False) -> Route:
-        """The route of a number to the first part with a member at or above it."""
+        """Returns the route of a number to the first part with a member at or above it."""
         at = bisect_left(self._lasts, asked)
         if at == len(self._full):
             return absent
@@ -332,8 +341,8 @@ class _Ascending(_Parts):
 
     @many
     def rank(self, number: int) -> int:
-        """How many members are below a number. Merged by the laws `FirstMembersAreBelow` and `OtherMembersAreNotBelow`:
-        the members of all parts before are below it, and no member of a part after is."""
+        """Returns how many members are below a number. Merged by the laws `FirstMembersAreBelow` and
+        `OtherMembersAreNotBelow`: all members of the parts before are below it, and none of the parts after."""
         count: int = self._asked("rank", number, lambda it: self._from(it, len(self), True))
         return count
 
@@ -346,20 +355,20 @@ class Sorted(_Ascending):
 
     @many
     def has(self, number: int) -> bool:
-        """Whether a number is a member. Merged as `successor`."""
+        """Returns whether a number is a member. Merged as `successor`."""
         truth: bool = self._asked("has", number, lambda it: self._from(it, False))
         return truth
 
     @many
     def successor(self, number: int) -> Optional[int]:
-        """The least member at or above a number. None if there is none. Merged by the law `LeastNotBelowIsLeast`: it is
-        in the first part whose last member is at or above the number."""
+        """Returns the least member at or above a number. None if there is none. Merged by the law
+        `LeastNotBelowIsLeast`: it is in the first part whose last member is at or above the number."""
         member: Optional[int] = self._asked("successor", number, lambda it: self._from(it, None))
         return member
 
     @many
     def predecessor(self, number: int) -> Optional[int]:
-        """The greatest member at or below a number. None if there is none. Merged by the law
+        """Returns the greatest member at or below a number. None if there is none. Merged by the law
         `GreatestNotAboveIsGreatest`: it is in the last part whose first member is at or below the number."""
         def route(asked: int) -> Route:
             at = bisect_right(self._firsts, asked) - 1
@@ -368,9 +377,9 @@ class Sorted(_Ascending):
         return member
 
 
-def _common(part: _Part, wanted: bytes, other: _Part, other_wanted: bytes) -> Any:
-    """The documents of two parts, in an array."""
-    return part.loaded(wanted).intersect(other.loaded(other_wanted))[:]
+def _common(part: _Part, expected: bytes, other: _Part, other_sum: bytes) -> Any:
+    """Returns the documents that two parts have, in an array."""
+    return part.loaded(expected).intersect(other.loaded(other_sum))[:]
 
 
 class Postings(_Ascending):
@@ -381,20 +390,20 @@ class Postings(_Ascending):
 
     @many
     def contains(self, document: int) -> bool:
-        """Whether a document is in the list. Merged as `next_at_least`."""
+        """Returns whether a document is in the list. Merged as `next_at_least`."""
         truth: bool = self._asked("contains", document, lambda it: self._from(it, False))
         return truth
 
     @many
     def next_at_least(self, number: int) -> Optional[int]:
-        """The first document not below a number. None if there is none. Merged by the law `LeastNotBelowIsLeast`: it is
-        in the first part whose last document isn't below the number."""
+        """Returns the first document at or above a number. None if there is none. Merged by the law
+        `LeastNotBelowIsLeast`: it is in the first part whose last document is at or above the number."""
         document: Optional[int] = self._asked("next_at_least", number, lambda it: self._from(it, None))
         return document
 
     def intersect(self, other: Postings) -> List[int]:
-        """The documents that another list has too, ascending. It asks each pair of parts whose documents overlap. The
-        merge is tested: the answers of the pairs, one after another."""
+        """Returns the documents that another list has too, ascending. Asks each pair of parts whose ranges of documents
+        overlap. The merge is tested: the answers of the pairs, one after another."""
         own, others = 0, 0
         pairs = []
         while own < len(self._full) and others < len(other._full):
@@ -409,12 +418,13 @@ class Postings(_Ascending):
 
 
 def _wide(symbols: _lists.WaveletMatrix) -> Tuple[int, int]:
+    """Returns the length and the width."""
     return len(symbols), symbols.bits_per_element()
 
 
-def _below(part: _Part, wanted: bytes, start: int, end: int, limits: List[int]) -> List[int]:
-    """How many symbols of a range of a part are below each of some limits, by bisections over its quantiles."""
-    symbols, counts, low = part.loaded(wanted), [], 0
+def _below(part: _Part, expected: bytes, start: int, end: int, limits: List[int]) -> List[int]:
+    """Returns how many symbols of a range of a part are below each of some limits, by bisections over its quantiles."""
+    symbols, counts, low = part.loaded(expected), [], 0
     for limit in limits:
         # the limits ascend, and so do the counts
         high = end - start
@@ -429,7 +439,7 @@ def _below(part: _Part, wanted: bytes, start: int, end: int, limits: List[int]) 
 
 
 class Symbols(_Parts):
-    """Symbols in parts, each a saved `WaveletMatrix` of one width."""
+    """Symbols in parts, each a saved `WaveletMatrix`, all of one width."""
 
     def __init__(self, engine: Engine, paths: Iterable[Path]) -> None:
         super().__init__(engine, paths, _wide, _lists.WaveletMatrix.from_bytes)
@@ -439,8 +449,8 @@ class Symbols(_Parts):
         self._width = widths[0] if widths else 0
 
     def rank(self, end: Any, symbol: int) -> Any:
-        """How many of the first `end` places hold a symbol. None if there are fewer places. It asks the parts up to the
-        last end at once. The merge is tested: the counts of the parts before, and that in the part."""
+        """Returns how often a symbol occurs before the place `end`. None past the end. Asks the parts up to the last
+        such place at once. The merge is tested: the counts of the parts before, plus that in the part."""
         if not _buffers.is_many(end):
             return self.rank([end], symbol)[0]
         # the part that an end is in, or ends; -1 for the end 0
@@ -455,8 +465,8 @@ class Symbols(_Parts):
         return [0 if part < 0 else None if it > len(self) else before[part] + next(answers[part]) for part, it in cut]
 
     def rank_range(self, start: int, end: int, symbol: int) -> Optional[int]:
-        """How many places of a range hold a symbol. None if it starts past the last place, ends before it starts, or
-        ends past the end. It asks the parts of the range. The merge is tested: the sum of their counts."""
+        """Returns how often a symbol occurs in a range. None if the range starts past the last place, ends before it
+        starts, or ends past the end. Asks the parts of the range. The merge is tested: the sum of their counts."""
         if not number(start) <= number(end) <= len(self) or start == len(self):
             return None
         chosen, starts, ends = self._pieces(start, end)
@@ -464,23 +474,23 @@ class Symbols(_Parts):
         return count
 
     def count(self, symbol: int) -> int:
-        """How many places hold a symbol. It asks all parts. The merge is tested: the sum of their counts."""
+        """Returns how often a symbol occurs. Asks all parts. The merge is tested: the sum of their counts."""
         return sum(self._counts(symbol))
 
     def _counts(self, symbol: int) -> List[int]:
-        """How many places of each part hold a symbol."""
+        """Returns how often a symbol occurs in each part."""
         return self._files.call("rank", range(len(self._files)), self._lengths, repeat(number(symbol)))
 
     def select(self, number: Any, symbol: int) -> Any:
-        """The place of occurrence `number` of a symbol. None if there are fewer. It asks all parts for their counts,
-        and then one part. The merge is tested: the occurrences before it are those before its part, and those in it."""
+        """Returns the place of occurrence `number` of a symbol. None if there are fewer. Asks all parts for counts, and
+        then one part. The merge is tested: its number is that in its part, plus the occurrences before the part."""
         before = _sums(self._counts(symbol))
         return self._asked("select", number, lambda it: _route(before, it, self._starts, None), symbol)
 
     def quantile(self, start: int, end: int, number: int) -> Optional[int]:
-        """Symbol `number` of a range in ascending order. None if it has fewer, or ends past the end. It asks the parts
-        of the range, in a round for each 4 bits of a symbol. Found by the law `KthBySizeIsKth`: the greatest symbol
-        that at most `number` symbols are below. That the counts of the parts add up is tested."""
+        """Returns symbol `number` of a range in ascending order. None if the range has fewer, or ends past the end.
+        Asks the parts of the range, in a round for each 4 bits of a symbol. Merged by the law `KthBySizeIsKth`: the
+        greatest number that at most `number` symbols are below. That the counts of the parts add up is tested."""
         for it in (start, end, number):
             _buffers.number(it)
         if not (end <= len(self) and start + number < end):
@@ -495,30 +505,30 @@ class Symbols(_Parts):
 
 
 def _indexed(saved: bytes, step: int) -> _lists.TextIndex:
-    """The index of a text, of its saved form."""
+    """Returns the index of a text, of its saved form."""
     symbols = _lists.WaveletMatrix.from_bytes(saved)
     return _lists.TextIndex(symbols[:], symbols.bits_per_element(), step)
 
 
 def _edges(overlap: int, text: _lists.TextIndex) -> Tuple[int, int, Any, Any]:
-    """The length and the width of a text, and its first and last symbols."""
+    """Returns the length and the width of a text, and its first and last symbols."""
     length = len(text)
     shared = min(overlap, length)
     return length, text.bits_per_symbol(), text.extract(0, shared)[:], text.extract(length - shared, length)[:]
 
 
-def _own_places(part: _Part, wanted: bytes, pattern: List[int], own: int) -> Any:
-    """The places of a pattern among a part's own symbols, in an array."""
-    found = part.loaded(wanted).places(pattern)
+def _own_places(part: _Part, expected: bytes, pattern: List[int], own: int) -> Any:
+    """Returns the places of a pattern among a part's own symbols, in an array."""
+    found = part.loaded(expected).places(pattern)
     return found[:bisect_left(found, own)]
 
 
-def _by_document(part: _Part, wanted: bytes, starts: _Part, starts_wanted: bytes, pattern: List[int],
+def _by_document(part: _Part, expected: bytes, starts: _Part, starts_sum: bytes, pattern: List[int],
                  own: int) -> Dict[int, int]:
-    """How many occurrences of a pattern each document has among a part's own symbols. The document that begins before
-    the part is number -1. An occurrence that goes on in another document is in none."""
-    places = _own_places(part, wanted, pattern, own)
-    begins = starts.loaded(starts_wanted)
+    """Returns how often a pattern occurs in each document among a part's own symbols. The document that begins before
+    the part is number -1. An occurrence that goes on in another document belongs to none."""
+    places = _own_places(part, expected, pattern, own)
+    begins = starts.loaded(starts_sum)
     # the documents that begin up to the first symbol of an occurrence, and up to its last one
     first, last = (begins.rank([it + more for it in places]) for more in (1, len(pattern)))
     return dict(Counter(it - 1 for it, other in zip(first, last) if it == other))
@@ -548,7 +558,7 @@ class Texts:
         return self._starts[-1]
 
     def _own_lengths(self) -> List[int]:
-        """How many symbols of each part are its own. Keeps an index of the others, which the next parts have too."""
+        """Returns how many symbols of each part are its own. Keeps an index of the overlap of each part."""
         own: List[int] = []
         self._shared = []
         following: Any = []
@@ -570,25 +580,25 @@ class Texts:
         return symbols
 
     def count(self, pattern: Numbers) -> int:
-        """How many places a pattern has. Refused if it has more than `overlap` + 1 symbols. The merge is tested: the
-        sum of the parts' counts, less the occurrences in an overlap, which the next parts count too."""
+        """Returns how often a pattern of at most `overlap` + 1 symbols occurs; Refused if it has more. The merge is
+        tested: the sum of the parts' counts, less the occurrences in overlaps, which the next parts count too."""
         symbols = self._pattern(pattern)
         counted: int = sum(self._files.call("count", range(len(self._files)), repeat(symbols)))
         # the pattern of no symbols is at the end too
         return counted - sum(it.count(symbols) for it in self._shared) + (not symbols)
 
     def places(self, pattern: Numbers) -> List[int]:
-        """The places of a pattern, ascending. Refused as by `count`. The merge is tested: those that begin in a part's
-        own symbols, one part after another."""
+        """Returns the places of a pattern, ascending. Refused as by `count`. The merge is tested: the places of
+        occurrences that begin in a part's own symbols, one part after another."""
         symbols = self._pattern(pattern)
         found = self._files.ask(_own_places, range(len(self._files)), repeat(symbols), self._own)
         places = [start + it for start, part in zip(self._starts, found) for it in part]
         return places if symbols else [*places, len(self)]
 
     def by_document(self, pattern: Numbers) -> Dict[int, int]:
-        """How many occurrences of a pattern each document has that has one, by ascending numbers of documents. Those
-        that go on in another document count nowhere. Refused as by `count`, and for no symbols. The merge is tested:
-        the sum of the parts' counts of a document."""
+        """Returns how often a pattern occurs in each document that has it, by ascending numbers of documents. An
+        occurrence that goes on in another document counts nowhere. Refused as by `count`, and for no symbols. The merge
+        is tested: the sum of the parts' counts of a document."""
         symbols, size = self._pattern(pattern), len(self._documents)
         if not symbols or size != len(self._files):
             raise _faults.Refused("the pattern has no symbols" if not symbols else "no documents were passed")
