@@ -36,7 +36,7 @@ from sources import has_cargo
 
 C, CPP, PY = (os.path.join(HERE, it) for it in ("c", "cpp", "python"))
 ARCHIVE = os.path.join(TOP, "crates", "vers_c", "out", "libvers_c.a")
-STRICT = ["-O1", "-g", "-pedantic", "-Wall", "-Wextra", "-Werror", f"-I{C}"]
+STRICT = ["-O1", "-g", "-pedantic", "-Wall", "-Wextra", "-Wconversion", "-Werror", f"-I{C}"]
 # The tools that a quick check leaves out.
 SLOW = {"clang", "clang++", "valgrind", "pip"}
 # by which tests refuse the library memory
@@ -220,7 +220,7 @@ def check_c(checks, link):
             continue
         for name, more in (("test", ["-lpthread"]), ("test_memory", [REFUSING, "-Wl,--wrap=free"])):
             made = checks.path(f"{name}_{compiler}")
-            strict = ["-std=c99", "-Wconversion", "-Wcast-qual", *STRICT]
+            strict = ["-std=c99", "-Wcast-qual", *STRICT]
             command = [compiler, *strict, os.path.join(C, f"{name}.c"), "-o", made, *link, *more]
             if checks.run(f"C by {compiler}", command) and checks.run(f"C by {compiler}", [made]):
                 valgrind(checks, f"C by {compiler}", made, name == "test" and compiler == "gcc")
@@ -235,13 +235,15 @@ def valgrind(checks, what, program, has_threads):
 
 
 def check_cpp(checks, link):
-    """C++: tests, and the header without exceptions."""
+    """C++: tests in C++20 and C++17, and the header without exceptions."""
     for compiler in ("g++", "clang++"):
         if not checks.has(compiler, f"C++ by {compiler}"):
             continue
         made, test = checks.path(f"test_{compiler}"), os.path.join(CPP, "test.cpp")
-        command = [compiler, "-std=c++17", *STRICT, f"-I{CPP}", test, "-o", made, *link, "-lpthread", REFUSING]
-        if checks.run(f"C++ by {compiler}", command) and checks.run(f"C++ by {compiler}", [made]):
+        for standard in ("c++20", "c++17"):
+            command = [compiler, f"-std={standard}", *STRICT, f"-I{CPP}", test, "-o", made, *link, "-lpthread", REFUSING]
+            has_passed = checks.run(f"{standard} by {compiler}", command) and checks.run(f"C++ by {compiler}", [made])
+        if has_passed:
             valgrind(checks, f"C++ by {compiler}", made, compiler == "g++")
         check_refused(checks, compiler)
         bare = ["-fno-exceptions", "-fno-rtti", "-fsyntax-only", os.path.join(CPP, "example.cpp")]

@@ -93,7 +93,7 @@ def calls():
 
 def class_body(text, head):
     """Returns the text of a class, with those of the classes that it is made of."""
-    found = re.search(head + r"(.*?)(?=^class |^\}\s*// namespace|\Z)", text, re.M | re.S)
+    found = re.search(head + r"(.*?)(?=^class |\Z)", text, re.M | re.S)
     return found[1] if found else ""
 
 
@@ -103,6 +103,13 @@ def python_class(text, name):
     above = re.findall(r"\w+", head[1] or "") if head else []
     return class_body(text, rf"^class {name}\b[^\n]*\n") + "".join(python_class(text, it) for it in above
                                                                    if it != "Generic")
+
+
+def cpp_class(text, name):
+    """Returns the text of a class of the C++ header and of those above it."""
+    aliases = dict(re.findall(r"using (\w+) = (\w+)<", text))
+    head, body = re.search(rf"(?ms)^class {name}\b([^;{{]*)\{{\n(.*?)^\}};$", text).groups()
+    return body + "".join(cpp_class(text, aliases.get(it, it)) for it in re.findall(r"public detail::(\w+)", head))
 
 
 def has(structure, language, name):
@@ -115,8 +122,7 @@ def has(structure, language, name):
         text += read(f"{TOP}/rust/src/items.rs") if "lengths!(" in text else ""
         return "Deref" in text if name == "[]" else re.search(rf"\b(?:fn {name}\b|{name},)", text)
     if language == "C++":
-        text = read(f"{TOP}/bindings/cpp/vers.hpp")
-        return re.search(rf"\b{name}\(", class_body(text, rf"^class {structure}\b[^\n]*\n") + class_body(text, r"^class Owner\b[^\n]*\n"))
+        return re.search(rf"\b{name}\(", cpp_class(read(f"{TOP}/bindings/cpp/vers.hpp"), structure))
     text = python_class("".join(read(f"{TOP}/bindings/python/vers/{it}.py") for it in ("_bases", "_lists")), structure)
     special = {"len()": "__len__", "[]": "__getitem__", "()": "__new__", "in": "__contains__"}
     return re.search(rf"\bdef {re.escape(special.get(name, name))}\(", text)

@@ -1,7 +1,8 @@
-// Calls that don't compile, one for each REFUSED: iterators over items that are no numbers or bits.
+// Calls that don't compile, one for each REFUSED: iterators and ranges over items that are no numbers or bits.
 #include "vers.hpp"
 
 #include <string>
+#include <vector>
 
 int main() {
     const std::vector<std::uint32_t> unsigned_numbers = {1, 2};
@@ -10,6 +11,7 @@ int main() {
     const std::string text = "0110";
     (void)vers::EliasFanoVec::from(unsigned_numbers.begin(), unsigned_numbers.end());
     (void)vers::RsVec::from_bits(signed_numbers.begin(), signed_numbers.end());
+    (void)vers::TextIndex::from(unsigned_numbers, 2);
     (void)text.size();
     (void)fractions.size();
 #if REFUSED == 1
@@ -32,5 +34,19 @@ int main() {
     (void)vers::BitVec::from_bits(fractions.begin(), fractions.end());
 #elif REFUSED == 10
     (void)vers::RsVec::from_bits(text.begin(), text.end());
+#elif REFUSED == 11
+    (void)vers::EliasFanoVec::from(signed_numbers);
+#elif REFUSED == 12
+    (void)vers::TextIndex::from(fractions, 3);
+#elif REFUSED == 13
+    (void)vers::Postings::from(unsigned_numbers, signed_numbers);
+#elif REFUSED == 14
+    (void)vers::BitVec::from_bits(text);
+#elif REFUSED == 15
+    (void)vers::RsVec::from_words(unsigned_numbers, 64);
+#elif REFUSED == 16
+    (void)vers::BpTree::from_words(unsigned_numbers.begin(), unsigned_numbers.end(), 64);
+#elif REFUSED == 17
+    (void)vers::RsVec::from_bits(text.data(), text.size());
 #endif
 }

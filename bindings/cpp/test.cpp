@@ -5,9 +5,14 @@
 #include <algorithm>
 #include <cstdio>
 #include <list>
+#include <sstream>
 #include <string>
 #include <thread>
 #include <type_traits>
+#if defined(__cpp_lib_ranges)
+#include <ranges>
+#include <span>
+#endif
 
 using Numbers = std::vector<std::uint64_t>;
 using Found = std::optional<std::uint64_t>;
@@ -52,6 +57,8 @@ static void test_owner(List list) {
     check("clone", moved.clone(status)->len() == length && status == Status::done);
     check("clone of none", !list.clone(status) && status == Status::vacant);
     check("clone of none owns nothing", list.clone().len() == 0 && !list.clone().clone(status));
+    check("equal to its clone", moved == moved.clone() && !(moved != moved.clone()));
+    check("not equal to none", moved != list && list != moved && list == list.clone());
 }
 
 // What the saved form of a list is loaded as. With another first byte it is none, nor with another one in the middle.
@@ -76,6 +83,80 @@ template <class List>
 static void test_form(const List &list) {
     const auto loaded = loaded_form(list);
     check("items", Numbers(loaded->begin(), loaded->end()) == Numbers(list.begin(), list.end()));
+    check("equal to its saved form", *loaded == list);
+}
+
+template <class List>
+static List made(std::optional<List> list) {
+    check("made", list.has_value());
+    return std::move(*list);
+}
+
+// Each constructor of a list of numbers makes the same list.
+template <class List, class... More>
+static void test_from(const Numbers &numbers, More... more) {
+    const List list = made<List>(List::from(numbers.data(), numbers.size(), more...));
+    const std::list<std::uint32_t> narrow(numbers.begin(), numbers.end());
+    const std::uint64_t *first = numbers.data(), *last = first + numbers.size();
+    Numbers own = numbers;
+    check("pointers", list == made<List>(List::from(first, last, more...)));
+    check("iterators", list == made<List>(List::from(narrow.begin(), narrow.end(), more...)));
+    check("container", list == made<List>(List::from(narrow, more...)) && list == made<List>(List::from(own, more...)));
+    check("temporary", list == made<List>(List::from(Numbers(numbers), more...)));
+    const std::size_t count = numbers.size();
+    for (int k = 0; k < 4; k++) {
+        Status status = Status::absent;
+        const auto other = k == 0   ? List::from(first, count, more..., status)
+                           : k == 1 ? List::from(narrow.begin(), narrow.end(), more..., status)
+                           : k == 2 ? List::from(first, last, more..., status)
+                                    : List::from(narrow, more..., status);
+        check("with a status", other == list && status == Status::done);
+    }
+}
+
+// Each constructor of a list of bits makes the same list.
+template <class List>
+static void test_from_bits(const Numbers &bits) {
+    const std::list<bool> items(bits.begin(), bits.end());
+    const std::vector<bool> packed(bits.begin(), bits.end());
+    const List list = List::from_bits(bits.begin(), bits.end());
+    Numbers words((bits.size() + 63) / 64);
+    for (std::size_t i = 0; i < bits.size(); i++) words[i / 64] |= bits[i] << i % 64;
+    const std::list<std::uint64_t> linked(words.begin(), words.end());
+    const std::size_t length = bits.size(), count = words.size();
+    check("from_bits", list.len() == length && list == List::from_bits(items.begin(), items.end()));
+    check("from_bits of ranges", list == List::from_bits(items) && list == List::from_bits(packed));
+    check("from_bits of an array", list == List::from_bits(bits.data(), length));
+    check("from_words", list == List::from_words(words.data(), count, length));
+    check("from_words of iterators", list == List::from_words(linked.begin(), linked.end(), length));
+    check("from_words of ranges", list == List::from_words(words, length) && list == List::from_words(linked, length));
+    for (int k = 0; k < 6; k++) {
+        Status status = Status::absent;
+        const auto other = k == 0   ? List::from_bits(items.begin(), items.end(), status)
+                           : k == 1 ? List::from_bits(packed, status)
+                           : k == 2 ? List::from_bits(bits.data(), length, status)
+                           : k == 3 ? List::from_words(words.data(), count, length, status)
+                           : k == 4 ? List::from_words(linked.begin(), linked.end(), length, status)
+                                    : List::from_words(words, length, status);
+        check("bits with a status", other == list && status == Status::done);
+    }
+    const std::uint64_t word = 5;
+    check("in braces", List::from_bits({true, false, true}) == List::from_words({word}, 3));
+}
+
+// Lists of bits or numbers differ from those with another item, or with one more.
+template <class List, class Make>
+static void test_differences(const Numbers &items, Make make) {
+    const List list = make(items);
+    check("equal", list == make(items) && make({}) == make({}));
+    for (std::size_t place : {std::size_t{0}, std::size_t{63}, std::size_t{64}, items.size() / 2, items.size() - 1}) {
+        Numbers others = items;
+        others[place] ^= 1;
+        check("another item", list != make(others) && !(make(others) == list));
+    }
+    Numbers shorter = items;
+    shorter.pop_back();
+    check("another length", list != make(shorter) && make(shorter) != list && make({}) != list);
 }
 
 static void test_bits() {
@@ -153,8 +234,9 @@ static void test_sorted() {
     const auto list = vers::EliasFanoVec::from(narrow.begin(), narrow.end());
     check("items", list && Numbers(list->begin(), list->end()) == numbers);
     for (std::uint64_t v = 0; v < 3002; v++) {
-        const std::size_t low = std::lower_bound(numbers.begin(), numbers.end(), v) - numbers.begin();
-        const std::size_t high = std::upper_bound(numbers.begin(), numbers.end(), v) - numbers.begin();
+        const auto above = std::upper_bound(numbers.begin(), numbers.end(), v);
+        const auto low = static_cast<std::size_t>(std::lower_bound(numbers.begin(), above, v) - numbers.begin());
+        const auto high = static_cast<std::size_t>(above - numbers.begin());
         check("rank", list->rank(v) == low);
         check("has", list->has(v) == (high > low));
         check("successor", list->successor(v) == at(numbers, low));
@@ -361,13 +443,154 @@ static void test_memory() {
               for (int i = 0; i < 10000; i++) (void)growing.append(true);
           }));
     check("as it was", Numbers(growing.begin(), growing.end()) == Numbers(growing.len(), 1));
+    const std::list<std::uint64_t> linked(numbers.begin(), numbers.end());
+    check("from a range", is_thrown([&] { vers::EliasFanoVec::from(linked); }));
+    check("from_bits", is_thrown([&] { vers::BpTree::from_bits(linked.begin(), linked.end()); }));
     is_refused = true;
+    check("of a range", !vers::FastRmq::from(linked, status) && status == Status::no_memory);
+    status = Status::done;
+    check("of bits", !vers::RsVec::from_bits(linked, status) && status == Status::no_memory);
+    status = Status::done;
+    check("of two", !vers::Postings::from(linked, numbers, status) && status == Status::no_memory);
+    status = Status::done;
     check("status", !vers::RsVec::from_words(numbers.data(), 3, 192, status) && status == Status::no_memory);
     const auto other = bits.clone(status); // one that takes no memory is granted
     check("status of clone", other ? status == Status::done && other->len() == 192 : status == Status::no_memory);
     is_refused = false;
     check("still there", bits.len() == 192);
 }
+
+static void test_constructors() {
+    Numbers numbers = random_numbers(1000, 30), bits = random_numbers(200, 2);
+    test_from<vers::WaveletMatrix>(numbers, 5u);
+    test_from<vers::TextIndex>(numbers, 5u);
+    test_from<vers::TextIndex>(numbers, 5u, std::size_t{7});
+    test_from<vers::FastRmq>(numbers);
+    test_from<vers::BinaryRmq>(numbers);
+    std::sort(numbers.begin(), numbers.end());
+    test_from<vers::EliasFanoVec>(numbers);
+    numbers.erase(std::unique(numbers.begin(), numbers.end()), numbers.end());
+    test_from<vers::SparseRSVec>(numbers, std::uint64_t{40});
+    for (std::size_t length : {200u, 192u, 0u}) {
+        bits.resize(length);
+        test_from_bits<vers::BitVec>(bits);
+        test_from_bits<vers::RsVec>(bits);
+        test_from_bits<vers::BpTree>(bits);
+    }
+    const auto text = vers::TextIndex::from({2, 1, 2}, 2);
+    check("in braces", vers::EliasFanoVec::from({2, 5, 90})->get(2) == Found(90) && text->step() == 32);
+    check("of a list", vers::FastRmq::from(*vers::EliasFanoVec::from({2, 5})) == vers::FastRmq::from({2, 5}));
+    Status status;
+    check("why", !vers::EliasFanoVec::from({2, 1}, status) && status == Status::refused);
+    check("refused", !vers::EliasFanoVec::from({2, 1}) && !vers::SparseRSVec::from({9}, 9));
+    check("refused text", !vers::TextIndex::from({4}, 2) && !vers::TextIndex::from({4}, 3, 0));
+    check("null", !vers::RsVec::from_bits(static_cast<bool *>(nullptr), 1, status) && status == Status::refused);
+}
+
+static void test_constructors_of_postings() {
+    const Numbers documents = {2, 3, 5}, costs = {7, 1, 4};
+    const std::list<std::uint32_t> narrow(documents.begin(), documents.end());
+    const std::list<std::uint16_t> cheap(costs.begin(), costs.end());
+    const auto list = vers::Postings::from(documents.data(), costs.data(), 3);
+    Status status = Status::absent;
+    check("iterators", list == vers::Postings::from(narrow.begin(), narrow.end(), costs.begin()));
+    check("containers", list == vers::Postings::from(documents, cheap) && list == vers::Postings::from(narrow, costs));
+    check("braces", list == vers::Postings::from({2, 3, 5}, {7, 1, 4}));
+    check("status", list == vers::Postings::from(documents, cheap, status) && status == Status::done);
+    status = Status::absent;
+    check("status of iterators", list == vers::Postings::from(narrow.begin(), narrow.end(), cheap.begin(), status));
+    check("done", status == Status::done && list->cost(2) == Found(4));
+    check("fewer costs", !vers::Postings::from({2, 3}, {7}) && !vers::Postings::from({2}, {7, 8}, status));
+    check("refused", status == Status::refused && !vers::Postings::from({3, 2}, {1, 1}));
+    check("another cost", list != vers::Postings::from({2, 3, 5}, {7, 1, 5}));
+    check("another document", list != vers::Postings::from({2, 3, 6}, {7, 1, 4}));
+}
+
+static void test_equality() {
+    const Numbers bits = random_numbers(1001, 2), numbers = random_numbers(1001, 8);
+    test_differences<vers::BitVec>(bits, [](const Numbers &it) { return vers::BitVec::from_bits(it); });
+    test_differences<vers::RsVec>(bits, [](const Numbers &it) { return vers::RsVec::from_bits(it); });
+    test_differences<vers::BpTree>(bits, [](const Numbers &it) { return vers::BpTree::from_bits(it); });
+    test_differences<vers::FastRmq>(numbers, [](const Numbers &it) { return vers::FastRmq::from(it); });
+    test_differences<vers::BinaryRmq>(numbers, [](const Numbers &it) { return vers::BinaryRmq::from(it); });
+    test_differences<vers::WaveletMatrix>(numbers, [](const Numbers &it) { return *vers::WaveletMatrix::from(it, 3); });
+    test_differences<vers::TextIndex>(numbers, [](const Numbers &it) { return *vers::TextIndex::from(it, 3); });
+    test_differences<vers::EliasFanoVec>(numbers, [](const Numbers &it) {
+        Numbers sorted = it; // ascends by 2 or more, so that one more or less is another list
+        for (std::size_t i = 0; i < sorted.size(); i++) sorted[i] += 10 * i;
+        return *vers::EliasFanoVec::from(sorted);
+    });
+    test_differences<vers::SparseRSVec>(bits, [](const Numbers &it) {
+        Numbers ones;
+        for (std::size_t i = 0; i < it.size(); i++)
+            if (it[i]) ones.push_back(i);
+        return *vers::SparseRSVec::from(ones, it.size());
+    });
+    check("a longer sparse list", *vers::SparseRSVec::from({1}, 5) != *vers::SparseRSVec::from({1}, 6));
+    check("a wider symbol", *vers::WaveletMatrix::from({1}, 5) != *vers::WaveletMatrix::from({1}, 6));
+    check("a wider text", *vers::TextIndex::from({1}, 5) != *vers::TextIndex::from({1}, 6));
+    check("another step", *vers::TextIndex::from({1, 2}, 5, 1) == *vers::TextIndex::from({1, 2}, 5, 9));
+    const Numbers pattern = {3};
+    const auto text = vers::TextIndex::from(numbers, 3);
+    check("numbers", text->places(pattern.data(), 1) == text->places(pattern.data(), 1));
+    check("more numbers", text->extract(0, 500) != text->extract(0, 501));
+    check("no numbers", *text->extract(3, 3) == *text->extract(5, 5));
+    Numbers long_text = random_numbers(70000, 4);
+    const auto whole = vers::TextIndex::from(long_text, 2);
+    check("long texts", whole == vers::TextIndex::from(long_text, 2, 8));
+    long_text.back() ^= 1;
+    check("the last symbol", whole != vers::TextIndex::from(long_text, 2));
+}
+
+// The iterators of lists move by any distance.
+static void test_iterators() {
+    const auto list = vers::EliasFanoVec::from({2, 5, 90, 91});
+    const auto first = list->begin(), last = list->end();
+    auto item = first;
+    check("distance", last - first == 4 && first + 4 == last && last - 4 == first && 1 + first == first + 1);
+    check("index", first[2] == 90 && *(last - 1) == 91);
+    check("steps", *++item == 5 && *item++ == 5 && *item == 90 && *--item == 5 && *item-- == 5 && item == first);
+    check("jumps", *(item += 3) == 91 && *(item -= 2) == 5);
+    check("order", first < item && item > first && first <= first && last >= item && !(item < first) && item != first);
+    const vers::BpTree tree = vers::BpTree::from_bits({1, 1, 0, 0});
+    check("parentheses", Numbers(tree.begin(), tree.end()) == Numbers({1, 1, 0, 0}) && !tree.get(4));
+}
+
+#if defined(__cpp_lib_ranges)
+template <class List>
+constexpr bool is_range = std::ranges::random_access_range<const List> && std::ranges::sized_range<const List>;
+static_assert(is_range<vers::BitVec> && is_range<vers::RsVec> && is_range<vers::SparseRSVec> &&
+              is_range<vers::EliasFanoVec> && is_range<vers::WaveletMatrix> && is_range<vers::FastRmq> &&
+              is_range<vers::BinaryRmq> && is_range<vers::BpTree> && is_range<vers::Postings> &&
+              is_range<vers::Numbers> && !std::ranges::range<vers::TextIndex>);
+
+// Lists are ranges, and made of ranges. (Clang before 16 compiles no views of the standard library of GCC.)
+static void test_ranges() {
+    const Numbers squares = {0, 1, 4, 9, 16, 25};
+    const auto list = vers::EliasFanoVec::from(std::span(squares));
+    check("span", list && std::ranges::equal(*list, squares));
+    check("lower_bound", std::ranges::lower_bound(*list, 10u) - list->begin() == 4);
+    check("words", vers::BitVec::from_words(std::span(squares), 130).len() == 130);
+#if !defined(__clang__) || __clang_major__ >= 16
+    auto square = [](std::uint64_t number) { return number * number; };
+    auto numbers = std::views::iota(std::uint64_t{0}) | std::views::transform(square);
+    auto is_below_30 = [](std::uint64_t number) { return number < 30; };
+    check("views", list == vers::EliasFanoVec::from(numbers | std::views::take_while(is_below_30)));
+    auto is_even = [](std::uint64_t number) { return number % 2 == 0; };
+    auto even = *list | std::views::filter(is_even);
+    check("filter", vers::FastRmq::from(even) == vers::FastRmq::from({0, 4, 16}));
+    check("bits", vers::RsVec::from_bits(*list | std::views::transform(is_even)).ones() == 3);
+    check("reverse", *(*list | std::views::reverse | std::views::drop(1)).begin() == 16);
+    const auto other = vers::Postings::from(*list, numbers | std::views::take(6));
+    check("costs", other && other->cost(5) == Found(25));
+    std::istringstream text("3 5 8");
+    const auto read = vers::EliasFanoVec::from(std::views::istream<std::uint64_t>(text));
+    check("stream", read == vers::EliasFanoVec::from({3, 5, 8}));
+#endif
+}
+#else
+static void test_ranges() {}
+#endif
 
 static void test_threads() {
     const Numbers bits = random_numbers(2000, 2);
@@ -396,6 +619,11 @@ int main() {
     test_texts();
     test_moved_from();
     test_missing_arrays();
+    test_constructors();
+    test_constructors_of_postings();
+    test_equality();
+    test_iterators();
+    test_ranges();
     test_memory();
     test_threads();
     std::printf("%lu passed, %lu failed\n", passed, failed);

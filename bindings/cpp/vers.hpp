@@ -9,22 +9,29 @@
  *  Owners. Each object owns its list, is moved and not copied, and frees it when it is destroyed. One that was moved
  *  from owns nothing: it answers 0 or nullopt, its clone owns nothing either, and so do the Numbers that it answers.
  *
- *  Arrays. Null is for a count of 0: with another one a maker answers nullopt, or an object that owns nothing.
- *  Iterators are over unsigned whole numbers, those of `from_bits` over whole numbers or truth values: others, and
- *  the characters of a text, don't compile.
+ *  Constructors. `from`, `from_words` and `from_bits` take a pointer and a length, two iterators, or a range: a
+ *  container, a span, a view, numbers in braces. The arguments that a class names follow, such as a width. They return
+ *  the list, or std::optional of it if the numbers can be refused: then nullopt. With a Status last they return
+ *  std::optional, throw only what an iterator throws, and the status says why there is no list.
+ *  Null is for a length of 0; with another one the numbers are refused, and the list owns nothing. An array of 64-bit
+ *  numbers is read as it is, all others are copied. Iterators and ranges are over unsigned whole numbers, those of
+ *  `from_bits` over whole numbers or truth values: others, and the characters of a text, don't compile.
  *
- *  Exceptions. None but std::bad_alloc, where memory is out. A maker that takes a Status last throws nothing: it
- *  answers nullopt, and the status says why. Where exceptions are off, or VERS_NO_EXCEPTIONS is defined, nothing
- *  throws: a change answers Status::no_memory, and a maker without a Status ends the program.
+ *  Ranges. A list with `begin` and `end` is a range, with random access in C++20. Lists compare by their contents.
+ *
+ *  Exceptions. None but std::bad_alloc, where memory is out. Where exceptions are off, or VERS_NO_EXCEPTIONS is
+ *  defined, nothing throws: a change answers Status::no_memory, and a constructor without a Status ends the program.
  *
  *  Threads. An object is used by one thread at a time, though its queries are `const`, which says that the list stays
  *  as it is. Each thread asks an owner of its own, which `clone` makes in constant time. */
 #ifndef VERS_HPP
 #define VERS_HPP
 
+#include <algorithm>
 #include <cstddef>
 #include <cstdint>
 #include <cstdlib>
+#include <initializer_list>
 #include <iterator>
 #include <new>
 #include <optional>
@@ -65,6 +72,8 @@ constexpr std::uint64_t none = UINT64_MAX;
 /** Three numbers of a query that is asked among many. */
 using Row = vers_row;
 
+class TextIndex;
+
 /// @cond what the classes below share
 namespace detail {
 
@@ -81,50 +90,140 @@ inline std::optional<std::uint64_t> found(vers_answer answer) noexcept {
 }
 
 template <class Iterator>
-using Item = typename std::iterator_traits<Iterator>::value_type;
+#if defined(__cpp_lib_ranges)
+using Value = std::iter_value_t<Iterator>;
+#else
+using Value = typename std::iterator_traits<Iterator>::value_type;
+#endif
 
+/** The type of the items of a range. No array of C is one: a length follows it. */
+template <class Range>
+using Item = std::enable_if_t<!std::is_array_v<std::remove_reference_t<Range>>,
+                              Value<decltype(std::begin(std::declval<Range &>()))>>;
+
+/** Two iterators as a range. */
 template <class Iterator>
-std::vector<std::uint64_t> gathered(Iterator first, Iterator last) {
-    static_assert(std::is_unsigned_v<Item<Iterator>>, "the items are unsigned whole numbers");
-    return std::vector<std::uint64_t>(first, last);
-}
-
-/** Bits of truth values, as words. */
-struct Words {
-    std::vector<std::uint64_t> words;
-    std::size_t length = 0;
-
-    template <class Iterator>
-    Words(Iterator first, Iterator last) {
-        static_assert(std::is_integral_v<Item<Iterator>>, "the items are truth values, or whole numbers");
-        static_assert(!std::is_same_v<Item<Iterator>, char>, "the items are characters, of which each is true");
-        for (; first != last; ++first, ++length) {
-            if (length % 64 == 0) words.push_back(0);
-            if (*first) words.back() |= std::uint64_t{1} << (length % 64);
-        }
-    }
+struct Between {
+    Iterator first, last;
+    Iterator begin() const { return first; }
+    Iterator end() const { return last; }
+};
+template <class Number>
+struct Between<Number *> {
+    Number *first, *last;
+    Number *begin() const noexcept { return first; }
+    Number *end() const noexcept { return last; }
+    Number *data() const noexcept { return first; }
+    std::size_t size() const noexcept { return static_cast<std::size_t>(last - first); }
 };
 
-/** An iterator over the items of a list, by their places. */
+/** Numbers on the heap of C, which refuses memory without an exception. */
+class Buffer {
+public:
+    Buffer() = default;
+    Buffer(const Buffer &) = delete;
+    Buffer &operator=(const Buffer &) = delete;
+    ~Buffer() { std::free(numbers_); }
+
+    const std::uint64_t *data() const noexcept { return numbers_; }
+    std::size_t size() const noexcept { return count_; }
+    std::uint64_t &back() noexcept { return numbers_[count_ - 1]; }
+
+    /** Whether there was memory for one more number. */
+    bool append(std::uint64_t number) noexcept {
+        if (count_ == room_) {
+            const std::size_t room = 2 * room_ + 64;
+            void *larger = room > SIZE_MAX / sizeof number ? nullptr : std::realloc(numbers_, room * sizeof number);
+            if (larger == nullptr) return false;
+            numbers_ = static_cast<std::uint64_t *>(larger);
+            room_ = room;
+        }
+        numbers_[count_++] = number;
+        return true;
+    }
+
+private:
+    std::uint64_t *numbers_ = nullptr;
+    std::size_t count_ = 0, room_ = 0;
+};
+
+template <class Range, class = void>
+constexpr bool is_array_of_numbers = false;
+template <class Range>
+constexpr bool is_array_of_numbers<Range, std::void_t<decltype(std::data(std::declval<Range &>()))>> =
+    std::is_convertible_v<decltype(std::data(std::declval<Range &>())), const std::uint64_t *>;
+
+/** What `make` returns of the numbers of a range, as an array and its length; nullopt if there is no memory for a
+ *  copy. */
+template <class Range, class Make>
+auto with_numbers(Range &range, Status &status, Make &&make) -> decltype(make(nullptr, 0)) {
+    static_assert(std::is_unsigned_v<Item<Range>>, "the items are unsigned whole numbers");
+    if constexpr (is_array_of_numbers<Range>) {
+        return make(std::data(range), std::size(range));
+    } else {
+        Buffer numbers;
+        for (auto &&number : range)
+            if (!numbers.append(number)) return status = Status::no_memory, std::nullopt;
+        return make(numbers.data(), numbers.size());
+    }
+}
+
+/** The same with the truth values of a range, as words, how many these are, and how many bits. */
+template <class Range, class Make>
+auto with_bits(Range &range, Status &status, Make &&make) -> decltype(make(nullptr, 0, 0)) {
+    static_assert(std::is_integral_v<Item<Range>>, "the items are truth values, or whole numbers");
+    static_assert(!std::is_same_v<Item<Range>, char>, "the items are characters, of which each is true");
+    Buffer words;
+    std::size_t length = 0;
+    for (auto &&bit : range) {
+        if (length % 64 == 0 && !words.append(0)) return status = Status::no_memory, std::nullopt;
+        if (bit) words.back() |= std::uint64_t{1} << (length % 64);
+        ++length;
+    }
+    return make(words.data(), words.size(), length);
+}
+
+/** An iterator over the items of a list, by their places. C++17 demands a reference of all but an input iterator. */
 template <class List>
 class Items {
 public:
     using iterator_category = std::input_iterator_tag;
+    using iterator_concept = std::random_access_iterator_tag;
     using value_type = std::uint64_t;
     using difference_type = std::ptrdiff_t;
     using pointer = const std::uint64_t *;
     using reference = std::uint64_t;
 
+    Items() noexcept = default;
     Items(const List *list, std::uint64_t place) noexcept : list_(list), place_(place) {}
     std::uint64_t operator*() const noexcept { return list_->get(place_).value_or(0); }
+    std::uint64_t operator[](difference_type count) const noexcept { return *(*this + count); }
     Items &operator++() noexcept { return ++place_, *this; }
+    Items &operator--() noexcept { return --place_, *this; }
     Items operator++(int) noexcept { return Items(list_, place_++); }
-    bool operator==(const Items &other) const noexcept { return place_ == other.place_; }
-    bool operator!=(const Items &other) const noexcept { return place_ != other.place_; }
+    Items operator--(int) noexcept { return Items(list_, place_--); }
+    Items &operator+=(difference_type count) noexcept {
+        return place_ += static_cast<std::uint64_t>(count), *this;
+    }
+    Items &operator-=(difference_type count) noexcept {
+        return place_ -= static_cast<std::uint64_t>(count), *this;
+    }
+    friend Items operator+(Items item, difference_type count) noexcept { return item += count; }
+    friend Items operator+(difference_type count, Items item) noexcept { return item += count; }
+    friend Items operator-(Items item, difference_type count) noexcept { return item -= count; }
+    friend difference_type operator-(const Items &one, const Items &other) noexcept {
+        return static_cast<difference_type>(one.place_ - other.place_);
+    }
+    friend bool operator==(const Items &one, const Items &other) noexcept { return one.place_ == other.place_; }
+    friend bool operator!=(const Items &one, const Items &other) noexcept { return one.place_ != other.place_; }
+    friend bool operator<(const Items &one, const Items &other) noexcept { return one.place_ < other.place_; }
+    friend bool operator>(const Items &one, const Items &other) noexcept { return one.place_ > other.place_; }
+    friend bool operator<=(const Items &one, const Items &other) noexcept { return one.place_ <= other.place_; }
+    friend bool operator>=(const Items &one, const Items &other) noexcept { return one.place_ >= other.place_; }
 
 private:
-    const List *list_;
-    std::uint64_t place_;
+    const List *list_ = nullptr;
+    std::uint64_t place_ = 0;
 };
 
 /** What all lists have: their owner, queries by code, and a saved form, if there is a kind of it. */
@@ -192,6 +291,10 @@ public:
     /** The list as one of vers.h, which stays this object's. */
     const Raw *raw() const noexcept { return &raw_; }
 
+    /** Whether two lists have the same contents, or both own nothing. */
+    friend bool operator==(const List &one, const List &other) { return are_equal(one, other); }
+    friend bool operator!=(const List &one, const List &other) { return !are_equal(one, other); }
+
 protected:
     Owner() noexcept : raw_{} {}
 
@@ -210,6 +313,37 @@ protected:
 
     vers_handle *handle() const noexcept { return const_cast<vers_handle *>(&raw_.handle); }
 
+    static bool are_equal(const List &one, const List &other) {
+        const vers_answer length = one.ask(VERS_LEN), of_other = other.ask(VERS_LEN);
+        if (length.status != of_other.status || length.value != of_other.value) return false;
+        return one.has_contents_of(other);
+    }
+
+    /** Whether another list of the same length has the same contents. */
+    bool has_contents_of(const List &other) const { return agrees(other, VERS_GET, len()); }
+
+    /** Whether a query answers the same in another list for each of the numbers 0, `step`, 2 `step` .. below `end`. */
+    bool agrees(const List &other, vers_query query, std::uint64_t end, std::uint64_t step = 1,
+                std::uint64_t b = 0) const noexcept {
+        std::uint64_t here[256], there[256];
+        for (std::uint64_t number = 0; number < end;) {
+            std::size_t count = 0;
+            for (; count < 256 && number < end; number += step) here[count++] = number;
+            std::copy(here, here + count, there);
+            vers_asked_each(&raw_.handle, query, here, count, b, 0, none);
+            vers_asked_each(&other.raw_.handle, query, there, count, b, 0, none);
+            if (!std::equal(here, here + count, there)) return false;
+        }
+        return true;
+    }
+
+    /** The same for all bits, 64 at a time. */
+    bool has_bits_of(const List &other) const noexcept {
+        const std::uint64_t rest = len() % 64, last = len() - rest;
+        return agrees(other, VERS_GET_BITS, last, 64, 64) &&
+               (rest == 0 || find(VERS_GET_BITS, last, rest) == other.find(VERS_GET_BITS, last, rest));
+    }
+
     template <class Build>
     static std::optional<List> made(Status &status, Build &&build) noexcept {
         std::optional<List> list{List(Nothing{})};
@@ -218,7 +352,8 @@ protected:
         return list;
     }
 
-    /** A list that is refused only because memory is out, or one that owns nothing if there is nothing to make it of. */
+    /** A list that is refused only because memory is out, or one that owns nothing if there is nothing to make it
+     *  of. */
     static List needed(std::optional<List> &&list, const Status &status) {
         list = wanted(std::move(list), status);
         return list ? std::move(*list) : List(Nothing{});
@@ -231,35 +366,140 @@ protected:
         return std::move(list);
     }
 
+    /** A list, as its constructor returns it: `Made` is the list itself, or std::optional of it. */
+    template <class Made>
+    static Made given(std::optional<List> &&list, const Status &status) {
+        if constexpr (std::is_same_v<Made, List>) return needed(std::move(list), status);
+        else return wanted(std::move(list), status);
+    }
+
+    template <class, class, auto, class...>
+    friend class FromNumbers;
+    template <class, auto>
+    friend class FromBits;
     struct Nothing {};
     Raw raw_;
 };
+
+/** The constructors `from` of a list of numbers, which `Build` makes, of further arguments `More`. */
+template <class List, class Made, auto Build, class... More>
+class FromNumbers {
+public:
+    static Made from(const std::uint64_t *numbers, std::size_t count, More... more) {
+        Status status;
+        return List::template given<Made>(from(numbers, count, more..., status), status);
+    }
+    static std::optional<List> from(const std::uint64_t *numbers, std::size_t count, More... more,
+                                    Status &status) noexcept {
+        return List::made(status, [&](auto *raw) -> std::uint32_t {
+            if (vers_is_missing(numbers, count)) return VERS_REFUSED;
+            return Build(vers_array(numbers), count, more..., &raw->handle);
+        });
+    }
+    template <class Iterator, class = Value<Iterator>>
+    static Made from(Iterator first, Iterator last, More... more) {
+        return from(Between<Iterator>{first, last}, more...);
+    }
+    template <class Iterator, class = Value<Iterator>>
+    static std::optional<List> from(Iterator first, Iterator last, More... more, Status &status) {
+        return from(Between<Iterator>{first, last}, more..., status);
+    }
+    template <class Range = std::initializer_list<std::uint64_t>, class = Item<Range>>
+    static Made from(Range &&range, More... more) {
+        Status status;
+        return List::template given<Made>(from(range, more..., status), status);
+    }
+    template <class Range = std::initializer_list<std::uint64_t>, class = Item<Range>>
+    static std::optional<List> from(Range &&range, More... more, Status &status) {
+        return with_numbers(range, status, [&](const std::uint64_t *numbers, std::size_t count) {
+            return from(numbers, count, more..., status);
+        });
+    }
+};
+
+/** The constructors of a list of bits, which `Build` makes of words. */
+template <class List, auto Build>
+class FromBits {
+    using FromWords = FromNumbers<List, List, Build, std::size_t>;
+
+public:
+    /** The first `length` bits of `count` words, or all of them; the lowest bit of a word comes first. */
+    static List from_words(const std::uint64_t *words, std::size_t count, std::size_t length) {
+        return FromWords::from(words, count, length);
+    }
+    static std::optional<List> from_words(const std::uint64_t *words, std::size_t count, std::size_t length,
+                                          Status &status) noexcept {
+        return FromWords::from(words, count, length, status);
+    }
+    template <class Iterator, class = Value<Iterator>>
+    static List from_words(Iterator first, Iterator last, std::size_t length) {
+        return from_words(Between<Iterator>{first, last}, length);
+    }
+    template <class Iterator, class = Value<Iterator>>
+    static std::optional<List> from_words(Iterator first, Iterator last, std::size_t length, Status &status) {
+        return from_words(Between<Iterator>{first, last}, length, status);
+    }
+    template <class Range = std::initializer_list<std::uint64_t>, class = Item<Range>>
+    static List from_words(Range &&range, std::size_t length) {
+        static_assert(sizeof(Item<Range>) == 8, "the items are words of 64 bits");
+        return FromWords::from(range, length);
+    }
+    template <class Range = std::initializer_list<std::uint64_t>, class = Item<Range>>
+    static std::optional<List> from_words(Range &&range, std::size_t length, Status &status) {
+        static_assert(sizeof(Item<Range>) == 8, "the items are words of 64 bits");
+        return FromWords::from(range, length, status);
+    }
+
+    /** A one where an item is true. */
+    template <class Bit>
+    static List from_bits(const Bit *bits, std::size_t count) {
+        Status status;
+        return List::needed(from_bits(bits, count, status), status);
+    }
+    template <class Bit>
+    static std::optional<List> from_bits(const Bit *bits, std::size_t count, Status &status) noexcept {
+        if (vers_is_missing(bits, count)) return status = Status::refused, std::nullopt;
+        return from_bits(bits, bits + count, status);
+    }
+    template <class Iterator, class = Value<Iterator>>
+    static List from_bits(Iterator first, Iterator last) {
+        return from_bits(Between<Iterator>{first, last});
+    }
+    template <class Iterator, class = Value<Iterator>>
+    static std::optional<List> from_bits(Iterator first, Iterator last, Status &status) {
+        return from_bits(Between<Iterator>{first, last}, status);
+    }
+    template <class Range = std::initializer_list<bool>, class = Item<Range>>
+    static List from_bits(Range &&range) {
+        Status status;
+        return List::needed(from_bits(range, status), status);
+    }
+    template <class Range = std::initializer_list<bool>, class = Item<Range>>
+    static std::optional<List> from_bits(Range &&range, Status &status) {
+        return with_bits(range, status, [&](const std::uint64_t *words, std::size_t count, std::size_t length) {
+            return from_words(words, count, length, status);
+        });
+    }
+};
+
+/** Builds a text with one place kept for each 32. */
+inline std::uint32_t build_text(const std::uint64_t *symbols, std::size_t count, std::uint32_t width,
+                                vers_handle *handle) noexcept {
+    return vers_text_build(symbols, count, width, 32, handle);
+}
+using FromText = FromNumbers<TextIndex, std::optional<TextIndex>, build_text, std::uint32_t>;
+using FromTextByStep = FromNumbers<TextIndex, std::optional<TextIndex>, vers_text_build, std::uint32_t, std::size_t>;
 
 }  // namespace detail
 /// @endcond
 
 /** A list of bits that can change. A change answers Status::done, or leaves the list as it was: Status::shared while
  *  the list has another owner. */
-class BitVec : public detail::Owner<BitVec, vers_growing, VERS_KIND_GROWING> {
+class BitVec : public detail::Owner<BitVec, vers_growing, VERS_KIND_GROWING>,
+               public detail::FromBits<BitVec, vers_growing_build> {
 public:
     /** No bits. */
     BitVec() : BitVec(from_words(nullptr, 0, 0)) {}
-
-    /** The first `length` bits of `count` words, or all of them; the lowest bit of a word comes first. */
-    static BitVec from_words(const std::uint64_t *words, std::size_t count, std::size_t length) {
-        Status status;
-        return needed(from_words(words, count, length, status), status);
-    }
-    static std::optional<BitVec> from_words(const std::uint64_t *words, std::size_t count, std::size_t length,
-                                            Status &status) noexcept {
-        return made(status, [&](vers_growing *raw) { return vers_growing_of(raw, words, count, length); });
-    }
-    /** A one where an item is true. */
-    template <class Iterator>
-    static BitVec from_bits(Iterator first, Iterator last) {
-        detail::Words bits(first, last);
-        return from_words(bits.words.data(), bits.words.size(), bits.length);
-    }
 
     /** The bit at a place, 1 or 0. */
     std::optional<std::uint64_t> get(std::uint64_t place) const noexcept { return find(VERS_GET, place); }
@@ -283,27 +523,13 @@ public:
 private:
     friend Owner;
     explicit BitVec(Nothing) noexcept {}
+    bool has_contents_of(const BitVec &other) const noexcept { return has_bits_of(other); }
 };
 
 /** A list of bits with rank and select. */
-class RsVec : public detail::Owner<RsVec, vers_bits, VERS_KIND_BITS> {
+class RsVec : public detail::Owner<RsVec, vers_bits, VERS_KIND_BITS>,
+              public detail::FromBits<RsVec, vers_bits_build> {
 public:
-    /** The first `length` bits of `count` words, or all of them; the lowest bit of a word comes first. */
-    static RsVec from_words(const std::uint64_t *words, std::size_t count, std::size_t length) {
-        Status status;
-        return needed(from_words(words, count, length, status), status);
-    }
-    static std::optional<RsVec> from_words(const std::uint64_t *words, std::size_t count, std::size_t length,
-                                           Status &status) noexcept {
-        return made(status, [&](vers_bits *raw) { return vers_bits_of(raw, words, count, length); });
-    }
-    /** A one where an item is true. */
-    template <class Iterator>
-    static RsVec from_bits(Iterator first, Iterator last) {
-        detail::Words bits(first, last);
-        return from_words(bits.words.data(), bits.words.size(), bits.length);
-    }
-
     /** The bit at a place, 1 or 0. */
     std::optional<std::uint64_t> get(std::uint64_t place) const noexcept {
         return detail::found(vers_bits_get(&raw_, place));
@@ -346,27 +572,15 @@ public:
 private:
     friend Owner;
     explicit RsVec(Nothing) noexcept {}
+    bool has_contents_of(const RsVec &other) const noexcept { return has_bits_of(other); }
 };
 
-/** A list of bits with few ones, kept by their places. */
-class SparseRSVec : public detail::Owner<SparseRSVec, vers_sparse, VERS_KIND_SPARSE> {
+/** A list of bits with few ones. `from(ones, length)` takes the places of the ones, and refuses them if they don't
+ *  ascend strictly, or one isn't below `length`. */
+class SparseRSVec : public detail::Owner<SparseRSVec, vers_sparse, VERS_KIND_SPARSE>,
+                    public detail::FromNumbers<SparseRSVec, std::optional<SparseRSVec>, vers_sparse_build,
+                                               std::uint64_t> {
 public:
-    /** `length` bits with ones at the places of an array. nullopt where the places don't ascend strictly, or one isn't
-     *  below `length`. */
-    static std::optional<SparseRSVec> from(const std::uint64_t *ones, std::size_t count, std::uint64_t length) {
-        Status status;
-        return wanted(from(ones, count, length, status), status);
-    }
-    static std::optional<SparseRSVec> from(const std::uint64_t *ones, std::size_t count, std::uint64_t length,
-                                           Status &status) noexcept {
-        return made(status, [&](vers_sparse *raw) { return vers_sparse_of(raw, ones, count, length); });
-    }
-    template <class Iterator, class = typename std::iterator_traits<Iterator>::value_type>
-    static std::optional<SparseRSVec> from(Iterator first, Iterator last, std::uint64_t length) {
-        auto ones = detail::gathered(first, last);
-        return from(ones.data(), ones.size(), length);
-    }
-
     /** The bit at a place, 1 or 0. */
     std::optional<std::uint64_t> get(std::uint64_t place) const noexcept { return find(VERS_GET, place); }
     /** How many ones, or zeros, stand before a place; all of them past the end. */
@@ -382,25 +596,16 @@ public:
 private:
     friend Owner;
     explicit SparseRSVec(Nothing) noexcept {}
+    bool has_contents_of(const SparseRSVec &other) const noexcept {
+        const std::uint64_t ones = rank1(len());
+        return ones == other.rank1(len()) && agrees(other, VERS_SELECT1, ones);
+    }
 };
 
-/** Numbers that ascend, equal ones allowed. */
-class EliasFanoVec : public detail::Owner<EliasFanoVec, vers_sorted, VERS_KIND_SORTED> {
+/** Numbers that ascend, equal ones allowed. `from(numbers)` refuses them if one is below the one before it. */
+class EliasFanoVec : public detail::Owner<EliasFanoVec, vers_sorted, VERS_KIND_SORTED>,
+                     public detail::FromNumbers<EliasFanoVec, std::optional<EliasFanoVec>, vers_sorted_build> {
 public:
-    /** The numbers of an array. nullopt where one is below the one before it. */
-    static std::optional<EliasFanoVec> from(const std::uint64_t *numbers, std::size_t count) {
-        Status status;
-        return wanted(from(numbers, count, status), status);
-    }
-    static std::optional<EliasFanoVec> from(const std::uint64_t *numbers, std::size_t count, Status &status) noexcept {
-        return made(status, [&](vers_sorted *raw) { return vers_sorted_of(raw, numbers, count); });
-    }
-    template <class Iterator>
-    static std::optional<EliasFanoVec> from(Iterator first, Iterator last) {
-        auto numbers = detail::gathered(first, last);
-        return from(numbers.data(), numbers.size());
-    }
-
     std::optional<std::uint64_t> get(std::uint64_t place) const noexcept {
         return detail::found(vers_sorted_get(&raw_, place));
     }
@@ -427,26 +632,14 @@ private:
     explicit EliasFanoVec(Nothing) noexcept {}
 };
 
-/** A list of symbols, which are numbers of up to 64 bits. A range is without its end. Of a symbol that is passed the
- *  low bits count, as many as a symbol has. */
-class WaveletMatrix : public detail::Owner<WaveletMatrix, vers_symbols, VERS_KIND_SYMBOLS> {
+/** A list of symbols, which are numbers of up to 64 bits. `from(numbers, width)` takes their `width` low bits, and
+ *  refuses a width above 64. A range is without its end. Of a symbol that is passed the low bits count, as many as a
+ *  symbol has. */
+class WaveletMatrix : public detail::Owner<WaveletMatrix, vers_symbols, VERS_KIND_SYMBOLS>,
+                      public detail::FromNumbers<WaveletMatrix, std::optional<WaveletMatrix>, vers_symbols_build,
+                                                 std::uint32_t> {
 public:
     using Found = std::optional<std::uint64_t>;
-
-    /** The `width` low bits of the numbers of an array. nullopt where `width` is above 64. */
-    static std::optional<WaveletMatrix> from(const std::uint64_t *numbers, std::size_t count, std::uint32_t width) {
-        Status status;
-        return wanted(from(numbers, count, width, status), status);
-    }
-    static std::optional<WaveletMatrix> from(const std::uint64_t *numbers, std::size_t count, std::uint32_t width,
-                                             Status &status) noexcept {
-        return made(status, [&](vers_symbols *raw) { return vers_symbols_of(raw, numbers, count, width); });
-    }
-    template <class Iterator, class = typename std::iterator_traits<Iterator>::value_type>
-    static std::optional<WaveletMatrix> from(Iterator first, Iterator last, std::uint32_t width) {
-        auto numbers = detail::gathered(first, last);
-        return from(numbers.data(), numbers.size(), width);
-    }
 
     Found get(std::uint64_t place) const noexcept { return detail::found(vers_symbols_get(&raw_, place)); }
     /** How many bits a symbol has. */
@@ -494,24 +687,15 @@ public:
 private:
     friend Owner;
     explicit WaveletMatrix(Nothing) noexcept {}
+    bool has_contents_of(const WaveletMatrix &other) const noexcept {
+        return bits_per_element() == other.bits_per_element() && agrees(other, VERS_GET, len());
+    }
 };
 
-/** A list of values that finds the least of a range, in few bits more. */
-class FastRmq : public detail::Owner<FastRmq, vers_fast_rmq, VERS_KIND_FAST> {
+/** A list of values that finds the least of a range, in few bits more. Made by `from(values)`. */
+class FastRmq : public detail::Owner<FastRmq, vers_fast_rmq, VERS_KIND_FAST>,
+                public detail::FromNumbers<FastRmq, FastRmq, vers_fast_rmq_build> {
 public:
-    static FastRmq from(const std::uint64_t *values, std::size_t count) {
-        Status status;
-        return needed(from(values, count, status), status);
-    }
-    static std::optional<FastRmq> from(const std::uint64_t *values, std::size_t count, Status &status) noexcept {
-        return made(status, [&](vers_fast_rmq *raw) { return vers_fast_rmq_of(raw, values, count); });
-    }
-    template <class Iterator>
-    static FastRmq from(Iterator first, Iterator last) {
-        auto values = detail::gathered(first, last);
-        return from(values.data(), values.size());
-    }
-
     std::optional<std::uint64_t> get(std::uint64_t place) const noexcept {
         return detail::found(vers_fast_rmq_get(&raw_, place));
     }
@@ -529,22 +713,11 @@ private:
     explicit FastRmq(Nothing) noexcept {}
 };
 
-/** A list of values that finds the least of a range by a table, of 4 bytes for each value and power of two. */
-class BinaryRmq : public detail::Owner<BinaryRmq, vers_binary_rmq, VERS_KIND_BINARY> {
+/** A list of values that finds the least of a range by a table, of 4 bytes for each value and power of two. Made by
+ *  `from(values)`. */
+class BinaryRmq : public detail::Owner<BinaryRmq, vers_binary_rmq, VERS_KIND_BINARY>,
+                  public detail::FromNumbers<BinaryRmq, BinaryRmq, vers_binary_rmq_build> {
 public:
-    static BinaryRmq from(const std::uint64_t *values, std::size_t count) {
-        Status status;
-        return needed(from(values, count, status), status);
-    }
-    static std::optional<BinaryRmq> from(const std::uint64_t *values, std::size_t count, Status &status) noexcept {
-        return made(status, [&](vers_binary_rmq *raw) { return vers_binary_rmq_of(raw, values, count); });
-    }
-    template <class Iterator>
-    static BinaryRmq from(Iterator first, Iterator last) {
-        auto values = detail::gathered(first, last);
-        return from(values.data(), values.size());
-    }
-
     std::optional<std::uint64_t> get(std::uint64_t place) const noexcept { return find(VERS_GET, place); }
     /** The first place of a least value from one place to another, both included, while that of symbols excludes the
      *  end and is a symbol. nullopt for no such range. */
@@ -562,30 +735,15 @@ private:
 
 /** Trees as parentheses, of which a one opens and a zero closes. A node is the place where it opens. Queries of nodes
  *  answer nullopt also where the parentheses aren't balanced, or no node opens at a place that is passed. */
-class BpTree : public detail::Owner<BpTree, vers_tree, VERS_KIND_TREE> {
+class BpTree : public detail::Owner<BpTree, vers_tree, VERS_KIND_TREE>,
+               public detail::FromBits<BpTree, vers_tree_build> {
 public:
     using Found = std::optional<std::uint64_t>;
 
-    /** The first `length` bits of `count` words, or all of them; the lowest bit of a word comes first. */
-    static BpTree from_words(const std::uint64_t *words, std::size_t count, std::size_t length) {
-        Status status;
-        return needed(from_words(words, count, length, status), status);
-    }
-    static std::optional<BpTree> from_words(const std::uint64_t *words, std::size_t count, std::size_t length,
-                                            Status &status) noexcept {
-        return made(status, [&](vers_tree *raw) { return vers_tree_of(raw, words, count, length); });
-    }
-    /** An opening parenthesis where an item is true. */
-    template <class Iterator>
-    static BpTree from_bits(Iterator first, Iterator last) {
-        detail::Words bits(first, last);
-        return from_words(bits.words.data(), bits.words.size(), bits.length);
-    }
-
+    /** The parenthesis at a place, 1 if it opens and 0 if it closes. */
+    Found get(std::uint64_t place) const noexcept { return detail::found(vers_tree_is_open(&raw_, place)); }
     /** Whether the parenthesis at a place opens. nullopt past the end. */
-    std::optional<bool> is_open(std::uint64_t place) const noexcept {
-        return truth(detail::found(vers_tree_is_open(&raw_, place)));
-    }
+    std::optional<bool> is_open(std::uint64_t place) const noexcept { return truth(get(place)); }
     /** The first root. nullopt where there are no parentheses. */
     Found root() const noexcept { return detail::found(vers_tree_root(&raw_)); }
     /** How many ones: of balanced parentheses, how many nodes. */
@@ -642,6 +800,9 @@ public:
         return truth(find(VERS_IS_ANCESTOR, ancestor, node));
     }
 
+    detail::Items<BpTree> begin() const noexcept { return {this, 0}; }
+    detail::Items<BpTree> end() const noexcept { return {this, len()}; }
+
 private:
     friend Owner;
     explicit BpTree(Nothing) noexcept {}
@@ -674,8 +835,11 @@ private:
 
 /** Documents, which ascend strictly, each with a cost. */
 class Postings : public detail::Owner<Postings, vers_postings, VERS_KIND_POSTINGS> {
+    using Numbers64 = std::initializer_list<std::uint64_t>;
+
 public:
-    /** `count` documents and as many costs. nullopt where the documents don't ascend strictly. */
+    /** `count` documents and as many costs. Refused if the documents don't ascend strictly, or there are more or fewer
+     *  costs. */
     static std::optional<Postings> from(const std::uint64_t *documents, const std::uint64_t *costs, std::size_t count) {
         Status status;
         return wanted(from(documents, costs, count, status), status);
@@ -683,6 +847,33 @@ public:
     static std::optional<Postings> from(const std::uint64_t *documents, const std::uint64_t *costs, std::size_t count,
                                         Status &status) noexcept {
         return made(status, [&](vers_postings *raw) { return vers_postings_of(raw, documents, costs, count); });
+    }
+    /** Documents from one iterator to another, and as many costs from a third one on. */
+    template <class Document, class Cost, class = detail::Value<Document>, class = detail::Value<Cost>>
+    static std::optional<Postings> from(Document first, Document last, Cost costs) {
+        Status status;
+        return wanted(from(first, last, costs, status), status);
+    }
+    template <class Document, class Cost, class = detail::Value<Document>, class = detail::Value<Cost>>
+    static std::optional<Postings> from(Document first, Document last, Cost costs, Status &status) {
+        return from(detail::Between<Document>{first, last},
+                    detail::Between<Cost>{costs, std::next(costs, std::distance(first, last))}, status);
+    }
+    template <class Documents = Numbers64, class Costs = Numbers64, class = detail::Item<Documents>,
+              class = detail::Item<Costs>>
+    static std::optional<Postings> from(Documents &&documents, Costs &&costs) {
+        Status status;
+        return wanted(from(documents, costs, status), status);
+    }
+    template <class Documents = Numbers64, class Costs = Numbers64, class = detail::Item<Documents>,
+              class = detail::Item<Costs>>
+    static std::optional<Postings> from(Documents &&documents, Costs &&costs, Status &status) {
+        return detail::with_numbers(documents, status, [&](const std::uint64_t *numbers, std::size_t count) {
+            return detail::with_numbers(costs, status, [&](const std::uint64_t *more, std::size_t of_costs) {
+                if (count == of_costs) return from(numbers, more, count, status);
+                return status = Status::refused, std::optional<Postings>();
+            });
+        });
     }
 
     /** The document at a place, and its cost. */
@@ -715,23 +906,18 @@ public:
 private:
     friend Owner;
     explicit Postings(Nothing) noexcept {}
+    bool has_contents_of(const Postings &other) const noexcept {
+        return agrees(other, VERS_GET, len()) && agrees(other, VERS_COST, len());
+    }
 };
 
-/** A text of symbols of at most 16 bits, in which patterns are found. The pattern without symbols has each place, and
- *  the end. */
-class TextIndex : public detail::Owner<TextIndex, vers_text> {
+/** A text of symbols of at most 16 bits, in which patterns are found. `from(symbols, width, step)` keeps one place for
+ *  each `step`, 32 if none is named. It refuses symbols of more than `width` bits, more than 2^32 - 2 symbols, a width
+ *  of 0 or above 16, and a step of 0. The pattern without symbols has each place, and the end. */
+class TextIndex : public detail::Owner<TextIndex, vers_text>, public detail::FromText, public detail::FromTextByStep {
 public:
-    /** The text of `count` symbols of `width` bits, with one place kept for each `step`. nullopt if a symbol has more
-     *  bits, `width` is 0 or above 16, `step` is 0, or the symbols are more than 2^32 - 2. */
-    static std::optional<TextIndex> from(const std::uint64_t *symbols, std::size_t count, std::uint32_t width,
-                                         std::size_t step = 32) {
-        Status status;
-        return wanted(from(symbols, count, width, step, status), status);
-    }
-    static std::optional<TextIndex> from(const std::uint64_t *symbols, std::size_t count, std::uint32_t width,
-                                         std::size_t step, Status &status) noexcept {
-        return made(status, [&](vers_text *raw) { return vers_text_of(raw, symbols, count, width, step); });
-    }
+    using detail::FromText::from;
+    using detail::FromTextByStep::from;
 
     /** How many bits a symbol has. */
     std::uint64_t width() const noexcept { return ask(VERS_WIDTH).value; }
@@ -766,6 +952,17 @@ public:
 private:
     friend Owner;
     explicit TextIndex(Nothing) noexcept {}
+    /** Extracts both texts, by 2^16 symbols. */
+    bool has_contents_of(const TextIndex &other) const {
+        constexpr std::size_t most = 65536;
+        const auto length = static_cast<std::size_t>(len());
+        if (width() != other.width()) return false;
+        for (std::size_t start = 0; start < length; start += most) {
+            const std::size_t end = start + std::min(most, length - start);
+            if (extract(start, end) != other.extract(start, end)) return false;
+        }
+        return true;
+    }
 };
 
 }  // namespace vers
