@@ -9,9 +9,10 @@
 
 - The codes of statuses, queries and changes in vers.h, in the Python package and in bindings/c/src are those of
   crates/vers_c, one after another.
-- C and C++ are compiled without a warning; their tests pass, also under memcheck and helgrind. What C++ refuses doesn't
-  compile.
-- The package for pkg-config leads to header and library.
+- C and C++ are compiled without a warning, C++ as C++17 and C++20; their tests pass, also under memcheck and helgrind.
+  What C++ refuses doesn't compile.
+- The packages for pkg-config and CMake lead to headers and libraries, in a prefix and, by CMake, in the folder in which
+  cargo builds. CMake finds no other version, and no library that is not there.
 - Python's tests pass, with each Python that is there, also of parts on processes and on Dask's workers; its examples
   too, and an installed wheel works.
 - The package for Python says in one line what it needs if there is no library, and its source distribution makes a
@@ -72,6 +73,13 @@ class Checks:
         if wanted is not None:
             print(f"wanted:\n{wanted}")
         return False
+
+    def note(self, is_right, said):
+        """Counts a check, and prints a line if it fails."""
+        self.passed += is_right
+        self.failed += not is_right
+        if not is_right:
+            print(f"failed: {self.library}{said}")
 
     def has(self, tool, what):
         """Whether a tool is there, and a quick check uses it; what is left out is noted."""
@@ -206,11 +214,9 @@ def check_codes(checks, write):
         if write:
             with open(path, "w", encoding="utf-8") as file:
                 file.write(wanted)
-        elif text == wanted and "/**< . */" not in text:
-            checks.passed += 1
         else:
-            checks.failed += 1
-            print(f"failed: the codes of {path} aren't those of crates/vers_c (--write writes them)")
+            checks.note(text == wanted and "/**< . */" not in text,
+                        f"the codes of {path} aren't those of crates/vers_c (--write writes them)")
 
 
 def check_c(checks, link):
@@ -241,8 +247,9 @@ def check_cpp(checks, link):
             continue
         made, test = checks.path(f"test_{compiler}"), os.path.join(CPP, "test.cpp")
         for standard in ("c++20", "c++17"):
-            command = [compiler, f"-std={standard}", *STRICT, f"-I{CPP}", test, "-o", made, *link, "-lpthread", REFUSING]
-            has_passed = checks.run(f"{standard} by {compiler}", command) and checks.run(f"C++ by {compiler}", [made])
+            compiling = [compiler, f"-std={standard}", *STRICT, f"-I{CPP}", test, "-o", made]
+            what = f"{standard} by {compiler}"
+            has_passed = checks.run(what, [*compiling, *link, "-lpthread", REFUSING]) and checks.run(what, [made])
         if has_passed:
             valgrind(checks, f"C++ by {compiler}", made, compiler == "g++")
         check_refused(checks, compiler)
@@ -258,26 +265,77 @@ def check_refused(checks, compiler):
     for number in re.findall(r"REFUSED == (\d+)", read(test)):
         done = subprocess.run([*compiling, f"-DREFUSED={number}"], capture_output=True, text=True, check=False)
         is_refused = done.returncode != 0 and "the items are" in done.stderr
-        checks.passed += is_refused
-        checks.failed += not is_refused
-        if not is_refused:
-            print(f"failed: {test} compiles by {compiler} with REFUSED={number}")
+        checks.note(is_refused, f"{test} compiles by {compiler} with REFUSED={number}")
 
 
-def check_pkg_config(checks, link):
-    """An installed header and library, as pkg-config finds them."""
+def version():
+    """The version of the library."""
+    return re.search(r'(?m)^version = "(.*)"$', read(os.path.join(C, "Cargo.toml")))[1]
+
+
+def installed(checks, link):
+    """A prefix with headers, libraries, and the packages for pkg-config and CMake."""
     prefix = checks.path("prefix")
     shutil.rmtree(prefix, ignore_errors=True)
-    for folder in ("include", "lib/pkgconfig"):
-        os.makedirs(os.path.join(prefix, folder))
-    for path in (os.path.join(C, "vers.h"), os.path.join(CPP, "vers.hpp")):
-        shutil.copy(path, os.path.join(prefix, "include"))
-    for path in link:
-        shutil.copy(path, os.path.join(prefix, "lib"))
+    folders = {"include": [os.path.join(C, "vers.h"), os.path.join(CPP, "vers.hpp")], "lib": link, "lib/pkgconfig": [],
+               "lib/cmake/vers": glob.glob(os.path.join(C, "*.cmake"))}
+    for folder, paths in folders.items():
+        os.makedirs(os.path.join(prefix, folder), exist_ok=True)
+        for path in paths:
+            shutil.copy(path, os.path.join(prefix, folder))
     libraries = " ".join("-l" + os.path.basename(it)[3:-2] for it in link)
-    values = {"@PREFIX@": prefix, "@VERSION@": "0", "@LIBRARIES@": libraries}
+    values = {"@PREFIX@": prefix, "@VERSION@": version(), "@LIBRARIES@": libraries}
     with open(os.path.join(prefix, "lib/pkgconfig/vers.pc"), "w", encoding="utf-8") as file:
         file.write(re.sub("@[A-Z]+@", lambda it: values[it[0]], read(os.path.join(C, "vers.pc.in"))))
+    return prefix
+
+
+def check_requests(checks, place, libraries):
+    """What CMake finds in a place: this version, later ones of the same minor number, and the libraries that are
+    there."""
+    project, number = checks.path("asking"), version()
+    minor = number.rpartition(".")[0]
+    os.makedirs(project, exist_ok=True)
+    with open(os.path.join(project, "CMakeLists.txt"), "w", encoding="utf-8") as file:
+        file.write("cmake_minimum_required(VERSION 3.13)\nproject(asking NONE)\nfind_package(vers ${ASKED} REQUIRED)\n")
+    # what is asked for, and what an error says, if it is one
+    requests = {**dict.fromkeys(["", minor, f"{number};EXACT"], ""),
+                **dict.fromkeys([f"{number}.1", f"{minor}.99", minor.replace(".", ".1"), "0", "99"], number),
+                **{f"COMPONENTS;{it}": "" if it in libraries else f"vers::{it}" for it in ("static", "shared")},
+                "OPTIONAL_COMPONENTS;static;shared": ""}
+    for request, wanted in requests.items():
+        command = ["cmake", "-S", project, "-B", f"{project}/build", "-Dvers_DIR=", f"-DCMAKE_PREFIX_PATH={place}"]
+        done = subprocess.run([*command, f"-DASKED={request}"], capture_output=True, text=True, check=False)
+        is_right = (done.returncode != 0) == bool(wanted) and wanted in done.stderr
+        checks.note(is_right, f"find_package(vers {request}): {done.stderr}")
+
+
+def check_cmake(checks, place, libraries):
+    """The package for CMake in a place: what is found, and the examples with each library."""
+    build = checks.path("build")
+    shutil.rmtree(build, ignore_errors=True)
+    check_requests(checks, place, libraries)
+    configure = ["cmake", "-S", CPP, "-B", build, f"-DCMAKE_PREFIX_PATH={place}"]
+    if checks.run("CMake", configure) and checks.run("CMake", ["cmake", "--build", build]):
+        for library, language in itertools.product(libraries, ("c", "cpp")):
+            checks.run("example by CMake", [os.path.join(build, f"{language}_{library}")])
+
+
+def check_cmake_packages(checks, library, prefix):
+    """The packages for CMake: that of a prefix, and that of the folder in which cargo builds."""
+    if not checks.has("cmake", "the examples by CMake") or not checks.has("make", "the examples by CMake"):
+        return
+    check_cmake(checks, prefix, ["static"])
+    if library.named == "cargo":
+        tree = checks.path("tree")
+        shutil.copytree(C, os.path.join(tree, "c"), ignore=shutil.ignore_patterns("target"))
+        shutil.copytree(CPP, os.path.join(tree, "cpp"))
+        os.symlink(library.target, os.path.join(tree, "c", "target"))
+        check_cmake(checks, os.path.join(tree, "c"), ["static", "shared"])
+
+
+def check_pkg_config(checks, prefix):
+    """Installed headers and libraries, as pkg-config finds them."""
     if not checks.has("pkg-config", "the examples by pkg-config"):
         return
     environment = {**os.environ, "PKG_CONFIG_PATH": os.path.join(prefix, "lib/pkgconfig")}
@@ -352,10 +410,7 @@ def check_source(checks, python, environment):
     bare = {**environment, "VERS_C": "", "PYTHONPATH": alone, "PATH": alone}
     run = subprocess.run(link, env=bare, cwd=alone, capture_output=True, text=True, check=False)
     is_one_line = run.returncode == 1 and len(run.stderr.splitlines()) == 1 and run.stderr.startswith("vers: ")
-    checks.passed += is_one_line
-    checks.failed += not is_one_line
-    if not is_one_line:
-        print(f"failed: what a folder without a library says: {run.stderr}")
+    checks.note(is_one_line, f"what a folder without a library says: {run.stderr}")
 
 
 def check_pages(checks, link):
@@ -387,7 +442,9 @@ def check_all(checks, library):
     link = library.link()
     check_c(checks, link)
     check_cpp(checks, link)
-    check_pkg_config(checks, link)
+    prefix = installed(checks, link)
+    check_pkg_config(checks, prefix)
+    check_cmake_packages(checks, library, prefix)
     check_python(checks, library)
     check_pages(checks, link)
 

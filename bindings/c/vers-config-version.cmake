@@ -1,0 +1,16 @@
+# Accepts a requested version of the same major and minor number that is not newer than the library's, which is that of
+# Cargo.toml in this folder, or of vers.pc in the same prefix.
+foreach(_vers_file IN ITEMS Cargo.toml ../../pkgconfig/vers.pc)
+    if(EXISTS "${CMAKE_CURRENT_LIST_DIR}/${_vers_file}")
+        file(STRINGS "${CMAKE_CURRENT_LIST_DIR}/${_vers_file}" _vers_line REGEX "^[Vv]ersion" LIMIT_COUNT 1)
+        string(REGEX MATCH "[0-9.]+" PACKAGE_VERSION "${_vers_line}")
+        break()
+    endif()
+endforeach()
+string(REGEX MATCH "^[0-9]+\\.[0-9]+" _vers_minor "${PACKAGE_VERSION}.0")
+if(PACKAGE_FIND_VERSION VERSION_EQUAL PACKAGE_VERSION)
+    set(PACKAGE_VERSION_EXACT TRUE)
+endif()
+if(NOT PACKAGE_FIND_VERSION VERSION_GREATER PACKAGE_VERSION AND NOT PACKAGE_FIND_VERSION VERSION_LESS _vers_minor)
+    set(PACKAGE_VERSION_COMPATIBLE TRUE)
+endif()

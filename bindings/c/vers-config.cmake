@@ -1,0 +1,48 @@
+# Defines vers::static and vers::shared, each if its library is there: in lib of the prefix that has this file in
+# lib/cmake/vers, or in target/release of this folder, where cargo builds them. vers_LIBRARY_DIR is another folder of
+# libraries, such as that of another processor. Components are `static` and `shared`.
+if(EXISTS "${CMAKE_CURRENT_LIST_DIR}/Cargo.toml")
+    set(_vers_include "${CMAKE_CURRENT_LIST_DIR}" "${CMAKE_CURRENT_LIST_DIR}/../cpp")
+    set(_vers_library "${CMAKE_CURRENT_LIST_DIR}/target/release")
+else()
+    get_filename_component(_vers_prefix "${CMAKE_CURRENT_LIST_DIR}/../../.." ABSOLUTE)
+    set(_vers_include "${_vers_prefix}/include")
+    set(_vers_library "${_vers_prefix}/lib")
+endif()
+if(vers_LIBRARY_DIR)
+    set(_vers_library "${vers_LIBRARY_DIR}")
+endif()
+
+# The proved archive calls the heap through a second one.
+foreach(_vers_file IN ITEMS libvers_c.a libvers.a)
+    if(EXISTS "${_vers_library}/${_vers_file}" AND NOT TARGET vers::static)
+        add_library(vers::static STATIC IMPORTED)
+        set_target_properties(vers::static PROPERTIES IMPORTED_LOCATION "${_vers_library}/${_vers_file}")
+        if(_vers_file STREQUAL "libvers_c.a")
+            set_target_properties(vers::static PROPERTIES
+                INTERFACE_LINK_LIBRARIES "${_vers_library}/liblibc_c.a")
+        endif()
+    endif()
+endforeach()
+if(EXISTS "${_vers_library}/libvers.so" AND NOT TARGET vers::shared)
+    add_library(vers::shared SHARED IMPORTED)
+    set_target_properties(vers::shared PROPERTIES
+        IMPORTED_LOCATION "${_vers_library}/libvers.so" IMPORTED_NO_SONAME TRUE)
+endif()
+
+foreach(_vers_component IN ITEMS static shared)
+    if(TARGET vers::${_vers_component})
+        set_target_properties(vers::${_vers_component} PROPERTIES INTERFACE_INCLUDE_DIRECTORIES "${_vers_include}")
+        set(vers_${_vers_component}_FOUND TRUE)
+    endif()
+endforeach()
+if(NOT TARGET vers::static AND NOT TARGET vers::shared)
+    set(vers_FOUND FALSE)
+    set(vers_NOT_FOUND_MESSAGE "${_vers_library} has no library of vers")
+endif()
+foreach(_vers_component IN LISTS vers_FIND_COMPONENTS)
+    if(vers_FIND_REQUIRED_${_vers_component} AND NOT vers_${_vers_component}_FOUND)
+        set(vers_FOUND FALSE)
+        set(vers_NOT_FOUND_MESSAGE "${_vers_library} has no library for vers::${_vers_component}")
+    endif()
+endforeach()
