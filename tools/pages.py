@@ -1,9 +1,9 @@
 #!/usr/bin/env python3
-"""Writes docs/CALLS.md and docs/DEFINITIONS.md, and the figures of README's table of times.
+"""Writes docs/CALLS.md, docs/DEFINITIONS.md and docs/vers.1, and the figures of README's table of times.
 
 CALLS lists the calls that `cargo doc` describes under the same names by the bounds on their reads. Each other call is
 there as it is declared, with the first sentence of its doc comment, its preconditions, and the bound on the reads of
-its counted form. `tools/definitions.py` writes DEFINITIONS.
+its counted form. `tools/definitions.py` writes DEFINITIONS, and `tools/manual.py` vers.1.
 
 A row of a table of PERFORMANCE is read if its first cell is a call, such as `rank1` or `FastRmq::range_min`, or a call
 and what its time is for, such as "`iter1`, a position". Nothing is measured.
@@ -18,6 +18,7 @@ import textwrap
 from collections import defaultdict, namedtuple
 
 import definitions
+import manual
 from rust_contracts import ADDS, facade_files
 from sources import TOP, public_functions, read, read_crate, write_or_check
 
@@ -167,5 +168,5 @@ if __name__ == "__main__":
     misplaced = list(misplaced_names(TOP))
     print("".join(f"{it}\n" for it in misplaced), end="", file=sys.stderr)
     readme = with_figures(read(f"{TOP}/{README}"), figures(TOP))
-    pages = {PAGE: page(TOP), definitions.PAGE: definitions.page(TOP), README: readme}
+    pages = {PAGE: page(TOP), definitions.PAGE: definitions.page(TOP), manual.PAGE: manual.page(TOP), README: readme}
     sys.exit(write_or_check(pages, "tools/pages.py") or bool(misplaced))
