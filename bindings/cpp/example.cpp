@@ -4,9 +4,8 @@
 
 int main() {
     const std::vector<std::uint64_t> symbols = {3, 1, 4, 1, 5, 1, 2, 6};
-    const std::uint64_t numbers[] = {1, 4, 9, 16, 25};
-    auto text = vers::WaveletMatrix::from(symbols.begin(), symbols.end(), 3);
-    auto squares = vers::EliasFanoVec::from(numbers, 5);
+    auto text = vers::WaveletMatrix::from(symbols, 3);
+    auto squares = vers::EliasFanoVec::from({1, 4, 9, 16, 25});
     if (!text || !squares) return 1;
     std::cout << "ones before place 6: " << *text->rank(6, 1) << "\n";
     std::cout << "the third least of places 2 to 7: " << *text->quantile(2, 8, 2) << "\n";

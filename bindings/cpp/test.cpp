@@ -157,6 +157,9 @@ static void test_differences(const Numbers &items, Make make) {
     Numbers shorter = items;
     shorter.pop_back();
     check("another length", list != make(shorter) && make(shorter) != list && make({}) != list);
+    List emptied = make({});
+    const List empty = std::move(emptied);
+    check("empty is not none", empty != emptied && emptied == emptied && empty == make({}));
 }
 
 static void test_bits() {
@@ -375,14 +378,16 @@ static void test_texts() {
     test_owner(text->clone());
 }
 
-static bool is_refused = false;
+static bool is_refused = false, is_refused_once = false;
+static unsigned long requests = 0;
+static bool is_granted() { return ++requests, !is_refused && !std::exchange(is_refused_once, false); }
 extern "C" {
 void *__real_malloc(std::size_t size);
 void *__real_realloc(void *at, std::size_t size);
 void *__wrap_malloc(std::size_t size);
 void *__wrap_realloc(void *at, std::size_t size);
-void *__wrap_malloc(std::size_t size) { return is_refused ? nullptr : __real_malloc(size); }
-void *__wrap_realloc(void *at, std::size_t size) { return is_refused ? nullptr : __real_realloc(at, size); }
+void *__wrap_malloc(std::size_t size) { return is_granted() ? __real_malloc(size) : nullptr; }
+void *__wrap_realloc(void *at, std::size_t size) { return is_granted() ? __real_realloc(at, size) : nullptr; }
 }
 
 // Whether a call throws std::bad_alloc while the library is refused memory.
@@ -446,18 +451,36 @@ static void test_memory() {
     const std::list<std::uint64_t> linked(numbers.begin(), numbers.end());
     check("from a range", is_thrown([&] { vers::EliasFanoVec::from(linked); }));
     check("from_bits", is_thrown([&] { vers::BpTree::from_bits(linked.begin(), linked.end()); }));
-    is_refused = true;
+    is_refused_once = true;
     check("of a range", !vers::FastRmq::from(linked, status) && status == Status::no_memory);
-    status = Status::done;
+    is_refused_once = true;
     check("of bits", !vers::RsVec::from_bits(linked, status) && status == Status::no_memory);
-    status = Status::done;
-    check("of two", !vers::Postings::from(linked, numbers, status) && status == Status::no_memory);
-    status = Status::done;
+    is_refused_once = true;
+    check("of two", !vers::Postings::from(numbers, linked, status) && status == Status::no_memory);
+    is_refused = true;
     check("status", !vers::RsVec::from_words(numbers.data(), 3, 192, status) && status == Status::no_memory);
     const auto other = bits.clone(status); // one that takes no memory is granted
     check("status of clone", other ? status == Status::done && other->len() == 192 : status == Status::no_memory);
     is_refused = false;
     check("still there", bits.len() == 192);
+}
+
+// How often a call requests memory.
+template <class Call>
+static unsigned long count_requests(Call call) {
+    const unsigned long before = requests;
+    call();
+    return requests - before;
+}
+
+// Numbers of 64 bits in an array are not copied before the list is made, and others are.
+static void test_copies() {
+    const Numbers numbers = {1, 2, 3};
+    const std::list<std::uint64_t> linked(numbers.begin(), numbers.end());
+    const unsigned long least = count_requests([&] { vers::FastRmq::from(numbers.data(), 3); });
+    check("container", count_requests([&] { vers::FastRmq::from(numbers); }) == least);
+    check("pointers", count_requests([&] { vers::FastRmq::from(numbers.data(), numbers.data() + 3); }) == least);
+    check("copy", count_requests([&] { vers::FastRmq::from(linked); }) == least + 1);
 }
 
 static void test_constructors() {
@@ -477,6 +500,8 @@ static void test_constructors() {
         test_from_bits<vers::RsVec>(bits);
         test_from_bits<vers::BpTree>(bits);
     }
+    std::uint64_t array[] = {2, 1, 2, 1, 2};
+    check("array of C", vers::TextIndex::from(array, 3, 2)->len() == 3);
     const auto text = vers::TextIndex::from({2, 1, 2}, 2);
     check("in braces", vers::EliasFanoVec::from({2, 5, 90})->get(2) == Found(90) && text->step() == 32);
     check("of a list", vers::FastRmq::from(*vers::EliasFanoVec::from({2, 5})) == vers::FastRmq::from({2, 5}));
@@ -526,6 +551,7 @@ static void test_equality() {
             if (it[i]) ones.push_back(i);
         return *vers::SparseRSVec::from(ones, it.size());
     });
+    check("another one", *vers::SparseRSVec::from({1, 3}, 6) != *vers::SparseRSVec::from({1, 4}, 6));
     check("a longer sparse list", *vers::SparseRSVec::from({1}, 5) != *vers::SparseRSVec::from({1}, 6));
     check("a wider symbol", *vers::WaveletMatrix::from({1}, 5) != *vers::WaveletMatrix::from({1}, 6));
     check("a wider text", *vers::TextIndex::from({1}, 5) != *vers::TextIndex::from({1}, 6));
@@ -551,7 +577,8 @@ static void test_iterators() {
     check("index", first[2] == 90 && *(last - 1) == 91);
     check("steps", *++item == 5 && *item++ == 5 && *item == 90 && *--item == 5 && *item-- == 5 && item == first);
     check("jumps", *(item += 3) == 91 && *(item -= 2) == 5);
-    check("order", first < item && item > first && first <= first && last >= item && !(item < first) && item != first);
+    check("order", first < item && item > first && first <= item && item >= first && item != first);
+    check("no order", !(first < first) && !(first > first) && first <= first && first >= first && !(last <= first));
     const vers::BpTree tree = vers::BpTree::from_bits({1, 1, 0, 0});
     check("parentheses", Numbers(tree.begin(), tree.end()) == Numbers({1, 1, 0, 0}) && !tree.get(4));
 }
@@ -625,6 +652,7 @@ int main() {
     test_iterators();
     test_ranges();
     test_memory();
+    test_copies();
     test_threads();
     std::printf("%lu passed, %lu failed\n", passed, failed);
     return failed != 0;
