@@ -1,26 +1,27 @@
 /** @file vers.hpp
- *  The lists of vers.h for C++17, in this header alone, under the names of the crate vers-vecs.
+ *  The lists of vers.h for C++17 and later, in this header alone, under the names of the crate vers-vecs.
  *
- *      auto bits = vers::RsVec::from_bits(flags.begin(), flags.end());
- *      bits.rank1(1000);                                        // a number
- *      auto numbers = vers::EliasFanoVec::from(v.data(), v.size());   // nullopt where they don't ascend
- *      if (auto next = numbers->successor(17)) use(*next);      // nullopt where there is none
+ *      auto bits = vers::RsVec::from_bits(flags);
+ *      bits.rank1(1000);                                      // a number
+ *      auto numbers = vers::EliasFanoVec::from({2, 5, 90});   // nullopt if they don't ascend
+ *      if (auto next = numbers->successor(17)) use(*next);    // nullopt if there is none
  *
  *  Owners. Each object owns its list, is moved and not copied, and frees it when it is destroyed. One that was moved
  *  from owns nothing: it answers 0 or nullopt, its clone owns nothing either, and so do the Numbers that it answers.
  *
  *  Constructors. `from`, `from_words` and `from_bits` take a pointer and a length, two iterators, or a range: a
  *  container, a span, a view, numbers in braces. The arguments that a class names follow, such as a width. They return
- *  the list, or std::optional of it if the numbers can be refused: then nullopt. With a Status last they return
+ *  the list, or std::optional of it if the arguments can be refused: then nullopt. With a Status last they return
  *  std::optional, throw only what an iterator throws, and the status says why there is no list.
- *  Null is for a length of 0; with another one the numbers are refused, and the list owns nothing. An array of 64-bit
- *  numbers is read as it is, all others are copied. Iterators and ranges are over unsigned whole numbers, those of
- *  `from_bits` over whole numbers or truth values: others, and the characters of a text, don't compile.
+ *  Null is for a length of 0. Null with another length is refused, or the list owns nothing. An array of 64-bit
+ *  numbers is read without a copy. Iterators and ranges are over unsigned whole numbers, those of `from_bits` over
+ *  whole numbers or truth values: others, and the characters of a text, don't compile.
  *
  *  Ranges. A list with `begin` and `end` is a range, with random access in C++20. Lists compare by their contents.
  *
- *  Exceptions. None but std::bad_alloc, where memory is out. Where exceptions are off, or VERS_NO_EXCEPTIONS is
- *  defined, nothing throws: a change answers Status::no_memory, and a constructor without a Status ends the program.
+ *  Exceptions. Only std::bad_alloc, if memory is out. If exceptions are off, or VERS_NO_EXCEPTIONS is defined, nothing
+ *  throws: a change answers Status::no_memory, and a constructor without a Status, or == of a TextIndex, ends the
+ *  program.
  *
  *  Threads. An object is used by one thread at a time, though its queries are `const`, which says that the list stays
  *  as it is. Each thread asks an owner of its own, which `clone` makes in constant time. */
@@ -89,10 +90,11 @@ inline std::optional<std::uint64_t> found(vers_answer answer) noexcept {
     return answer.value;
 }
 
-template <class Iterator>
 #if defined(__cpp_lib_ranges)
+template <class Iterator>
 using Value = std::iter_value_t<Iterator>;
 #else
+template <class Iterator>
 using Value = typename std::iterator_traits<Iterator>::value_type;
 #endif
 
