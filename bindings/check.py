@@ -290,24 +290,31 @@ def installed(checks, link):
     return prefix
 
 
-def check_requests(checks, place, libraries):
-    """What CMake finds in a place: this version, later ones of the same minor number, and the libraries that are
-    there."""
-    project, number = checks.path("asking"), version()
-    minor = number.rpartition(".")[0]
+def check_request(checks, place, request, wanted, libraries=""):
+    """Requests the package from CMake: it is found, or the error says what is wanted."""
+    project = checks.path("asking")
     os.makedirs(project, exist_ok=True)
     with open(os.path.join(project, "CMakeLists.txt"), "w", encoding="utf-8") as file:
         file.write("cmake_minimum_required(VERSION 3.13)\nproject(asking NONE)\nfind_package(vers ${ASKED} REQUIRED)\n")
-    # what is asked for, and what an error says, if it is one
-    requests = {**dict.fromkeys(["", minor, f"{number};EXACT"], ""),
-                **dict.fromkeys([f"{number}.1", f"{minor}.99", minor.replace(".", ".1"), "0", "99"], number),
-                **{f"COMPONENTS;{it}": "" if it in libraries else f"vers::{it}" for it in ("static", "shared")},
-                "OPTIONAL_COMPONENTS;static;shared": ""}
-    for request, wanted in requests.items():
-        command = ["cmake", "-S", project, "-B", f"{project}/build", "-Dvers_DIR=", f"-DCMAKE_PREFIX_PATH={place}"]
-        done = subprocess.run([*command, f"-DASKED={request}"], capture_output=True, text=True, check=False)
-        is_right = (done.returncode != 0) == bool(wanted) and wanted in done.stderr
-        checks.note(is_right, f"find_package(vers {request}): {done.stderr}")
+    variables = {"vers_DIR": "", "vers_LIBRARY_DIR": libraries, "CMAKE_PREFIX_PATH": place, "ASKED": request}
+    command = ["cmake", "-S", project, "-B", f"{project}/build", *(f"-D{it}={variables[it]}" for it in variables)]
+    done = subprocess.run(command, capture_output=True, text=True, check=False)
+    is_right = (done.returncode != 0) == bool(wanted) and wanted in done.stderr
+    checks.note(is_right, f"find_package(vers {request}): {done.stderr}")
+
+
+def check_requests(checks, place, libraries):
+    """What CMake finds in a place: this version, and earlier ones of the same minor number; the libraries that are
+    there."""
+    number = version()
+    minor = number.rpartition(".")[0]
+    for request in ("", minor, f"{number};EXACT", "OPTIONAL_COMPONENTS;static;shared"):
+        check_request(checks, place, request, "")
+    for request in (f"{number}.1", f"{minor}.99", minor.replace(".", ".1"), "0", "99"):
+        check_request(checks, place, request, number)
+    for library in ("static", "shared"):
+        check_request(checks, place, f"COMPONENTS;{library}", "" if library in libraries else f"vers::{library}")
+    check_request(checks, place, "", f"{checks.folder} has no library", checks.folder)
 
 
 def check_cmake(checks, place, libraries):
@@ -318,7 +325,7 @@ def check_cmake(checks, place, libraries):
     configure = ["cmake", "-S", CPP, "-B", build, f"-DCMAKE_PREFIX_PATH={place}"]
     if checks.run("CMake", configure) and checks.run("CMake", ["cmake", "--build", build]):
         for library, language in itertools.product(libraries, ("c", "cpp")):
-            checks.run("example by CMake", [os.path.join(build, f"{language}_{library}")])
+            checks.run("example by CMake", ["env", os.path.join(build, f"{language}_{library}")])
 
 
 def check_cmake_packages(checks, library, prefix):
