@@ -230,7 +230,8 @@ def run(program, test, mutant, seconds):
     if done.returncode == 0:
         return "there is no such test", done.stderr
     at = re.search(r"panicked at (?:.*/)?(src/\S+:\d+)", done.stderr)
-    return f"fails at {at[1]}" if at else "it ends the process", done.stderr
+    other = "returns an error" if "1 failed" in done.stdout else "it ends the process"
+    return f"fails at {at[1]}" if at else other, done.stderr
 
 
 def timed(program, test):
