@@ -56,7 +56,7 @@ struct Line {
     times: usize,
 }
 
-const LINES: [Line; 9] = [
+const LINES: [Line; 10] = [
     Line {
         start: b"bits ",
         below: 0,
@@ -80,6 +80,12 @@ const LINES: [Line; 9] = [
         below: 0,
         text: b" 5",
         times: 150000,
+    },
+    Line {
+        start: b"symbols 64",
+        below: 0,
+        text: b" 18446744073709551615",
+        times: 15000,
     },
     Line {
         start: b"sorted",

@@ -4,7 +4,7 @@ use crate::files::{
 };
 use std::alloc::Global;
 use vers_cli::Device;
-use vers_files::{ask, fault_line};
+use vers_files::{ask, fault_line, read};
 use vers_saved::fault::LoadError;
 
 // Returns true if the answers of lines about the list of a file are these.
@@ -110,4 +110,28 @@ fn other_kinds_are_told(rt: HostRuntime) {
     assert!(rt; is_fault(rt.alloc(), &OTHER_BLOCKS, LoadError::OtherKind));
     assert!(rt; is_fault(rt.alloc(), b"", LoadError::TooShort));
     assert!(rt; fault_line(&LoadError::OtherKind).starts_with("OtherKind: "));
+}
+
+#[test]
+fn each_fault_has_its_line(rt: HostRuntime) {
+    assert!(rt; fault_line(&LoadError::TooShort).starts_with("TooShort: "));
+    assert!(rt; fault_line(&LoadError::NotOurs).starts_with("NotOurs: "));
+    assert!(rt; fault_line(&LoadError::OtherVersion).starts_with("OtherVersion: "));
+    assert!(rt; fault_line(&LoadError::OtherKind).starts_with("OtherKind: "));
+    assert!(rt; fault_line(&LoadError::BadLength).starts_with("BadLength: "));
+    assert!(rt; fault_line(&LoadError::BadSum).starts_with("BadSum: "));
+    assert!(rt; fault_line(&LoadError::BadPadding).starts_with("BadPadding: "));
+    assert!(rt; fault_line(&LoadError::NotAscending).starts_with("NotAscending: "));
+    assert!(rt; fault_line(&LoadError::Memory).starts_with("Memory: "));
+    assert!(rt; fault_line(&LoadError::Read).starts_with("Read: "));
+}
+
+#[test]
+fn a_file_is_read_whole(rt: HostRuntime) {
+    let mut rest: &[u8] = &BITS;
+    let Ok(bytes) = read(rt.alloc(), &mut rest) else {
+        assert!(rt; false);
+        return;
+    };
+    assert!(rt; bytes.as_slice() == BITS.as_slice() && rest.is_empty());
 }
