@@ -314,7 +314,9 @@ def check_requests(checks, place, libraries):
         check_request(checks, place, request, number)
     for library in ("static", "shared"):
         check_request(checks, place, f"COMPONENTS;{library}", "" if library in libraries else f"vers::{library}")
-    check_request(checks, place, "", f"{checks.folder} has no library", checks.folder)
+    empty = checks.path("no_library")
+    os.makedirs(empty, exist_ok=True)
+    check_request(checks, place, "", f"{empty} has no library", empty)
 
 
 def check_cmake(checks, place, libraries):
