@@ -10,7 +10,7 @@ An engine is anything with the `map` of `concurrent.futures`, such as a pool of 
 replaces a pool that lost a process), or a `Client` of Dask.
 
 - Threads share the parts, which are dropped with the list in parts.
-- Each process of a pool loads the parts that it is asked for, and keeps the last 1024 (`keep`).
+- Each process of a pool loads the parts that its queries use, and keeps the last 1024 (`keep`).
 - Dask places each part on a worker, which it prefers for queries. If the worker is lost, another one loads its parts.
 
 The file of a part does not change: if another one has replaced it, a query raises `Refused`. Queries of one place or
@@ -456,7 +456,7 @@ class Symbols(_Parts):
         # the part that an end is in, or ends; -1 for the end 0
         cut = [(bisect_left(self._starts, it) - 1, it) for it in map(number, end)]
         inside = [(part, it - self._starts[part]) for part, it in cut if 0 <= part < len(self._files)]
-        # each part is asked for all of its places, and for the ends in it
+        # each part answers all of its places, and the ends in it
         asked = [[it] for it in self._lengths[:max((part for part, _ in inside), default=-1) + 1]]
         for part, it in inside:
             asked[part].append(it)
