@@ -1,11 +1,12 @@
-"""Writes docs/vers.1, the manual page of the script `vers`, out of what `./vers --help` and `./vers --version` print.
+"""Writes docs/vers.1, the manual page of the commands, out of their help in crates/vers_commands/src/help.rt.
 
 A paragraph of the help that begins with a word and a colon is a section. tools/vers_script.py renders the page.
 """
 import re
-import subprocess
 
-PAGE = "docs/vers.1"
+from sources import read
+
+PAGE, HELP = "docs/vers.1", "crates/vers_commands/src/help.rt"
 # What the help doesn't say. Names of queries are neither hyphenated nor spread.
 HEAD = '''.TH VERS 1 "" "{version}" "User Commands"
 .nh
@@ -16,6 +17,12 @@ vers \\- answers lines about succinct data structures
 .B {usage}
 .SH DESCRIPTION
 '''
+
+
+def texts_of_help(top):
+    """Returns the texts that the commands print, by the names of their constants."""
+    found = re.findall(r'(?s)pub const (\w+): &str = "((?:[^"\\]|\\.)*)";', read(f"{top}/{HELP}"))
+    return {name: re.sub(r"\\(.)", lambda it: it[1].replace("n", "\n"), text) for name, text in found}
 
 
 def escaped(text):
@@ -31,8 +38,8 @@ def tagged(rows):
 
 def paragraph(text):
     """Returns a paragraph of the help: commands, lines to copy, load lines with their queries, or prose."""
-    if text.startswith("    ./vers"):
-        return tagged(re.findall(r"(?m)^    (\./vers.*?) {2,}(.*(?:\n {8,}.*)*)", text))
+    if text.startswith("    vers"):
+        return tagged(re.findall(r"(?m)^    (vers.*?) {2,}(.*(?:\n {8,}.*)*)", text))
     if text.startswith("    "):
         return f".PP\n.in +4\n.nf\n{escaped(text.strip())}\n.fi\n.in\n"
     if "\n    " in text:
@@ -40,13 +47,20 @@ def paragraph(text):
     return f".PP\n{escaped(text)}\n"
 
 
-def page(top):
-    """Returns the text of the manual page."""
-    text, version = (subprocess.check_output([f"{top}/vers", it], text=True).strip() for it in ("--help", "--version"))
-    usage, *paragraphs = text.split("\n\n")
-    parts = [HEAD.format(version=version, usage=escaped(usage.partition(": ")[2]))]
+def sections(paragraphs):
+    """Yields paragraphs, each below the heading that it begins with."""
     for it in paragraphs:
         heading, rest = re.fullmatch(r"(?s)(?:([A-Z][a-z ]*):\s*)?(.*)", it).groups()
-        parts += [f".SH {heading.upper()}\n"] if heading else []
-        parts += [paragraph(rest[0].upper() + rest[1:])] if rest else []
+        yield f".SH {heading.upper()}\n" if heading else ""
+        yield paragraph(rest[0].upper() + rest[1:] if heading else rest) if rest else ""
+
+
+def page(top):
+    """Returns the text of the manual page."""
+    texts = texts_of_help(top)
+    version, (usage, *paragraphs) = texts.pop("VERSION"), texts.pop("HELP").split("\n\n")
+    parts = [HEAD.format(version=version, usage=escaped(usage.partition(": ")[2])), *sections(paragraphs)]
+    for text in texts.values():
+        usage, *paragraphs = text.split("\n\n")
+        parts += [f".SH {usage.partition(': ')[2].upper()}\n", *sections(paragraphs)]
     return "".join(parts)

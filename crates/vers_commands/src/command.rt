@@ -1,0 +1,61 @@
+//! The commands that the arguments name.
+use crate::help::{ASK_HELP, HELP, SAVE_HELP, SHOW_HELP, TEXT_HELP, VERSION};
+
+/// What the program does.
+#[derive(Clone, Copy)]
+pub enum Command<'a> {
+    /// Answers lines.
+    Lines,
+    /// Answers lines about a text.
+    TextLines,
+    /// Saves the structure of a load line to a file.
+    Save(&'a str),
+    /// Answers lines about the structure in a file.
+    Ask(&'a str),
+    /// Answers lines about the text in a file.
+    Text(&'a str),
+    /// Describes the structure in a file.
+    Show(&'a str),
+    /// Prints a text.
+    Print(&'static str),
+}
+
+/// Returns the command of the arguments, the first of which names the program. `None` if they name no command.
+pub fn command_of(words: &[String]) -> Option<Command<'_>> {
+    match words {
+        [_] => Some(Command::Lines),
+        [_, word] => match word.as_str() {
+            "text" => Some(Command::TextLines),
+            "--help" | "-h" => Some(Command::Print(HELP)),
+            "--version" => Some(Command::Print(VERSION)),
+            _ => None,
+        },
+        [_, word, flag] if is_help(flag.as_str()) => Some(Command::Print(help_of(word.as_str())?)),
+        [_, word, file] => match word.as_str() {
+            "save" => Some(Command::Save(file.as_str())),
+            "ask" => Some(Command::Ask(file.as_str())),
+            "text" => Some(Command::Text(file.as_str())),
+            "show" => Some(Command::Show(file.as_str())),
+            _ => None,
+        },
+        _ => None,
+    }
+}
+
+fn is_help(word: &str) -> bool {
+    match word {
+        "--help" | "-h" => true,
+        _ => false,
+    }
+}
+
+// Returns the help of a command. `None` if there is no such command.
+fn help_of(word: &str) -> Option<&'static str> {
+    match word {
+        "text" => Some(TEXT_HELP),
+        "save" => Some(SAVE_HELP),
+        "ask" => Some(ASK_HELP),
+        "show" => Some(SHOW_HELP),
+        _ => None,
+    }
+}

@@ -1,0 +1,116 @@
+//! Structures in files.
+use crate::lines::{fail, say_waiting, status};
+use std::fs::File;
+use std::process::ExitCode;
+use vers_cli::Device;
+use vers_files::{
+    FilePlace, SaveFault, Shown, ask, ask_text, fault_line, read, save_to, show, text_fault_line,
+};
+
+const CANNOT_OPEN: &str = "the file can't be opened";
+
+/// Answers lines about the structure in a file.
+pub fn answer(rt: &HostRuntime, path: &str) -> ExitCode {
+    let Ok(mut file) = File::open(rt, path) else {
+        return fail_about(rt, path, CANNOT_OPEN);
+    };
+    say_waiting(rt, "`len`");
+    let mut reader = Device::new(rt.stdin());
+    let mut writer = Device::new(rt.stdout());
+    match ask(rt.alloc(), &mut file, &mut reader, &mut writer) {
+        Ok(ended) => status(rt, ended),
+        Err(fault) => fail_about(rt, path, fault_line(&fault)),
+    }
+}
+
+/// Answers lines about the text in a file.
+pub fn answer_text(rt: &HostRuntime, path: &str) -> ExitCode {
+    let Ok(mut file) = File::open(rt, path) else {
+        return fail_about(rt, path, CANNOT_OPEN);
+    };
+    say_waiting(rt, "`count 0 1` and `places 0 1`");
+    let mut reader = Device::new(rt.stdin());
+    let mut writer = Device::new(rt.stdout());
+    match ask_text(rt.alloc(), &mut file, &mut reader, &mut writer) {
+        Ok(ended) => status(rt, ended),
+        Err(fault) => fail_about(rt, path, text_fault_line(&fault)),
+    }
+}
+
+/// Describes the structure in a file.
+pub fn describe(rt: &HostRuntime, path: &str) -> ExitCode {
+    let Ok(mut file) = File::open(rt, path) else {
+        return fail_about(rt, path, CANNOT_OPEN);
+    };
+    let shown = match read(rt.alloc(), &mut file) {
+        Ok(bytes) => show(rt.alloc(), bytes.as_slice()),
+        Err(fault) => Err(fault),
+    };
+    match shown {
+        Ok(list) => print_shown(rt, &list),
+        Err(fault) => fail_about(rt, path, fault_line(&fault)),
+    }
+}
+
+fn print_shown(rt: &HostRuntime, list: &Shown) -> ExitCode {
+    let Shown {
+        kind,
+        len,
+        width,
+        bytes,
+    } = *list;
+    let name = if kind == "tree" {
+        "block size"
+    } else {
+        "width"
+    };
+    match println!(rt; "kind: {kind}\nlength: {len}\n{name}: {width}\nbytes: {bytes}") {
+        Ok(()) => ExitCode::SUCCESS,
+        Err(_) => fail(rt, "write failed"),
+    }
+}
+
+/// Saves the structure of the load line on standard input to a file.
+pub fn save(rt: &HostRuntime, path: &str) -> ExitCode {
+    let Ok(input) = read(rt.alloc(), &mut rt.stdin()) else {
+        return fail(rt, "the line can't be read");
+    };
+    let Ok(beside) = format!(in rt.alloc(); "{path}.new") else {
+        return fail(rt, "out of memory");
+    };
+    let line = match input.as_slice() {
+        [line @ .., b'\n'] => line,
+        line => line,
+    };
+    let mut place = FilePlace {
+        files: rt,
+        path,
+        beside: beside.as_str(),
+    };
+    match save_to(rt.alloc(), line, &mut place) {
+        Ok(()) => ExitCode::SUCCESS,
+        Err(fault) => fail_about(rt, path, why_not_saved(fault)),
+    }
+}
+
+fn why_not_saved(fault: SaveFault) -> &'static str {
+    match fault {
+        SaveFault::BadLine => "bad line",
+        SaveFault::Refused => "refused",
+        SaveFault::NoForm =>
+            "the list has no saved form: its symbols have no bits, or it has too many items",
+        SaveFault::OutOfMemory => "out of memory",
+        SaveFault::Write => "write failed",
+        SaveFault::Begin =>
+            "FILE.new can't be created; if it exists, another save has begun or was interrupted",
+        SaveFault::Sync => "FILE.new can't be synced",
+        SaveFault::Put => "FILE.new can't replace FILE",
+        SaveFault::Settle => "FILE has the new structure, but its folder can't be synced",
+    }
+}
+
+// Prints why a command failed with a file, and returns status 1.
+fn fail_about(rt: &HostRuntime, file: &str, why: &str) -> ExitCode {
+    let _ = eprintln!(rt; "vers: {file}: {why}");
+    ExitCode::FAILURE
+}

@@ -1,0 +1,42 @@
+//! The commands behind the script `vers`: lines about structures and texts, and structures in files. The status is
+//! 0, or 1 after an error, or 2 if the arguments name no command; standard error says why.
+#![tactic(auto)]
+
+mod command;
+mod files;
+mod help;
+mod lines;
+
+use command::{Command, command_of};
+use std::alloc::AllocError;
+use std::env;
+use std::process::ExitCode;
+
+fn main(rt: HostRuntime) -> ExitCode {
+    let words: Result<Vec<String>, AllocError> = match env::args(&rt) {
+        Ok(arguments) => arguments.collect(rt.alloc()),
+        Err(_) => return lines::fail(&rt, "the arguments can't be read"),
+    };
+    let Ok(words) = words else {
+        return lines::fail(&rt, "out of memory");
+    };
+    match command_of(words.as_slice()) {
+        Some(command) => run(&rt, command),
+        None => {
+            let _ = eprintln!(rt; "vers: unknown arguments; vers --help lists the commands");
+            ExitCode::from(2)
+        }
+    }
+}
+
+fn run(rt: &HostRuntime, command: Command<'_>) -> ExitCode {
+    match command {
+        Command::Lines => lines::answer(rt),
+        Command::TextLines => lines::answer_text(rt),
+        Command::Save(path) => files::save(rt, path),
+        Command::Ask(path) => files::answer(rt, path),
+        Command::Text(path) => files::answer_text(rt, path),
+        Command::Show(path) => files::describe(rt, path),
+        Command::Print(text) => lines::print(rt, text),
+    }
+}
