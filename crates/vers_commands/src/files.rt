@@ -4,7 +4,8 @@ use std::fs::File;
 use std::process::ExitCode;
 use vers_cli::Device;
 use vers_files::{
-    FilePlace, SaveFault, Shown, ask, ask_text, fault_line, read, save_to, show, text_fault_line,
+    FilePlace, SaveFault, Shown, ask, ask_text, fault_line, read, save_to, show, symbols_cut,
+    text_fault_line,
 };
 
 const CANNOT_OPEN: &str = "the file can't be opened";
@@ -88,8 +89,18 @@ pub fn save(rt: &HostRuntime, path: &str) -> ExitCode {
         beside: beside.as_str(),
     };
     match save_to(rt.alloc(), line, &mut place) {
-        Ok(()) => ExitCode::SUCCESS,
+        Ok(()) => {
+            say_cut(rt, path, symbols_cut(line));
+            ExitCode::SUCCESS
+        }
         Err(fault) => fail_about(rt, path, why_not_saved(fault)),
+    }
+}
+
+// Says how many symbols were cut to their low bits, unless none were.
+fn say_cut(rt: &HostRuntime, path: &str, count: usize) {
+    if count != 0 {
+        let _ = eprintln!(rt; "vers: {path}: {count} symbols cut to their low bits");
     }
 }
 
@@ -97,8 +108,8 @@ fn why_not_saved(fault: SaveFault) -> &'static str {
     match fault {
         SaveFault::BadLine => "bad line",
         SaveFault::Refused => "refused",
-        SaveFault::NoForm =>
-            "the list has no saved form: its symbols have no bits, or it has too many items",
+        SaveFault::NoBits => "symbols of no bits have no saved form",
+        SaveFault::TooLong => "the structure has too many elements for a saved form",
         SaveFault::OutOfMemory => "out of memory",
         SaveFault::Write => "write failed",
         SaveFault::Begin =>

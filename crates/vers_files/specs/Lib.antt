@@ -3,3 +3,4 @@ pub mod Asked
 pub mod SavedLines
 pub mod Shown
 pub mod TextFiles
+pub mod CutSymbols

@@ -1,12 +1,12 @@
 -- What is written of a load line.
-use Rattle.std.specs.Prelude.{◌≡◌, ⊤, ◌⊎◌, Result, Ok, Err}
+use Rattle.std.specs.Prelude.{◌≡◌, ◌==◌, ⊤, ◌⊎◌, Bool, true, false, Result, Ok, Err, if◌then◌else◌}
 use Rattle.vers_words.specs.declared.loading.Loading.{Loading}
 use Rattle.vers_words.specs.declared.loading.Loading.TheVariants.{Malformed, Inadmissible, Accepted}
 use Rattle.vers_saved.specs.declared.fault.SaveError.{SaveError}
 use Rattle.vers_saved.specs.declared.fault.SaveError.TheVariants as error
-use Rattle.vers_cli.specs.Holding.{Holding}
+use Rattle.vers_cli.specs.Holding.{Holding, SymbolsHeld}
 use Rattle.vers_files.specs.declared.saving.SaveFault.{SaveFault}
-use Rattle.vers_files.specs.declared.saving.SaveFault.TheVariants.{BadLine, Refused, NoForm, OutOfMemory, Write, Begin, Sync, Put, Settle}
+use Rattle.vers_files.specs.declared.saving.SaveFault.TheVariants.{BadLine, Refused, NoBits, TooLong, OutOfMemory, Write, Begin, Sync, Put, Settle}
 use Rattle.vers_files.specs.Forms.{HasForm}
 
 -- P holds for the list of a load line, if the line is accepted
@@ -15,19 +15,29 @@ IfAccepted Malformed P = ⊤
 IfAccepted Inadmissible P = ⊤
 IfAccepted (Accepted held) P = P held
 
+-- whether the current structure is a list of symbols of no bits
+abbrev pub has_no_bits : Holding → Bool
+has_no_bits (SymbolsHeld symbols) = symbols.width == 0
+has_no_bits _ = false
+
 -- why a line with this outcome is not saved
 abbrev pub SaysWhy : SaveFault → Loading Holding → Type 0
 SaysWhy BadLine loading = loading ≡ Malformed
 SaysWhy Refused loading = loading ≡ Inadmissible
-SaysWhy NoForm loading = (held : Holding) × (loading ≡ Accepted held) × ¬ HasForm held
+SaysWhy NoBits loading = (held : Holding) × (loading ≡ Accepted held) × (has_no_bits held ≡ true) × ¬ HasForm held
+SaysWhy TooLong loading = (held : Holding) × (loading ≡ Accepted held) × (has_no_bits held ≡ false) × ¬ HasForm held
 SaysWhy _ loading = ⊤
 
--- how a save of a line ends if the save of its list ends like this
-abbrev pub line_saved : Result (Unit {0}) SaveError → Result (Unit {0}) SaveFault
-line_saved (Ok u) = Ok u
-line_saved (Err error.NoForm) = Err NoForm
-line_saved (Err error.Memory) = Err OutOfMemory
-line_saved (Err error.Write) = Err Write
+-- the result says that the list has no saved form
+abbrev pub IsFormless : Result (Unit {0}) SaveFault → Type 0
+IsFormless result = (result ≡ Err NoBits) ⊎ (result ≡ Err TooLong)
+
+-- how a save of a line ends if the save of its list, of symbols of no bits or not, ends like this
+abbrev pub line_saved : Bool → Result (Unit {0}) SaveError → Result (Unit {0}) SaveFault
+line_saved no_bits (Ok u) = Ok u
+line_saved no_bits (Err error.NoForm) = Err (if no_bits then NoBits else TooLong)
+line_saved no_bits (Err error.Memory) = Err OutOfMemory
+line_saved no_bits (Err error.Write) = Err Write
 
 -- an error of a line or of a writer, and not of a file
 abbrev pub IsOfLine : SaveFault → Type 0

@@ -1,9 +1,10 @@
 //! Lists of the line program in files: `save_to` replaces a file by the saved form of a load line's list,
 //! completely or not at all, `ask` answers query lines about the list of a file, `ask_text` lines about its
-//! text, and `show` describes the list of a file.
+//! text, `show` describes the list of a file, and `symbols_cut` counts what a load line cuts off.
 #![tactic(auto)]
 
 mod asking;
+mod cut;
 mod loading;
 mod place;
 mod saving;
@@ -11,6 +12,7 @@ mod showing;
 mod texts;
 
 pub use asking::ask;
+pub use cut::symbols_cut;
 pub use loading::{fault_line, load, load_file, read};
 pub use place::{FilePlace, Place};
 pub use saving::{SaveFault, save, save_line, save_to};

@@ -6,7 +6,7 @@ ghost use Rattle.vers_saved.specs.Streams.{Writes};
 ghost use Rattle.vers_cli.specs.Holding.{holding_of, is_accepted};
 ghost use Rattle.vers_cli.specs.Rules.{line_loaded};
 ghost use Rattle.vers_files.specs.Forms.{saved_form, HasForm};
-ghost use Rattle.vers_files.specs.SavedLines.{IfAccepted, SaysWhy, IsOfLine, IsPut, line_saved};
+ghost use Rattle.vers_files.specs.SavedLines.{IfAccepted, SaysWhy, IsFormless, IsOfLine, IsPut, has_no_bits, line_saved};
 
 use crate::place::Place;
 use std::alloc::Allocator;
@@ -23,8 +23,10 @@ pub enum SaveFault {
     BadLine,
     /// Its arguments are outside the limits of the list.
     Refused,
-    /// The list has too many items for a saved form.
-    NoForm,
+    /// The list is one of symbols of no bits, which have no saved form.
+    NoBits,
+    /// The list has too many elements for a saved form.
+    TooLong,
     /// The allocator refused a request.
     OutOfMemory,
     /// The writer returned an error, or took no byte of a nonempty piece.
@@ -40,13 +42,24 @@ pub enum SaveFault {
     Settle,
 }
 
+// Returns whether the current structure is a list of symbols of no bits.
+fn has_no_bits<A: Allocator + Copy>(held: &Held<'_, A>) -> bool
+    ensures { result ≡ has_no_bits (holding_of held.now) }
+{
+    match held {
+        Held::Symbols(symbols) => symbols.bits_per_element() == 0,
+        _ => false,
+    }
+}
+
 // Returns the result of saving a list as that of saving its line.
-fn line_saved(saved: Result<(), SaveError>) -> Result<(), SaveFault>
-    ensures { result ≡ line_saved saved }
+fn line_saved(has_no_bits: bool, saved: Result<(), SaveError>) -> Result<(), SaveFault>
+    ensures { result ≡ line_saved has_no_bits saved }
 {
     match saved {
         Ok(()) => Ok(()),
-        Err(SaveError::NoForm) => Err(SaveFault::NoForm),
+        Err(SaveError::NoForm) if has_no_bits => Err(SaveFault::NoBits),
+        Err(SaveError::NoForm) => Err(SaveFault::TooLong),
         Err(SaveError::Memory) => Err(SaveFault::OutOfMemory),
         Err(SaveError::Write) => Err(SaveFault::Write),
     }
@@ -91,7 +104,7 @@ pub fn save_line<A: Allocator + Copy, W: Write>(
     line: &[u8],
     writer: &mut W,
 ) -> Result<(), SaveFault>
-    ensures written { IfAccepted (line_loaded (words_of line.now)) (λ held. result ≢ Err SaveFault.NoForm
+    ensures written { IfAccepted (line_loaded (words_of line.now)) (λ held. ¬ IsFormless result
         → Writes result (W.contents writer.old) (W.contents writer.new) (saved_form held)) }
     ensures accepted { OnOk result (is_accepted (line_loaded (words_of line.now)) ≡ true) }
     ensures form { OnOk result (IfAccepted (line_loaded (words_of line.now)) HasForm) }
@@ -104,10 +117,12 @@ pub fn save_line<A: Allocator + Copy, W: Write>(
         Ok(Loading::Malformed) => Err(SaveFault::BadLine),
         Ok(Loading::Inadmissible) => Err(SaveFault::Refused),
         Ok(Loading::Accepted(store)) => {
-            let saved = save(alloc, store.held(), writer);
+            let held = store.held();
+            let saved = save(alloc, held, writer);
+            let has_no_bits = has_no_bits(held);
             // (by a call, so that the proof of this function doesn't go through the fields)
             drop(store);
-            line_saved(saved)
+            line_saved(has_no_bits, saved)
         }
         Err(_) => Err(SaveFault::OutOfMemory),
     }

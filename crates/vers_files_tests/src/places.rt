@@ -5,7 +5,7 @@ use crate::files::{BITS, POSTINGS, SORTED, SPARSE, SYMBOLS, TREE, VALUES};
 use std::alloc::{AllocError, Global};
 use std::io;
 use std::io::Write;
-use vers_files::{Place, SaveFault, save_line, save_to};
+use vers_files::{Place, SaveFault, save_line, save_to, symbols_cut};
 
 // Returns true if a line is saved as these bytes.
 fn is_saved_as(alloc: Global, line: &[u8], file: &[u8]) -> bool {
@@ -40,6 +40,8 @@ fn other_lines_are_not_saved(rt: HostRuntime) {
     assert!(rt; is_fault(alloc, b"bits 01\nbits 10", SaveFault::BadLine));
     assert!(rt; is_fault(alloc, b"sorted 3 1", SaveFault::Refused));
     assert!(rt; is_fault(alloc, b"postings 2", SaveFault::BadLine));
+    assert!(rt; is_fault(alloc, b"symbols 0", SaveFault::NoBits));
+    assert!(rt; is_fault(alloc, b"symbols 0 1 2", SaveFault::NoBits));
 }
 
 /// A place in memory, of which the call with number `fails_at` fails, which may be a write.
@@ -190,6 +192,24 @@ fn is_whole_or_not_at_all(alloc: Global, fails_at: u64) -> bool {
         && place.bytes.as_slice() == file
         && place.settled.as_slice() == settled
         && !place.is_begun
+}
+
+#[test]
+fn symbols_that_are_cut_are_counted(rt: HostRuntime) {
+    assert!(rt; symbols_cut(b"symbols 8 300") == 1);
+    assert!(rt; symbols_cut(b"symbols 8 255 256 0 511") == 2);
+    assert!(rt; symbols_cut(b"symbols 0 0 1 2") == 2);
+    assert!(rt; symbols_cut(b"symbols 1") == 0);
+    assert!(rt; symbols_cut(b"symbols 64 18446744073709551615") == 0);
+    assert!(rt; symbols_cut(b"symbols 63 9223372036854775807 9223372036854775808") == 1);
+    // no accepted line of symbols
+    assert!(rt; symbols_cut(b"symbols 65 300") == 0);
+    assert!(rt; symbols_cut(b"symbols 8 300 x") == 0);
+    assert!(rt; symbols_cut(b"symbols x 300") == 0);
+    assert!(rt; symbols_cut(b"symbols") == 0);
+    assert!(rt; symbols_cut(b"sorted 8 300") == 0);
+    assert!(rt; symbols_cut(b"") == 0);
+    assert!(rt; symbols_cut(b"  symbols  8  300\r") == 1);
 }
 
 #[test]

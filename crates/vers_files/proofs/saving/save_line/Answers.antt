@@ -8,12 +8,12 @@ use Rattle.vers_files.proofs.saving.save_line.Goals as goal
 
 pub returns-in-Ok-Accepted-clause-written : goal.returns-in-Ok-Accepted-clause-written
 returns-in-Ok-Accepted-clause-written g c =
-    let is : line_loaded (words_of c.args.line.now) ≡ Accepted (holding_of c.held.result.now) =
-    sym c.in-Ok-Accepted.ensures ∙ c.in-Ok-Accepted.field-0-is ∙ ap Accepted (sym c.held.ensures) in
-    rw c.line_saved.ensures (line_written _ _ _ _ _ is c.save-saved.ensures.written)
+    let is : line_loaded (words_of c.args.line.now) ≡ Accepted (holding_of c.held-held.result.now) =
+    sym c.in-Ok-Accepted.ensures ∙ c.in-Ok-Accepted.field-0-is ∙ ap Accepted (sym c.held-held.ensures) in
+    rw c.line_saved.ensures (line_written _ _ _ _ _ _ is c.save-saved.ensures.written)
 
 pub returns-in-Ok-Accepted-clause-refused : goal.returns-in-Ok-Accepted-clause-refused
 returns-in-Ok-Accepted-clause-refused g c =
-    let is : line_loaded (words_of c.args.line.now) ≡ Accepted (holding_of c.held.result.now) =
-    sym c.in-Ok-Accepted.ensures ∙ c.in-Ok-Accepted.field-0-is ∙ ap Accepted (sym c.held.ensures) in
-    rw c.line_saved.ensures (line_refused _ _ _ is c.save-saved.ensures.none)
+    let is : line_loaded (words_of c.args.line.now) ≡ Accepted (holding_of c.held-held.result.now) =
+    sym c.in-Ok-Accepted.ensures ∙ c.in-Ok-Accepted.field-0-is ∙ ap Accepted (sym c.held-held.ensures) in
+    rw c.line_saved.ensures (line_refused _ _ _ _ is (sym c.has_no_bits-has_no_bits.ensures) c.save-saved.ensures.none)
