@@ -14,7 +14,8 @@ of `crates/vers_bench`, so it needs no Rattle toolchain. Series that only one of
 a size): their rows are compared with its single calls.
 
 `--instructions` counts, under valgrind's callgrind and with a sixteenth of the sizes, the instructions of one pass over the queries of
-each series, with its loop and its checksum. In both drivers such a pass is a function of its own, whose name ends in `_pass`.
+each series, with its loop and its checksum. In both drivers such a pass is a function of its own, whose name ends in `_pass`. With
+`--times`, the run first takes the times over the same sizes.
 
 `--level` builds the original for newer processors. This library's driver is built for the same by `rt run --cpu=LEVEL`.
 """
@@ -188,11 +189,24 @@ def counted(drivers, structures):
     return beside_singles(found)
 
 
+def print_tables(found, drivers, ratios, what):
+    """Prints a row for each series, the means of each structure, and what the values are, and returns how many checksums differ."""
+    heads = [*drivers, *("/".join(it) for it in ratios)]
+    print(f"| structure | operation | data | {' | '.join(heads)} |\n|---|---|---|{'---:|' * len(heads)}")
+    print("\n".join(series.row(name, drivers, ratios) for name, series in found.items()))
+    print(f"\n| queries of | {' | '.join(heads[len(drivers):])} |\n|---|{'---:|' * len(ratios)}")
+    print("\n".join(means(found, ratios)))
+    differing = sum(series.differs() for series in found.values())
+    print(f"\n{what}. {differing} checksums differ. In parentheses: the greatest ratio of a series.\n", flush=True)
+    return differing
+
+
 def main():
     parser = argparse.ArgumentParser(description=__doc__, formatter_class=argparse.RawDescriptionHelpFormatter)
     parser.add_argument("structures", nargs="*", metavar="STRUCTURE", help=f"of {', '.join(STRUCTURES)}; all where none is named")
     parser.add_argument("--checksums", action="store_true", help="compare checksums with the stored run, and no times")
     parser.add_argument("--instructions", action="store_true", help="count instructions under valgrind instead of times")
+    parser.add_argument("--times", action="store_true", help="with --instructions: take times too, over the same sizes")
     parser.add_argument("--program", help="a driver of the original that is built, as for another processor, instead of building one")
     parser.add_argument("--under", default="", metavar="COMMAND", help="the command that runs it, as an emulator")
     parser.add_argument("--plain", action="store_true", help="run the crate of plain Rust too, as it is, unchecked, and from C")
@@ -221,16 +235,13 @@ def main():
         drivers["from C"] = built_from_c(asked.level)
         ratios += [("plain", "here"), ("unchecked", "here"), ("plain", "original"), ("unchecked", "original"), ("from C", "original")]
     ratios = [it for it in ratios if set(it) <= set(drivers)]
-    options = ["--reps", str(asked.reps), *(["--small"] if asked.small else [])]
-    found = counted(drivers, structures) if asked.instructions else measured(drivers, structures, max(asked.passes, 1), options)
-    heads = [*drivers, *("/".join(it) for it in ratios)]
-    print(f"| structure | operation | data | {' | '.join(heads)} |\n|---|---|---|{'---:|' * len(heads)}")
-    print("\n".join(series.row(name, drivers, ratios) for name, series in found.items()))
-    print(f"\n| queries of | {' | '.join(heads[len(drivers):])} |\n|---|{'---:|' * len(ratios)}")
-    print("\n".join(means(found, ratios)))
-    differing = sum(series.differs() for series in found.values())
-    what = "Instructions of a pass" if asked.instructions else "Nanoseconds an operation, builds an item; rows `heap_` are sizes"
-    print(f"\n{what}. {differing} checksums differ. In parentheses: the greatest ratio of a series.")
+    options = ["--reps", str(asked.reps), *(["--small"] if asked.small or asked.instructions else [])]
+    differing = 0
+    if asked.times or not asked.instructions:
+        found = measured(drivers, structures, max(asked.passes, 1), options)
+        differing += print_tables(found, drivers, ratios, "Nanoseconds an operation, builds an item; rows `heap_` are sizes")
+    if asked.instructions:
+        differing += print_tables(counted(drivers, structures), drivers, ratios, "Instructions of a pass")
     sys.exit(differing > 0)
 
 
