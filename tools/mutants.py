@@ -9,7 +9,8 @@ by the test that its file names.
 A wrong body (a mutant) that breaks a clause which says what a call returns has a line `row: TEST`. The expected values
 of that test come from a plain model of the definition. The test has to pass with the right bodies and to fail with this
 one: the row at which it fails is a counterexample to the clause. Right bodies are run too (tools/mutant_plants.py), and
-have to pass. Wrong bodies without that line are tried by the prover (tools/wrong_bodies.py).
+have to pass. A test may lower the greatest length of a list (rust/src/rattle/mutants.rs). Wrong bodies without that
+line are tried by the prover (tools/wrong_bodies.py).
 
 Each edit is applied to the source in Rattle, and both texts are written as Rust by tools/plain_rust.py. A body that
 differs becomes
@@ -36,6 +37,18 @@ from plain_rust import CLOSING, CRATES, MODULES, PROGRAM_TESTS, PROGRAMS, Refuse
 from sources import ROW, TOP, edited, has_cargo, read
 
 RUST = f"{TOP}/rust"
+# What a test of wrong bodies needs and no caller has, behind a file: a counter whose counts are the greatest.
+BESIDES = {"vers_tally/tally.rs": """
+impl Tally {
+    pub fn full() -> Tally {
+        let most = u64::MAX;
+        Tally {
+            data_words: most, block_entries: most, superblock_entries: most, low_parts: most, rank_calls: most,
+            items: most, blocks: most, nodes: most, chunks: most,
+        }
+    }
+}
+"""}
 # The limits of a run: a multiple of the time of the right bodies, seconds more, and bytes of memory.
 TIMES, SECONDS, MEMORY = 8, 2, 2 << 30
 # What rustc refuses by itself in a wrong body that it could compile.
@@ -127,9 +140,12 @@ class Build:
                     parts, path = split(Writer(crate, name).file(text)), f"{module}/{name}"
                     for it in [it for it in mutants if it.file == name]:
                         self.add(it, crate, name, text, parts)
-                    self.files[path] = self.joined(path, parts)
+                    self.files[path] = self.joined(path, parts) + BESIDES.get(name, "")
             self.files[f"{module}/mod.rs"] = NOTE + "".join(f"pub mod {it};\n" for it in crates)
         self.files.update({f"program_tests/{path}": text for path, text in written_of(PROGRAM_TESTS)[0].items()})
+        # Rust's own tests call functions in the modules of programs.
+        for path in [f"programs/{it}/mod.rs" for it in PROGRAMS]:
+            self.files[path] = re.sub("(?m)^mod ", "pub mod ", self.files[path])
 
     def add(self, mutant, crate, path, text, parts):
         """Adds a wrong body to the body that it changes."""
@@ -150,17 +166,20 @@ class Build:
     def joined(self, path, parts):
         """Returns the text of a file, and notes the lines of each wrong body."""
         out, line = [], 1
+        def lowered(text):
+            return re.sub(r"(?<![\w:])(?:\w+::)*MAX_LEN\b", r"crate::rattle::mutants::most(\g<0>)", text)
+
         for part in parts:
             if isinstance(part, str):
                 # A body with many arms that is put into each of its callers would multiply.
                 pieces = [(part.replace("#[inline(always)]", "#[inline]"), None)]
             elif not part.mutants:
-                pieces = [(part.text, None)]
+                pieces = [(lowered(part.text), None)]
             else:
                 pieces = [(f"{{\n    match crate::rattle::mutants::active({part.number}) {{\n", None)]
                 for number, body in part.mutants:
-                    pieces += [(f"{number} => ", None), (body, number), ("\n", None)]
-                pieces.append((f"_ => {part.text}\n}}}}", None))
+                    pieces += [(f"{number} => ", None), (lowered(body), number), ("\n", None)]
+                pieces.append((f"_ => {lowered(part.text)}\n}}}}", None))
             for text, number in pieces:
                 if number:
                     self.arms[path].append((line, line + text.count("\n"), number))

@@ -1,5 +1,6 @@
 //! Tests that the proved crates lack: each finds wrong bodies that no test there finds.
 
+use crate::proved::postings::Postings;
 use crate::proved::text_index::{TextIndex, DEFAULT_STEP};
 use crate::proved::vers_bits::bit_vec::{BitVec, GrowError, MAX_LEN};
 use crate::proved::vers_rank::fast_rs_vec::RsVec;
@@ -77,6 +78,7 @@ fn clones_of_walks_go_on_where_these_are() {
     let tree = BpTree::<8, Global>::from_bit_vector(list(&[true, true, false, true, false, false])).ok().unwrap();
     let walk = tree.dfs_post_iter();
     assert!(walk.clone().len() == 3 && walk.clone().eq(walk));
+    assert!(tree.subtree_post_iter(3).clone().eq([3]));
 }
 
 /// The inherent clone of walks that borrow.
@@ -286,5 +288,126 @@ fn ranks_and_bits_of_every_place() {
         for place in [n, n + 1, n + 63, n + 511, usize::MAX] {
             assert_eq!((index.rank1(place), index.rank0(place)), (ones, n - ones), "{place} of {n}");
         }
+    }
+}
+
+#[test]
+fn elements_whose_product_wraps_are_too_long() {
+    assert_eq!(BitVec::pack_sequence_u8(Global, &[1, 1], 1 << 63).err(), Some(GrowError::TooLong));
+    assert_eq!(BitVec::pack_sequence_u64(Global, &[1; 4], 1 << 62).err(), Some(GrowError::TooLong));
+}
+
+#[test]
+fn a_pair_of_selects_counts_one_query() {
+    let bits = scattered(1000, 3);
+    let index = RsVec::from_bit_vec(list(&bits)).ok().unwrap();
+    let ones: Plain<usize> = (0..1000).filter(|it| bits[*it]).collect();
+    for r in 0..ones.len() + 2 {
+        let mut tally = Tally::new();
+        let found = index.select1_pair_counted(r, &mut tally);
+        let place = |r: usize| *ones.get(r).unwrap_or(&1000);
+        assert_eq!((found.first, found.second, tally.rank_calls()), (place(r), place(r + 1), 1), "{r}");
+    }
+}
+
+#[test]
+fn a_copy_of_documents_has_their_costs() {
+    let made = Postings::from_sorted(&[2, 4, 9], Vec::from_slice(Global, &[7, 5, 5]).ok().unwrap()).ok().unwrap();
+    let copy = made.clone().ok().unwrap();
+    assert!(copy.documents().iter().eq([2, 4, 9]) && copy.costs() == [7, 5, 5]);
+    assert_eq!((copy.cheapest(2, 9), copy.cheapest(0, 3), copy.cheapest(5, 8)), (Some(4), Some(2), None));
+}
+
+/// A tree that takes what `Tree` gives it: a number of roots without children.
+struct Roots(usize);
+
+impl Tree for Roots {
+    type NodeHandle = usize;
+
+    fn root(&self) -> Option<usize> {
+        (self.0 > 0).then_some(0)
+    }
+
+    fn parent(&self, _: usize) -> Option<usize> {
+        None
+    }
+
+    fn first_child(&self, _: usize) -> Option<usize> {
+        None
+    }
+
+    fn next_sibling(&self, node: usize) -> Option<usize> {
+        (node + 1 < self.0).then_some(node + 1)
+    }
+
+    fn previous_sibling(&self, node: usize) -> Option<usize> {
+        node.checked_sub(1)
+    }
+
+    fn last_child(&self, _: usize) -> Option<usize> {
+        None
+    }
+
+    fn node_index(&self, node: usize) -> usize {
+        node
+    }
+
+    fn node_handle(&self, index: usize) -> usize {
+        index
+    }
+
+    fn is_leaf(&self, _: usize) -> bool {
+        true
+    }
+
+    fn depth(&self, _: usize) -> u64 {
+        0
+    }
+
+    fn size(&self) -> usize {
+        self.0
+    }
+}
+
+#[test]
+fn a_tree_is_empty_only_without_nodes() {
+    for size in 0..4 {
+        assert_eq!(Roots(size).is_empty(), size == 0);
+    }
+}
+
+#[test]
+fn a_backward_search_looks_up_whole_bytes() {
+    let bits = scattered(512, 11);
+    let tree = BpTree::<512, Global>::from_bit_vector(list(&bits)).ok().unwrap();
+    for i in 0..=512u64 {
+        let mut tally = Tally::new();
+        assert_eq!(tree.bwd_search_counted(i as usize, 1000, &mut tally), None);
+        // each word takes one or two limbs, what is left of a byte one for each bit, and the step right before two
+        assert!(tally.data_words() <= 2 * i.div_ceil(64) + 9, "{} from {i}", tally.data_words());
+    }
+}
+
+#[test]
+fn queries_of_symbols_ask_each_level_four_times() {
+    let symbols: Plain<u64> = (0..5000).map(|k| k * k % 29).collect();
+    let list = WaveletMatrix::from_slice(Global, &symbols, 5).ok().unwrap();
+    let most = |call: &dyn Fn(&mut Tally)| {
+        let mut tally = Tally::new();
+        call(&mut tally);
+        assert!(tally.rank_calls() <= 4 * 5 && tally.data_words() <= 8 * 4 * 5, "{}", tally.data_words());
+    };
+    for place in (0..5000).step_by(331) {
+        most(&|tally| assert_eq!(list.get_u64_counted(place, tally), Some(symbols[place])));
+        most(&|tally| {
+            let count = symbols[..place].iter().filter(|it| **it == 5).count();
+            assert_eq!(list.rank_u64_counted(place, 5, tally), Some(count));
+        });
+        most(&|tally| {
+            let range = || symbols[place..].iter().copied();
+            assert_eq!(list.range_min_u64_counted(place..5000, tally), range().min());
+            let least = range().filter(|it| *it >= 6).min();
+            assert_eq!(list.successor_u64_counted(place..5000, 6, &mut Tally::new()), least);
+        });
     }
 }

@@ -1,5 +1,7 @@
 //! Tests of the proved sources that need more than their crates of tests have: entries that are read, and other sizes.
 
 mod bodies;
+#[cfg(mutants)]
+mod greatest;
 mod memory;
 mod reads;
