@@ -1,6 +1,6 @@
 #!/usr/bin/env python3
-"""Runs the wrong bodies of the crates that are written as plain Rust, and of programs: all of them in one build, each
-by the test that its file names.
+"""Runs the wrong bodies of libraries, programs and exports as plain Rust: all of them in one build, each by the test
+that its file names.
 
     tools/mutants.py [--jobs N] [CRATE..]    builds, and runs each wrong body; the last line is "N passed, M failed"
     tools/mutants.py --find [CRATE..]        names the quickest test that fails for each wrong body that has none
@@ -9,8 +9,8 @@ by the test that its file names.
 A wrong body (a mutant) that breaks a clause which says what a call returns has a line `row: TEST`. The expected values
 of that test come from a plain model of the definition. The test has to pass with the right bodies and to fail with this
 one: the row at which it fails is a counterexample to the clause. Right bodies are run too (tools/mutant_plants.py), and
-have to pass. A test may lower the greatest length of a list (rust/src/rattle/mutants.rs). Wrong bodies without that
-line are tried by the prover (tools/wrong_bodies.py).
+have to pass. A test may lower the greatest length of a list, and have requests of the heap refused
+(rust/src/rattle/mutants.rs). Wrong bodies without that line are tried by the prover (tools/wrong_bodies.py).
 
 Each edit is applied to the source in Rattle, and both texts are written as Rust by tools/plain_rust.py. A body that
 differs becomes
@@ -33,7 +33,8 @@ from pathlib import Path
 
 import plain_rust
 from mutant_plants import RIGHT
-from plain_rust import CLOSING, CRATES, MODULES, PROGRAM_TESTS, PROGRAMS, Refused, Writer, real, sources, written_of
+from plain_rust import (BY_HAND, CLOSING, CRATES, MODULES, PROGRAM_TESTS, PROGRAMS, Refused, Writer, real, sources,
+                        written_of)
 from sources import ROW, TOP, edited, has_cargo, read
 
 RUST = f"{TOP}/rust"
@@ -136,14 +137,15 @@ class Build:
             it.number = number
         for module, crates in (("proved", CRATES), ("programs", PROGRAMS)):
             for crate in crates:
-                for name, text in sources(crate):
+                for name, text in [it for it in sources(crate) if it[0] not in BY_HAND]:
                     parts, path = split(Writer(crate, name).file(text)), f"{module}/{name}"
                     for it in [it for it in mutants if it.file == name]:
                         self.add(it, crate, name, text, parts)
                     self.files[path] = self.joined(path, parts) + BESIDES.get(name, "")
             self.files[f"{module}/mod.rs"] = NOTE + "".join(f"pub mod {it};\n" for it in crates)
         self.files.update({f"program_tests/{path}": text for path, text in written_of(PROGRAM_TESTS)[0].items()})
-        # Rust's own tests call functions in the modules of programs.
+        self.files.update({f"programs/{path}": text for path, text in BY_HAND.items() if text})
+        # Rust's own tests call functions in the modules of programs and exports.
         for path in [f"programs/{it}/mod.rs" for it in PROGRAMS]:
             self.files[path] = re.sub("(?m)^mod ", "pub mod ", self.files[path])
 

@@ -23,14 +23,19 @@ CRATES = """vers_bits vers_tally vers_rank vers_sorted vers_rmq vers_wavelet ver
 vers_saved""".split()
 TESTS = """test_alloc vers_bits_tests vers_rank_tests vers_sorted_tests vers_rmq_tests vers_wavelet_tests
 vers_trees_tests postings_tests text_index_tests vers_saved_tests""".split()
-# The programs as libraries, and their tests: written only for the build of wrong bodies (tools/mutants.py).
-PROGRAMS = "vers_words vers_engine vers_cli vers_texts vers_files vers_vecs vers_uses".split()
+# The programs as libraries, the exports to C, and their tests: written only for the build of wrong bodies
+# (tools/mutants.py).
+PROGRAMS = "vers_words vers_engine vers_cli vers_texts vers_files vers_vecs vers_uses vers_c".split()
 PROGRAM_TESTS = "vers_cli_tests vers_texts_tests vers_files_tests vers_uses_tests".split()
 # The module that each belongs to, and the modules that are stored.
 MODULES = {"proved": CRATES, "proved_tests": TESTS, "programs": PROGRAMS, "program_tests": PROGRAM_TESTS}
 STORED = ("proved", "proved_tests")
-# A file that uses raw pointers in Rattle. Its Rust form is written by hand.
-BY_HAND = {"test_alloc/mod.rs"}
+# The files that use raw pointers in Rattle, and their Rust form, which is written by hand: in `proved_tests`, or here.
+BY_HAND = {
+    "test_alloc/mod.rs": None,
+    "vers_c/held.rs": "pub type Held = crate::rattle::owners::Held<super::kept::Owner>;\n",
+    "vers_c/loose.rs": "pub use crate::rattle::owners::Loose;\n",
+}
 
 # Tests that take minutes without optimization: cargo leaves them out by default. The gate runs them in Rattle.
 SLOW = {
@@ -60,7 +65,7 @@ USES.update({it: it for it in SAME})
 # Those of programs besides.
 PROGRAM_USES = {**USES, "std::io::ErrorKind": "std::io::ErrorKind", "std::fs": HERE + "fs",
                 "std::fs::File": HERE + "fs::File", "std::fs::Files": HERE + "fs::Files",
-                "std::path::Path": HERE + "fs::Path"}
+                "std::path::Path": HERE + "fs::Path", "std::sync::Arc": HERE + "owners::Arc"}
 
 # Methods that the proved sources call and don't define. Those of Rust's own types are assumed to mean the same in both
 # languages; the support module has the others.
@@ -70,13 +75,16 @@ partition_point push push_reserved read_once reserve_exact resize rev reverse ro
 saturating_sub simd_ge simd_ne sort_unstable sort_unstable_by_key split_first to_array to_bitmask to_le_bytes
 trailing_ones trailing_zeros unwrap unwrap_or wrapping_mul wrapping_sub write_once write_str write_usize""".split())
 # Those that programs call besides.
-PROGRAM_METHODS = set("""as_chunks as_str chain checked_add_unsigned checked_sub_unsigned is_ascii_digit position
-read_all replace shrink_to sync_all take then_some unsigned_abs""".split())
+PROGRAM_METHODS = set("""as_chunks as_str cast_signed cast_unsigned chain checked_add_unsigned checked_sub_unsigned
+copied discard into_box into_owner is_ascii_digit position read_all replace shrink_to sync_all take then_some
+unsigned_abs""".split())
 # A method that takes a list of Rust's own there, and the one of the support module that takes a list of Rattle's.
 RENAMED = {"read_to_end": "read_all"}
 
 KEPT_ATTRIBUTES = {"inline", "cfg", "test"}
 DROPPED_ATTRIBUTES = {"tactic"}
+# Those of exports: in the build of wrong bodies Rust's own tests call them.
+EXPORT_ATTRIBUTES = {"repr", "unsafe"}
 DERIVES = {"Clone", "Copy", "PartialEq", "Eq", "Debug"}
 MACROS = {"unreachable", "matches"}
 GHOST_MACROS = {"prove", "prove_eq", "prove_ne"}
@@ -233,8 +241,10 @@ class Writer:
     def __init__(self, crate, name):
         self.crate, self.name, self.out, self.calls, self.defines, self.chunked = crate, name, [], {}, set(), set()
         self.refused, self.uses, self.renamed, self.macros = REFUSED, USES, {}, MACROS
+        self.dropped = DROPPED_ATTRIBUTES
         if is_program(crate):
             self.refused, self.uses, self.renamed = REFUSED - IN_PROGRAMS, PROGRAM_USES, RENAMED
+            self.dropped = DROPPED_ATTRIBUTES | EXPORT_ATTRIBUTES
 
     def refuse(self, token, why):
         raise Refused(f"{self.name}:{token.line}: {why}")
@@ -383,6 +393,9 @@ class Writer:
         kind = head[0] if head else ""
         if kind == "const" and head[1:2] == ["fn"]:
             kind = "fn"
+        if kind == "extern" and is_program(self.crate):
+            at = next(k for k, it in enumerate(tokens) if it.text == "extern")
+            kind, tokens = "fn", tokens[:at] + tokens[at + 4:]
         if kind == "ghost":
             self.check_ghost(words, fields)
             self.unput_item()
@@ -419,6 +432,7 @@ class Writer:
 
     def check_ghost(self, words, fields):
         """Checks that a ghost item is a `use`, or a name with a type or a value in braces."""
+        words = words[words[0].text == "pub":]
         text = "".join("{}" if it.opens("{") else it.text for it in words)
         known = r"ghost\w+:\{\},?" if fields else r"ghost\w+([:=]|:\{\}=)\{\};"
         if words[1].text != "use" and not re.fullmatch(known, text):
@@ -436,7 +450,7 @@ class Writer:
                 if set(names) - DERIVES:
                     self.refuse(words[0], f"a derive of {names}")
                 whole = f"#[derive({', '.join(names)})]" if names else ""
-            elif words[0].text in DROPPED_ATTRIBUTES:
+            elif words[0].text in self.dropped:
                 whole = ""
             elif words[0].text not in KEPT_ATTRIBUTES or inward:
                 self.refuse(words[0], f"the attribute {whole}")
@@ -620,6 +634,8 @@ TRIED_IN_PROGRAMS = {
         "fn f() -> Box<u8, A> {\n    let Err(A { b }) = Vec::from_elem(alloc, 0u8, N)? else { return; };\n    r.read_all(&mut b)\n}\n",
     "macro_rules! m {\n    ($x:expr) => {\n        $x\n    };\n}\n\nfn f() -> u8 {\n    m!(1)\n}\n":
         "macro_rules! m {\n    ($x:expr) => {\n        $x\n    };\n}\n\nfn f() -> u8 {\n    m!(1)\n}\n",
+    "#[unsafe(no_mangle)]\npub extern \"C\" fn f(x: u8) -> u8\n    ensures { result ≡ x }\n{\n    x\n}\n": "pub fn f(x: u8) -> u8 {\n    x\n}\n",
+    "#[repr(C)]\npub struct S {\n    a: u8,\n    pub ghost low: { a < 2 },\n}\n": "pub struct S {\n    a: u8,\n}\n",
     "fn f() -> u8 { m!(1) }": None,
     "fn f() { vec![1, 2] }": None,
     "use std::net::TcpStream;": None,

@@ -2,6 +2,8 @@
 
 mod bodies;
 #[cfg(mutants)]
+mod exports;
+#[cfg(mutants)]
 mod greatest;
 mod memory;
 mod reads;

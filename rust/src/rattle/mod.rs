@@ -12,6 +12,8 @@ pub mod lanes;
 #[cfg(mutants)]
 pub mod mutants;
 pub mod older;
+#[cfg(mutants)]
+pub mod owners;
 #[cfg(test)]
 pub mod reads;
 #[cfg(test)]
@@ -75,7 +77,12 @@ pub trait Allocator {
 #[derive(Clone, Copy, PartialEq, Eq, Debug, Default)]
 pub struct Global;
 
-impl Allocator for Global {}
+impl Allocator for Global {
+    #[cfg(mutants)]
+    fn request(&self, _bytes: usize) -> Result<(), AllocError> {
+        mutants::is_granted().then_some(()).ok_or(AllocError)
+    }
+}
 
 impl<A: Allocator> Allocator for &A {
     #[inline(always)]
