@@ -5,6 +5,7 @@
 //! tables and masks, places in bytes, and the list of levels; a low part counts one and takes two words, or none where its width is 0.
 
 use crate::proved::postings::Postings;
+use crate::proved::text_index::TextIndex;
 use crate::proved::vers_bits::bit_vec::BitVec;
 use crate::proved::vers_rank::fast_rs_vec::RsVec;
 use crate::proved::vers_rmq::rmq::binary_rmq::BinaryRmq;
@@ -710,6 +711,48 @@ fn reads_of_range_minima_and_documents_are_counted() {
             if low == words_of_low_part(&members(n / 2 + 1, 13, 0)) {
                 asked!(book, "Postings", lists[0], about, intersect_counted(&lists[1]));
                 asked!(book, "Postings", lists[1], about, intersect_counted(&lists[0]));
+            }
+        }
+    }
+    assert_eq!(book.told(), [""; 0]);
+}
+
+/// A number of a text's samples is a low part of at least one bit, so it takes two words.
+fn ask_text(book: &mut Book, text: &TextIndex<Global>, symbols: &[u64], about: &str) {
+    let n = symbols.len();
+    let absent = [symbols.first().map_or(0, |it| it ^ 1); 3];
+    let patterns = places(n).into_iter().filter(|from| *from <= n).flat_map(|from| [0, 1, 2, 5].map(|len| &symbols[from..n.min(from + len)]));
+    for pattern in patterns.chain([&absent[..], &[u64::MAX]]) {
+        let about = || format!("{about}, the pattern {pattern:?}");
+        book.call("TextIndex::count_counted", about, |tally| text.count_counted(pattern, tally));
+        book.call("TextIndex::contains_counted", about, |tally| text.contains_counted(pattern, tally));
+        for limit in [0, 1, 3] {
+            let _ = book.call("TextIndex::first_places_counted", about, |tally| text.first_places_counted(pattern, limit, tally));
+        }
+        let mut places = book.call("TextIndex::places_counted", about, |tally| text.places_counted(pattern, tally));
+        walk(book, "TextIndex places next", 3, about(), &mut places, |it, _, tally| it.next_counted(tally).is_some());
+        walk(book, "TextIndex places nth_back", 2, about(), &mut places, |it, k, tally| it.nth_back_counted(k, tally).is_some());
+    }
+    for start in places(n) {
+        for end in [0, 1, 40, n].map(|it| start.saturating_add(it).min(n + 1)) {
+            let about = || format!("{about}, from {start} to {end}");
+            let _ = book.call("TextIndex::extract_counted", about, |tally| text.extract_counted(start..end, tally));
+        }
+    }
+}
+
+#[test]
+fn reads_of_texts_are_counted() {
+    let mut book = Book { low: 2, ..Book::default() };
+    for n in [0usize, 1, 2, 33, 512, 513, 1025] {
+        for width in [1u16, 5, 16] {
+            let mixed = |k: u64| (k.wrapping_mul(0x9e37_79b9_7f4a_7c15) >> 40) % (1 << width);
+            for (kind, symbol) in [&mixed as &dyn Fn(u64) -> u64, &|k| k % 2].into_iter().enumerate() {
+                let symbols: Plain<u64> = (0..n as u64).map(symbol).collect();
+                for step in [1, 7] {
+                    let text = TextIndex::with_step(Global, &symbols, width, step).ok().unwrap();
+                    ask_text(&mut book, &text, &symbols, &format!("{n} symbols of {width} bits, of kind {kind}, step {step}"));
+                }
             }
         }
     }
