@@ -13,6 +13,8 @@ const TENS: &[(Query, Option<u64>)] = &[
     (Query::UnpackElement(0, 10), Some(7)),
     (Query::UnpackElement(1, 10), Some(255)),
     (Query::UnpackElement(2, 10), None),
+    (Query::UnpackElement(9223372036854775808, 2), None),
+    (Query::GetBits(usize::MAX, 2), None),
     (Query::UnpackElement(0, 0), None),
     (Query::UnpackElementUnchecked(1, 10), Some(255)),
     (Query::IsBitSetUnchecked(2), Some(1)),

@@ -130,7 +130,11 @@ fn nor(a: u64, b: u64) -> u64 {
 }
 
 // Returns true if a function makes ones of a copy of zeros, with no bit past the length.
-fn is_changed_to_ones(copy: Result<BitVec<Global>, AllocError>, zeros: &BitVec<Global>) -> bool {
+fn is_changed_to_ones(
+    copy: Result<BitVec<Global>, AllocError>,
+    zeros: &BitVec<Global>,
+    ones: &BitVec<Global>,
+) -> bool {
     let rows = [
         (Query::Len, Some(70)),
         (Query::CountOnes, Some(70)),
@@ -138,7 +142,9 @@ fn is_changed_to_ones(copy: Result<BitVec<Global>, AllocError>, zeros: &BitVec<G
     ];
     match copy {
         Ok(mut list) => {
-            list.apply_mask_custom(zeros, nor).is_ok() && first_wrong_answer(&list, &rows).is_none()
+            list.apply_mask_custom(zeros, nor).is_ok()
+                && list == *ones
+                && first_wrong_answer(&list, &rows).is_none()
         }
         Err(_) => false,
     }
@@ -151,7 +157,7 @@ fn masks_work(zeros: &BitVec<Global>, ones: &BitVec<Global>) -> [bool; 5] {
         is_cloned(zeros.mask_or(ones)),
         makes_zeros(zeros, ones),
         makes_ones(zeros, ones),
-        is_changed_to_ones(zeros.clone(), zeros),
+        is_changed_to_ones(zeros.clone(), zeros, ones),
     ]
 }
 

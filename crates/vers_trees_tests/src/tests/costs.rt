@@ -15,6 +15,7 @@ enum Counted {
     Close(usize),
     Open(usize),
     IsOpen(usize),
+    BwdSearch(usize, i64),
     IsBalanced,
 }
 
@@ -24,8 +25,10 @@ type Cost = (u64, u64);
 // An adjacent bit is found by itself, and a position of the same block by its block only. To another block a
 // forward search from the first block climbs by the node of the second block and the one over the third, and
 // then reads the third; a backward one from the third block climbs by the node over the first two, and then
-// reads the second.
-const COSTS: [(Counted, Option<usize>, Cost); 11] = [
+// reads the second. The node over the first two blocks has the total 4, the least excess 1 and the greatest 6: a
+// search for 6 or for the 0 before them descends below it, and one for 7 or -1 ends there. The root has the
+// total 0, the least excess 0 and the greatest 6: it is balanced by itself.
+const COSTS: [(Counted, Option<usize>, Cost); 15] = [
     (Counted::Close(2), Some(3), (0, 0)),
     (Counted::Close(1), Some(4), (1, 0)),
     (Counted::Close(0), Some(23), (2, 3)),
@@ -36,6 +39,10 @@ const COSTS: [(Counted, Option<usize>, Cost); 11] = [
     (Counted::Open(23), Some(0), (2, 2)),
     (Counted::IsOpen(5), Some(1), (0, 0)),
     (Counted::IsOpen(24), None, (0, 0)),
+    (Counted::BwdSearch(18, 2), Some(14), (2, 2)),
+    (Counted::BwdSearch(18, 3), None, (1, 1)),
+    (Counted::BwdSearch(18, -4), Some(0), (2, 2)),
+    (Counted::BwdSearch(18, -5), None, (1, 1)),
     (Counted::IsBalanced, Some(1), (0, 1)),
 ];
 
@@ -49,6 +56,7 @@ fn answer<const N: usize, A: Allocator + Copy>(
         Counted::Close(i) => tree.close_counted(i, tally),
         Counted::Open(i) => tree.open_counted(i, tally),
         Counted::IsOpen(i) => Some(usize::from(tree.is_open_counted(i, tally)?)),
+        Counted::BwdSearch(i, r) => tree.bwd_search_counted(i, r, tally),
         Counted::IsBalanced => Some(usize::from(tree.is_balanced_counted(tally))),
     }
 }

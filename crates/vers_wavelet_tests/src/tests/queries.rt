@@ -1,5 +1,5 @@
 //! The queries for symbols that are numbers.
-use crate::tests::lists::{is_answered_in_lists, symbol_of};
+use crate::tests::lists::{Asked, Coding, is_answered_for, is_answered_in_lists, symbol_of};
 use crate::tests::numbers::{Query, is_answered, symbols_of};
 use std::alloc::{Allocator, Global};
 use test_alloc::{Check, is_made_right};
@@ -213,4 +213,27 @@ impl Check<WaveletMatrix<Global>> for Places {
 fn unchecked_selects_answer_the_length_for_none(rt: HostRuntime) {
     let alloc = rt.alloc();
     assert!(rt; is_made_right(symbols_of(alloc, &[1, 5, 3], 3), &Places(alloc)));
+}
+
+// A symbol of two bits.
+#[derive(Drop)]
+struct TwoBits(Global);
+
+// Checks whether no form of a query finds a predecessor of it.
+impl Check<WaveletMatrix<Global>> for TwoBits {
+    fn is_right(&self, list: &mut WaveletMatrix<Global>) -> bool {
+        let asked = Asked {
+            list,
+            query: Query::Predecessor(0, 3, 3),
+            coding: Coding::Bits,
+            wanted: None,
+        };
+        is_answered_for(&asked, symbol_of(self.0, 3, 2))
+    }
+}
+
+#[test]
+fn a_symbol_of_two_bits_has_no_predecessor_among_those_of_three(rt: HostRuntime) {
+    let alloc = rt.alloc();
+    assert!(rt; is_made_right(symbols_of(alloc, &[1, 5, 3], 3), &TwoBits(alloc)));
 }

@@ -6,6 +6,7 @@ use crate::rattle::Global;
 use std::hash::BuildHasher;
 use std::hash::BuildHasherDefault;
 use std::collections::hash_map::DefaultHasher as FoldHasher;
+use crate::proved_tests::test_alloc::asked_both;
 use crate::proved::vers_bits::bit_vec::{BitVec, GrowError};
 
 // A list as numbers of that many bits each.
@@ -61,36 +62,33 @@ fn lists_are_compared_and_hashed() {
     assert_none_wrong(&rt, first_wrong_pair(rt.alloc()));
 }
 
-// Appends ten ones and drops them again.
-fn appended_and_dropped(list: &mut BitVec<Global>) -> u64 {
-    if list.append_bits(u64::MAX, 10).is_ok() {
-        list.drop_last(10);
-    }
-    hash_of(list)
+#[test]
+fn lists_of_one_limb_differ_as_it_does() {
+    let rt = HostRuntime;
+    let one = BitVec::from_limbs(rt.alloc(), &[1]);
+    let other = BitVec::from_limbs(rt.alloc(), &[2]);
+    assert_eq!(asked_both(one, other, |one, other| *one == *other),
+        Ok(false)
+    );
 }
 
-// Returns the hash of a list, or of the list with ten ones appended and dropped. `None` if it was not made.
-fn hash_of_made(made: Result<BitVec<Global>, GrowError>, is_changed: bool) -> Option<u64> {
-    match made {
-        Ok(mut list) => {
-            if is_changed {
-                Some(appended_and_dropped(&mut list))
-            } else {
-                Some(hash_of(&list))
-            }
-        }
-        Err(_) => None,
-    }
-}
-
-// Returns true if the bits 10 have the same hash, made in two ways.
-fn has_one_hash(alloc: Global) -> bool {
-    let plain = hash_of_made(BitVec::from_bits(alloc, &[3, 0]), false);
-    plain.is_some() && plain == hash_of_made(BitVec::from_bits(alloc, &[1, 0]), true)
+// Returns a list of a one and a zero, with ten ones appended and dropped again.
+fn one_and_zero(alloc: Global) -> Result<BitVec<Global>, GrowError> {
+    let mut list = BitVec::new(alloc);
+    list.append_bit(1)?;
+    list.append_bit(0)?;
+    list.append_bits(u64::MAX, 10)?;
+    list.drop_last(10);
+    Ok(list)
 }
 
 #[test]
 fn dropped_bits_leave_no_trace() {
     let rt = HostRuntime;
-    assert!(has_one_hash(rt.alloc()));
+    let changed = one_and_zero(rt.alloc());
+    let plain = BitVec::from_bits(rt.alloc(), &[3, 0]);
+    let are_same = asked_both(changed, plain, |changed, plain| {
+        compares(changed, plain, true) && changed.heap_size() == 8
+    });
+    assert_eq!(are_same, Ok(true));
 }

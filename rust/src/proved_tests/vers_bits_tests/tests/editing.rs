@@ -24,7 +24,7 @@ fn start_of(alloc: Global, start: Start) -> Result<BitVec<Global>, GrowError> {
 }
 
 // A list, and its changes and queries.
-const SCRIPTS: [(Start, &[Line]); 7] = [
+const SCRIPTS: [(Start, &[Line]); 8] = [
     (
         Start::WithCapacity(0),
         &[
@@ -124,6 +124,14 @@ const SCRIPTS: [(Start, &[Line]); 7] = [
             Line::Make(Change::DropLast(6)),
             Line::Ask(Query::HeapSize, Some(8)),
             Line::Make(Change::DropLast(usize::MAX)),
+            Line::Ask(Query::IsEmpty, Some(1)),
+        ],
+    ),
+    (
+        Start::Ones(10),
+        &[
+            Line::Make(Change::DropLast(usize::MAX)),
+            Line::Ask(Query::Len, Some(0)),
             Line::Ask(Query::IsEmpty, Some(1)),
         ],
     ),

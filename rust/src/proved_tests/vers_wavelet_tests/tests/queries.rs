@@ -1,7 +1,7 @@
 //! The queries for symbols that are numbers.
 
 use crate::rattle::prelude::*;
-use crate::proved_tests::vers_wavelet_tests::tests::lists::{is_answered_in_lists, symbol_of};
+use crate::proved_tests::vers_wavelet_tests::tests::lists::{Asked, Coding, is_answered_for, is_answered_in_lists, symbol_of};
 use crate::proved_tests::vers_wavelet_tests::tests::numbers::{Query, is_answered, symbols_of};
 use crate::rattle::Allocator;
 use crate::rattle::Global;
@@ -215,4 +215,27 @@ fn unchecked_selects_answer_the_length_for_none() {
     let rt = HostRuntime;
     let alloc = rt.alloc();
     assert!(is_made_right(symbols_of(alloc, &[1, 5, 3], 3), &Places(alloc)));
+}
+
+// A symbol of two bits.
+struct TwoBits(Global);
+
+// Checks whether no form of a query finds a predecessor of it.
+impl Check<WaveletMatrix<Global>> for TwoBits {
+    fn is_right(&self, list: &mut WaveletMatrix<Global>) -> bool {
+        let asked = Asked {
+            list,
+            query: Query::Predecessor(0, 3, 3),
+            coding: Coding::Bits,
+            wanted: None,
+        };
+        is_answered_for(&asked, symbol_of(self.0, 3, 2))
+    }
+}
+
+#[test]
+fn a_symbol_of_two_bits_has_no_predecessor_among_those_of_three() {
+    let rt = HostRuntime;
+    let alloc = rt.alloc();
+    assert!(is_made_right(symbols_of(alloc, &[1, 5, 3], 3), &TwoBits(alloc)));
 }
