@@ -4,3 +4,4 @@ pub mod Index
 pub mod Scans
 pub mod Bytes
 pub mod Closed
+pub mod Rows
