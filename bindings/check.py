@@ -9,6 +9,7 @@
 
 - The codes of statuses, queries and changes in vers.h, in the Python package and in bindings/c/src are those of
   crates/vers_c, one after another.
+- vers.h says of each export which handles differ, and which arrays it reads and writes.
 - C and C++ are compiled without a warning, C++ as C++17 and C++20; their tests pass, also under memcheck and helgrind.
   What C++ refuses doesn't compile.
 - The packages for pkg-config and CMake lead to headers and libraries, in a prefix and, by CMake, in the folder in which
@@ -217,6 +218,32 @@ def check_codes(checks, write):
         else:
             checks.note(text == wanted and "/**< . */" not in text,
                         f"the codes of {path} aren't those of crates/vers_c (--write writes them)")
+
+
+def owed(name, parameters):
+    """The words with which vers.h has to say which handles of an export differ, and which arrays it reads and writes."""
+    arrays = re.findall(r"(const )?(?:uint\d+_t|vers_row) \*(\w+)", parameters)
+    handles = parameters.count("vers_handle *")
+    words = [("One handle", "The two handles differ", "The three handles differ")[handles - 1]]
+    words += [f"{'reads' if is_const else 'writes'} `{array}`" for is_const, array in arrays]
+    return words + (["no array"] if handles == 1 and not arrays else [])
+
+
+def check_exports(checks):
+    """Checks that vers.h says of each export what its callers owe it, in its comment or in that of its group."""
+    text = read(os.path.join(C, "vers.h"))
+    exports = text[text.index("/* The exports of the library"):text.index("/* Helpers. */")]
+    comment, count = "", 0
+    for found in re.finditer(r"(?s)/\*(.*?)\*/|\b(vers_\w+)\(([^()]*)\);", exports):
+        said, name, parameters = found.groups()
+        if said is not None:
+            comment = re.sub(r"\s+(\* +)?", " ", said)
+            continue
+        count += 1
+        missing = [it for it in owed(name, parameters)
+                   if it not in comment and not (it.startswith("reads `") and "each reads its arrays" in comment)]
+        checks.note(not missing, f"vers.h doesn't say of {name}: {', '.join(missing)}")
+    checks.note(count > 40, f"vers.h has {count} exports")
 
 
 def check_c(checks, link):
@@ -466,6 +493,7 @@ def main(arguments):
     libraries += [Cargo(checks.path("target"))] if not archives else []
     try:
         check_codes(checks, "--write" in arguments)
+        check_exports(checks)
         for library in [] if "--write" in arguments else libraries:
             check_all(checks, library)
     finally:

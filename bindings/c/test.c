@@ -994,6 +994,42 @@ static void test_missing_answers(void) {
     vers_bits_free(&bits);
 }
 
+/* Null with a count is refused by the calls that lists have in common, also if they hold nothing. */
+static void test_missing_everywhere(void) {
+#define SAVED(type)                                                                                                    \
+    vers_##type type = {0};                                                                                            \
+    is(#type " saved over null", vers_##type##_save(&type, NULL, 1), VERS_REFUSED);                                    \
+    is(#type " loaded of null", vers_##type##_load(&type, NULL, 1), VERS_REFUSED);                                     \
+    is(#type " each of null", vers_##type##_each(&type, VERS_GET, NULL, 1, 0), VERS_REFUSED)
+#define ROWS(type) is(#type " rows of null", vers_##type##_rows(&type, VERS_GET, NULL, 1, 0), VERS_REFUSED)
+    SAVED(growing);
+    SAVED(bits);
+    SAVED(sparse);
+    SAVED(sorted);
+    SAVED(symbols);
+    SAVED(fast_rmq);
+    SAVED(binary_rmq);
+    SAVED(tree);
+    SAVED(postings);
+    ROWS(growing);
+    ROWS(bits);
+    ROWS(symbols);
+    ROWS(fast_rmq);
+    ROWS(binary_rmq);
+    ROWS(tree);
+    ROWS(postings);
+#undef SAVED
+#undef ROWS
+    vers_numbers numbers = {0};
+    vers_text text = {0};
+    is("numbers each of null", vers_numbers_each(&numbers, VERS_GET, NULL, 1, 0), VERS_REFUSED);
+    compare("contains null", 0, vers_text_contains(&text, NULL, 1), VERS_REFUSED, 0);
+    compare("zeros over null", 0, vers_bits_places0(&bits, 0, 1, NULL, 1), VERS_REFUSED, 0);
+    compare("ones over null", 0, vers_sparse_places1(&sparse, 0, 1, NULL, 1), VERS_REFUSED, 0);
+    compare("members over null", 0, vers_sorted_members(&sorted, 0, 1, NULL, 1), VERS_REFUSED, 0);
+    compare("documents over null", 0, vers_postings_documents(&postings, 0, 1, NULL, 1), VERS_REFUSED, 0);
+}
+
 /* The exports take null for no items. */
 static void test_no_items(void) {
     vers_handle handle = {0}, other = {0};
@@ -1115,6 +1151,7 @@ int main(void) {
     test_sizes();
     test_missing_arrays();
     test_missing_answers();
+    test_missing_everywhere();
     test_no_items();
     test_one_handle_twice();
     test_threads();

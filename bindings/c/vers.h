@@ -209,7 +209,7 @@ uint32_t vers_places(vers_handle *handle, const uint64_t *pattern, size_t count,
 uint32_t vers_extract(vers_handle *handle, size_t start, size_t end, vers_handle *into);
 
 /** Empties a handle, and frees the list if no other handle holds it. An empty handle stays empty. Other threads may
- *  use and free other handles of the list meanwhile. */
+ *  use and free other handles of the list meanwhile. One handle, no array. */
 void vers_free(vers_handle *handle);
 
 /* Queries that are asked often, each by a call of its own: the answers of vers_ask, in fewer instructions where the
