@@ -1,6 +1,7 @@
 -- The saved form of a handle's structure.
-use Rattle.std.specs.Prelude.{◌≡◌, ◌≢◌, ◌↔◌, ◌⊎◌, ℕ, List, length, Option, Some, None, IsSome, slice_get, option_map}
+use Rattle.std.specs.Prelude.{◌≡◌, ◌≢◌, ◌↔◌, ◌⊎◌, ◌^◌, ◌<◌, ⊤, ℕ, All, List, length, Option, Some, None, IsSome, IfSome, slice_get, option_map}
 use Rattle.std.specs.Option.{option_and_then}
+use Rattle.postings.specs.Posted.{ArePaired}
 use Rattle.vers_bits.specs.Bits.{limbs, pack}
 use Rattle.vers_saved.specs.Faults.{fault_of}
 use Rattle.vers_saved.specs.Format.{saved_bits, saved_sorted, saved_sparse, saved_symbols, saved_values, saved_parentheses, saved_postings, sparse_words, posting_words}
@@ -51,6 +52,12 @@ HasForm (PlainNumbers numbers) = ⊥
 abbrev pub ContentsHaveForm : Option Structure → Type 0
 ContentsHaveForm None = ⊥
 ContentsHaveForm (Some held) = HasForm held
+
+-- a property of a structure that its words don't show: no symbol has more bits than the width, and documents have a cost each
+abbrev pub Fits : Structure → Type 0
+Fits (SymbolList symbols) = All (λ y. y < 2 ^ symbols.width) symbols.items
+Fits (Documents posted) = ArePaired posted
+Fits held = ⊤
 
 -- the kind of a structure, if such are loaded
 abbrev pub kind_of : Structure → Option Kind
@@ -106,17 +113,28 @@ abbrev pub load_status : Option Structure → ℕ → List ℕ → ℕ
 load_status (Some held) code bytes = 5
 load_status None code bytes = bytes_status (slice_get KINDS code) bytes
 
--- the handle has the structure whose saved form the bytes are, of the kind of that code, if the status is 0, otherwise it is unchanged
+-- the bytes are the saved form of a structure
+pub record IsFormOf (bytes : List ℕ) (held : Structure) : Type 0 where
+  pub form : form_of held ≡ Some bytes
+  pub whole : HasForm held
+  pub fits : Fits held
+
+-- the handle has the structure whose saved form the bytes are, of the kind of that code, if the status is 0, otherwise it is unchanged:
+-- an empty handle gets each structure of the kind back from its saved form, unless an allocation fails
 pub record IsLoaded (code : ℕ) (bytes : List ℕ) (before after : Option Structure) (status : ℕ) : Type 0 where
   pub told : IsToldAs (load_status before code bytes) status
   pub held : status ≡ 0 → IsSome after
   pub kind : status ≡ 0 → option_and_then kind_of after ≡ slice_get KINDS code
   pub form : status ≡ 0 → contents_form after ≡ Some bytes
+  pub whole : status ≡ 0 → IfSome after (IsFormOf bytes)
+  pub back : (held : Structure) → kind_of held ≡ slice_get KINDS code → IsFormOf bytes held
+      → before ≡ None → ((status ≡ 0) × (after ≡ Some held)) ⊎ (status ≡ 6)
   pub left : status ≢ 0 → after ≡ before
 
 -- the bytes are the saved form of the structure if the status is 0, otherwise they are unchanged: the handle is empty, there is no saved form, it has another length, or an allocation failed
 pub record IsSaved (held : Option Structure) (before after : List ℕ) (status : ℕ) : Type 0 where
   pub saved : status ≡ 0 → contents_form held ≡ Some after
+  pub fits : status ≡ 0 → IfSome held Fits
   pub left : status ≢ 0 → after ≡ before
   pub vacant : (status ≡ 3) ↔ (held ≡ None)
   pub absent : status ≡ 1 → ¬ ContentsHaveForm held

@@ -1,11 +1,11 @@
 //! Saved forms of the structures of handles.
-ghost use Rattle.std.specs.Prelude.{◌≡◌, ◌≢◌, ◌↔◌, ◌⊎◌, Some, None, IfOk, IfErr, IfSome, OnOk, IsSome, length, option_map};
+ghost use Rattle.std.specs.Prelude.{◌≡◌, ◌≢◌, ◌↔◌, ◌⊎◌, Some, None, IfOk, IfErr, IfSome, OnOk, IsSome, MatchResult, length, option_map};
 ghost use Rattle.vers_saved.specs.Faults.{fault_of};
 ghost use Rattle.vers_saved.specs.Format.{saved};
 ghost use Rattle.vers_saved.specs.Kinds.{IsWhole};
 ghost use Rattle.vers_c.specs.Answers.{absent, found_or_absent, vacant};
-ghost use Rattle.vers_c.specs.Saves.{ContentsHaveForm, HasForm, IsLoaded, IsSaved, contents_form, fault_as, form_of, kind_of, saved_kind};
-ghost use Rattle.vers_c.specs.Structures.{contents, structure_of};
+ghost use Rattle.vers_c.specs.Saves.{ContentsHaveForm, Fits, HasForm, IsFormOf, IsLoaded, IsSaved, contents_form, fault_as, form_of, kind_of, saved_kind};
+ghost use Rattle.vers_c.specs.Structures.{Structure, contents, structure_of};
 
 use crate::answer::Answer;
 use crate::handle::VersHandle;
@@ -26,6 +26,7 @@ fn saved_of<S: Saved>(alloc: Global, list: &S) -> Result<Vec<u8, Global>, SaveEr
     ensures saved { IfOk result (λ out. out.items
         ≡ saved S.kind.number (S.count list.now) (S.width list.now) (S.words list.now)) }
     ensures whole { OnOk result (IsWhole S.kind (S.count list.now) (S.width list.now) (S.words list.now)) }
+    ensures fits { OnOk result (S.Fits list.now) }
     ensures refused { IfErr result (λ e. (e ≡ SaveError.Memory) ⊎ ((e ≡ SaveError.NoForm)
         × ¬ IsWhole S.kind (S.count list.now) (S.width list.now) (S.words list.now))) }
 {
@@ -63,6 +64,7 @@ impl Kept {
     pub fn save(&self, alloc: Global) -> Result<Vec<u8, Global>, SaveError>
         ensures saved { IfOk result (λ out. form_of (structure_of self.now) ≡ Some out.items) }
         ensures whole { OnOk result (HasForm (structure_of self.now)) }
+        ensures fits { OnOk result (Fits (structure_of self.now)) }
         ensures refused { IfErr result (λ e. (e ≡ SaveError.Memory)
             ⊎ ((e ≡ SaveError.NoForm) × ¬ HasForm (structure_of self.now))) }
     {
@@ -156,7 +158,9 @@ impl Kept {
     /// That of the first test that fails; `Memory` if the allocator refuses a request.
     pub fn load(alloc: Global, kind: Kind, bytes: &[u8]) -> Result<Kept, LoadError>
         ensures kind { IfOk result (λ kept. kind_of (structure_of kept) ≡ Some kind) }
-        ensures form { IfOk result (λ kept. form_of (structure_of kept) ≡ Some bytes.now) }
+        ensures form { IfOk result (λ kept. IsFormOf bytes.now (structure_of kept)) }
+        ensures back { (held : Structure) → kind_of held ≡ Some kind → IsFormOf bytes.now held
+            → MatchResult result (λ kept. structure_of kept ≡ held) (λ e. e ≡ LoadError.Memory) }
         ensures none { OnOk result (fault_of (saved_kind kind) bytes.now ≡ None) }
         ensures refused { IfErr result (λ e. (fault_of (saved_kind kind) bytes.now ≡ Some e)
             ⊎ ((e ≡ LoadError.Memory) × (fault_of (saved_kind kind) bytes.now ≡ None))) }

@@ -1,10 +1,10 @@
 //! Lists of parentheses.
-ghost use Rattle.std.specs.Prelude.{◌≡◌, ◌<◌, ◌*◌, ◌↔◌, ◌⊎◌, length, take, Some, None, Err, IfOk, IfErr, OnOk};
-ghost use Rattle.vers_bits.specs.Bits.{pack};
+ghost use Rattle.std.specs.Prelude.{◌≡◌, ◌<◌, ◌*◌, ◌↔◌, ◌⊎◌, length, take, Bool, List, Some, None, Err, IfOk, IfErr, OnOk, MatchResult};
+ghost use Rattle.vers_bits.specs.Bits.{limbs, pack};
 ghost use Rattle.vers_bits.specs.declared.bit_vec.TheConstants as list;
 ghost use Rattle.vers_saved.specs.Faults.{fault_of};
 ghost use Rattle.vers_saved.specs.Format.{saved_parentheses};
-ghost use Rattle.vers_saved.specs.Kinds.{tree_kind};
+ghost use Rattle.vers_saved.specs.Kinds.{IsWhole, tree_kind};
 ghost use Rattle.vers_trees.specs.declared.trees.bp.TheConstants as parentheses;
 ghost use Rattle.vers_c.specs.TreeAnswers.{any_tree_answer as answer_of_any, tree_answer};
 
@@ -53,9 +53,14 @@ fn boxed(alloc: Global, bits: BitVec<Global>) -> Result<Box<Parentheses, Global>
 /// That of the first test that fails; `Memory` if the allocator refuses a request.
 pub fn load_parentheses(alloc: Global, bytes: &[u8]) -> Result<Box<Parentheses, Global>, LoadError>
     ensures loaded { IfOk result (λ tree. bytes.now ≡ saved_parentheses 512 tree.value) }
+    ensures whole { IfOk result (λ tree.
+        IsWhole (tree_kind 512) (length tree.value) 512 (limbs tree.value)) }
     ensures none { OnOk result (fault_of (tree_kind 512) bytes.now ≡ None) }
     ensures refused { IfErr result (λ e. (fault_of (tree_kind 512) bytes.now ≡ Some e)
         ⊎ ((e ≡ LoadError.Memory) × (fault_of (tree_kind 512) bytes.now ≡ None))) }
+    ensures back { (x : List Bool) → IsWhole (tree_kind 512) (length x) 512 (limbs x)
+        → bytes.now ≡ saved_parentheses 512 x
+        → MatchResult result (λ tree. tree.value ≡ x) (λ e. e ≡ LoadError.Memory) }
 {
     let bits = load_parentheses_from_slice(alloc, 512, bytes)?;
     match boxed(alloc, bits) {
