@@ -1,6 +1,7 @@
 -- The saved form of the current structure, and the error in a file that is none. Another structure adds a clause to each of
 -- these definitions.
-use Rattle.std.specs.Prelude.{ℕ, ◌==◌, ◌≡◌, List, [], length, codes, slice_index, Option, Some, IfSome, ◌⊎◌, if◌then◌else◌}
+use Rattle.std.specs.Prelude.{ℕ, ◌==◌, ◌≡◌, ◌^◌, ◌<◌, ⊤, All, List, [], length, codes, slice_index, Option, Some, IfSome, ◌⊎◌, if◌then◌else◌}
+use Rattle.postings.specs.Posted.{ArePaired}
 use Rattle.vers_bits.specs.Bits.{limbs, pack}
 use Rattle.vers_saved.specs.declared.kind.Kind.{Kind}
 use Rattle.vers_saved.specs.declared.kind.TheConstants.{SORTED, SYMBOLS, SPARSE, VALUES, PARENTHESES, POSTINGS, BIT_LISTS, SORTED_LISTS, SYMBOL_LISTS, SPARSE_LISTS, BLOCK_VALUES, POSTING_LISTS}
@@ -33,6 +34,12 @@ HasForm (TreeHeld bits) = IsWhole (tree_kind 512) (length bits) 512 (limbs bits)
 HasForm (SymbolsHeld symbols) = IsWhole SYMBOL_LISTS (length symbols.items) symbols.width (limbs (pack symbols.items symbols.width))
 HasForm (PostingsHeld posted) = IsWhole POSTING_LISTS (length posted.documents) 128 (posting_words posted)
 
+-- a property of the current structure that its words don't show: no symbol has more bits than the width, and documents have a cost each
+abbrev pub Fits : Holding → Type 0
+Fits (SymbolsHeld symbols) = All (λ y. y < 2 ^ symbols.width) symbols.items
+Fits (PostingsHeld posted) = ArePaired posted
+Fits held = ⊤
+
 -- the kind of lists that has this number, or that of bits if none has
 abbrev pub kind_numbered : ℕ → Kind
 kind_numbered number =
@@ -54,7 +61,7 @@ form_fault bytes = fault_of (kind_numbered (number_of_kind bytes)) bytes
 
 -- the bytes left in a reader are the saved form of the current structure
 abbrev pub IsFormOf : Option (List ℕ) → Holding → Type 0
-IsFormOf left held = HasForm held × IfSome left (λ bytes. bytes ≡ saved_form held)
+IsFormOf left held = HasForm held × IfSome left (λ bytes. bytes ≡ saved_form held) × Fits held
 
 -- the reader failed, memory ran out, or the bytes left in the reader have the error
 abbrev pub IsNoForm : Option (List ℕ) → LoadError → Type 0

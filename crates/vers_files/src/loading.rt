@@ -4,7 +4,7 @@ ghost use Rattle.vers_saved.specs.Format.{bytes_word};
 ghost use Rattle.vers_saved.specs.Faults.{fault_of};
 ghost use Rattle.vers_saved.specs.Kinds.{tree_kind};
 ghost use Rattle.vers_saved.specs.Streams.{IsRefused};
-ghost use Rattle.vers_files.specs.Forms.{saved_form, HasForm, form_fault, kind_numbered, number_of_kind, IsFormOf, IsNoForm, fault_text};
+ghost use Rattle.vers_files.specs.Forms.{saved_form, HasForm, Fits, form_fault, kind_numbered, number_of_kind, IsFormOf, IsNoForm, fault_text};
 
 use std::alloc::Allocator;
 use std::io::{ErrorKind, Read};
@@ -80,7 +80,7 @@ fn tree_of_slice<'a, A: Allocator + Copy>(
     alloc: &'a A,
     bytes: &[u8],
 ) -> Result<Store<'a, A>, LoadError>
-    ensures loaded { IfOk result (λ held. (bytes.now ≡ saved_form held) × HasForm held) }
+    ensures loaded { IfOk result (λ held. (bytes.now ≡ saved_form held) × HasForm held × Fits held) }
     ensures refused { IfErr result (λ e. (fault_of (tree_kind 512) bytes.now ≡ Some e)
         ⊎ ((e ≡ LoadError.Memory) × (fault_of (tree_kind 512) bytes.now ≡ None))) }
 {
@@ -109,7 +109,7 @@ fn tree_of_reader<'a, A: Allocator + Copy, R: Source>(
 /// That of the bytes as a form of the kind that they name; `Memory` if the allocator refuses a request.
 #[tactic(auto, using(crate::proofs::Numbered::kinds))]
 pub fn load<'a, A: Allocator + Copy>(alloc: &'a A, bytes: &[u8]) -> Result<Store<'a, A>, LoadError>
-    ensures loaded { IfOk result (λ held. (bytes.now ≡ saved_form held) × HasForm held) }
+    ensures loaded { IfOk result (λ held. (bytes.now ≡ saved_form held) × HasForm held × Fits held) }
     ensures refused { IfErr result (λ e. (form_fault bytes.now ≡ Some e)
         ⊎ ((e ≡ LoadError.Memory) × (form_fault bytes.now ≡ None))) }
 {

@@ -5,7 +5,7 @@ ghost use Rattle.vers_words.specs.Text.{words_of};
 ghost use Rattle.vers_saved.specs.Streams.{Writes};
 ghost use Rattle.vers_cli.specs.Holding.{holding_of, is_accepted};
 ghost use Rattle.vers_cli.specs.Rules.{line_loaded};
-ghost use Rattle.vers_files.specs.Forms.{saved_form, HasForm};
+ghost use Rattle.vers_files.specs.Forms.{saved_form, Fits, HasForm};
 ghost use Rattle.vers_files.specs.SavedLines.{IfAccepted, SaysWhy, IsFormless, IsOfLine, IsPut, has_no_bits, line_saved};
 
 use crate::place::Place;
@@ -80,6 +80,7 @@ pub fn save<A: Allocator + Copy, W: Write>(
     ensures kept { IfErr result (λ e. (e ≡ SaveError.Write)
         ⊎ Keeps (W.contents writer.old) (W.contents writer.new)) }
     ensures form { OnOk result (HasForm (holding_of held.now)) }
+    ensures fits { OnOk result (Fits (holding_of held.now)) }
     ensures none { IfErr result (λ e. e ≡ SaveError.NoForm → ¬ HasForm (holding_of held.now)) }
 {
     match held {

@@ -1,7 +1,7 @@
 //! Descriptions of the lists of files.
 ghost use Rattle.std.specs.Prelude.{◌≡◌, length, IfOk, IfErr, ◌⊎◌, Some, None};
 ghost use Rattle.vers_cli.specs.Holding.{Holding, holding_of, length_of};
-ghost use Rattle.vers_files.specs.Forms.{saved_form, HasForm, form_fault};
+ghost use Rattle.vers_files.specs.Forms.{saved_form, Fits, HasForm, form_fault};
 ghost use Rattle.vers_files.specs.Shown.{kind_text, width_of};
 
 use crate::loading::load;
@@ -54,7 +54,7 @@ fn width_of<A: Allocator + Copy>(held: &Held<'_, A>) -> u64
 
 /// Returns the description of the list in a saved form. Errors as for `load`.
 pub fn show<A: Allocator + Copy>(alloc: A, bytes: &[u8]) -> Result<Shown, LoadError>
-    ensures shown { IfOk result (λ shown. (held : Holding) × (bytes.now ≡ saved_form held) × HasForm held
+    ensures shown { IfOk result (λ shown. (held : Holding) × (bytes.now ≡ saved_form held) × HasForm held × Fits held
         × (shown.kind.now ≡ kind_text held) × (shown.len ≡ length_of held)
         × (shown.width ≡ width_of held) × (shown.bytes ≡ length bytes.now)) }
     ensures refused { IfErr result (λ e. (form_fault bytes.now ≡ Some e)

@@ -9,6 +9,7 @@ returns-in-Ok-clause-loaded g c =
     rw c.of.ensures (
       in_box c.load_tree.result c.boxed.result (λ b. b.value) c.in-Ok.list _ c.in-Ok.is c.boxed.ensures tree.whole,
       in_box c.load_tree.result c.boxed.result (λ b. b.value) c.in-Ok.list _ c.in-Ok.is c.boxed.ensures tree.loaded,
+      tt,
     )
 
 pub returns-in-Err-clause-refused : goal.returns-in-Err-clause-refused

@@ -9,6 +9,7 @@ returns-in-Ok-clause-loaded g c =
     rw c.of.ensures (
       in_box c.load_tree_from_slice.result c.boxed.result (λ b. b.value) c.in-Ok.list _ c.in-Ok.is c.boxed.ensures tree.loaded,
       in_box c.load_tree_from_slice.result c.boxed.result (λ b. b.value) c.in-Ok.list _ c.in-Ok.is c.boxed.ensures tree.whole,
+      tt,
     )
 
 pub returns-in-Err-clause-refused : goal.returns-in-Err-clause-refused
