@@ -1,6 +1,7 @@
-"""Right bodies, for `mutants.py` to run among the wrong ones: the crate, the wrong body whose row they have to pass,
-and what is written for what."""
+"""What `mutants.py` plants among the wrong bodies, and edits for its self-test."""
 
+# Right bodies, which are run among the wrong ones: the crate, the wrong body whose row they have to pass, and what is
+# written for what. The last five break what only a private contract or a proof says, which no caller can see.
 RIGHT = (
     ("vers_bits", "is_empty--is-empty-of-one-bit", "self.len() == 0", "self.len() < 1"),
     ("vers_sorted", "parts_of--a-one-stands-a-place-early", "as usize + i + 1, 1)", "as usize + 1 + i, 1)"),
@@ -27,4 +28,48 @@ RIGHT = (
     ("vers_engine", "take_line--the-end-of-a-line-is-taken-twice", "Ok(end + 1)", "Ok(1 + end)"),
     ("vers_cli", "range_min--least-value-to-the-right", "if i <= j && j < values.len() as u64 {",
      "if j < values.len() as u64 && i <= j {"),
+    ("vers_bits", "add_bit--append-gives-up-early", "if len >= MAX_LEN {", "if len > MAX_LEN - 1 {"),
+    ("vers_tally", "add_chunk--a-chunk-wraps-at-the-greatest", "self.chunks.saturating_add(1)",
+     "self.chunks.checked_add(1).unwrap_or(u64::MAX)"),
+    ("vers_c", "changed--a-shared-structure-is-said-to-be-changed", "None => SHARED,", "None => 7,"),
+    ("vers_c", "vers_sorted_build--numbers-need-not-ascend", "if !is_ascending(numbers) {",
+     "if is_ascending(numbers) == false {"),
+    ("vers_c", "answer_each--a-batch-stops-early", "rows[i] = row.told(answer.value_or(other));",
+     "rows[i] = row.told(if answer.status == 0 { answer.value } else { other });"),
+    ("vers_rank", "pair_of--a-pair-in-one-word-counts-two-queries", "second: second.min(len),",
+     "second: len.min(second),"),
+    ("vers_bits", "extend_by--a-refused-extension-keeps-half-of-a-list", "self.truncate(len);", "let _ = len;"),
+    ("vers_sorted", "item_at--a-walk-reads-on-past-members-that-nth-skips", "if i != self.next {",
+     "if i > self.next {"),
+    ("vers_sorted", "place_ahead--a-walk-skips-what-it-read", "ahead.len = len;", "ahead.len = 64;"),
+    ("vers_trees", "second--a-clone-of-a-walk-of-a-subtree-begins-with-the-first-node", "count: self.count,",
+     "count: self.count / 2,"),
+    ("text_index", "shrink_keys--keys-are-said-to-differ", "passes += 1;", "passes += 2;"),
 )
+
+# A small source, and edits of it: each with what its refusal says, or nothing for one that isn't refused.
+SMALL = """const STEP: u64 = 1;
+
+pub fn next(x: u64) -> u64 {
+    x + STEP
+}
+
+pub fn second(x: u64) -> u64 {
+    next(next(x))
+}
+"""
+BAD = {
+    name: (f"file: {file}\nold: {old}\nnew: {new}\n{row}\n", wanted)
+    for name, file, old, new, row, wanted in (
+        ("next--adds-two", "src/lib.rt", "x + STEP", "x + STEP + STEP", "row: rows::next", ""),
+        ("next--is-read-by-rt-too", "src/lib.rt", "x + STEP", "x", "# row: rows::next", ""),
+        ("next--names-no-test", "src/lib.rt", "x + STEP", "x", "goal: next returns", "names no test"),
+        ("next--of-another-file", "src/main.rt", "x + STEP", "x", "row: rows::next", "no file src/main.rt"),
+        ("next--stands-nowhere", "src/lib.rt", "x - STEP", "x", "row: rows::next", "0 times in its file"),
+        ("next--stands-twice", "src/lib.rt", "next(x", "next(1 + x", "row: rows::next", "2 times in its file"),
+        ("next--changes-nothing", "src/lib.rt", "x + STEP", "x + STEP", "row: rows::next", "changes nothing"),
+        ("next--changes-a-constant", "src/lib.rt", "STEP: u64 = 1", "STEP: u64 = 2", "row: rows::next",
+         "no body of one function"),
+        ("next--is-of-another", "src/lib.rt", "next(next(x))", "next(x)", "row: rows::next", "begin with `second--`"),
+    )
+}

@@ -4,13 +4,13 @@ that its file names.
 
     tools/mutants.py [--jobs N] [CRATE..]    builds, and runs each wrong body; the last line is "N passed, M failed"
     tools/mutants.py --find [CRATE..]        names the quickest test that fails for each wrong body that has none
-    tools/mutants.py --self-test             tries edits of bodies, signatures and constants
+    tools/mutants.py --self-test             tries edits of bodies, signatures and constants, and edits that are refused
 
-A wrong body (a mutant) that breaks a clause which says what a call returns has a line `row: TEST`. The expected values
-of that test come from a plain model of the definition. The test has to pass with the right bodies and to fail with this
-one: the row at which it fails is a counterexample to the clause. Right bodies are run too (tools/mutant_plants.py), and
-have to pass. A test may lower the greatest length of a list, and have requests of the heap refused
-(rust/src/rattle/mutants.rs). Wrong bodies without that line are tried by the prover (tools/wrong_bodies.py).
+A wrong body (a mutant) has a line `row: TEST`. The expected values of that test come from a plain model of the
+definition, or from what was read or requested. The test has to pass with the right bodies and to fail with this one:
+the row at which it fails is a counterexample to the contract. Nothing else counts, and an edit without that line fails
+the run. Right bodies are run too (tools/mutant_plants.py), and have to pass. A test may lower the greatest length of a
+list, and have requests of the heap refused (rust/src/rattle/mutants.rs).
 
 Each edit is applied to the source in Rattle, and both texts are written as Rust by tools/plain_rust.py. A body that
 differs becomes
@@ -24,6 +24,7 @@ import argparse
 import json
 import os
 import re
+import signal
 import subprocess
 import sys
 import time
@@ -32,10 +33,10 @@ from concurrent.futures import ThreadPoolExecutor
 from pathlib import Path
 
 import plain_rust
-from mutant_plants import RIGHT
+from mutant_plants import BAD, RIGHT, SMALL
 from plain_rust import (BY_HAND, CLOSING, CRATES, MODULES, PROGRAM_TESTS, PROGRAMS, Refused, Writer, real, sources,
                         written_of)
-from sources import ROW, TOP, edited, has_cargo, read
+from sources import ROW, TOP, Source, by_path, edited, has_cargo, load_edit, read, read_crate
 
 RUST = f"{TOP}/rust"
 # What a test of wrong bodies needs and no caller has, behind a file: a counter whose counts are the greatest.
@@ -50,8 +51,9 @@ impl Tally {
     }
 }
 """}
-# The limits of a run: a multiple of the time of the right bodies, seconds more, and bytes of memory.
-TIMES, SECONDS, MEMORY = 8, 2, 2 << 30
+# The limits of a run: a multiple of the time of the right bodies, processor seconds more, and bytes of memory; and the
+# seconds by the clock after which a test that waits is ended.
+TIMES, SECONDS, MEMORY, WAITING = 8, 2, 2 << 30, 1800
 # What rustc refuses by itself in a wrong body that it could compile.
 NOTE = "#![allow(arithmetic_overflow, unconditional_panic, unconditional_recursion, unreachable_code, unused, unstable_name_collisions)]\n\n"
 
@@ -137,10 +139,11 @@ class Build:
             it.number = number
         for module, crates in (("proved", CRATES), ("programs", PROGRAMS)):
             for crate in crates:
+                known = by_path(read_crate(TOP, crate))
                 for name, text in [it for it in sources(crate) if it[0] not in BY_HAND]:
                     parts, path = split(Writer(crate, name).file(text)), f"{module}/{name}"
                     for it in [it for it in mutants if it.file == name]:
-                        self.add(it, crate, name, text, parts)
+                        self.add(it, name, text, parts, known)
                     self.files[path] = self.joined(path, parts) + BESIDES.get(name, "")
             self.files[f"{module}/mod.rs"] = NOTE + "".join(f"pub mod {it};\n" for it in crates)
         self.files.update({f"program_tests/{path}": text for path, text in written_of(PROGRAM_TESTS)[0].items()})
@@ -149,10 +152,12 @@ class Build:
         for path in [f"programs/{it}/mod.rs" for it in PROGRAMS]:
             self.files[path] = re.sub("(?m)^mod ", "pub mod ", self.files[path])
 
-    def add(self, mutant, crate, path, text, parts):
-        """Adds a wrong body to the body that it changes."""
+    def add(self, mutant, path, text, parts, known):
+        """Adds a wrong body to the body that it changes, of a crate with the sources that are known."""
         try:
-            others = split(Writer(crate, path).file(edited(text, mutant.edit)))
+            if mutant.row and not mutant.is_right:
+                load_edit(mutant.name, mutant.edit, known)
+            others = split(Writer(mutant.crate, path).file(edited(text, mutant.edit)))
         except (Refused, ValueError) as why:
             self.faults.append(mutant.said(f"it can't be written: {why}"))
             return
@@ -207,8 +212,7 @@ class Build:
 
 def cargo(*words):
     """Runs cargo with the wrong bodies, and returns its messages."""
-    flags = {"RUSTFLAGS": "--cfg mutants --cap-lints allow", "CARGO_TARGET_DIR": f"{RUST}/target/mutants/built",
-             "CARGO_PROFILE_TEST_OPT_LEVEL": "1"}
+    flags = {"RUSTFLAGS": "--cfg mutants --cap-lints allow", "CARGO_TARGET_DIR": f"{RUST}/target/mutants/built"}
     done = subprocess.run(["cargo", *words, "--offline", "--message-format=json"], cwd=RUST,
                           env={**os.environ, **flags},
                           stdout=subprocess.PIPE, stderr=subprocess.DEVNULL, text=True, check=False)
@@ -236,22 +240,25 @@ def module_of(row):
 
 
 def run(program, test, mutant, seconds):
-    """Runs one test with a wrong body, and returns how it failed, or None if it passed, and what it printed."""
-    command = ["prlimit", f"--as={MEMORY}", program, test, "--exact", "--include-ignored", "--test-threads=1",
-               "--nocapture"]
+    """Runs one test with a wrong body, for some processor seconds, and returns how it failed, or None if it passed, and
+    what it printed."""
+    command = ["prlimit", f"--as={MEMORY}", f"--cpu={int(seconds) + 1}", program, test, "--exact", "--include-ignored",
+               "--test-threads=1", "--nocapture"]
     try:
         done = subprocess.run(command, env={**os.environ, "MUTANT": str(mutant), "RUST_BACKTRACE": "0"},
-                              timeout=seconds, check=False,
+                              timeout=WAITING, check=False,
                               stdin=subprocess.DEVNULL, stdout=subprocess.PIPE, stderr=subprocess.PIPE, text=True,
                               errors="replace")
     except subprocess.TimeoutExpired:
-        return "it doesn't end", ""
+        return "waits", ""
+    if done.returncode in (-signal.SIGXCPU, -signal.SIGKILL):
+        return "doesn't end", ""
     if done.returncode == 0 and "1 passed" in done.stdout:
         return None, done.stderr
     if done.returncode == 0:
-        return "there is no such test", done.stderr
+        return "isn't there", done.stderr
     at = re.search(r"panicked at (?:.*/)?(src/\S+:\d+)", done.stderr)
-    other = "returns an error" if "1 failed" in done.stdout else "it ends the process"
+    other = "returns an error" if "1 failed" in done.stdout else "ends the process"
     return f"fails at {at[1]}" if at else other, done.stderr
 
 
@@ -262,26 +269,32 @@ def timed(program, test):
     return time.monotonic() - start, said, end
 
 
+def kind_of(end):
+    """Returns how a test failed, in the words of the summary."""
+    at = re.match(r"fails at src/(?:\S*/)?(\w+_tests)/", end)
+    return "fails in the test" if at else "panics in the body" if end.startswith("fails at") else end
+
+
 def judged(program, mutants, jobs):
-    """Yields for each wrong body with a row whether its test fails with it and passes without it, and a line about
-    it."""
+    """Yields for each wrong body with a row whether its test fails with it and passes without it, a line about it, and
+    how it failed."""
     with ThreadPoolExecutor(jobs) as pool:
         rows = sorted({it.row for it in mutants})
         right = dict(zip(rows, pool.map(lambda row: timed(program, module_of(row)), rows)))
         ends = pool.map(lambda it: run(program, module_of(it.row), it.number, SECONDS + TIMES * right[it.row][0])[0],
                         mutants)
         for it, end in zip(mutants, ends):
-            if right[it.row][2]:
-                yield False, it.said(f"{it.row} fails with the right bodies too: {right[it.row][2]}")
+            if fault := right[it.row][2]:
+                yield False, it.said(f"{it.row} fails with the right bodies too: {fault}"), ""
             else:
-                yield bool(end) != it.is_right, it.said(f"{it.row} {end or 'passes'}")
+                yield bool(end) != it.is_right, it.said(f"{it.row} {end or 'passes'}"), kind_of(end or "right: passes")
 
 
 def found_rows(program, mutants):
     """Writes the quickest test that fails into the file of each wrong body, and yields the wrong bodies that none
     finds."""
-    # only the tests of programs reach programs
-    reaching = "program" if {it.crate for it in mutants} <= set(PROGRAMS) else "proved|program|inside"
+    # only their own tests, and Rust's, reach programs
+    reaching = "program|inside" if {it.crate for it in mutants} <= set(PROGRAMS) else "proved|program|inside"
     listed = subprocess.run([program, "--list"], stdout=subprocess.PIPE, text=True, check=True).stdout
     names = [it.split(": ")[0] for it in listed.splitlines() if it.endswith(": test")
              and re.match(f"({reaching})_tests::", it)]
@@ -308,9 +321,23 @@ TRIED = [("self.a", "self.a + 1", ["f"]), ("    x\n", "    x + A\n", ["f"]), ("A
          ("self.a", "self.a", [])]
 
 
+def refusal(name, edit):
+    """Returns why an edit of the small source is none, or None."""
+    try:
+        load_edit(name, edit, {"src/lib.rt": Source("small", "src/lib.rt", SMALL)})
+    except ValueError as why:
+        return str(why)
+    return None
+
+
 def self_test():
-    """Compares texts, and returns whether anything but the changed bodies is named."""
+    """Compares texts and refusals, and returns whether anything but the changed bodies, or another refusal, is named."""
     wrong = 0
+    for name, (edit, wanted) in BAD.items():
+        got = refusal(name, edit)
+        if bool(got) != bool(wanted) or wanted not in (got or ""):
+            print(f"{name} is refused with {got!r}, and not with {wanted!r}")
+            wrong += 1
     for old, new, wanted in TRIED:
         parts = split(PLAIN)
         found = changed(parts, split(PLAIN.replace(old, new, 1)))
@@ -318,7 +345,7 @@ def self_test():
         if got != wanted or "".join(it if isinstance(it, str) else it.text for it in parts) != PLAIN:
             print(f"of {old!r} to {new!r} came {got}, and not {wanted}")
             wrong += 1
-    print(f"{len(TRIED) - wrong} passed, {wrong} failed")
+    print(f"{len(TRIED) + len(BAD) - wrong} passed, {wrong} failed")
     return wrong > 0
 
 
@@ -335,23 +362,26 @@ def main():
     if not has_cargo():
         print("left out: the wrong bodies that a test refuses (no cargo 1.88 or newer)")
         return 0
-    mutants = [Mutant(crate, path) for crate in flags.crates or CRATES + PROGRAMS
-               for path in sorted(Path(TOP, "crates", crate, "wrong").glob("*.edit"))]
-    mutants = [it for it in mutants if bool(it.row) != flags.find]
+    paths = sorted(Path(TOP, "crates").glob("*/wrong/*.edit")) + sorted(Path(TOP, "crates").glob("*/must-fail/*.edit"))
+    mutants = [Mutant(it.parts[-3], it) for it in paths if it.parts[-3] in (flags.crates or it.parts)]
+    mutants = [it for it in mutants if not (flags.find and it.row)]
     if not flags.find:
         mutants += [Mutant(crate, Path(TOP, "crates", crate, "wrong", f"{name}.edit"), texts)
                     for crate, name, *texts in RIGHT]
     program, faults = compiled(mutants)
-    passed = 0
+    faults += [it.said("it names no test that fails with it") for it in mutants if not (it.row or flags.find)]
+    passed, ends = 0, Counter()
     if program and flags.find:
         faults += [it.said("no test finds it") for it in found_rows(program, mutants)]
     elif program:
-        for is_refused, line in judged(program, mutants, flags.jobs):
-            passed += is_refused
-            if not is_refused:
+        for is_as_wanted, line, end in judged(program, [it for it in mutants if it.row], flags.jobs):
+            passed += is_as_wanted
+            ends[end] += is_as_wanted
+            if not is_as_wanted:
                 faults.append(line)
     counts = Counter(it.crate for it in mutants if not it.is_right)
     print("".join(f"{crate}: {count} wrong bodies\n" for crate, count in counts.items()), end="")
+    print("".join(f"{end}: {count}\n" for end, count in ends.most_common()), end="")
     print("".join(f"{it}\n" for it in faults), end="")
     print(f"{passed} passed, {len(faults) + (program is None)} failed")
     return bool(faults) or program is None

@@ -202,12 +202,6 @@ def prove(crates, name, niceness, commands):
         os.utime(built, (began, began))
 
 
-def prove_below(crates, name, commands):
-    """Proves the libraries below a crate, unless their builds are up to date."""
-    if not all(map(crates.is_built, crates.below(name))):
-        prove_all(crates, crates.uses(name), commands, lambda name: None)
-
-
 def processor_count():
     """Returns how many processors a run may use: four at most, since each check wants some gigabytes."""
     return min(4, len(os.sched_getaffinity(0)))

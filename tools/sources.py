@@ -3,16 +3,15 @@ structs.
 
 In that layout the body of a function is opened by a line as far in as the function's first line, and closed by the next
 brace on its own line as far in. A wrong body is a file FUNCTION--WHAT-IS-WRONG.edit: a line 'file: src/..', pairs of
-lines 'old: TEXT' and 'new: TEXT', and a line 'goal: FUNCTION GOAL'. Each TEXT is one line, and the old one stands once
-in the file. FUNCTION is the one that is changed, or a closure in it, as a check names it below the crate, and GOAL is
-what the body breaks. That line is behind '# ' in the wrong bodies that `rt` reads as well.
+lines 'old: TEXT' and 'new: TEXT', and a line 'row: TEST'. Each TEXT is one line, and the old one occurs once in the
+file. FUNCTION is the one that is changed, and TEST the test that fails with it. That line is behind '# ' in the wrong
+bodies that `rt` reads as well.
 """
 import os
 import re
 import shutil
 import subprocess
 import sys
-from collections import namedtuple
 from functools import cached_property
 from itertools import takewhile
 from pathlib import Path
@@ -24,14 +23,10 @@ OWNER = re.compile(rf"{PUB}(?:unsafe )?(?:impl|trait)\b")
 CLAUSE = re.compile(r"(?ms)^\s*(requires|ensures) (?:[a-z_]\w* )?\{ (.*?)\s\}\s*(?=^\s*(?:requires|ensures)\b|\Z)")
 STRUCT = re.compile(rf"(?ms)^{PUB}(struct|enum) (\w+)([^;{{(]*)(\{{.*?^\}}|\{{[^\n]*\}}|\([^;]*\);|;)")
 # The test that fails with a wrong body.
-ROW = re.compile(r"(?m)^row: (\S+)$")
+ROW = re.compile(r"(?m)^(?:# )?row: (\S+)$")
 # The oldest cargo by which the tests of the Rust crate and the library in C are built. (The crate itself needs 1.63.)
 NEW_CARGO = (1, 88)
 PARAMETER = re.compile(r"(?:mut )?(\w+): ((?:[^,<()\[]|<[^<>]*(?:<[^<>]*>[^<>]*)*>|\([^()]*\)|\[[^\[\]]*\])+)")
-# A wrong body: the function that it changes, what the lines of that become, the name under which it is tried, and the
-# goal that it breaks, with the names that a check has for the function of that goal, below the crate, and whether all
-# goals are tried as for the right body.
-Edit = namedtuple("Edit", "name file function lines called path goal is_auto")
 
 
 def read(path):
@@ -69,12 +64,11 @@ def above(lines, at):
 
 
 class Function:
-    """A function: the head of its impl or trait and the line of that, its first line, the first of its body and its
-    last, and parts of its text."""
+    """A function: the head of its impl or trait, its first line, the first of its body and its last, and parts of its
+    text."""
 
-    def __init__(self, source, owner, owned_at, first, body, last):
-        self.source, self.owner, self.owned_at = source, owner, owned_at
-        self.first, self.body, self.last = first, body, last
+    def __init__(self, source, owner, first, body, last):
+        self.source, self.owner, self.first, self.body, self.last = source, owner, first, body, last
         lines = source.lines[first : last + 1]
         self.has_body, self.text, self.where = body is not None, "\n".join(lines), f"{source.path}:{first + 1}"
         declared, inside = self.text, ""
@@ -105,16 +99,6 @@ class Function:
         return above(self.source.lines, self.first)
 
     @cached_property
-    def tactics(self):
-        """The paths of the lemmas that tactics use in it, and of the definitions that they open: those that the nearest
-        attribute names."""
-        places = [self.first, self.owned_at] if self.owner else [self.first]
-        said = [" ".join(above(self.source.lines, at)[1]) for at in places]
-        nearest = next((it for it in said if "#[tactic(" in it), "")
-        found = (re.search(rf"\b{word}\(([^()]*)\)", nearest) for word in ("using", "unfolding"))
-        return [re.findall(r"[\w:]+", it[1]) if it else [] for it in found]
-
-    @cached_property
     def parameters(self):
         """Its parameters but `self`, as (name, type)."""
         return PARAMETER.findall(re.split(r"fn \w+(?:<.*?>)?\(", self.head)[1])
@@ -126,22 +110,19 @@ class Source:
     def __init__(self, crate, path, text):
         self.crate, self.path, self.text, self.lines = crate, path, text, text.split("\n")
         self.module = os.path.basename(path)[: -len(".rt")]
-        # the names of the modules that lead to it
-        self.place = [it for it in re.sub(r".*?\bsrc/|\.rt$", "", path).split("/") if it not in ("lib", "main")]
 
     @cached_property
     def functions(self):
         """Its functions, but for those inside another."""
-        found, owner, owned_at = [], "", 0
+        found, owner = [], ""
         for at, line in enumerate(self.lines):
             if OWNER.match(line):
                 rest = self.lines[at:]
-                owner, owned_at = " ".join(rest[: next(i for i, it in enumerate(rest, 1)
-                                                       if it.endswith(("{", "}")))]), at
+                owner = " ".join(rest[: next(i for i, it in enumerate(rest, 1) if it.endswith(("{", "}")))])
             elif line == "}":
                 owner = ""
             if HEAD.match(line):
-                found.append(Function(self, owner, owned_at, at, *self.span(at)))
+                found.append(Function(self, owner, at, *self.span(at)))
         return found
 
     def span(self, at):
@@ -191,19 +172,6 @@ def by_path(sources):
     return {it.path.split("/", 2)[2]: it for it in sources}
 
 
-def full_names(sources):
-    """Returns the names that a check has, below the crate, for its functions that have a body, but for the methods of
-    traits."""
-    homes, names = [(name, source) for source in sources for name, *_ in source.structs], set()
-    for function in [it for source in sources for it in source.functions if it.has_body and not it.trait
-                     and not it.is_declared_by_trait]:
-        # a method goes by the module of its type
-        found = [home for name, home in homes if name == function.holder] if function.owner else [function.source]
-        home = function.source if function.source in found else next(iter(found), None)
-        names |= {"::".join([*home.place, function.full_name])} if home else set()
-    return names
-
-
 def edited(text, edit):
     """Returns a file's text with the pairs of an edit, or raises a `ValueError` that says why they don't apply."""
     said = re.findall(r"(?m)^(file|old|new): ?(.*)$", edit)
@@ -218,13 +186,11 @@ def edited(text, edit):
 
 
 def load_edit(name, text, sources):
-    """Returns a wrong body with the function that it changes, or raises a `ValueError` that says why it can't be
-    tried."""
-    whole, file = text, next(iter(re.findall(r"(?m)^file: ?(.*?) *$", text)), "")
+    """Returns the function that a wrong body changes, or raises a `ValueError` that says why it can't be tried."""
+    file = next(iter(re.findall(r"(?m)^file: ?(.*?) *$", text)), "")
     if file not in sources:
         raise ValueError(f"there is no file {file} in the crate")
-    text, were = edited(sources[file].text, whole), sources[file].lines
-    lines = text.split("\n")
+    lines, were = edited(sources[file].text, text).split("\n"), sources[file].lines
     changed = [at for at, (was, now) in enumerate(zip(were, lines)) if was != now]
     if not changed or len(lines) != len(were):
         raise ValueError("it changes nothing, or the number of lines")
@@ -233,14 +199,9 @@ def load_edit(name, text, sources):
         raise ValueError(f"it changes no body of one function of {file}")
     if not name.startswith(f"{within[0].name}--"):
         raise ValueError(f"its name doesn't begin with `{within[0].name}--`, for the function that it changes")
-    goal = re.search(r"(?m)^(?:# )?goal: (\S+) (\S+)( by auto)?$", whole)
-    if bool(goal) == bool(ROW.search(whole)):
-        raise ValueError("it has to have a line `row: TEST`, or a line `goal: FUNCTION GOAL`")
-    if goal and within[0].name not in goal[1].split("::"):
-        raise ValueError(f"its goal is none of `{within[0].name}`")
-    path, broken, is_auto = (goal[1].split("::"), goal[2], bool(goal[3])) if goal else ([], "", False)
-    return Edit(name, file, within[0], lines[within[0].first : within[0].last + 1], within[0].name, path, broken,
-                is_auto)
+    if not ROW.search(text):
+        raise ValueError("it names no test that fails with it: a line `row: TEST`")
+    return within[0]
 
 
 def public_files(sources):

@@ -131,7 +131,7 @@ def missing_wrong_bodies(texts):
         found, changed = [it for source in sources for it in source.functions if it.has_body], set()
         for path in [it for it in texts if re.fullmatch(rf"crates/{crate}/(?:wrong|must-fail)/.*\.edit", it)]:
             with contextlib.suppress(ValueError):
-                changed.add(load_edit(path.rpartition("/")[2], texts[path], by_path(sources)).function)
+                changed.add(load_edit(path.rpartition("/")[2], texts[path], by_path(sources)))
         named = {it: set(re.findall(r"\b\w+\b(?=(?:::<[^>]*>)?\()", it.code)) for it in found}
         reached = closed(changed, {it: {other for other in found if other.name in named[it]} for it in found})
         for it in found if not re.search("^test_|_tests$", crate) else ():
