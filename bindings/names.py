@@ -60,7 +60,7 @@ LEFT_OUT = (
     (r"\w+\.(is_one_counted|select_counted|rank0_with_bit|limb_block|items|allocator|select[01]_pair|\w*gathered_\w+)|BpTree\.(bits|relative|measure|level_end)", "They serve what is built on the structure in Rattle."),
     (r"BitVec\.(append_bit|append_word|append_bit_u\d+|flip_bit|limb|extend\w*|from_\w+|new|with_capacity|count_\w+|split_at|pack_\w+|unpack_\w+|\w*mask_\w+)",
      "Words of 64 bits by `get_bits` and `append_bits`; counts by a `vers_bits`."),
-    (r"RsVec\.(into_bit_vec|\w+_equals)|BpTree\.into_parentheses_vec|SparseRSVec\.from_\w+|\w+\.from_iter|EliasFanoVec\.from_numbers|TextIndex\.from_slice",
+    (r"RsVec\.(into_bit_vec|\w+_equals)|BpTree\.into_parentheses_vec|SparseRSVec\.from_\w+|\w+\.from_iter|EliasFanoVec\.from_numbers|TextIndex\.(from_\w+|\w+_with_step)",
      "A structure is made of an array, and its items are written over one."),
     (r"WaveletMatrix\.(bit_len|from_\w+|get_value|(iter|into_iter|rank|rank_range|rank_offset|select|select_offset|quantile|predecessor|successor|get_sorted|range_m[a-z]+)(_sorted)?)",
      "Symbols are numbers of at most 64 bits, and not lists of bits."),

@@ -70,10 +70,11 @@ PROGRAM_USES = {**USES, "std::io::ErrorKind": "std::io::ErrorKind", "std::fs": H
 # Methods that the proved sources call and don't define. Those of Rust's own types are assumed to mean the same in both
 # languages; the support module has the others.
 METHODS = set("""all any as_arrays as_mut_slice at capacity checked_add checked_mul checked_sub clear copy_from_slice
-copy_to_slice div_ceil extend_from_slice is_err is_none is_some is_sorted_by leading_zeros map map_err ok
+copy_to_slice div_ceil extend_from_slice is_err is_none is_some is_sorted_by iter_mut leading_zeros map map_err ok
 partition_point push push_reserved read_once reserve_exact resize rev reverse rotate_left saturating_add saturating_mul
-saturating_sub simd_ge simd_ne sort_unstable sort_unstable_by_key split_first to_array to_bitmask to_le_bytes
-trailing_ones trailing_zeros unwrap unwrap_or wrapping_mul wrapping_sub write_once write_str write_usize""".split())
+saturating_sub simd_ge simd_ne sort_unstable sort_unstable_by_key split_at_mut split_first to_array to_bitmask
+to_le_bytes trailing_ones trailing_zeros unwrap unwrap_or wrapping_add wrapping_mul wrapping_sub write_once write_str
+write_usize""".split())
 # Those that programs call besides.
 PROGRAM_METHODS = set("""as_chunks as_str cast_signed cast_unsigned chain checked_add_unsigned checked_sub_unsigned
 copied discard into_box into_owner is_ascii_digit position read_all replace shrink_to sync_all take then_some

@@ -45,17 +45,50 @@ impl TextIndex {
     /// `TooLong` if there are more than 2^32 - 2 symbols, and `OutOfMemory`.
     #[doc = contract!(TextIndex::with_step)]
     pub fn with_step(symbols: &[u64], bits_per_symbol: u16, step: usize) -> Result<Self, BuildError> {
-        match proved::TextIndex::with_step(Global, symbols, bits_per_symbol, step) {
-            Ok(text) => Ok(TextIndex { text }),
-            Err(proved::TextError::WidthOutOfRange) => Err(BuildError::UnsupportedWidth { bits: bits_per_symbol }),
-            Err(proved::TextError::NoStep) => Err(BuildError::ZeroStep),
-            Err(proved::TextError::TooLong) => Err(BuildError::TooLong),
-            Err(proved::TextError::WideSymbol) => {
-                let is_narrow = |symbol: &&u64| **symbol >> bits_per_symbol == 0;
-                Err(BuildError::SymbolTooWide { position: symbols.iter().take_while(is_narrow).count() })
-            }
-            Err(proved::TextError::Memory) => Err(BuildError::OutOfMemory),
-        }
+        made(proved::TextIndex::with_step(Global, symbols, bits_per_symbol, step), symbols, bits_per_symbol)
+    }
+
+    /// Indexes bytes, with a sampled place for each 32. A copy of the bytes isn't made.
+    ///
+    /// ```
+    /// use vers_vecs::text::TextIndex;
+    ///
+    /// let text = TextIndex::from_bytes(b"abracadabra", 8).unwrap();
+    /// assert_eq!(text.count(&[98, 114]), 2);
+    /// ```
+    ///
+    /// # Errors
+    /// Those of [`with_step`](Self::with_step).
+    #[doc = contract!(TextIndex::from_bytes)]
+    pub fn from_bytes(bytes: &[u8], bits_per_symbol: u16) -> Result<Self, BuildError> {
+        TextIndex::bytes_with_step(bytes, bits_per_symbol, DEFAULT_STEP)
+    }
+
+    /// Indexes bytes, with a sampled place for each `step`.
+    ///
+    /// # Errors
+    /// Those of [`with_step`](Self::with_step).
+    #[doc = contract!(TextIndex::bytes_with_step)]
+    pub fn bytes_with_step(bytes: &[u8], bits_per_symbol: u16, step: usize) -> Result<Self, BuildError> {
+        made(proved::TextIndex::bytes_with_step(Global, bytes, bits_per_symbol, step), bytes, bits_per_symbol)
+    }
+
+    /// Indexes numbers of 16 bits, with a sampled place for each 32.
+    ///
+    /// # Errors
+    /// Those of [`with_step`](Self::with_step).
+    #[doc = contract!(TextIndex::from_u16s)]
+    pub fn from_u16s(numbers: &[u16], bits_per_symbol: u16) -> Result<Self, BuildError> {
+        TextIndex::u16s_with_step(numbers, bits_per_symbol, DEFAULT_STEP)
+    }
+
+    /// Indexes numbers of 16 bits, with a sampled place for each `step`.
+    ///
+    /// # Errors
+    /// Those of [`with_step`](Self::with_step).
+    #[doc = contract!(TextIndex::u16s_with_step)]
+    pub fn u16s_with_step(numbers: &[u16], bits_per_symbol: u16, step: usize) -> Result<Self, BuildError> {
+        made(proved::TextIndex::u16s_with_step(Global, numbers, bits_per_symbol, step), numbers, bits_per_symbol)
     }
 
     /// Returns the number of bits of a symbol.
@@ -118,6 +151,25 @@ impl TextIndex {
     #[doc = contract!(TextIndex::first_places_counted)]
     pub fn first_places_counted(&self, pattern: &[u64], limit: usize, tally: &mut Tally) -> Vec<usize> {
         granted(self.text.first_places_counted(pattern, limit, &mut tally.0)).into_plain()
+    }
+}
+
+/// Returns an index that was made, or why it wasn't.
+fn made<T: Copy + Into<u64>>(
+    text: Result<proved::TextIndex<Global>, proved::TextError>,
+    symbols: &[T],
+    bits_per_symbol: u16,
+) -> Result<TextIndex, BuildError> {
+    match text {
+        Ok(text) => Ok(TextIndex { text }),
+        Err(proved::TextError::WidthOutOfRange) => Err(BuildError::UnsupportedWidth { bits: bits_per_symbol }),
+        Err(proved::TextError::NoStep) => Err(BuildError::ZeroStep),
+        Err(proved::TextError::TooLong) => Err(BuildError::TooLong),
+        Err(proved::TextError::WideSymbol) => {
+            let is_narrow = |symbol: &&T| (**symbol).into() >> bits_per_symbol == 0;
+            Err(BuildError::SymbolTooWide { position: symbols.iter().take_while(is_narrow).count() })
+        }
+        Err(proved::TextError::Memory) => Err(BuildError::OutOfMemory),
     }
 }
 

@@ -4,9 +4,12 @@ pub mod Dictionary
 pub mod Ranks
 pub mod Orders
 pub mod Suffixes
+pub mod Checking
 pub mod Building
 pub mod Patterns
 pub mod Making
+pub mod Heads
+pub mod Columns
 pub mod Stepping
 pub mod Packing
 pub mod Sampling

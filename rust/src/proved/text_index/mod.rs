@@ -3,10 +3,13 @@
 
 use crate::rattle::prelude::*;
 
+mod checked;
 mod column;
 mod fault;
 mod index;
+mod induced;
 pub mod laws;
+mod letters;
 mod order;
 mod packed;
 mod pieces;
@@ -14,6 +17,8 @@ mod places;
 mod queries;
 mod rows;
 mod samples;
+mod sorting;
+mod substrings;
 
 pub use fault::TextError;
 pub use index::{DEFAULT_STEP, MAX_LEN, TextIndex};

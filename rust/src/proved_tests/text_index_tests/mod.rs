@@ -4,6 +4,8 @@
 use crate::rattle::prelude::*;
 
 #[cfg(test)]
+mod built;
+#[cfg(test)]
 mod memory;
 #[cfg(test)]
 mod pieces;

@@ -70,13 +70,15 @@ const MADE: [usize; 7] = [0, 1, 2, 99, 100, 10_000, 100_000];
 // The same for texts with enough symbols to take long to build.
 const WIDE: [usize; 3] = [0, 100, 100_000];
 
-// Returns the most bytes in use while a text is made: 24 for each position and for each symbol that there may
-// be, and some for each level and the text.
-fn most_at_work(len: usize, width: u16) -> usize {
+// Returns the most bytes in use while a text is made, the text included: 9 for each position and 12 for each sample,
+// 24 for each symbol that there may be, and some for each level and the text.
+fn most_at_work(len: usize, width: u16, step: usize) -> usize {
     let level: usize = 200;
+    let positions = len.wrapping_add(1);
     level
         .wrapping_mul(width as usize)
-        .wrapping_add(24usize.wrapping_mul(len.wrapping_add(1)))
+        .wrapping_add(9usize.wrapping_mul(positions))
+        .wrapping_add(12usize.wrapping_mul(positions.div_ceil(step.max(1))))
         .wrapping_add(24usize << width.min(16))
         .wrapping_add(400)
 }
@@ -91,7 +93,7 @@ fn is_made_within(inner: Global, len: usize, width: u16, step: usize) -> bool {
         TextIndex::with_step(&heap, symbols.as_slice(), width, step),
         |text: &TextIndex<&Heap>| text.len() == len,
     );
-    made == Ok(true) && heap.most_held_bytes() <= most_at_work(len, width)
+    made == Ok(true) && heap.most_held_bytes() <= most_at_work(len, width, step)
 }
 
 // Returns true if that holds for texts of all lengths.
