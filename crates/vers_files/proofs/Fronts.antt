@@ -18,7 +18,7 @@ unfolding words_of
 third bytes n long = ap (λ k. slice_index (map bytes_word (first_chunks 8 k bytes)) 2) long
 
 -- it stands in the first 24 bytes
-same_number : (front rest : List ℕ) → length front ≡ 24 → number_of_kind (front ++ rest) ≡ number_of_kind front
+pub same_number : (front rest : List ℕ) → length front ≡ 24 → number_of_kind (front ++ rest) ≡ number_of_kind front
 same_number front rest long =
     third (front ++ rest) (length rest / 8) (omega (arith, length-append front rest))
     ∙ ap (λ l. bytes_word (take 8 (drop 8 l))) (drop-append-le 8 front rest (omega arith))
@@ -50,3 +50,16 @@ pub named_fault : {T : Type 0} (r : Result T LoadError) (n : ℕ) (old mid whole
 named_fault (Ok v) n old mid whole front is is_number c few end refused = tt
 named_fault (Err e) n old mid whole front is is_number c few end refused =
     named old mid front e c few end (subst (λ w. IsRefused (kind_numbered (number_of_kind front)) w e) is (subst (λ m. IsRefused (kind_numbered m) whole e) is_number refused))
+
+-- bytes that begin with those in front name the same kind, and are what is read after them
+pub front_form : (old mid : Option (List ℕ)) (front bytes : List ℕ) → Consumes old mid front → length front ≤ 24 → (length front < 24 → IsAtEnd mid) → old ≡ Some bytes
+    → (number_of_kind bytes ≡ number_of_kind front) × (option_append (Some front) mid ≡ Some bytes)
+front_form None mid front bytes c few end is = cc
+front_form (Some xs) None front bytes c few end is = absurd c
+front_form (Some xs) (Some ys) front bytes c few end is =
+    let all : bytes ≡ front ++ ys = cc in
+    let same : number_of_kind (front ++ ys) ≡ number_of_kind front = elim (cases_lt (length front) 24) [
+      | inl short ↦ ap number_of_kind (ap (λ l. front ++ l) (end short) ∙ append-nil front)
+      | inr long ↦ same_number front ys (omega arith)
+    ] in
+    (ap number_of_kind all ∙ same, ap Some (sym all))

@@ -3,3 +3,4 @@ pub mod Cuts
 pub mod Numbered
 pub mod Boxes
 pub mod Fronts
+pub mod Named

@@ -1,9 +1,10 @@
 //! Loading files into stores.
-ghost use Rattle.std.specs.Prelude.{◌≡◌, List, ℕ, ◌⊎◌, Err, IfOk, IfErr, IfSome, MatchResult, Some, None};
+ghost use Rattle.std.specs.Prelude.{◌≡◌, Bool, List, ℕ, ◌⊎◌, Err, IfOk, IfErr, IfSome, MatchResult, Some, None};
 ghost use Rattle.vers_saved.specs.Format.{bytes_word};
 ghost use Rattle.vers_saved.specs.Faults.{fault_of};
 ghost use Rattle.vers_saved.specs.Kinds.{tree_kind};
 ghost use Rattle.vers_saved.specs.Streams.{IsRefused};
+ghost use Rattle.vers_cli.specs.Holding.{Holding, TreeHeld};
 ghost use Rattle.vers_files.specs.Forms.{saved_form, HasForm, Fits, form_fault, kind_numbered, number_of_kind, IsFormOf, IsNoForm, fault_text};
 
 use std::alloc::Allocator;
@@ -83,6 +84,8 @@ fn tree_of_slice<'a, A: Allocator + Copy>(
     ensures loaded { IfOk result (λ held. (bytes.now ≡ saved_form held) × HasForm held × Fits held) }
     ensures refused { IfErr result (λ e. (fault_of (tree_kind 512) bytes.now ≡ Some e)
         ⊎ ((e ≡ LoadError.Memory) × (fault_of (tree_kind 512) bytes.now ≡ None))) }
+    ensures back { (x : List Bool) → HasForm (TreeHeld x) → bytes.now ≡ saved_form (TreeHeld x)
+        → MatchResult result (λ held. held ≡ TreeHeld x) (λ e. e ≡ LoadError.Memory) }
 {
     stored!(
         alloc,
@@ -98,6 +101,10 @@ fn tree_of_reader<'a, A: Allocator + Copy, R: Source>(
 ) -> Result<Store<'a, A>, LoadError>
     ensures loaded { IfOk result (λ held. IsFormOf (R.remaining reader.old) held) }
     ensures refused { IfErr result (IsRefused (tree_kind 512) (R.remaining reader.old)) }
+    ensures back { (x : List Bool) → HasForm (TreeHeld x)
+        → R.remaining reader.old ≡ Some (saved_form (TreeHeld x))
+        → MatchResult result (λ held. held ≡ TreeHeld x)
+        (λ e. (e ≡ LoadError.Read) ⊎ (e ≡ LoadError.Memory)) }
 {
     stored!(alloc, boxed(alloc, load_tree(alloc, reader)), Held::Tree)
 }
@@ -107,11 +114,13 @@ fn tree_of_reader<'a, A: Allocator + Copy, R: Source>(
 /// # Errors
 ///
 /// That of the bytes as a form of the kind that they name; `Memory` if the allocator refuses a request.
-#[tactic(auto, using(crate::proofs::Numbered::kinds))]
+#[tactic(auto, using(crate::proofs::Numbered::kinds, crate::proofs::Named::numbers))]
 pub fn load<'a, A: Allocator + Copy>(alloc: &'a A, bytes: &[u8]) -> Result<Store<'a, A>, LoadError>
     ensures loaded { IfOk result (λ held. (bytes.now ≡ saved_form held) × HasForm held × Fits held) }
     ensures refused { IfErr result (λ e. (form_fault bytes.now ≡ Some e)
         ⊎ ((e ≡ LoadError.Memory) × (form_fault bytes.now ≡ None))) }
+    ensures back { (x : Holding) → HasForm x → Fits x → bytes.now ≡ saved_form x
+        → MatchResult result (λ held. held ≡ x) (λ e. e ≡ LoadError.Memory) }
 {
     stored_by_kind!(
         alloc,
@@ -122,7 +131,7 @@ pub fn load<'a, A: Allocator + Copy>(alloc: &'a A, bytes: &[u8]) -> Result<Store
 }
 
 // Loads a list of the kind with a number from its saved form, the rest of a reader, as a store.
-#[tactic(auto, using(crate::proofs::Numbered::kinds))]
+#[tactic(auto, using(crate::proofs::Numbered::kinds, crate::proofs::Named::numbers))]
 fn load_numbered<'a, A: Allocator + Copy, R: Source>(
     alloc: &'a A,
     number: u64,
@@ -130,6 +139,9 @@ fn load_numbered<'a, A: Allocator + Copy, R: Source>(
 ) -> Result<Store<'a, A>, LoadError>
     ensures loaded { IfOk result (λ held. IsFormOf (R.remaining reader.old) held) }
     ensures refused { IfErr result (IsRefused (kind_numbered number) (R.remaining reader.old)) }
+    ensures back { (x : Holding) → HasForm x → Fits x → number_of_kind (saved_form x) ≡ number
+        → R.remaining reader.old ≡ Some (saved_form x)
+        → MatchResult result (λ held. held ≡ x) (λ e. (e ≡ LoadError.Read) ⊎ (e ≡ LoadError.Memory)) }
 {
     stored_by_kind!(
         alloc,
@@ -171,6 +183,8 @@ pub fn load_file<'a, A: Allocator + Copy, F: Read>(
 ) -> Result<Store<'a, A>, LoadError>
     ensures loaded { IfOk result (λ held. IsFormOf (F.remaining file.old) held) }
     ensures refused { IfErr result (λ e. IsNoForm (F.remaining file.old) e) }
+    ensures back { (x : Holding) → HasForm x → Fits x → F.remaining file.old ≡ Some (saved_form x)
+        → MatchResult result (λ held. held ≡ x) (λ e. (e ≡ LoadError.Read) ⊎ (e ≡ LoadError.Memory)) }
 {
     let mut block = [0; NAMED];
     let filled = fill(file, &mut block)?;
