@@ -411,3 +411,16 @@ fn queries_of_symbols_ask_each_level_four_times() {
         });
     }
 }
+
+#[test]
+fn a_select_bisects_superblocks() {
+    let ones = [0, 100 * 8192 + 5, 150 * 8192 + 9];
+    let bits: Plain<bool> = (0..160 * 8192).map(|it| ones.contains(&it)).collect();
+    let index = RsVec::from_bit_vec(list(&bits)).ok().unwrap();
+    for (r, place) in ones.into_iter().enumerate() {
+        let mut tally = Tally::new();
+        assert_eq!(index.select1_counted(r, &mut tally), place);
+        // the digits of 160, and twelve
+        assert!(tally.superblock_entries() <= 8 + 12, "{} for {r}", tally.superblock_entries());
+    }
+}
