@@ -97,8 +97,8 @@ fn is_right(
     let mut shorts = Vec::new(alloc);
     let mut bytes = Vec::new(alloc);
     for symbol in symbols.iter() {
-        shorts.push((*symbol & 65535) as u16)?;
-        bytes.push((*symbol & 255) as u8)?;
+        shorts.push((*symbol % 65536) as u16)?;
+        bytes.push((*symbol % 256) as u8)?;
     }
     let numbers = symbols.as_slice();
     let from_numbers = TextIndex::with_step(alloc, numbers, width, step);
