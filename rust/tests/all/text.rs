@@ -1,5 +1,6 @@
 //! Texts against plain lists.
 use crate::plain::Random;
+use vers_vecs::error::BuildError;
 use vers_vecs::text::TextIndex;
 
 #[test]
@@ -29,4 +30,19 @@ fn patterns_are_found() {
 fn some_texts_are_refused() {
     assert!(TextIndex::from_slice(&[], 0).is_err() && TextIndex::from_slice(&[0], 17).is_err());
     assert!(TextIndex::from_slice(&[4], 2).is_err() && TextIndex::with_step(&[0], 1, 0).is_err());
+}
+
+#[test]
+fn bytes_and_shorts_are_the_same_text() {
+    let text = TextIndex::from_bytes(b"abracadabra", 8).unwrap();
+    assert_eq!((text.len(), text.bits_per_symbol(), text.step()), (11, 8, 32));
+    assert_eq!(text.places(&[97, 98]), [0, 7]);
+    let text = TextIndex::bytes_with_step(b"abracadabra", 7, 4).unwrap();
+    assert_eq!((text.places(&[97, 98]), text.bits_per_symbol(), text.step()), (vec![0, 7], 7, 4));
+    let text = TextIndex::from_u16s(&[300, 1, 300], 9).unwrap();
+    assert_eq!((text.places(&[300]), text.bits_per_symbol(), text.step()), (vec![0, 2], 9, 32));
+    let text = TextIndex::u16s_with_step(&[300, 1, 300], 16, 2).unwrap();
+    assert_eq!((text.places(&[300]), text.bits_per_symbol(), text.step()), (vec![0, 2], 16, 2));
+    assert_eq!(TextIndex::from_bytes(&[1, 9], 3).err(), Some(BuildError::SymbolTooWide { position: 1 }));
+    assert_eq!(TextIndex::from_u16s(&[512], 9).err(), Some(BuildError::SymbolTooWide { position: 0 }));
 }
