@@ -148,8 +148,8 @@ class Build:
             self.files[f"{module}/mod.rs"] = NOTE + "".join(f"pub mod {it};\n" for it in crates)
         self.files.update({f"program_tests/{path}": text for path, text in written_of(PROGRAM_TESTS)[0].items()})
         self.files.update({f"programs/{path}": text for path, text in BY_HAND.items() if text})
-        # Rust's own tests call functions in the modules of programs and exports.
-        for path in [f"programs/{it}/mod.rs" for it in PROGRAMS]:
+        # Rust's own tests call functions in private modules.
+        for path in [*(f"programs/{it}/mod.rs" for it in PROGRAMS), "proved/text_index/mod.rs"]:
             self.files[path] = re.sub("(?m)^mod ", "pub mod ", self.files[path])
 
     def add(self, mutant, path, text, parts, known):

@@ -7,3 +7,5 @@ mod exports;
 mod greatest;
 mod memory;
 mod reads;
+#[cfg(mutants)]
+mod suffixes;
