@@ -377,6 +377,8 @@ def main():
         for is_as_wanted, line, end in judged(program, [it for it in mutants if it.row], flags.jobs):
             passed += is_as_wanted
             ends[end] += is_as_wanted
+            if end == "doesn't end":
+                print(line)
             if not is_as_wanted:
                 faults.append(line)
     counts = Counter(it.crate for it in mutants if not it.is_right)
