@@ -7,6 +7,7 @@ use vers_files::{
     FilePlace, SaveFault, Shown, ask, ask_text, fault_line, read, save_to, show, symbols_cut,
     text_fault_line,
 };
+use vers_saved::fault::LoadError;
 
 const CANNOT_OPEN: &str = "the file can't be opened";
 
@@ -73,8 +74,10 @@ fn print_shown(rt: &HostRuntime, list: &Shown) -> ExitCode {
 
 /// Saves the structure of the load line on standard input to a file.
 pub fn save(rt: &HostRuntime, path: &str) -> ExitCode {
-    let Ok(input) = read(rt.alloc(), &mut rt.stdin()) else {
-        return fail(rt, "the line can't be read");
+    let input = match read(rt.alloc(), &mut rt.stdin()) {
+        Ok(input) => input,
+        Err(LoadError::Memory) => return fail(rt, "out of memory"),
+        Err(_) => return fail(rt, "the line can't be read"),
     };
     let Ok(beside) = format!(in rt.alloc(); "{path}.new") else {
         return fail(rt, "out of memory");
@@ -100,7 +103,7 @@ pub fn save(rt: &HostRuntime, path: &str) -> ExitCode {
 // Says how many symbols were cut to their low bits, unless none were.
 fn say_cut(rt: &HostRuntime, path: &str, count: usize) {
     if count != 0 {
-        let _ = eprintln!(rt; "vers: {path}: {count} symbols cut to their low bits");
+        let _ = eprintln!(rt; "vers: {path}: symbols cut to their low bits: {count}");
     }
 }
 
