@@ -721,17 +721,24 @@ fn reads_of_range_minima_and_documents_are_counted() {
 fn ask_text(book: &mut Book, text: &TextIndex<Global>, symbols: &[u64], about: &str) {
     let n = symbols.len();
     let absent = [symbols.first().map_or(0, |it| it ^ 1); 3];
-    let patterns = places(n).into_iter().filter(|from| *from <= n).flat_map(|from| [0, 1, 2, 5].map(|len| &symbols[from..n.min(from + len)]));
+    let patterns = places(n)
+        .into_iter()
+        .filter(|from| *from <= n)
+        .flat_map(|from| [0, 1, 2, 5].map(|len| &symbols[from..n.min(from + len)]));
     for pattern in patterns.chain([&absent[..], &[u64::MAX]]) {
         let about = || format!("{about}, the pattern {pattern:?}");
         book.call("TextIndex::count_counted", about, |tally| text.count_counted(pattern, tally));
         book.call("TextIndex::contains_counted", about, |tally| text.contains_counted(pattern, tally));
         for limit in [0, 1, 3] {
-            let _ = book.call("TextIndex::first_places_counted", about, |tally| text.first_places_counted(pattern, limit, tally));
+            let _ = book.call("TextIndex::first_places_counted", about, |tally| {
+                text.first_places_counted(pattern, limit, tally)
+            });
         }
         let mut places = book.call("TextIndex::places_counted", about, |tally| text.places_counted(pattern, tally));
         walk(book, "TextIndex places next", 3, about(), &mut places, |it, _, tally| it.next_counted(tally).is_some());
-        walk(book, "TextIndex places nth_back", 2, about(), &mut places, |it, k, tally| it.nth_back_counted(k, tally).is_some());
+        walk(book, "TextIndex places nth_back", 2, about(), &mut places, |it, k, tally| {
+            it.nth_back_counted(k, tally).is_some()
+        });
     }
     for start in places(n) {
         for end in [0, 1, 40, n].map(|it| start.saturating_add(it).min(n + 1)) {
@@ -751,7 +758,12 @@ fn reads_of_texts_are_counted() {
                 let symbols: Plain<u64> = (0..n as u64).map(symbol).collect();
                 for step in [1, 7] {
                     let text = TextIndex::with_step(Global, &symbols, width, step).ok().unwrap();
-                    ask_text(&mut book, &text, &symbols, &format!("{n} symbols of {width} bits, of kind {kind}, step {step}"));
+                    ask_text(
+                        &mut book,
+                        &text,
+                        &symbols,
+                        &format!("{n} symbols of {width} bits, of kind {kind}, step {step}"),
+                    );
                 }
             }
         }

@@ -14,7 +14,8 @@ fn nothing_but_the_suffix_array_passes() {
             let symbols: Vec<u8> = text.iter().map(|symbol| *symbol as u8).collect();
             let mut order: Vec<u32> = (0..=len as u32).collect();
             order.sort_by_key(|place| &symbols[*place as usize..]);
-            let heads: Vec<u32> = (0..3).map(|it| 1 + symbols.iter().filter(|symbol| **symbol < it).count() as u32).collect();
+            let heads: Vec<u32> =
+                (0..3).map(|it| 1 + symbols.iter().filter(|symbol| **symbol < it).count() as u32).collect();
             for places in lists(len + 1, len as u32 + 2) {
                 let passes = is_suffix_order(&symbols, &places, &mut heads.clone(), &mut [0]);
                 assert_eq!(passes, places == order, "the text {symbols:?}, the positions {places:?}");
