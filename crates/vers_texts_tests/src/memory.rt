@@ -105,11 +105,12 @@ fn most_held(alloc: Global, times: usize) -> Result<usize, RunError> {
 }
 
 // The current text is dropped before the next one is made: a second one takes no more memory than the first,
-// except for the answers that are gathered.
+// except for the answers that are gathered. The symbols of the line take 80,000 bytes as numbers, and their
+// suffix array 40,000.
 #[test]
 fn a_text_is_loaded_where_another_was(rt: HostRuntime) -> Result<(), Fail> {
     let once = most_held(rt.alloc(), 1)?;
     let twice = most_held(rt.alloc(), 2)?;
-    assert!(rt; once > 300000 && twice <= once.saturating_add(64));
+    assert!(rt; once > 120000 && twice <= once.saturating_add(64));
     Ok(())
 }
