@@ -1,9 +1,9 @@
 #!/usr/bin/env python3
 """Runs the wrong bodies of libraries, programs and exports as plain Rust: all of them in one build, each by the test
-that its file names.
+that it names.
 
     tools/mutants.py [--jobs N] [CRATE..]    builds, and runs each wrong body; the last line is "N passed, M failed"
-    tools/mutants.py --find [CRATE..]        names the quickest test that fails for each wrong body that has none
+    tools/mutants.py --find [CRATE..]        prints the quickest test that fails for each wrong body that names none
     tools/mutants.py --self-test             tries edits of bodies, signatures and constants, and edits that are refused
 
 A wrong body (a mutant) has a line `row: TEST`. The expected values of that test come from a plain model of the
@@ -36,7 +36,7 @@ import plain_rust
 from mutant_plants import BAD, RIGHT, SMALL
 from plain_rust import (BY_HAND, CLOSING, CRATES, MODULES, PROGRAM_TESTS, PROGRAMS, Refused, Writer, real, sources,
                         written_of)
-from sources import ROW, TOP, Source, by_path, edited, has_cargo, load_edit, read, read_crate
+from sources import ROW, TOP, Source, by_path, edited, has_cargo, load_edit, read, read_crate, wrong_bodies
 
 RUST = f"{TOP}/rust"
 # What a test of wrong bodies needs and no caller has, behind a file: a counter whose counts are the greatest.
@@ -66,12 +66,12 @@ class Body:
 
 
 class Mutant:
-    """A wrong body: its crate, its file, the text of that, and the test that has to fail; or a right body, which the
-    test has to pass."""
+    """A wrong body: its crate, its name, its edit, the file that it changes, and the test that has to fail; or a right
+    body, which the test of the wrong one of that name has to pass."""
 
-    def __init__(self, crate, path, right=None):
-        self.crate, self.path, self.is_right = crate, path, bool(right)
-        self.name, self.edit = f"right body for {path.stem}" if right else path.stem, read(path)
+    def __init__(self, crate, name, edit, right=None):
+        self.crate, self.is_right = crate, bool(right)
+        self.name, self.edit = f"right body for {name}" if right else name, edit
         if right:
             self.edit = re.sub(r"(?m)^(?:old|new): .*\n", "", self.edit) + "old: {}\nnew: {}\n".format(*right)
         row, file = ROW.search(self.edit), re.search(r"(?m)^file: ?src/(\S+)\.rt", self.edit)[1]
@@ -291,8 +291,7 @@ def judged(program, mutants, jobs):
 
 
 def found_rows(program, mutants):
-    """Writes the quickest test that fails into the file of each wrong body, and yields the wrong bodies that none
-    finds."""
+    """Prints the quickest test that fails with each wrong body, and yields the wrong bodies that none finds."""
     # only their own tests, and Rust's, reach programs
     reaching = "program|inside" if {it.crate for it in mutants} <= set(PROGRAMS) else "proved|program|inside"
     listed = subprocess.run([program, "--list"], stdout=subprocess.PIPE, text=True, check=True).stdout
@@ -305,8 +304,7 @@ def found_rows(program, mutants):
         near = sorted(names, key=lambda it: (f"::{mutant.crate}_tests::" not in it, tests[it][0]))
         for name in [it for it in near if reached[it] & mutant.functions and not tests[it][2]]:
             if run(program, name, mutant.number, SECONDS + TIMES * tests[name][0])[0]:
-                text = re.sub(r"(?m)^goal: .*\n?", "", mutant.edit).rstrip("\n")
-                mutant.path.write_text(f"{text}\nrow: {re.sub('^(proved|program)_tests::', '', name)}\n", encoding="utf-8")
+                print(mutant.said(f"row: {re.sub('^(proved|program)_tests::', '', name)}"))
                 break
         else:
             yield mutant
@@ -362,12 +360,12 @@ def main():
     if not has_cargo():
         print("left out: the wrong bodies that a test refuses (no cargo 1.88 or newer)")
         return 0
-    paths = sorted(Path(TOP, "crates").glob("*/wrong/*.edit")) + sorted(Path(TOP, "crates").glob("*/must-fail/*.edit"))
-    mutants = [Mutant(it.parts[-3], it) for it in paths if it.parts[-3] in (flags.crates or it.parts)]
+    edits = {(crate, name): edit for crate, name, edit in wrong_bodies({
+        os.path.relpath(it, TOP): read(it) for it in Path(TOP, "crates").glob("*/*/**/*.edit*")})}
+    mutants = [Mutant(*it, edit) for it, edit in edits.items() if it[0] in (flags.crates or it)]
     mutants = [it for it in mutants if not (flags.find and it.row)]
     if not flags.find:
-        mutants += [Mutant(crate, Path(TOP, "crates", crate, "wrong", f"{name}.edit"), texts)
-                    for crate, name, *texts in RIGHT]
+        mutants += [Mutant(crate, name, edits[crate, name], texts) for crate, name, *texts in RIGHT]
     program, faults = compiled(mutants)
     faults += [it.said("it names no test that fails with it") for it in mutants if not (it.row or flags.find)]
     passed, ends = 0, Counter()

@@ -2,10 +2,12 @@
 structs.
 
 In that layout the body of a function is opened by a line as far in as the function's first line, and closed by the next
-brace on its own line as far in. A wrong body is a file FUNCTION--WHAT-IS-WRONG.edit: a line 'file: src/..', pairs of
+brace on its own line as far in.
+
+The wrong bodies of src/MODULE.rt are in wrong/MODULE.edits, each as a line 'mutant: FUNCTION--WHAT-IS-WRONG', pairs of
 lines 'old: TEXT' and 'new: TEXT', and a line 'row: TEST'. Each TEXT is one line, and the old one occurs once in the
-file. FUNCTION is the one that is changed, and TEST the test that fails with it. That line is behind '# ' in the wrong
-bodies that `rt` reads as well.
+source. FUNCTION is the one that is changed, and TEST the test that fails with it. A wrong body that `rt` reads as well
+is the file must-fail/FUNCTION--WHAT-IS-WRONG.edit, with a line 'file: src/..' and '# ' before 'row'.
 """
 import os
 import re
@@ -24,6 +26,9 @@ CLAUSE = re.compile(r"(?ms)^\s*(requires|ensures) (?:[a-z_]\w* )?\{ (.*?)\s\}\s*
 STRUCT = re.compile(rf"(?ms)^{PUB}(struct|enum) (\w+)([^;{{(]*)(\{{.*?^\}}|\{{[^\n]*\}}|\([^;]*\);|;)")
 # The test that fails with a wrong body.
 ROW = re.compile(r"(?m)^(?:# )?row: (\S+)$")
+# The path of a file of wrong bodies, and each of the bodies in it.
+EDITS = re.compile(r"crates/(\w+)/(?:wrong/(\S+)\.edits|must-fail/(\S+)\.edit)")
+MUTANT = re.compile(r"(?ms)^mutant: (\S+)\n(.*?)(?=^mutant: |\Z)")
 # The oldest cargo by which the tests of the Rust crate and the library in C are built. (The crate itself needs 1.63.)
 NEW_CARGO = (1, 88)
 PARAMETER = re.compile(r"(?:mut )?(\w+): ((?:[^,<()\[]|<[^<>]*(?:<[^<>]*>[^<>]*)*>|\([^()]*\)|\[[^\[\]]*\])+)")
@@ -183,6 +188,16 @@ def edited(text, edit):
             raise ValueError(f"its old text is {text.count(old)} times in its file, and not once")
         text = text.replace(old, new)
     return text
+
+
+def wrong_bodies(texts):
+    """Yields the wrong bodies in the texts of a repository by their paths, as (crate, name, edit)."""
+    for path, text in sorted(texts.items()):
+        crate, module, name = found.groups() if (found := EDITS.fullmatch(path)) else (None, None, None)
+        if name:
+            yield crate, name, text
+        elif module:
+            yield from ((crate, it[1], f"file: src/{module}.rt\n{it[2]}") for it in MUTANT.finditer(text))
 
 
 def load_edit(name, text, sources):

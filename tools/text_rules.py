@@ -30,11 +30,11 @@ import sys
 from collections import defaultdict
 from functools import lru_cache
 
-from sources import TOP, Source, by_path, closed, line_of, load_edit, public_functions, read, tell
+from sources import TOP, Source, by_path, closed, line_of, load_edit, public_functions, read, tell, wrong_bodies
 
 DEFINITIONS = "docs/DEFINITIONS.md"
 DRAWN = "docs/LAYOUTS.md", "crates/vers_layouts/stdout"
-TEXTS = re.compile(r"(?!rust/src/(?:proved|contracts)).*\.(?:md|rt|antt|edit|py|sh|txt|rs|h|hpp|c|cpp)|(?:.*/)?(?:test|vers|run|stdout)")
+TEXTS = re.compile(r"(?!rust/src/(?:proved|contracts)).*\.(?:md|rt|antt|edits?|py|sh|txt|rs|h|hpp|c|cpp)|(?:.*/)?(?:test|vers|run|stdout)")
 # between two words of a phrase there may be the end of a line and the marks of a comment
 GAP = r"(?:\s|//[/!]?|#|--|\*)+"
 # the files that are clean of all phrases, and those whose lines have at most 120 columns
@@ -129,9 +129,9 @@ def missing_wrong_bodies(texts):
     """Yields a line for each public function that computes something and that no edit of its crate reaches."""
     for crate, sources in crates_of(texts).items():
         found, changed = [it for source in sources for it in source.functions if it.has_body], set()
-        for path in [it for it in texts if re.fullmatch(rf"crates/{crate}/(?:wrong|must-fail)/.*\.edit", it)]:
+        for name, edit in [(name, edit) for owner, name, edit in wrong_bodies(texts) if owner == crate]:
             with contextlib.suppress(ValueError):
-                changed.add(load_edit(path.rpartition("/")[2], texts[path], by_path(sources)))
+                changed.add(load_edit(name, edit, by_path(sources)))
         named = {it: set(re.findall(r"\b\w+\b(?=(?:::<[^>]*>)?\()", it.code)) for it in found}
         reached = closed(changed, {it: {other for other in found if other.name in named[it]} for it in found})
         for it in found if not re.search("^test_|_tests$", crate) else ():
@@ -213,8 +213,7 @@ CHUNKS = "    /// Returns the number of chunks of bits loaded.\n"
 BREAKS = {
     "has no doc comment": (TALLY, CHUNKS, ""),
     "doesn't say what the module is": (TALLY, "//! Counters", "// Counters"),
-    "reaches Tally::add_chunk": ("crates/vers_tally/wrong/add_chunk--a-chunk-wraps-at-the-greatest.edit", "old: ",
-                                 "was: "),
+    "reaches Tally::add_chunk": ("crates/vers_tally/wrong/tally.edits", "old: self.chunks = ", "was: self.chunks = "),
     "Tally::chunks has 63 lines": (TALLY, "        self.chunks\n", "        self.chunks\n" + "\n" * 60),
     "has more than 800 lines": (TALLY, "//! Counters", "\n" * 800),
     "has more than 120 columns": (TALLY, "self.chunks\n", f"self.chunks{' ' * 120}\n"),
