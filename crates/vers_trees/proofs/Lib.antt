@@ -1,4 +1,4 @@
-pub mod Words
+pub mod Names
 pub mod grammar
 pub mod kin
 pub mod levels

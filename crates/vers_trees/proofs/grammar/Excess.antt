@@ -1,5 +1,5 @@
 -- Functions to the integers that change by at most one at each step.
-use Rattle.vers_trees.proofs.Words.{ℕ, zero, suc, ◌+◌, ◌<◌, ◌≤◌, ◌≢◌, ℤ, pos, ◌+ℤ◌, ◌-ℤ◌, ◌≤ℤ◌, ◌<ℤ◌, arith, subst, ◌≡◌, Bool, true, false, List, [], ◌∷◌, ◌++◌, length, get_or, add-one, zero-add, suc-add, sym, refl, ints, sum_by-cons, count, excess, bit_step, count_near, count_up, eq-or-lt_of_le, ⊎_elim, take-append-le, common_steps, true_from_ne_false, false_from_ne_true}
+use Rattle.vers_trees.proofs.Names.{ℕ, zero, suc, ◌+◌, ◌<◌, ◌≤◌, ◌≢◌, ℤ, pos, ◌+ℤ◌, ◌-ℤ◌, ◌≤ℤ◌, ◌<ℤ◌, arith, subst, ◌≡◌, Bool, true, false, List, [], ◌∷◌, ◌++◌, length, get_or, add-one, zero-add, suc-add, sym, refl, ints, sum_by-cons, count, excess, bit_step, count_near, count_up, eq-or-lt_of_le, ⊎_elim, take-append-le, common_steps, true_from_ne_false, false_from_ne_true}
 
 pub record IsWalk (f : ℕ → ℤ) : Type 0 where
   pub up : (i : ℕ) → f (i + 1) ≤ℤ (f i +ℤ pos 1)

@@ -1,5 +1,5 @@
 -- Balanced lists: what reading from the left decides of them, and that their excess is nowhere negative and zero at the end.
-use Rattle.vers_trees.proofs.Words.{◌≡◌, ℕ, zero, suc, ◌≤◌, Bool, true, false, List, [], ◌∷◌, ◌++◌, length, pos, ◌+ℤ◌, ◌≤ℤ◌, arith, append_assoc, subst, sym, refl, ap, ◌∙◌, ints, append-nil, excess, Forest, none, tree, text, IsBalanced, closes, parse, forest_of, Decides, are_balanced}
+use Rattle.vers_trees.proofs.Names.{◌≡◌, ℕ, zero, suc, ◌≤◌, Bool, true, false, List, [], ◌∷◌, ◌++◌, length, pos, ◌+ℤ◌, ◌≤ℤ◌, arith, append_assoc, subst, sym, refl, ap, ◌∙◌, ints, append-nil, excess, Forest, none, tree, text, IsBalanced, closes, parse, forest_of, Decides, are_balanced}
 use Rattle.vers_trees.proofs.grammar.Excess.{excess-zero, excess-cons}
 use Rattle.vers_trees.proofs.grammar.Paired.{never_negative, total_is_zero}
 

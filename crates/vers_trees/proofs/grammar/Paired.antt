@@ -1,5 +1,5 @@
 -- The pairs of a forest are the places between which the excess stays above where it began.
-use Rattle.vers_trees.proofs.Words.{◌≡◌, ℕ, zero, suc, ◌+◌, ◌-◌, ◌<◌, ◌≤◌, ◌⊎◌, inl, inr, Bool, true, false, List, ◌∷◌, ◌++◌, length, get_or, pos, ◌+ℤ◌, ◌≤ℤ◌, ◌<ℤ◌, arith, length-append, ⊎_elim, subst, sym, refl, ap, ◌∙◌, ints, cases_lt, cases_order, get_or_append_left, get_or_at, get_or-append-add, excess, Forest, none, tree, text}
+use Rattle.vers_trees.proofs.Names.{◌≡◌, ℕ, zero, suc, ◌+◌, ◌-◌, ◌<◌, ◌≤◌, ◌⊎◌, inl, inr, Bool, true, false, List, ◌∷◌, ◌++◌, length, get_or, pos, ◌+ℤ◌, ◌≤ℤ◌, ◌<ℤ◌, arith, length-append, ⊎_elim, subst, sym, refl, ap, ◌∙◌, ints, cases_lt, cases_order, get_or_append_left, get_or_at, get_or-append-add, excess, Forest, none, tree, text}
 use Rattle.vers_trees.proofs.grammar.Excess.{excess-zero, excess-nil, excess-cons, excess-append_left, excess-append_right, open_from_rise, close_from_fall}
 
 -- v opens and c closes one tree of the forest

@@ -1,5 +1,5 @@
 -- From one place of a pair a search for an excess that is one less finds the other.
-use Rattle.vers_trees.proofs.Words.{◌≡◌, ℕ, ◌+◌, ◌-◌, ◌<◌, ◌≤◌, ◌≢◌, Bool, true, false, List, get_or, pos, negsuc, ◌+ℤ◌, arith, ◌<ℤ◌, ap, ints, excess, IsFirstRiseAfter, IsLastRiseBefore, cases_Bool, eq-or-lt_of_le}
+use Rattle.vers_trees.proofs.Names.{◌≡◌, ℕ, ◌+◌, ◌-◌, ◌<◌, ◌≤◌, ◌≢◌, Bool, true, false, List, get_or, pos, negsuc, ◌+ℤ◌, arith, ◌<ℤ◌, ap, ints, excess, IsFirstRiseAfter, IsLastRiseBefore, cases_Bool, eq-or-lt_of_le}
 use Rattle.vers_trees.proofs.grammar.Excess.{above_until, above_since, excess-is_walk, excess_after_open, excess_after_close}
 use Rattle.vers_trees.proofs.grammar.Paired.{Closes, closes_rises, closes_falls}
 

@@ -1,5 +1,5 @@
 -- What a node tells of the places of its part.
-use Rattle.vers_trees.proofs.Words.{◌≡◌, ℕ, zero, suc, ◌+◌, ◌-◌, ◌*◌, ◌<◌, ◌≤◌, ◌≢◌, ◌↔◌, Bool, true, false, List, length, ℤ, pos, ◌+ℤ◌, ◌-ℤ◌, ◌≤ℤ◌, arith, ⊎_elim, subst, refl, ap, ◌∙◌, ◌^◌, FitsSigned, w64, ints, clamps, by_lt_z, cases_lt, eq-or-lt_of_le, Node, excess, sum_past, IsBalanced, empty_node, IsPart, start_of, Covers, Sought, target, edge, Passed, HasPlace, HasNone, IsInRange, IsInRangeOrStart, IsLevel, IsMet, left_past}
+use Rattle.vers_trees.proofs.Names.{◌≡◌, ℕ, zero, suc, ◌+◌, ◌-◌, ◌*◌, ◌<◌, ◌≤◌, ◌≢◌, ◌↔◌, Bool, true, false, List, length, ℤ, pos, ◌+ℤ◌, ◌-ℤ◌, ◌≤ℤ◌, arith, ⊎_elim, subst, refl, ap, ◌∙◌, ◌^◌, FitsSigned, w64, ints, clamps, by_lt_z, cases_lt, eq-or-lt_of_le, Node, excess, sum_past, IsBalanced, empty_node, IsPart, start_of, Covers, Sought, target, edge, Passed, HasPlace, HasNone, IsInRange, IsInRangeOrStart, IsLevel, IsMet, left_past}
 use Rattle.vers_trees.proofs.grammar.Excess.{IsWalk, turned, excess-zero, excess-is_walk}
 pub use Rattle.vers_trees.proofs.grammar.Grammar.{balance_decides, closes_from_excess, balanced_total, balanced_above}
 use Rattle.vers_trees.proofs.layout.MinMax.{starts_up, part_inside, total_of_part}

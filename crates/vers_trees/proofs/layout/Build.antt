@@ -1,5 +1,5 @@
 -- Building a tree of excesses from its leaves up to its root.
-use Rattle.vers_trees.proofs.Words.{◌≡◌, ℕ, ◌+◌, ◌-◌, ◌*◌, ◌^◌, ◌<◌, ◌≤◌, ◌↔◌, inl, inr, min, Bool, List, [], ◌∷◌, length, get_or, set, ◌≤ℤ◌, ◌<ℤ◌, arith, ⊎_elim, subst, sym, refl, ap, ◌∙◌, cases_lt, get_or_past, get_or-set_same, get_or-set_other, eq-or-lt_of_le, mul-le-mul_right, div_ceil_times, Node, combined, JoinFits, empty_node, IsPart, start_of, Covers, StandsOver, CoveredFrom, AreLeaves, AreFirstBlocks, block_count, IsLevel, IsBalanced, IsIndexed}
+use Rattle.vers_trees.proofs.Names.{◌≡◌, ℕ, ◌+◌, ◌-◌, ◌*◌, ◌^◌, ◌<◌, ◌≤◌, ◌↔◌, inl, inr, min, Bool, List, [], ◌∷◌, length, get_or, set, ◌≤ℤ◌, ◌<ℤ◌, arith, ⊎_elim, subst, sym, refl, ap, ◌∙◌, cases_lt, get_or_past, get_or-set_same, get_or-set_other, eq-or-lt_of_le, mul-le-mul_right, div_ceil_times, Node, combined, JoinFits, empty_node, IsPart, start_of, Covers, StandsOver, CoveredFrom, AreLeaves, AreFirstBlocks, block_count, IsLevel, IsBalanced, IsIndexed}
 use Rattle.vers_trees.proofs.layout.MinMax.{HasChildren, stands_children, stands_every, leaf_stands, root, part_inside, covers_joined, children_fit}
 pub use Rattle.vers_trees.proofs.layout.Blocks.{balanced_iff_root, balance_decides}
 

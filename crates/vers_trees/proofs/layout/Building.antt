@@ -1,5 +1,5 @@
 -- The excess of a list of parentheses that is built.
-use Rattle.vers_trees.proofs.Words.{◌≡◌, ℕ, ◌<◌, ◌≤◌, Bool, List, [], ◌∷◌, ◌++◌, length, ℤ, pos, ◌+ℤ◌, FitsSigned, to_z, of_z, false, arith, length-append, sym, refl, ap, ◌∙◌, w64, ints, to_z-of_z, get_or_at, excess, bit_step, Forest, text, IsBalanced, forest_of, IsBuilding}
+use Rattle.vers_trees.proofs.Names.{◌≡◌, ℕ, ◌<◌, ◌≤◌, Bool, List, [], ◌∷◌, ◌++◌, length, ℤ, pos, ◌+ℤ◌, FitsSigned, to_z, of_z, false, arith, length-append, sym, refl, ap, ◌∙◌, w64, ints, to_z-of_z, get_or_at, excess, bit_step, Forest, text, IsBalanced, forest_of, IsBuilding}
 use Rattle.vers_trees.proofs.grammar.Excess.{excess-zero, excess-append_left, excess_after_bit}
 use Rattle.vers_trees.proofs.grammar.Grammar.{forest_of-text}
 use Rattle.vers_trees.proofs.searches.Scans.{rise_fits, step_fits}

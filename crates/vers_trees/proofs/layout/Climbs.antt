@@ -1,5 +1,5 @@
 -- The steps of a search in a tree of excesses, forwards and backwards.
-use Rattle.vers_trees.proofs.Words.{◌≡◌, ℕ, zero, suc, ◌+◌, ◌-◌, ◌*◌, ◌/◌, ◌^◌, ◌<◌, ◌≤◌, Bool, true, false, List, length, get_or, ℤ, ◌+ℤ◌, ◌-ℤ◌, arith, ⊎_elim, subst, ap, FitsSigned, w64, ints, cases_lt, pow-succ', le-mul_of_pos_right, mul-le-mul_right, pow_pos, excess, Node, empty_node, start_of, Covers, StandsOver, IsMinMax, Sought, target, edge, Passed, HasNone, IsAhead, BeginsAt, LeadsTo, PassedTo, IsBeside, near_child, far_child, ComesTo, IsMet, left_past}
+use Rattle.vers_trees.proofs.Names.{◌≡◌, ℕ, zero, suc, ◌+◌, ◌-◌, ◌*◌, ◌/◌, ◌^◌, ◌<◌, ◌≤◌, Bool, true, false, List, length, get_or, ℤ, ◌+ℤ◌, ◌-ℤ◌, arith, ⊎_elim, subst, ap, FitsSigned, w64, ints, cases_lt, pow-succ', le-mul_of_pos_right, mul-le-mul_right, pow_pos, excess, Node, empty_node, start_of, Covers, StandsOver, IsMinMax, Sought, target, edge, Passed, HasNone, IsAhead, BeginsAt, LeadsTo, PassedTo, IsBeside, near_child, far_child, ComesTo, IsMet, left_past}
 use Rattle.vers_trees.proofs.layout.MinMax.{stands_children, parent_of_left, parent_of_right, stands_leaf, leaf_stands, root_stands, total_of_part}
 pub use Rattle.vers_trees.proofs.layout.Blocks.{place_in, passed_over, left_fits, too_far, rest_is}
 

@@ -1,5 +1,5 @@
 -- The parts of the nodes of a tree, and what a node made of two says.
-use Rattle.vers_trees.proofs.Words.{◌≡◌, ℕ, zero, suc, ◌+◌, ◌-◌, ◌*◌, ◌/◌, ◌%◌, ◌^◌, ◌<◌, ◌≤◌, ◌⊎◌, inl, inr, Bool, List, length, ◌+ℤ◌, ◌≤ℤ◌, ◌<ℤ◌, arith, ⊎_elim, subst, refl, ap, ◌∙◌, pow-succ', pow-le-pow_right, pow_next, mul-le-mul_right, ints, cases_lt, excess, Node, combined, JoinFits, empty_node, IsPart, start_of, Covers, StandsOver}
+use Rattle.vers_trees.proofs.Names.{◌≡◌, ℕ, zero, suc, ◌+◌, ◌-◌, ◌*◌, ◌/◌, ◌%◌, ◌^◌, ◌<◌, ◌≤◌, ◌⊎◌, inl, inr, Bool, List, length, ◌+ℤ◌, ◌≤ℤ◌, ◌<ℤ◌, arith, ⊎_elim, subst, refl, ap, ◌∙◌, pow-succ', pow-le-pow_right, pow_next, mul-le-mul_right, ints, cases_lt, excess, Node, combined, JoinFits, empty_node, IsPart, start_of, Covers, StandsOver}
 use Rattle.vers_trees.proofs.searches.Scans.{rise_fits, part_joined}
 
 -- a later block begins no earlier

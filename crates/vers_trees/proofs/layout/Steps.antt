@@ -1,5 +1,5 @@
 -- A number without the zeros at its end, and how many digits it has.
-use Rattle.vers_trees.proofs.Words.{◌≡◌, ℕ, zero, suc, Bool, bool_byte, ◌+◌, ◌-◌, ◌*◌, ◌/◌, ◌%◌, ◌^◌, ◌<◌, ◌≤◌, arith, sym, ap, ◌∙◌, bit_at, pow-succ', le-mul_of_pos_right, pow_pos, shr-shr, bit_at_lowest, bit_at-suc, digits, Reads, AddsAtMost, only_nodes, digits_half, digits_up, adds_then, adds_weaker, adds_nothing, IsOddPart, bit_value_le, byte_value}
+use Rattle.vers_trees.proofs.Names.{◌≡◌, ℕ, zero, suc, Bool, bool_byte, ◌+◌, ◌-◌, ◌*◌, ◌/◌, ◌%◌, ◌^◌, ◌<◌, ◌≤◌, arith, sym, ap, ◌∙◌, bit_at, pow-succ', le-mul_of_pos_right, pow_pos, shr-shr, bit_at_lowest, bit_at-suc, digits, Reads, AddsAtMost, only_nodes, digits_half, digits_up, adds_then, adds_weaker, adds_nothing, IsOddPart, bit_value_le, byte_value}
 
 -- a number whose lowest digits are zeros is what stands above them, with as many zeros behind it
 pub zeros_below : (i n : ℕ) → ((j : ℕ) → j < i → bit_at n j ≡ 0) → n / 2 ^ i * 2 ^ i ≡ n

@@ -1,5 +1,5 @@
 -- The width of a tree, and its nodes put together.
-use Rattle.vers_trees.proofs.Words.{◌≡◌, ℕ, suc, ◌+◌, ◌-◌, ◌*◌, ◌^◌, ◌<◌, ◌≤◌, inl, inr, min, max, Bool, List, [], ◌∷◌, ◌++◌, length, get_or, take, drop, arith, ⊎_elim, subst, sym, refl, ap, ◌∙◌, length-append, cases_lt, div_ceil_times, get_or_append_left, get_or_at, take-append_seam, pow-le-pow_right, pow_next, pow_pos, clog_is_least, mul-le-mul_right, digits, digits_below_pow, Node, IsPart, CoveredFrom, empty_node, block_count, clog, levels, node_count, IsWidth, IsGrowing, AreFirstBlocks, IsTreeOf}
+use Rattle.vers_trees.proofs.Names.{◌≡◌, ℕ, suc, ◌+◌, ◌-◌, ◌*◌, ◌^◌, ◌<◌, ◌≤◌, inl, inr, min, max, Bool, List, [], ◌∷◌, ◌++◌, length, get_or, take, drop, arith, ⊎_elim, subst, sym, refl, ap, ◌∙◌, length-append, cases_lt, div_ceil_times, get_or_append_left, get_or_at, take-append_seam, pow-le-pow_right, pow_next, pow_pos, clog_is_least, mul-le-mul_right, digits, digits_below_pow, Node, IsPart, CoveredFrom, empty_node, block_count, clog, levels, node_count, IsWidth, IsGrowing, AreFirstBlocks, IsTreeOf}
 use Rattle.vers_trees.proofs.layout.MinMax.{order}
 
 pub grow_start : (leaves : ℕ) → IsGrowing leaves 2

@@ -1,5 +1,5 @@
 -- The nodes of one depth: which of them the searches find.
-use Rattle.vers_trees.proofs.Words.{◌≡◌, ℕ, ◌+◌, ◌-◌, ◌<◌, ◌≤◌, ◌≢◌, ◌↔◌, Bool, true, false, ◌&&◌, List, length, get_or, eqb, ℤ, pos, negsuc, neg_ℤ, ◌+ℤ◌, ◌-ℤ◌, ◌<ℤ◌, Option, Some, None, arith, sym, ap, ◌∙◌, Decides, ints, cases_lt, Decides-eqb, Decides-and, eq-or-lt_of_le, count_le, excess, first_rise_after, last_rise_before, Forest, IsBalanced, forest_of, true_from_ne_false, false_from_ne_true, closing, is_ancestor, depth, level, level_ancestor, first_of, last_of, next_of, previous_of}
+use Rattle.vers_trees.proofs.Names.{◌≡◌, ℕ, ◌+◌, ◌-◌, ◌<◌, ◌≤◌, ◌≢◌, ◌↔◌, Bool, true, false, ◌&&◌, List, length, get_or, eqb, ℤ, pos, negsuc, neg_ℤ, ◌+ℤ◌, ◌-ℤ◌, ◌<ℤ◌, Option, Some, None, arith, sym, ap, ◌∙◌, Decides, ints, cases_lt, Decides-eqb, Decides-and, eq-or-lt_of_le, count_le, excess, first_rise_after, last_rise_before, Forest, IsBalanced, forest_of, true_from_ne_false, false_from_ne_true, closing, is_ancestor, depth, level, level_ancestor, first_of, last_of, next_of, previous_of}
 use Rattle.vers_trees.proofs.searches.Searches.{by_answer, after_some, after_none, before_some, before_is, before_none}
 use Rattle.vers_trees.proofs.grammar.Excess.{turned, above_until, above_since, excess-zero, excess-is_walk, excess_after_open, excess_after_close, open_from_rise, close_from_fall}
 use Rattle.vers_trees.proofs.grammar.Grammar.{balanced_total, balanced_above}

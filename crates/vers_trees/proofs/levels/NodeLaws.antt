@@ -1,5 +1,5 @@
 -- Numbers that ascend, and those of a list that pass a test.
-use Rattle.vers_trees.proofs.Words.{◌≡◌, ℕ, zero, suc, ◌+◌, ◌-◌, ◌<◌, ◌≤◌, Bool, true, List, [], ◌∷◌, length, get_or, ltb, Option, None, Some, arith, subst, sym, refl, ap, ◌∙◌, slice_get, find, filter, Contains, last_or, range_with_len, get_or_from_slice_get, slice_get_within, lt-ltb, le-ltb, cond_both, All-get_or, All-filter, All-contains_itself, filter_passes, find_is, none_passing, last_passing_is, places, Forest, text, nodes, last_of}
+use Rattle.vers_trees.proofs.Names.{◌≡◌, ℕ, zero, suc, ◌+◌, ◌-◌, ◌<◌, ◌≤◌, Bool, true, List, [], ◌∷◌, length, get_or, ltb, Option, None, Some, arith, subst, sym, refl, ap, ◌∙◌, slice_get, find, filter, Contains, last_or, range_with_len, get_or_from_slice_get, slice_get_within, lt-ltb, le-ltb, cond_both, All-get_or, All-filter, All-contains_itself, filter_passes, find_is, none_passing, last_passing_is, places, Forest, text, nodes, last_of}
 use Rattle.vers_trees.proofs.grammar.Pairs.{contains_first, contains_later}
 use Rattle.vers_trees.proofs.kin.NodeList.{nodes_are_ones}
 

@@ -1,5 +1,5 @@
 -- Whole bytes of a scan, by the entries of their tables.
-use Rattle.vers_trees.proofs.Words.{◌≡◌, ◌≢◌, ℕ, ◌+◌, ◌-◌, ◌*◌, ◌/◌, ◌%◌, ◌^◌, ◌<◌, ◌≤◌, Bool, true, false, List, length, take, drop, ℤ, pos, ◌+ℤ◌, ◌-ℤ◌, ◌≤ℤ◌, arith, sym, ap, Option, Some, FitsSigned, to_z, of_z, ◌∙◌, w64, count_ones, is_some, ints, nat_tests, mod-pow-add, take-append-drop, length-take-le, length-drop, drop-take, drop-drop, take_all, mod-eq_of_lt, number, part, limb, number_below, number-drop, count_limb, count_both, count_none, number-take, part_number_or_zero, excess, sum_past, IsByte, IsEntry, sum_along, place_along, place_in, least_in, greatest_in, IsRise, HasNoRise}
+use Rattle.vers_trees.proofs.Names.{◌≡◌, ◌≢◌, ℕ, ◌+◌, ◌-◌, ◌*◌, ◌/◌, ◌%◌, ◌^◌, ◌<◌, ◌≤◌, Bool, true, false, List, length, take, drop, ℤ, pos, ◌+ℤ◌, ◌-ℤ◌, ◌≤ℤ◌, arith, sym, ap, Option, Some, FitsSigned, to_z, of_z, ◌∙◌, w64, count_ones, is_some, ints, nat_tests, mod-pow-add, take-append-drop, length-take-le, length-drop, drop-take, drop-drop, take_all, mod-eq_of_lt, number, part, limb, number_below, number-drop, count_limb, count_both, count_none, number-take, part_number_or_zero, excess, sum_past, IsByte, IsEntry, sum_along, place_along, place_in, least_in, greatest_in, IsRise, HasNoRise}
 use Rattle.vers_trees.proofs.searches.Scans.{found, forward_more, backward_more}
 use Rattle.vers_trees.proofs.grammar.Excess.{excess-append_left, excess-append_right}
 

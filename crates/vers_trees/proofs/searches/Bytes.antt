@@ -1,5 +1,5 @@
 -- Numbers by their octal digits, and what an entry of a table of bytes is packed of.
-use Rattle.vers_trees.proofs.Words.{◌≡◌, ℕ, zero, suc, ◌+◌, ◌-◌, ◌*◌, ◌/◌, ◌%◌, ◌^◌, ◌<◌, ◌≤◌, List, [], ◌∷◌, length, drop, get_or, arith, ap, ◌∙◌, ◌≢◌, ◌⊎◌, inr, Bool, true, false, pos, ◌+ℤ◌, ◌-ℤ◌, cond, min, max, ⊎_elim, refl, replicate, nat_eq, set, pow-suc, pow-le-pow_right, drop-cons, length-drop, get_or-drop, get_or-set_same, get_or-set_other, shr-shr, IsByte, sum_along, place_along, octal, HasMet, step_along, ints, cases_lt, bit_at-number, excess, bit_step}
+use Rattle.vers_trees.proofs.Names.{◌≡◌, ℕ, zero, suc, ◌+◌, ◌-◌, ◌*◌, ◌/◌, ◌%◌, ◌^◌, ◌<◌, ◌≤◌, List, [], ◌∷◌, length, drop, get_or, arith, ap, ◌∙◌, ◌≢◌, ◌⊎◌, inr, Bool, true, false, pos, ◌+ℤ◌, ◌-ℤ◌, cond, min, max, ⊎_elim, refl, replicate, nat_eq, set, pow-suc, pow-le-pow_right, drop-cons, length-drop, get_or-drop, get_or-set_same, get_or-set_other, shr-shr, IsByte, sum_along, place_along, octal, HasMet, step_along, ints, cases_lt, bit_at-number, excess, bit_step}
 use Rattle.vers_trees.proofs.grammar.Excess.{excess-zero, excess_after_bit}
 
 -- each of the digits is below 8

@@ -1,5 +1,5 @@
 -- A search: the scan of the block that it begins in, what the tree answers, and the scan of that block.
-use Rattle.vers_trees.proofs.Words.{◌≡◌, ℕ, ◌+◌, ◌-◌, ◌*◌, ◌/◌, ◌<◌, ◌≤◌, Bool, true, false, List, length, ℤ, ◌-ℤ◌, FitsSigned, to_z, of_z, Option, None, Some, Result, Ok, Err, MatchResult, arith, ⊎_elim, refl, sym, ap, ◌∙◌, w64, result_ok, ints, to_z-of_z, Node, first_rise_after, last_rise_before, edge, IsBetween, up_to, IsRise, HasNoRise, start_of, Sought, sought, IsAfter, Passed, HasNone, IsAhead, BeginsAt, IsPassed, Reads, AddsAtMost, only_nodes, digits, past_reads, block_reads, levels, adds_then, adds_weaker}
+use Rattle.vers_trees.proofs.Names.{◌≡◌, ℕ, ◌+◌, ◌-◌, ◌*◌, ◌/◌, ◌<◌, ◌≤◌, Bool, true, false, List, length, ℤ, ◌-ℤ◌, FitsSigned, to_z, of_z, Option, None, Some, Result, Ok, Err, MatchResult, arith, ⊎_elim, refl, sym, ap, ◌∙◌, w64, result_ok, ints, to_z-of_z, Node, first_rise_after, last_rise_before, edge, IsBetween, up_to, IsRise, HasNoRise, start_of, Sought, sought, IsAfter, Passed, HasNone, IsAhead, BeginsAt, IsPassed, Reads, AddsAtMost, only_nodes, digits, past_reads, block_reads, levels, adds_then, adds_weaker}
 pub use Rattle.vers_trees.proofs.searches.Searches.{after_is, none_after, before_is, none_before, before_past}
 pub use Rattle.vers_trees.proofs.searches.Scans.{rise_fits, split, rise_is}
 use Rattle.vers_trees.proofs.layout.Blocks.{left_fits, too_far}

@@ -1,5 +1,5 @@
 -- Scans over the bits of a part, by stretches: a bit, a byte or a word at a time.
-use Rattle.vers_trees.proofs.Words.{◌≡◌, ◌≢◌, ℕ, ◌+◌, ◌-◌, ◌^◌, ◌<◌, ◌≤◌, ◌⊎◌, Bool, true, false, List, length, get_or, ℤ, pos, negsuc, ◌+ℤ◌, ◌-ℤ◌, ◌≤ℤ◌, FitsSigned, to_z, of_z, arith, ⊎_elim, refl, sym, ap, ◌∙◌, w64, ints, clamps, by_lt_z, to_z-of_z, cases_lt, Node, combined, excess, bit_step, count_near, count_up, IsPart, sum_past, IsBetween, up_to, IsRise, HasNoRise}
+use Rattle.vers_trees.proofs.Names.{◌≡◌, ◌≢◌, ℕ, ◌+◌, ◌-◌, ◌^◌, ◌<◌, ◌≤◌, ◌⊎◌, Bool, true, false, List, length, get_or, ℤ, pos, negsuc, ◌+ℤ◌, ◌-ℤ◌, ◌≤ℤ◌, FitsSigned, to_z, of_z, arith, ⊎_elim, refl, sym, ap, ◌∙◌, w64, ints, clamps, by_lt_z, to_z-of_z, cases_lt, Node, combined, excess, bit_step, count_near, count_up, IsPart, sum_past, IsBetween, up_to, IsRise, HasNoRise}
 use Rattle.vers_trees.proofs.grammar.Excess.{excess_after_bit}
 
 -- the excess changes by at most as much as there are places between

@@ -1,5 +1,5 @@
 -- The searches for a rise of the excess find the places that their facts describe.
-use Rattle.vers_trees.proofs.Words.{◌≡◌, ℕ, zero, suc, ◌+◌, ◌-◌, ◌<◌, ◌≤◌, ◌≢◌, Bool, cond, List, [], ◌∷◌, ◌++◌, length, ℤ, ◌+ℤ◌, Option, Some, None, MatchOption, arith, sym, refl, ap, ◌∙◌, find, filter, Decides, range_with_len, last_or, map-id, filter_of_map_range_with_len_more, cases_lt, lt-ltb, le-ltb, Decides-int_eq, excess, first_rise_after, last_rise_before, IsFirstRiseAfter, IsLastRiseBefore}
+use Rattle.vers_trees.proofs.Names.{◌≡◌, ℕ, zero, suc, ◌+◌, ◌-◌, ◌<◌, ◌≤◌, ◌≢◌, Bool, cond, List, [], ◌∷◌, ◌++◌, length, ℤ, ◌+ℤ◌, Option, Some, None, MatchOption, arith, sym, refl, ap, ◌∙◌, find, filter, Decides, range_with_len, last_or, map-id, filter_of_map_range_with_len_more, cases_lt, lt-ltb, le-ltb, Decides-int_eq, excess, first_rise_after, last_rise_before, IsFirstRiseAfter, IsLastRiseBefore}
 
 -- j is the first number from a on and below b that has P, and the last below n
 pub record IsFirst (P : ℕ → Type 0) (a b j : ℕ) : Type 0 where

@@ -1,5 +1,5 @@
 -- Lists of places: moved to the right, and those of a list that follows another.
-use Rattle.vers_trees.proofs.Words.{◌≡◌, ℕ, zero, suc, ◌+◌, ◌<◌, Bool, true, false, cond, List, [], ◌∷◌, ◌++◌, map, length, get_or, arith, subst, sym, refl, ap, ◌∙◌, negsuc, inl, inr, filter, All, range_with_len, map-append, append_assoc, All-nil, All-cons, All-head, All-tail, All-append, All-map, All-weaker, is_bit, places, moved, Forest, none, tree, text, opening_of, pairs_by_closing, postorder, Option, unwrap_or, add_assoc, zero-add, map-id, cond_both, map-map}
+use Rattle.vers_trees.proofs.Names.{◌≡◌, ℕ, zero, suc, ◌+◌, ◌<◌, Bool, true, false, cond, List, [], ◌∷◌, ◌++◌, map, length, get_or, arith, subst, sym, refl, ap, ◌∙◌, negsuc, inl, inr, filter, All, range_with_len, map-append, append_assoc, All-nil, All-cons, All-head, All-tail, All-append, All-map, All-weaker, is_bit, places, moved, Forest, none, tree, text, opening_of, pairs_by_closing, postorder, Option, unwrap_or, add_assoc, zero-add, map-id, cond_both, map-map}
 use Rattle.vers_bits.proofs.PublicLaws.{places-cons as places_after_first}
 use Rattle.vers_trees.proofs.grammar.Paired.{Paired, paired_closes}
 use Rattle.vers_trees.proofs.grammar.Pairs.{PairedIn}

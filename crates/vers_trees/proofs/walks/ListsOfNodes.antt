@@ -1,5 +1,5 @@
 -- The nodes of a node's tree are a part of all nodes, in preorder and in postorder.
-use Rattle.vers_trees.proofs.Words.{◌≡◌, ℕ, suc, ◌+◌, ◌*◌, ◌<◌, ◌≤◌, ◌⊎◌, inl, inr, Bool, true, false, ◌&&◌, List, [], ◌∷◌, map, length, take, drop, ltb, leb, count_by, arith, ⊎_elim, subst, sym, refl, ap, ◌∙◌, filter, Decides, ints, cases_lt, lt-ltb, le-ltb, nat_tests, Decides-and, Decides-like, same_from_decides, All-weaker, length-filter, count_by-le-length, count, places, count_both, excess, Forest, text, IsBalanced, forest_of, nodes, closing, is_ancestor, subtree, opening_of, pairs_by_closing, postorder, subtree_post, not-true}
+use Rattle.vers_trees.proofs.Names.{◌≡◌, ℕ, suc, ◌+◌, ◌*◌, ◌<◌, ◌≤◌, ◌⊎◌, inl, inr, Bool, true, false, ◌&&◌, List, [], ◌∷◌, map, length, take, drop, ltb, leb, count_by, arith, ⊎_elim, subst, sym, refl, ap, ◌∙◌, filter, Decides, ints, cases_lt, lt-ltb, le-ltb, nat_tests, Decides-and, Decides-like, same_from_decides, All-weaker, length-filter, count_by-le-length, count, places, count_both, excess, Forest, text, IsBalanced, forest_of, nodes, closing, is_ancestor, subtree, opening_of, pairs_by_closing, postorder, subtree_post, not-true}
 use Rattle.vers_trees.proofs.grammar.Grammar.{text-forest_of}
 use Rattle.vers_trees.proofs.grammar.Paired.{Paired}
 use Rattle.vers_trees.proofs.kin.Partners.{before_from_closes, nested}

@@ -1,5 +1,5 @@
 -- A walk from tree to tree below a node meets its children, forwards and backwards.
-use Rattle.vers_trees.proofs.Words.{◌≡◌, ℕ, zero, suc, ◌+◌, ◌-◌, ◌<◌, ◌≤◌, Bool, true, false, List, [], ◌∷◌, length, reverse, get_or, eqb, negsuc, Option, Some, None, arith, sym, refl, ap, ◌∙◌, map, take, drop, slice_get, option_eq, slice_get_within, slice_get_past, cond_some, slice_get-get_or, get_or_from_slice_get, get_or-reverse, length-reverse, length-map, length-take, length-drop, get_or-map, get_or-take, get_or-drop, take_all, length-filter, count_by-le-length, count, places, select, length-places, count_le, Forest, IsBalanced, forest_of, nodes, closing, parent, nodes_under, children, siblings, last_of, next_of, previous_of, IsNode, subtree, tree_to, opened, tree_from, tree_before, met, walked, MeetsJust, opening_of, tree_beside, siblings_left, IsWalkOfSiblings, Contains-get_or, TakesFirst, postorder, subtree_post, closed_by}
+use Rattle.vers_trees.proofs.Names.{◌≡◌, ℕ, zero, suc, ◌+◌, ◌-◌, ◌<◌, ◌≤◌, Bool, true, false, List, [], ◌∷◌, length, reverse, get_or, eqb, negsuc, Option, Some, None, arith, sym, refl, ap, ◌∙◌, map, take, drop, slice_get, option_eq, slice_get_within, slice_get_past, cond_some, slice_get-get_or, get_or_from_slice_get, get_or-reverse, length-reverse, length-map, length-take, length-drop, get_or-map, get_or-take, get_or-drop, take_all, length-filter, count_by-le-length, count, places, select, length-places, count_le, Forest, IsBalanced, forest_of, nodes, closing, parent, nodes_under, children, siblings, last_of, next_of, previous_of, IsNode, subtree, tree_to, opened, tree_from, tree_before, met, walked, MeetsJust, opening_of, tree_beside, siblings_left, IsWalkOfSiblings, Contains-get_or, TakesFirst, postorder, subtree_post, closed_by}
 use Rattle.vers_trees.proofs.searches.Searches.{after_is}
 use Rattle.vers_trees.proofs.kin.Partners.{after_from_closes}
 use Rattle.vers_trees.proofs.kin.NodeList.{HasPair, node_pair, nodes_by, opens, option_decides}

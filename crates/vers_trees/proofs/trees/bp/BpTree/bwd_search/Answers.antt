@@ -1,4 +1,4 @@
-use Rattle.vers_trees.proofs.Words.{w64, ap, ◌∙◌, to_z-of_z, last_rise_before}
+use Rattle.vers_trees.proofs.Names.{w64, ap, ◌∙◌, to_z-of_z, last_rise_before}
 use Rattle.vers_trees.proofs.trees.bp.BpTree.bwd_search.Goals as goal
 
 pub returns : goal.returns

@@ -1,4 +1,4 @@
-use Rattle.vers_trees.proofs.Words.{w64, to_z-of_z}
+use Rattle.vers_trees.proofs.Names.{w64, to_z-of_z}
 use Rattle.vers_trees.proofs.trees.bp.BpTree.bwd_search_counted.Goals as goal
 
 pub returns-clause-value : goal.returns-clause-value

@@ -1,4 +1,4 @@
-use Rattle.vers_trees.proofs.Words.{◌≡◌, ◌+◌, true, Bool, List, length, arith, sym, ap, subst, IsWalkOfSiblings}
+use Rattle.vers_trees.proofs.Names.{◌≡◌, ◌+◌, true, Bool, List, length, arith, sym, ap, subst, IsWalkOfSiblings}
 use Rattle.vers_trees.proofs.walks.WalksOfNodes.{forwards, closes_inside}
 use Rattle.vers_trees.proofs.trees.bp.BpTree.children.Goals as goal
 

@@ -1,4 +1,4 @@
-use Rattle.vers_trees.proofs.Words.{arith}
+use Rattle.vers_trees.proofs.Names.{arith}
 use Rattle.vers_trees.proofs.kin.Kin.{depth_by_ones}
 use Rattle.vers_trees.proofs.trees.bp.BpTree.depth_counted.Goals as goal
 

@@ -1,4 +1,4 @@
-use Rattle.vers_trees.proofs.Words.{false, arith, sym, ◌∙◌, length-places}
+use Rattle.vers_trees.proofs.Names.{false, arith, sym, ◌∙◌, length-places}
 use Rattle.vers_trees.proofs.walks.WalksOfNodes.{closed_by_all}
 use Rattle.vers_trees.proofs.trees.bp.BpTree.dfs_post_iter.Goals as goal
 

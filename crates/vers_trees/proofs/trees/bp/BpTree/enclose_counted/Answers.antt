@@ -1,4 +1,4 @@
-use Rattle.vers_trees.proofs.Words.{false, Bool, List, get_or, arith, sym, ap, ◌∙◌, last_rise_before, ints, enclosing}
+use Rattle.vers_trees.proofs.Names.{false, Bool, List, get_or, arith, sym, ap, ◌∙◌, last_rise_before, ints, enclosing}
 use Rattle.vers_trees.proofs.searches.Beside.{enclosing_open, enclosing_close, before_past}
 use Rattle.vers_trees.proofs.trees.bp.BpTree.enclose_counted.Goals as goal
 use Rattle.vers_trees.proofs.trees.bp.BpTree.enclose_counted.Goals.{then-is_one_counted, else-is_one_counted}

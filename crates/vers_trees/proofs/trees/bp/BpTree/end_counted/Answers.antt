@@ -1,4 +1,4 @@
-use Rattle.vers_trees.proofs.Words.{ℕ, Option, unwrap_or, ap, ◌∙◌}
+use Rattle.vers_trees.proofs.Names.{ℕ, Option, unwrap_or, ap, ◌∙◌}
 use Rattle.vers_trees.proofs.kin.Kin.{closing_by, closes_inside}
 use Rattle.vers_trees.proofs.trees.bp.BpTree.end_counted.Goals as goal
 

@@ -1,4 +1,4 @@
-use Rattle.vers_trees.proofs.Words.{◌+◌, List, Bool, length, arith, w64, ap, ◌∙◌, to_z-of_z, excess}
+use Rattle.vers_trees.proofs.Names.{◌+◌, List, Bool, length, arith, w64, ap, ◌∙◌, to_z-of_z, excess}
 use Rattle.vers_trees.proofs.searches.Beside.{few_ones, small_number, difference_is}
 use Rattle.vers_trees.proofs.trees.bp.BpTree.excess_counted.Goals as goal
 

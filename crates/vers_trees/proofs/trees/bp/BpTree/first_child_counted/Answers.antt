@@ -1,4 +1,4 @@
-use Rattle.vers_trees.proofs.Words.{rules, ◌∙◌}
+use Rattle.vers_trees.proofs.Names.{rules, ◌∙◌}
 use Rattle.vers_trees.proofs.kin.Kin.{first_child_is, node_pair, inside}
 use Rattle.vers_trees.proofs.trees.bp.BpTree.first_child_counted.Goals as goal
 

@@ -1,4 +1,4 @@
-use Rattle.vers_trees.proofs.Words.{w64, ap, ◌∙◌, to_z-of_z, first_rise_after}
+use Rattle.vers_trees.proofs.Names.{w64, ap, ◌∙◌, to_z-of_z, first_rise_after}
 use Rattle.vers_trees.proofs.trees.bp.BpTree.fwd_search.Goals as goal
 
 pub returns : goal.returns

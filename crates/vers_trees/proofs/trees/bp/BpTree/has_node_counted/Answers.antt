@@ -1,4 +1,4 @@
-use Rattle.vers_trees.proofs.Words.{refl, arith}
+use Rattle.vers_trees.proofs.Names.{refl, arith}
 use Rattle.vers_trees.proofs.PublicLaws.{node_iff_one}
 use Rattle.vers_trees.proofs.trees.bp.BpTree.has_node_counted.Goals as goal
 

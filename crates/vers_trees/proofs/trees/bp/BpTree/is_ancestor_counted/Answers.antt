@@ -1,4 +1,4 @@
-use Rattle.vers_trees.proofs.Words.{Some, ap, refl, is_ancestor, le-leb, lt-leb}
+use Rattle.vers_trees.proofs.Names.{Some, ap, refl, is_ancestor, le-leb, lt-leb}
 use Rattle.vers_trees.proofs.trees.bp.BpTree.is_ancestor_counted.Goals as goal
 
 pub returns-then-ancestor-descendant-clause-value : goal.returns-then-ancestor-descendant-clause-value

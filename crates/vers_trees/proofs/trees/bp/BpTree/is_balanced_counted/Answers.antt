@@ -1,4 +1,4 @@
-use Rattle.vers_trees.proofs.Words.{◌≡◌, true, Bool, List, subst, sym, ◌∙◌, same_from_decides, are_balanced, IsBalanced}
+use Rattle.vers_trees.proofs.Names.{◌≡◌, true, Bool, List, subst, sym, ◌∙◌, same_from_decides, are_balanced, IsBalanced}
 use Rattle.vers_trees.proofs.layout.Build.{balanced_iff_level, some_bits, balance_decides}
 use Rattle.vers_trees.proofs.trees.bp.BpTree.is_balanced_counted.Goals as goal
 

@@ -1,4 +1,4 @@
-use Rattle.vers_trees.proofs.Words.{forest_of, children}
+use Rattle.vers_trees.proofs.Names.{forest_of, children}
 use Rattle.vers_trees.proofs.kin.Kin.{leaf_by}
 use Rattle.vers_trees.proofs.trees.bp.BpTree.is_leaf_counted.Goals as goal
 

@@ -1,4 +1,4 @@
-use Rattle.vers_trees.proofs.Words.{◌-◌, arith, sym, ◌∙◌}
+use Rattle.vers_trees.proofs.Names.{◌-◌, arith, sym, ◌∙◌}
 use Rattle.vers_trees.proofs.kin.Kin.{last_child_none, last_child_is_search, node_pair}
 use Rattle.vers_trees.proofs.trees.bp.BpTree.last_child_counted.Goals as goal
 

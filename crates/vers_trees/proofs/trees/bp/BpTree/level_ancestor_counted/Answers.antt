@@ -1,4 +1,4 @@
-use Rattle.vers_trees.proofs.Words.{◌≡◌, ℕ, Some, arith, sym, ap, subst, ◌∙◌, forest_of, last_rise_before, level_ancestor}
+use Rattle.vers_trees.proofs.Names.{◌≡◌, ℕ, Some, arith, sym, ap, subst, ◌∙◌, forest_of, last_rise_before, level_ancestor}
 use Rattle.vers_trees.proofs.searches.Beside.{negated}
 use Rattle.vers_trees.proofs.levels.LevelNodes.{no_steps_up, too_far_up, level_ancestor_is_search, node_pair}
 use Rattle.vers_trees.proofs.trees.bp.BpTree.level_ancestor_counted.Goals as goal

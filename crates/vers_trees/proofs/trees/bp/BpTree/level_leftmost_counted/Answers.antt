@@ -1,4 +1,4 @@
-use Rattle.vers_trees.proofs.Words.{ℕ, arith, sym, ap, ◌∙◌, forest_of, first_rise_after, level, first_of}
+use Rattle.vers_trees.proofs.Names.{ℕ, arith, sym, ap, ◌∙◌, forest_of, first_rise_after, level, first_of}
 use Rattle.vers_trees.proofs.searches.Beside.{with_sign}
 use Rattle.vers_trees.proofs.levels.LevelNodes.{first_root, too_deep, level_leftmost_is_search}
 use Rattle.vers_trees.proofs.trees.bp.BpTree.level_leftmost_counted.Goals as goal

@@ -1,4 +1,4 @@
-use Rattle.vers_trees.proofs.Words.{◌∙◌}
+use Rattle.vers_trees.proofs.Names.{◌∙◌}
 use Rattle.vers_trees.proofs.levels.LevelNodes.{level_next_is_search, node_pair}
 use Rattle.vers_trees.proofs.trees.bp.BpTree.level_next_counted.Goals as goal
 

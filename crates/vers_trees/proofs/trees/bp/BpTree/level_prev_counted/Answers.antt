@@ -1,4 +1,4 @@
-use Rattle.vers_trees.proofs.Words.{None, Some, sym, ◌∙◌}
+use Rattle.vers_trees.proofs.Names.{None, Some, sym, ◌∙◌}
 use Rattle.vers_trees.proofs.levels.LevelNodes.{level_prev_is_search, node_pair}
 use Rattle.vers_trees.proofs.trees.bp.BpTree.level_prev_counted.Goals as goal
 

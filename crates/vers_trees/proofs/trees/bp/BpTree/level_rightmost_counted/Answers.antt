@@ -1,4 +1,4 @@
-use Rattle.vers_trees.proofs.Words.{ℕ, None, Some, ◌-◌, arith, sym, ap, ◌∙◌, forest_of, level, last_of}
+use Rattle.vers_trees.proofs.Names.{ℕ, None, Some, ◌-◌, arith, sym, ap, ◌∙◌, forest_of, level, last_of}
 use Rattle.vers_trees.proofs.searches.Beside.{with_sign}
 use Rattle.vers_trees.proofs.levels.LevelNodes.{too_deep, last_root_is_search, level_rightmost_is_search}
 use Rattle.vers_trees.proofs.trees.bp.BpTree.level_rightmost_counted.Goals as goal

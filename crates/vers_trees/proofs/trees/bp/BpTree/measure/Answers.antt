@@ -1,4 +1,4 @@
-use Rattle.vers_trees.proofs.Words.{◌≡◌, ℕ, ◌==◌, Bool, true, false, List, [], ◌∷◌, length, ◌↔◌, IsTrue, arith, refl, ◌∙◌, forest_of, children, bit_value, bool_byte}
+use Rattle.vers_trees.proofs.Names.{◌≡◌, ℕ, ◌==◌, Bool, true, false, List, [], ◌∷◌, length, ◌↔◌, IsTrue, arith, refl, ◌∙◌, forest_of, children, bit_value, bool_byte}
 use Rattle.vers_trees.proofs.trees.bp.BpTree.measure.Goals as goal
 
 -- whether a list is empty, as a number

@@ -1,4 +1,4 @@
-use Rattle.vers_trees.proofs.Words.{◌∙◌}
+use Rattle.vers_trees.proofs.Names.{◌∙◌}
 use Rattle.vers_trees.proofs.kin.Kin.{next_sibling_is, node_pair}
 use Rattle.vers_trees.proofs.trees.bp.BpTree.next_sibling_counted.Goals as goal
 

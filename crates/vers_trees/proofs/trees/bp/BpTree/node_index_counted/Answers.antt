@@ -1,4 +1,4 @@
-use Rattle.vers_trees.proofs.Words.{Bool, true, List, sym, ap, ◌∙◌, count}
+use Rattle.vers_trees.proofs.Names.{Bool, true, List, sym, ap, ◌∙◌, count}
 use Rattle.vers_trees.proofs.kin.Kin.{index_is_rank}
 use Rattle.vers_trees.proofs.trees.bp.BpTree.node_index_counted.Goals as goal
 

@@ -1,4 +1,4 @@
-use Rattle.vers_trees.proofs.Words.{arith}
+use Rattle.vers_trees.proofs.Names.{arith}
 use Rattle.vers_trees.proofs.walks.ListsOfNodes.{subtree_size_is, node_pair}
 use Rattle.vers_trees.proofs.trees.bp.BpTree.nodes_within.Goals as goal
 

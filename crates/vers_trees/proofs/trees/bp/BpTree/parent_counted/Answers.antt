@@ -1,4 +1,4 @@
-use Rattle.vers_trees.proofs.Words.{◌∙◌}
+use Rattle.vers_trees.proofs.Names.{◌∙◌}
 use Rattle.vers_trees.proofs.kin.Kin.{parent_is_search, node_pair}
 use Rattle.vers_trees.proofs.trees.bp.BpTree.parent_counted.Goals as goal
 

@@ -1,4 +1,4 @@
-use Rattle.vers_trees.proofs.Words.{◌-◌, Bool, false, List, length, get_or, arith, sym, ap, ◌∙◌}
+use Rattle.vers_trees.proofs.Names.{◌-◌, Bool, false, List, length, get_or, arith, sym, ap, ◌∙◌}
 use Rattle.vers_trees.proofs.kin.Kin.{closed_before, closes_inside, previous_sibling_is, previous_sibling_none, previous_sibling_is_search, node_pair}
 use Rattle.vers_trees.proofs.trees.bp.BpTree.previous_sibling_counted.Goals as goal
 

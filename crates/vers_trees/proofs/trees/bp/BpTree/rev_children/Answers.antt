@@ -1,4 +1,4 @@
-use Rattle.vers_trees.proofs.Words.{false, Bool, List, arith, sym, subst, IsWalkOfSiblings}
+use Rattle.vers_trees.proofs.Names.{false, Bool, List, arith, sym, subst, IsWalkOfSiblings}
 use Rattle.vers_trees.proofs.walks.WalksOfNodes.{backwards}
 use Rattle.vers_trees.proofs.trees.bp.BpTree.rev_children.Goals as goal
 

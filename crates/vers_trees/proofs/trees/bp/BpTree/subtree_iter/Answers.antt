@@ -1,4 +1,4 @@
-use Rattle.vers_trees.proofs.Words.{true, Bool, ℕ, List, length, arith, ap, ◌∙◌, places, Walking}
+use Rattle.vers_trees.proofs.Names.{true, Bool, ℕ, List, length, arith, ap, ◌∙◌, places, Walking}
 use Rattle.vers_trees.proofs.walks.WalksOfNodes.{subtree_inside, subtree_part}
 use Rattle.vers_trees.proofs.trees.bp.BpTree.subtree_iter.Goals as goal
 

@@ -1,4 +1,4 @@
-use Rattle.vers_trees.proofs.Words.{false, arith}
+use Rattle.vers_trees.proofs.Names.{false, arith}
 use Rattle.vers_trees.proofs.walks.WalksOfNodes.{subtree_inside, subtree_post_part}
 use Rattle.vers_trees.proofs.trees.bp.BpTree.subtree_post_iter.Goals as goal
 

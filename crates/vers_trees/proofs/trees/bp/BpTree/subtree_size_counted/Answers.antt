@@ -1,4 +1,4 @@
-use Rattle.vers_trees.proofs.Words.{ap, Some, arith}
+use Rattle.vers_trees.proofs.Names.{ap, Some, arith}
 use Rattle.vers_trees.proofs.walks.ListsOfNodes.{subtree_size_is, node_pair}
 use Rattle.vers_trees.proofs.trees.bp.BpTree.subtree_size_counted.Goals as goal
 

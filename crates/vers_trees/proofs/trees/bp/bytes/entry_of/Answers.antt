@@ -1,5 +1,5 @@
 use Rattle.vers_trees.proofs.searches.Bytes.{IsNoted, met_nothing, sevens, met_more, few_more, up_or_down}
-use Rattle.vers_trees.proofs.Words.{length-set, ints, arith, refl, ◌∙◌}
+use Rattle.vers_trees.proofs.Names.{length-set, ints, arith, refl, ◌∙◌}
 use Rattle.vers_trees.proofs.trees.bp.bytes.entry_of.Goals as goal
 
 pub loop-step-init : goal.loop-step-init

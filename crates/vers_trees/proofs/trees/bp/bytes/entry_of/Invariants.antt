@@ -1,4 +1,4 @@
-use Rattle.vers_trees.proofs.Words.{◌+◌, ◌<◌, ◌≤◌, ◌≡◌, ℕ, Bool, List, length, slice_index_or, IsByte, HasMet}
+use Rattle.vers_trees.proofs.Names.{◌+◌, ◌<◌, ◌≤◌, ◌≡◌, ℕ, Bool, List, length, slice_index_or, IsByte, HasMet}
 use Rattle.vers_trees.proofs.trees.bp.bytes.entry_of.Given as goal
 
 abbrev pub invariant-loop-step : goal.invariant-loop-step

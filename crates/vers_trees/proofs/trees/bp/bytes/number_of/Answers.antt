@@ -1,4 +1,4 @@
-use Rattle.vers_trees.proofs.Words.{◌-◌, arith}
+use Rattle.vers_trees.proofs.Names.{◌-◌, arith}
 use Rattle.vers_trees.proofs.searches.Bytes.{octal_small, octal_more}
 use Rattle.vers_trees.proofs.trees.bp.bytes.number_of.Goals as goal
 

@@ -1,4 +1,4 @@
-use Rattle.vers_trees.proofs.Words.{◌≡◌, ◌≤◌, drop, octal}
+use Rattle.vers_trees.proofs.Names.{◌≡◌, ◌≤◌, drop, octal}
 use Rattle.vers_trees.proofs.trees.bp.bytes.number_of.Given as goal
 
 abbrev pub invariant-loop-x : goal.invariant-loop-x

@@ -1,4 +1,4 @@
-use Rattle.vers_trees.proofs.Words.{rules, w64, arith, refl, ints, to_z-of_z}
+use Rattle.vers_trees.proofs.Names.{rules, w64, arith, refl, ints, to_z-of_z}
 use Rattle.vers_trees.proofs.trees.bp.bytes.place_met.Goals as goal
 
 pub returns : goal.returns

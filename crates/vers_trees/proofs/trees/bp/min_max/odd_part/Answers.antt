@@ -1,4 +1,4 @@
-use Rattle.vers_trees.proofs.Words.{w64, sym, bit_at-trailing_zeros}
+use Rattle.vers_trees.proofs.Names.{w64, sym, bit_at-trailing_zeros}
 use Rattle.vers_trees.proofs.layout.Steps.{zeros_below}
 use Rattle.vers_trees.proofs.trees.bp.min_max.odd_part.Goals as goal
 

@@ -1,4 +1,4 @@
-use Rattle.vers_trees.proofs.Words.{◌-◌, arith, w64, to_z, of_z, sym, ap, ◌∙◌, to_z-of_z, adds_then}
+use Rattle.vers_trees.proofs.Names.{◌-◌, arith, w64, to_z, of_z, sym, ap, ◌∙◌, to_z-of_z, adds_then}
 use Rattle.vers_trees.proofs.searches.Scans.{backward_bit}
 use Rattle.vers_trees.proofs.trees.bp.scan.bits_backward.Goals as goal
 

@@ -1,4 +1,4 @@
-use Rattle.vers_trees.proofs.Words.{ℕ, false, ◌-◌, ◌≤◌, AddsAtMost, HasNoRise, scan_reads}
+use Rattle.vers_trees.proofs.Names.{ℕ, false, ◌-◌, ◌≤◌, AddsAtMost, HasNoRise, scan_reads}
 use Rattle.vers_trees.proofs.trees.bp.scan.bits_forward.Given as goal
 
 abbrev pub invariant-loop-place : goal.invariant-loop-place

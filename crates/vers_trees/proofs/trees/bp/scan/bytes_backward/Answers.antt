@@ -1,4 +1,4 @@
-use Rattle.vers_trees.proofs.Words.{◌+◌, ◌-◌, arith, w64, to_z, of_z, to_z-of_z, adds_then}
+use Rattle.vers_trees.proofs.Names.{◌+◌, ◌-◌, arith, w64, to_z, of_z, to_z-of_z, adds_then}
 use Rattle.vers_trees.proofs.searches.WordScans.{backward_word, read_some, byte_read, entry_ordered, backward_byte_found, backward_byte, rise_within}
 use Rattle.vers_trees.proofs.trees.bp.scan.bytes_backward.Goals as goal
 

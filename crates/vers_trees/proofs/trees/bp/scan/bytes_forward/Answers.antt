@@ -1,4 +1,4 @@
-use Rattle.vers_trees.proofs.Words.{◌+◌, arith, w64, to_z, of_z, to_z-of_z, adds_then}
+use Rattle.vers_trees.proofs.Names.{◌+◌, arith, w64, to_z, of_z, to_z-of_z, adds_then}
 use Rattle.vers_trees.proofs.searches.WordScans.{forward_word, read_some, byte_read, entry_ordered, forward_byte_found, forward_byte, rise_within}
 use Rattle.vers_trees.proofs.trees.bp.scan.bytes_forward.Goals as goal
 

@@ -1,4 +1,4 @@
-use Rattle.vers_trees.proofs.Words.{◌≡◌, false, ◌+◌, ◌-◌, ◌%◌, ◌≤◌, AddsAtMost, HasNoRise, scan_reads}
+use Rattle.vers_trees.proofs.Names.{◌≡◌, false, ◌+◌, ◌-◌, ◌%◌, ◌≤◌, AddsAtMost, HasNoRise, scan_reads}
 use Rattle.vers_trees.proofs.trees.bp.scan.bytes_forward.Given as goal
 
 abbrev pub invariant-loop-start : goal.invariant-loop-start

@@ -1,4 +1,4 @@
-use Rattle.vers_trees.proofs.Words.{rules, ◌≡◌, ◌+◌, ◌+ℤ◌, arith, w64, to_z, of_z, subst, sym, ◌∙◌, int_min, int_max, ints, to_z-of_z, excess, Node, IsPart}
+use Rattle.vers_trees.proofs.Names.{rules, ◌≡◌, ◌+◌, ◌+ℤ◌, arith, w64, to_z, of_z, subst, sym, ◌∙◌, int_min, int_max, ints, to_z-of_z, excess, Node, IsPart}
 use Rattle.vers_trees.proofs.layout.Build.{same_node}
 use Rattle.vers_trees.proofs.searches.Scans.{step_fits, bit_is, part_start, part_more, part_fits, rise_fits}
 use Rattle.vers_trees.proofs.trees.bp.scan.node_of.Goals as goal

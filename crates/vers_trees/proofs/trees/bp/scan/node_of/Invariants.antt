@@ -1,4 +1,4 @@
-use Rattle.vers_trees.proofs.Words.{IsPart}
+use Rattle.vers_trees.proofs.Names.{IsPart}
 use Rattle.vers_trees.proofs.trees.bp.scan.node_of.Given as goal
 
 abbrev pub invariant-loop-place : goal.invariant-loop-place

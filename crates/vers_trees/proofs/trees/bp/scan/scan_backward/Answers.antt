@@ -1,4 +1,4 @@
-use Rattle.vers_trees.proofs.Words.{arith, w64, to_z-of_z}
+use Rattle.vers_trees.proofs.Names.{arith, w64, to_z-of_z}
 use Rattle.vers_trees.proofs.searches.Scans.{rise_is}
 use Rattle.vers_trees.proofs.trees.bp.scan.scan_backward.Goals as goal
 

@@ -1,4 +1,4 @@
-use Rattle.vers_trees.proofs.Words.{◌*◌, ◌%◌, pos, ◌-ℤ◌, count_ones, bit_or, w64, to_z, of_z, arith, ints}
+use Rattle.vers_trees.proofs.Names.{◌*◌, ◌%◌, pos, ◌-ℤ◌, count_ones, bit_or, w64, to_z, of_z, arith, ints}
 use Rattle.vers_trees.proofs.searches.WordScans.{covered_few, fits_small, zeros_fit, zeros_is, less_fits, less_is, falls_counted}
 use Rattle.vers_trees.proofs.trees.bp.scan.stays_above.Goals as goal
 

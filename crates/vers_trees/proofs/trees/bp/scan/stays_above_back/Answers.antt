@@ -1,4 +1,4 @@
-use Rattle.vers_trees.proofs.Words.{◌/◌, ◌+◌, count_ones, bit_and, w64, to_z, arith, ints}
+use Rattle.vers_trees.proofs.Names.{◌/◌, ◌+◌, count_ones, bit_and, w64, to_z, arith, ints}
 use Rattle.vers_trees.proofs.searches.WordScans.{rises_few, count_is, less_is, rises_counted}
 use Rattle.vers_trees.proofs.trees.bp.scan.stays_above_back.Goals as goal
 

@@ -1,4 +1,4 @@
-use Rattle.vers_trees.proofs.Words.{arith}
+use Rattle.vers_trees.proofs.Names.{arith}
 use Rattle.vers_trees.proofs.searches.Beside.{right_after, after_some}
 use Rattle.vers_trees.proofs.trees.bp.search.is_right_after.Goals as goal
 

@@ -1,4 +1,4 @@
-use Rattle.vers_trees.proofs.Words.{◌<◌, length, arith}
+use Rattle.vers_trees.proofs.Names.{◌<◌, length, arith}
 use Rattle.vers_trees.proofs.layout.Building.{one_more_built, stored_sum}
 use Rattle.vers_trees.proofs.trees.bp.builder.BpBuilder.append.Goals as goal
 

@@ -1,4 +1,4 @@
-use Rattle.vers_trees.proofs.Words.{◌≡◌, Bool, List, IfOk-weaker, Forest, text, IsBalanced, forest_of}
+use Rattle.vers_trees.proofs.Names.{◌≡◌, Bool, List, IfOk-weaker, Forest, text, IsBalanced, forest_of}
 use Rattle.vers_trees.proofs.layout.Building.{forest_built}
 use Rattle.vers_trees.proofs.trees.bp.builder.BpBuilderTreeBuilder.build.Goals as goal
 

@@ -1,4 +1,4 @@
-use Rattle.vers_trees.proofs.Words.{◌≡◌, true, false, length, AreEntries}
+use Rattle.vers_trees.proofs.Names.{◌≡◌, true, false, length, AreEntries}
 use Rattle.vers_trees.proofs.trees.bp.bytes.ByteTables.new.Given as goal
 
 abbrev pub invariant-loop-byte : goal.invariant-loop-byte

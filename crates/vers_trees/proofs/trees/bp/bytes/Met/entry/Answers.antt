@@ -1,5 +1,5 @@
 use Rattle.vers_trees.proofs.searches.Bytes.{octal-digit}
-use Rattle.vers_trees.proofs.Words.{◌/◌, ◌∙◌, ◌%◌, ◌^◌, sym, shr-shr, octal, rules, ◌≡◌, ◌*◌, ℕ, length, arith, ap}
+use Rattle.vers_trees.proofs.Names.{◌/◌, ◌∙◌, ◌%◌, ◌^◌, sym, shr-shr, octal, rules, ◌≡◌, ◌*◌, ℕ, length, arith, ap}
 use Rattle.vers_trees.proofs.trees.bp.bytes.Met.entry.Goals as goal
 
 pub returns-clause-places : goal.returns-clause-places

@@ -1,4 +1,4 @@
-use Rattle.vers_trees.proofs.Words.{ℕ, List, Option, Some, None, sym, ap, subst, TakesFirst, Walking, siblings_left}
+use Rattle.vers_trees.proofs.Names.{ℕ, List, Option, Some, None, sym, ap, subst, TakesFirst, Walking, siblings_left}
 use Rattle.vers_trees.proofs.walks.WalksOfNodes.{walk_ends, walk_goes_on}
 use Rattle.vers_trees.proofs.trees.bp.children.Siblings.next_counted.Goals as goal
 

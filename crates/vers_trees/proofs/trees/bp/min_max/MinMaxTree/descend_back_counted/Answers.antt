@@ -1,4 +1,4 @@
-use Rattle.vers_trees.proofs.Words.{rules, ◌≤◌, ◌≡◌, Bool, true, not, ◌+ℤ◌, arith, w64, FitsSigned, to_z, of_z, ap, ◌∙◌, bool_byte, to_z-of_z, not_from_Decides}
+use Rattle.vers_trees.proofs.Names.{rules, ◌≤◌, ◌≡◌, Bool, true, not, ◌+ℤ◌, arith, w64, FitsSigned, to_z, of_z, ap, ◌∙◌, bool_byte, to_z-of_z, not_from_Decides}
 use Rattle.vers_trees.proofs.layout.Climbs.{left_past_fits, to_near, to_far, at_leaf}
 use Rattle.vers_trees.proofs.layout.Steps.{adds_none, one_of_two, read_down, down_ends}
 use Rattle.vers_trees.proofs.trees.bp.min_max.MinMaxTree.descend_back_counted.Goals as goal

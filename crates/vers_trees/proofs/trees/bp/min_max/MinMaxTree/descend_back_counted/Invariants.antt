@@ -1,4 +1,4 @@
-use Rattle.vers_trees.proofs.Words.{true, ◌-◌, ◌*◌, ◌≤◌, ◌+◌, AddsAtMost, only_nodes, digits, Sought, LeadsTo}
+use Rattle.vers_trees.proofs.Names.{true, ◌-◌, ◌*◌, ◌≤◌, ◌+◌, AddsAtMost, only_nodes, digits, Sought, LeadsTo}
 use Rattle.vers_trees.proofs.trees.bp.min_max.MinMaxTree.descend_back_counted.Given as goal
 
 abbrev pub invariant-loop-node : goal.invariant-loop-node

@@ -1,4 +1,4 @@
-use Rattle.vers_trees.proofs.Words.{false, ◌-◌, ◌*◌, ◌≤◌, ◌+◌, AddsAtMost, only_nodes, digits, Sought, LeadsTo}
+use Rattle.vers_trees.proofs.Names.{false, ◌-◌, ◌*◌, ◌≤◌, ◌+◌, AddsAtMost, only_nodes, digits, Sought, LeadsTo}
 use Rattle.vers_trees.proofs.trees.bp.min_max.MinMaxTree.descend_counted.Given as goal
 
 abbrev pub invariant-loop-node : goal.invariant-loop-node

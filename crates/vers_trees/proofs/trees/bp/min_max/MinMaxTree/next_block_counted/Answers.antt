@@ -1,4 +1,4 @@
-use Rattle.vers_trees.proofs.Words.{mul-le-mul_right, rules, false, ◌-ℤ◌, w64, FitsSigned, to_z, arith, to_z-of_z, not_from_Decides}
+use Rattle.vers_trees.proofs.Names.{mul-le-mul_right, rules, false, ◌-ℤ◌, w64, FitsSigned, to_z, arith, to_z-of_z, not_from_Decides}
 use Rattle.vers_trees.proofs.layout.Climbs.{comes_from, goes_down, goes_on, ends_there, rest_is}
 use Rattle.vers_trees.proofs.layout.Steps.{odd_most, digits_after, adds_none, read_up, up_ends, up_then_down}
 use Rattle.vers_trees.proofs.trees.bp.min_max.MinMaxTree.next_block_counted.Goals as goal

@@ -1,4 +1,4 @@
-use Rattle.vers_trees.proofs.Words.{false, ◌-◌, ◌*◌, ◌≤◌, ◌+◌, AddsAtMost, only_nodes, digits, Sought, BeginsAt, ComesTo}
+use Rattle.vers_trees.proofs.Names.{false, ◌-◌, ◌*◌, ◌≤◌, ◌+◌, AddsAtMost, only_nodes, digits, Sought, BeginsAt, ComesTo}
 use Rattle.vers_trees.proofs.trees.bp.min_max.MinMaxTree.next_block_counted.Given as goal
 
 abbrev pub invariant-loop-node : goal.invariant-loop-node

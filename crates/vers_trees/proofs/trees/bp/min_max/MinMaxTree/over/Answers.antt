@@ -1,4 +1,4 @@
-use Rattle.vers_trees.proofs.Words.{arith, ints}
+use Rattle.vers_trees.proofs.Names.{arith, ints}
 use Rattle.vers_trees.proofs.layout.Widths.{no_nodes_counted}
 use Rattle.vers_trees.proofs.trees.bp.min_max.MinMaxTree.over.Goals as goal
 

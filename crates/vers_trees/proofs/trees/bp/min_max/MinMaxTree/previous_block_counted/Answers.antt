@@ -1,4 +1,4 @@
-use Rattle.vers_trees.proofs.Words.{rules, true, ◌+ℤ◌, w64, to_z, arith, to_z-of_z, not_from_Decides}
+use Rattle.vers_trees.proofs.Names.{rules, true, ◌+ℤ◌, w64, to_z, arith, to_z-of_z, not_from_Decides}
 use Rattle.vers_trees.proofs.layout.Climbs.{begin_within, comes_from, goes_down, goes_on, ends_there, rest_is}
 use Rattle.vers_trees.proofs.layout.Steps.{odd_most, digits_before, adds_none, read_up, up_ends, up_then_down}
 use Rattle.vers_trees.proofs.trees.bp.min_max.MinMaxTree.previous_block_counted.Goals as goal

@@ -1,4 +1,4 @@
-use Rattle.vers_trees.proofs.Words.{true, ◌-◌, ◌*◌, ◌≤◌, ◌+◌, AddsAtMost, only_nodes, digits, Sought, BeginsAt, ComesTo}
+use Rattle.vers_trees.proofs.Names.{true, ◌-◌, ◌*◌, ◌≤◌, ◌+◌, AddsAtMost, only_nodes, digits, Sought, BeginsAt, ComesTo}
 use Rattle.vers_trees.proofs.trees.bp.min_max.MinMaxTree.previous_block_counted.Given as goal
 
 abbrev pub invariant-loop-node : goal.invariant-loop-node

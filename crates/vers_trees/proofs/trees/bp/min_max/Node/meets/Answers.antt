@@ -1,4 +1,4 @@
-use Rattle.vers_trees.proofs.Words.{rules, arith, ◌≡◌, pos, w64, to_z, of_z, ◌∙◌, int_min, int_max, true_from_ne_false, ints, clamps, to_z-of_z}
+use Rattle.vers_trees.proofs.Names.{rules, arith, ◌≡◌, pos, w64, to_z, of_z, ◌∙◌, int_min, int_max, true_from_ne_false, ints, clamps, to_z-of_z}
 use Rattle.vers_trees.proofs.trees.bp.min_max.Node.meets.Goals as goal
 
 pub returns-then-min-left : goal.returns-then-min-left

@@ -1,4 +1,4 @@
-use Rattle.vers_trees.proofs.Words.{arith}
+use Rattle.vers_trees.proofs.Names.{arith}
 use Rattle.vers_trees.proofs.layout.Build.{code_fits, code_step}
 use Rattle.vers_trees.proofs.trees.bp.min_max.build.fill.Goals as goal
 

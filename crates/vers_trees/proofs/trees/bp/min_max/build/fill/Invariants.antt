@@ -1,4 +1,4 @@
-use Rattle.vers_trees.proofs.Words.{ℕ, Bool, List, ◌≤◌, AreLeaves, CoveredFrom}
+use Rattle.vers_trees.proofs.Names.{ℕ, Bool, List, ◌≤◌, AreLeaves, CoveredFrom}
 use Rattle.vers_trees.proofs.trees.bp.min_max.build.fill.Given as goal
 
 abbrev pub invariant-loop-i : goal.invariant-loop-i

@@ -1,4 +1,4 @@
-use Rattle.vers_trees.proofs.Words.{◌≡◌, FitsSigned, w64, to_z, of_z, ℤ, arith, rules, ◌+ℤ◌, ◌∙◌, to_z-of_z, ints, combined}
+use Rattle.vers_trees.proofs.Names.{◌≡◌, FitsSigned, w64, to_z, of_z, ℤ, arith, rules, ◌+ℤ◌, ◌∙◌, to_z-of_z, ints, combined}
 use Rattle.vers_trees.proofs.layout.Build.{same_node}
 use Rattle.vers_trees.proofs.trees.bp.min_max.build.joined.Goals as goal
 

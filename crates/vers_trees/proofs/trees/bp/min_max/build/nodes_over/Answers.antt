@@ -1,4 +1,4 @@
-use Rattle.vers_trees.proofs.Words.{rules, ◌≡◌, List, length, sym, subst, ap, ◌∙◌, Node, node_count, IsTreeOf, AreLeaves}
+use Rattle.vers_trees.proofs.Names.{rules, ◌≡◌, List, length, sym, subst, ap, ◌∙◌, Node, node_count, IsTreeOf, AreLeaves}
 use Rattle.vers_trees.proofs.layout.Build.{leaves_covered}
 use Rattle.vers_trees.proofs.layout.Widths.{tree_made, nodes_counted, written_back}
 use Rattle.vers_trees.proofs.trees.bp.min_max.build.nodes_over.Goals as goal

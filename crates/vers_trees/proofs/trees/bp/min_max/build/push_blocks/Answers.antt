@@ -1,4 +1,4 @@
-use Rattle.vers_trees.proofs.Words.{◌≡◌, ℕ, [], ◌∷◌, ◌++◌, ◌+◌, ◌*◌, min, length, arith, subst, ap, ◌∙◌, block_count, AreFirstBlocks}
+use Rattle.vers_trees.proofs.Names.{◌≡◌, ℕ, [], ◌∷◌, ◌++◌, ◌+◌, ◌*◌, min, length, arith, subst, ap, ◌∙◌, block_count, AreFirstBlocks}
 use Rattle.vers_trees.proofs.layout.Widths.{block_added, begins_inside}
 use Rattle.vers_trees.proofs.trees.bp.min_max.build.push_blocks.Goals as goal
 

@@ -1,4 +1,4 @@
-use Rattle.vers_trees.proofs.Words.{AreFirstBlocks}
+use Rattle.vers_trees.proofs.Names.{AreFirstBlocks}
 use Rattle.vers_trees.proofs.trees.bp.min_max.build.push_blocks.Given as goal
 
 abbrev pub invariant-loop-block : goal.invariant-loop-block

@@ -1,4 +1,4 @@
-use Rattle.vers_trees.proofs.Words.{◌-◌, IsGrowing}
+use Rattle.vers_trees.proofs.Names.{◌-◌, IsGrowing}
 use Rattle.vers_trees.proofs.trees.bp.min_max.build.width.Given as goal
 
 abbrev pub invariant-loop-width : goal.invariant-loop-width

@@ -1,4 +1,4 @@
-use Rattle.vers_trees.proofs.Words.{rules, ◌≡◌, ◌-◌, ◌*◌, ◌/◌, true, arith, w64, refl, to_z-of_z, ints, start_of}
+use Rattle.vers_trees.proofs.Names.{rules, ◌≡◌, ◌-◌, ◌*◌, ◌/◌, true, arith, w64, refl, to_z-of_z, ints, start_of}
 use Rattle.vers_trees.proofs.searches.Finds.{answer_before, answer_here, before_past, none_before, rise_is}
 use Rattle.vers_trees.proofs.trees.bp.search.Searched.backward.Goals as goal
 use Rattle.vers_trees.proofs.trees.bp.search.Searched.backward.Goals.{then-i-eq0-via-then-i-eq0, then-i-eq0-via-else-i-eq0+then-i-len}

@@ -1,4 +1,4 @@
-use Rattle.vers_trees.proofs.Words.{true, arith, refl, ◌∙◌, sought}
+use Rattle.vers_trees.proofs.Names.{true, arith, refl, ◌∙◌, sought}
 use Rattle.vers_trees.proofs.searches.Finds.{answer_before, begins, ends_before, next_answer, none_next, none_far, climbed, climbed_and_scanned}
 use Rattle.vers_trees.proofs.layout.Steps.{adds_none}
 use Rattle.vers_trees.proofs.trees.bp.search.Searched.backward_past.Goals as goal

@@ -1,4 +1,4 @@
-use Rattle.vers_trees.proofs.Words.{rules, ◌≡◌, ℕ, ◌+◌, ◌/◌, false, arith, w64, ap, sym, to_z-of_z, start_of}
+use Rattle.vers_trees.proofs.Names.{rules, ◌≡◌, ℕ, ◌+◌, ◌/◌, false, arith, w64, ap, sym, to_z-of_z, start_of}
 use Rattle.vers_trees.proofs.searches.Finds.{answer_after, answer_here, none_after, rise_is}
 use Rattle.vers_trees.proofs.trees.bp.search.Searched.forward.Goals as goal
 

@@ -1,4 +1,4 @@
-use Rattle.vers_trees.proofs.Words.{◌+◌, false, arith, ◌∙◌, sought}
+use Rattle.vers_trees.proofs.Names.{◌+◌, false, arith, ◌∙◌, sought}
 use Rattle.vers_trees.proofs.searches.Finds.{answer_after, begins, next_inside, next_answer, none_next, none_far, climbed, climbed_and_scanned}
 use Rattle.vers_trees.proofs.layout.Steps.{adds_none}
 use Rattle.vers_trees.proofs.trees.bp.search.Searched.forward_past.Goals as goal

@@ -1,4 +1,4 @@
-use Rattle.vers_trees.proofs.Words.{negsuc, arith, sym}
+use Rattle.vers_trees.proofs.Names.{negsuc, arith, sym}
 use Rattle.vers_trees.proofs.searches.Searches.{after_some}
 use Rattle.vers_trees.proofs.trees.bp.search.Searched.tree_from.Goals as goal
 

@@ -1,4 +1,4 @@
--- The words that these proofs are written in: those of the definitions, and the lemmas of the crates below.
+-- The names of specs/ and of other crates that many proofs use.
 pub use Rattle.std.proofs.Common.{◌≡◌, ℕ, ◌+◌, ◌-◌, ◌*◌, ◌<◌, ◌≤◌, ◌↔◌, Decides, Bool, true, false, List, [], ◌∷◌, ◌++◌, map, length, get_or, Option, Some, None, slice_get, option_map, zero, suc, refl, ap, ◌∙◌, append_assoc, add_assoc, unwrap_or, ◌≢◌, ℤ, pos, ◌+ℤ◌, ◌-ℤ◌, ◌≤ℤ◌, ◌<ℤ◌, arith, subst, cond, take, count_by, negsuc, add-one, zero-add, suc-add, sym, ◌⊎◌, inl, inr, length-append, ⊎_elim, ◌&&◌, ltb, leb, eqb, ◌/◌, ◌%◌, min, neg_ℤ, not, filter, find, ◌^◌, drop, FitsSigned, w64, set, to_z, of_z, max, length-drop, nat_eq, count_ones, replicate, pow-suc, Result, Ok, Err, MatchResult, MatchOption, bit_or, bit_and, slice_index_or, rules, All, reverse, Contains, IsTrue, ◌==◌, is_some}
 pub use Rattle.std.proofs.Math.Nat.{eq-or-lt_of_le, mul-le-mul_right, pow-succ', le-mul_of_pos_right, pow-le-pow_right, mod-eq_of_lt}
 pub use Rattle.std.proofs.Math.Seq.{take-append_seam, drop-cons}
