@@ -41,6 +41,8 @@ NAMES = (
     (r"SparseRSVec\.new|EliasFanoVec\.from_slice|WaveletMatrix\.from_slice|\w+Rmq\.from_vec|Postings\.from_sorted",
      "of from = ()"),
     (r"TextIndex\.with_step", "of from = ()"),
+    (r"TextIndex\.bytes_with_step|WaveletMatrix\.from_integers", "of_bytes from = ()"),
+    (r"TextIndex\.u16s_with_step", "of_u16s from = ()"),
     (r"\w+Rmq\.(item|as_slice)", "get get [] []"),
     (r"Postings\.documents", "= get get get"),
     (r"Postings\.costs", "cost cost cost cost"),

@@ -42,7 +42,7 @@ FRESH = {"RsVec::has_places_of", "WaveletMatrix::place_from", "BothEnds::last"}
 TABLES = {
     "BpBuilder.bits": "BitVec<A>", "BinaryRmq.table": "Vec<u32, A>", "FastRmq.places": "Vec<u8, A>",
     "Met.places": "[u64; 17]",
-    "FastRmq.masks": "Vec<BlockMasks, A>", "WaveletMatrix.levels": "Vec<RsVec<A>, A>", "Words.numbers": "&'a [u64]",
+    "FastRmq.masks": "Vec<BlockMasks, A>", "WaveletMatrix.levels": "Vec<RsVec<A>, A>", "Words.numbers": "&'a [N]",
     "Packed.bits": "&'a BitVec<A>", "Way.nodes": "[Node; 64]", "Blocks.minima": "Vec<u64, A>",
     "Blocks.places": "Vec<u8, A>",
     "Blocks.masks": "Vec<BlockMasks, A>", "ByteTables.forward": "[u64; 256]", "ByteTables.backward": "[u64; 256]",

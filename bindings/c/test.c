@@ -604,6 +604,43 @@ static void test_text(size_t n, uint32_t width, size_t step) {
     free(symbols);
 }
 
+/* Lists and texts of narrow numbers, against those of the same numbers in 64 bits. */
+static void test_narrow(void) {
+    static const uint8_t bytes[] = {200, 7, 255, 7};
+    static const uint16_t u16s[] = {300, 7, 65535, 7};
+    static const uint32_t u32s[] = {70000, 7, UINT32_MAX, 7};
+    static const uint64_t low[3][4] = {{72, 7, 127, 7}, {300, 7, 511, 7}, {70000, 7, 131071, 7}};
+    vers_symbols list[3] = {{{0}}, {{0}}, {{0}}};
+    is("bytes", vers_symbols_of_bytes(&list[0], bytes, 4, 7), VERS_DONE);
+    is("16 bits", vers_symbols_of_u16s(&list[1], u16s, 4, 9), VERS_DONE);
+    is("32 bits", vers_symbols_of_u32s(&list[2], u32s, 4, 17), VERS_DONE);
+    for (size_t k = 0; k < 3; k++) {
+        for (size_t i = 0; i < 4; i++) found("narrow get", i, vers_symbols_get(&list[k], i), low[k][i]);
+        found("narrow rank", k, vers_symbols_rank(&list[k], 4, 7), 2);
+        vers_symbols_free(&list[k]);
+    }
+    is("wide bytes", vers_symbols_of_bytes(&list[0], bytes, 4, 65), VERS_REFUSED);
+    is("missing bytes", vers_symbols_of_bytes(&list[0], NULL, 1, 7), VERS_REFUSED);
+    is("missing 16 bits", vers_symbols_of_u16s(&list[0], NULL, 1, 7), VERS_REFUSED);
+    is("missing 32 bits", vers_symbols_of_u32s(&list[0], NULL, 1, 7), VERS_REFUSED);
+    is("no bytes", vers_symbols_of_bytes(&list[0], NULL, 0, 7), VERS_DONE);
+    vers_symbols_free(&list[0]);
+    static const uint64_t seven = 7;
+    vers_text text = {0};
+    is("text of bytes", vers_text_of_bytes(&text, bytes, 4, 8, 2), VERS_DONE);
+    found("count of bytes", 7, vers_text_count(&text, &seven, 1), 2);
+    vers_text_free(&text);
+    is("text of 16 bits", vers_text_of_u16s(&text, u16s, 4, 16, 2), VERS_DONE);
+    found("count of 16 bits", 7, vers_text_count(&text, &seven, 1), 2);
+    vers_text_free(&text);
+    is("wide byte", vers_text_of_bytes(&text, bytes, 4, 7, 2), VERS_REFUSED);
+    is("wide 16 bits", vers_text_of_u16s(&text, u16s, 4, 15, 2), VERS_REFUSED);
+    is("missing text", vers_text_of_bytes(&text, NULL, 1, 8, 2), VERS_REFUSED);
+    is("missing text", vers_text_of_u16s(&text, NULL, 1, 8, 2), VERS_REFUSED);
+    is("no text", vers_text_of_bytes(&text, NULL, 0, 8, 2), VERS_DONE);
+    vers_text_free(&text);
+}
+
 static void test_refused_texts(void) {
     static const uint64_t symbols[] = {3, 0, 65535};
     vers_text text = {0};
@@ -1137,6 +1174,7 @@ int main(void) {
     test_text(50, 2, 1);
     test_text(300, 16, 7);
     test_text(300, 1, 1000);
+    test_narrow();
     test_refused_texts();
     test_listed(0);
     test_listed(1);

@@ -133,15 +133,15 @@ enum vers_change_code {
 
 /** The kinds of lists that have a saved form. */
 enum vers_kind {
-    VERS_KIND_GROWING = 0, /**< A vers_growing. */
-    VERS_KIND_BITS = 1,    /**< A vers_bits. */
-    VERS_KIND_SPARSE = 2,  /**< A vers_sparse. */
-    VERS_KIND_SORTED = 3,  /**< A vers_sorted. */
-    VERS_KIND_SYMBOLS = 4, /**< A vers_symbols. */
-    VERS_KIND_TREE = 5,    /**< A vers_tree. */
-    VERS_KIND_FAST = 6,    /**< A vers_fast_rmq. */
-    VERS_KIND_BINARY = 7,  /**< A vers_binary_rmq. */
-    VERS_KIND_POSTINGS = 8 /**< A vers_postings. */
+    VERS_KIND_GROWING = 0,  /**< A vers_growing. */
+    VERS_KIND_BITS = 1,     /**< A vers_bits. */
+    VERS_KIND_SORTED = 2,   /**< A vers_sorted. */
+    VERS_KIND_SYMBOLS = 3,  /**< A vers_symbols. */
+    VERS_KIND_SPARSE = 4,   /**< A vers_sparse. */
+    VERS_KIND_FAST = 5,     /**< A vers_fast_rmq. */
+    VERS_KIND_TREE = 6,     /**< A vers_tree. */
+    VERS_KIND_POSTINGS = 7, /**< A vers_postings. */
+    VERS_KIND_BINARY = 8    /**< A vers_binary_rmq. */
 };
 
 /** The answer of a query: `value` counts where `status` is VERS_DONE, and is 0 else. */
@@ -255,11 +255,16 @@ uint32_t vers_tree_build(const uint64_t *words, size_t count, size_t length, ver
 uint32_t vers_sparse_build(const uint64_t *ones, size_t count, uint64_t length, vers_handle *handle);
 uint32_t vers_sorted_build(const uint64_t *numbers, size_t count, vers_handle *handle);
 uint32_t vers_symbols_build(const uint64_t *numbers, size_t count, uint32_t width, vers_handle *handle);
+uint32_t vers_symbols_build_bytes(const uint8_t *numbers, size_t count, uint32_t width, vers_handle *handle);
+uint32_t vers_symbols_build_u16s(const uint16_t *numbers, size_t count, uint32_t width, vers_handle *handle);
+uint32_t vers_symbols_build_u32s(const uint32_t *numbers, size_t count, uint32_t width, vers_handle *handle);
 uint32_t vers_fast_rmq_build(const uint64_t *values, size_t count, vers_handle *handle);
 uint32_t vers_binary_rmq_build(const uint64_t *values, size_t count, vers_handle *handle);
 uint32_t vers_postings_build(const uint64_t *documents, size_t count, const uint64_t *costs, size_t cost_count,
                              vers_handle *handle);
 uint32_t vers_text_build(const uint64_t *symbols, size_t count, uint32_t width, size_t step, vers_handle *handle);
+uint32_t vers_text_build_bytes(const uint8_t *symbols, size_t count, uint32_t width, size_t step, vers_handle *handle);
+uint32_t vers_text_build_u16s(const uint16_t *symbols, size_t count, uint32_t width, size_t step, vers_handle *handle);
 
 #ifdef __cplusplus
 }
@@ -297,9 +302,14 @@ static inline bool vers_is_missing(const void *array, size_t count) {
 }
 
 /** An array that may be null if it is empty, as one that isn't null. */
-static inline const uint64_t *vers_array(const uint64_t *array) {
+static inline const void *vers_some(const void *array) {
     static const uint64_t none = 0;
     return array ? array : &none;
+}
+
+/** The same, of numbers of 64 bits. */
+static inline const uint64_t *vers_array(const uint64_t *array) {
+    return (const uint64_t *)vers_some(array);
 }
 
 /** A handle that a query writes to and leaves as it was. */
@@ -831,6 +841,27 @@ typedef struct vers_symbols {
 static inline uint32_t vers_symbols_of(vers_symbols *list, const uint64_t *numbers, size_t count, uint32_t width) {
     if (vers_is_missing(numbers, count)) return VERS_REFUSED;
     return vers_symbols_build(vers_array(numbers), count, width, &list->handle);
+}
+
+/** Makes the list that vers_symbols_of does, from bytes, in a quarter of the memory at work and less time. */
+static inline uint32_t vers_symbols_of_bytes(vers_symbols *list, const uint8_t *numbers, size_t count,
+                                             uint32_t width) {
+    if (vers_is_missing(numbers, count)) return VERS_REFUSED;
+    return vers_symbols_build_bytes((const uint8_t *)vers_some(numbers), count, width, &list->handle);
+}
+
+/** Makes the list that vers_symbols_of does, from numbers of 16 bits. */
+static inline uint32_t vers_symbols_of_u16s(vers_symbols *list, const uint16_t *numbers, size_t count,
+                                            uint32_t width) {
+    if (vers_is_missing(numbers, count)) return VERS_REFUSED;
+    return vers_symbols_build_u16s((const uint16_t *)vers_some(numbers), count, width, &list->handle);
+}
+
+/** Makes the list that vers_symbols_of does, from numbers of 32 bits. */
+static inline uint32_t vers_symbols_of_u32s(vers_symbols *list, const uint32_t *numbers, size_t count,
+                                            uint32_t width) {
+    if (vers_is_missing(numbers, count)) return VERS_REFUSED;
+    return vers_symbols_build_u32s((const uint32_t *)vers_some(numbers), count, width, &list->handle);
 }
 
 /** Empties a handle, and frees the list if no other handle holds it. Null is ignored. */
@@ -1475,6 +1506,20 @@ static inline uint32_t vers_text_of(vers_text *text, const uint64_t *symbols, si
                                     size_t step) {
     if (vers_is_missing(symbols, count)) return VERS_REFUSED;
     return vers_text_build(vers_array(symbols), count, width, step, &text->handle);
+}
+
+/** Makes the text that vers_text_of does, from bytes, which it doesn't copy. */
+static inline uint32_t vers_text_of_bytes(vers_text *text, const uint8_t *symbols, size_t count, uint32_t width,
+                                          size_t step) {
+    if (vers_is_missing(symbols, count)) return VERS_REFUSED;
+    return vers_text_build_bytes((const uint8_t *)vers_some(symbols), count, width, step, &text->handle);
+}
+
+/** Makes the text that vers_text_of does, from numbers of 16 bits, which it doesn't copy. */
+static inline uint32_t vers_text_of_u16s(vers_text *text, const uint16_t *symbols, size_t count, uint32_t width,
+                                         size_t step) {
+    if (vers_is_missing(symbols, count)) return VERS_REFUSED;
+    return vers_text_build_u16s((const uint16_t *)vers_some(symbols), count, width, step, &text->handle);
 }
 
 /** Empties a handle, and frees the text if no other handle holds it. Null is ignored. */

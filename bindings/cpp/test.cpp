@@ -361,6 +361,28 @@ static void test_postings() {
     test_owner(list->clone());
 }
 
+/** Items of 8, 16 and 32 bits that are adjacent, and others, make the same lists and texts. */
+template <class Item>
+static void test_narrow(std::uint32_t width, Item greatest) {
+    const std::vector<Item> items = {greatest, 7, 0, 7};
+    const std::list<Item> scattered(items.begin(), items.end());
+    const auto list = vers::WaveletMatrix::from(items, width);
+    check("narrow items", list->get(0) == Found(greatest) && list->rank(4, 7) == Found(2) && list->len() == 4);
+    check("narrow pointers", *vers::WaveletMatrix::from(items.data(), items.data() + 4, width) == *list);
+    check("scattered items", *vers::WaveletMatrix::from(scattered, width) == *list);
+    check("low bits", vers::WaveletMatrix::from(items, 2)->get(1) == Found(3));
+    Status status;
+    check("too wide", !vers::WaveletMatrix::from(items, 65, status) && status == Status::refused);
+    check("no items", vers::WaveletMatrix::from(std::vector<Item>(), width)->len() == 0);
+    if (width > 16) return;
+    const std::uint64_t seven = 7;
+    const auto text = vers::TextIndex::from(items, width, 2);
+    check("narrow text", text->count(&seven, 1) == 2 && text->step() == 2 && text->width() == width);
+    check("the usual step", vers::TextIndex::from(items, width)->step() == 32);
+    check("scattered text", *vers::TextIndex::from(scattered, width) == *text);
+    check("wide text", !vers::TextIndex::from(items, width - 1) && !vers::TextIndex::from(items, width, 0));
+}
+
 static void test_texts() {
     const Numbers symbols = {2, 1, 2, 1, 2}, pattern = {2, 1}, wide = {70000};
     const auto text = vers::TextIndex::from(symbols.data(), 5, 2);
@@ -643,6 +665,9 @@ int main() {
     test_minima();
     test_tree();
     test_postings();
+    test_narrow<std::uint8_t>(8, 255);
+    test_narrow<std::uint16_t>(16, 65535);
+    test_narrow<std::uint32_t>(32, 4294967295);
     test_texts();
     test_moved_from();
     test_missing_arrays();

@@ -113,10 +113,10 @@ struct Between {
 template <class Number>
 struct Between<Number *> {
     Number *first, *last;
-    Number *begin() const noexcept { return first; }
-    Number *end() const noexcept { return last; }
     Number *data() const noexcept { return first; }
     std::size_t size() const noexcept { return static_cast<std::size_t>(last - first); }
+    Number *begin() const noexcept { return first; }
+    Number *end() const noexcept { return last; }
 };
 
 /** Numbers on the heap of C, which refuses memory without an exception. */
@@ -383,6 +383,27 @@ protected:
     Raw raw_;
 };
 
+/** The call that makes what `Build` does from numbers of another type. */
+template <auto Build, class Number>
+inline constexpr std::nullptr_t narrow_build = nullptr;
+template <>
+inline constexpr auto narrow_build<vers_symbols_build, std::uint8_t> = vers_symbols_build_bytes;
+template <>
+inline constexpr auto narrow_build<vers_symbols_build, std::uint16_t> = vers_symbols_build_u16s;
+template <>
+inline constexpr auto narrow_build<vers_symbols_build, std::uint32_t> = vers_symbols_build_u32s;
+template <>
+inline constexpr auto narrow_build<vers_text_build, std::uint8_t> = vers_text_build_bytes;
+template <>
+inline constexpr auto narrow_build<vers_text_build, std::uint16_t> = vers_text_build_u16s;
+
+/** Whether `Build` has such a call for the items of a range that are adjacent in memory. */
+template <auto Build, class Range, class = void>
+inline constexpr bool is_narrow = false;
+template <auto Build, class Range>
+inline constexpr bool is_narrow<Build, Range, std::void_t<decltype(std::data(std::declval<Range &>()))>> =
+    narrow_build<Build, Item<Range>> != nullptr;
+
 /** The constructors `from` of a list of numbers, which `Build` makes, of further arguments `More`. */
 template <class List, class Made, auto Build, class... More>
 class FromNumbers {
@@ -413,9 +434,16 @@ public:
     }
     template <class Range = std::initializer_list<std::uint64_t>, class = Item<Range>>
     static std::optional<List> from(Range &&range, More... more, Status &status) {
-        return with_numbers(range, status, [&](const std::uint64_t *numbers, std::size_t count) {
-            return from(numbers, count, more..., status);
-        });
+        if constexpr (is_narrow<Build, Range>) {
+            return List::made(status, [&](auto *raw) {
+                const auto *numbers = static_cast<const Item<Range> *>(vers_some(std::data(range)));
+                return narrow_build<Build, Item<Range>>(numbers, std::size(range), more..., &raw->handle);
+            });
+        } else {
+            return with_numbers(range, status, [&](const std::uint64_t *numbers, std::size_t count) {
+                return from(numbers, count, more..., status);
+            });
+        }
     }
 };
 
@@ -484,12 +512,18 @@ public:
     }
 };
 
-/** Builds a text with one place kept for each 32. */
-inline std::uint32_t build_text(const std::uint64_t *symbols, std::size_t count, std::uint32_t width,
-                                vers_handle *handle) noexcept {
-    return vers_text_build(symbols, count, width, 32, handle);
+/** Builds a text as `Build` does, with a sample for each 32 positions. */
+template <class Number, auto Build>
+std::uint32_t build_text(const Number *symbols, std::size_t count, std::uint32_t width, vers_handle *handle) noexcept {
+    return Build(symbols, count, width, 32, handle);
 }
-using FromText = FromNumbers<TextIndex, std::optional<TextIndex>, build_text, std::uint32_t>;
+constexpr auto build_text_of_words = build_text<std::uint64_t, vers_text_build>;
+template <>
+inline constexpr auto narrow_build<build_text_of_words, std::uint8_t> = build_text<std::uint8_t, vers_text_build_bytes>;
+template <>
+inline constexpr auto narrow_build<build_text_of_words, std::uint16_t> =
+    build_text<std::uint16_t, vers_text_build_u16s>;
+using FromText = FromNumbers<TextIndex, std::optional<TextIndex>, build_text_of_words, std::uint32_t>;
 using FromTextByStep = FromNumbers<TextIndex, std::optional<TextIndex>, vers_text_build, std::uint32_t, std::size_t>;
 
 }  // namespace detail

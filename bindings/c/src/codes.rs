@@ -73,13 +73,13 @@ pub const STEP: u32 = 52;
 
 pub const KIND_GROWING: u32 = 0;
 pub const KIND_BITS: u32 = 1;
-pub const KIND_SPARSE: u32 = 2;
-pub const KIND_SORTED: u32 = 3;
-pub const KIND_SYMBOLS: u32 = 4;
-pub const KIND_TREE: u32 = 5;
-pub const KIND_FAST: u32 = 6;
-pub const KIND_BINARY: u32 = 7;
-pub const KIND_POSTINGS: u32 = 8;
+pub const KIND_SORTED: u32 = 2;
+pub const KIND_SYMBOLS: u32 = 3;
+pub const KIND_SPARSE: u32 = 4;
+pub const KIND_FAST: u32 = 5;
+pub const KIND_TREE: u32 = 6;
+pub const KIND_POSTINGS: u32 = 7;
+pub const KIND_BINARY: u32 = 8;
 
 pub const PUSH: u32 = 0;
 pub const APPEND: u32 = 1;

@@ -10,8 +10,8 @@ use crate::codes::{NO_MEMORY, OCCUPIED, REFUSED, VACANT};
 use crate::handle::Handle;
 use crate::kept::Kept;
 use crate::proved::postings::Postings;
-use crate::proved::text_index::TextIndex;
 use crate::proved::text_index::MAX_LEN as MAX_TEXT;
+use crate::proved::text_index::{TextError, TextIndex};
 use crate::proved::vers_bits::bit_vec::{BitVec, GrowError};
 use crate::proved::vers_rank::fast_rs_vec::RsVec;
 use crate::proved::vers_rmq::rmq::{binary_rmq, fast_rmq};
@@ -19,7 +19,7 @@ use crate::proved::vers_sorted::elias_fano::EliasFanoVec;
 use crate::proved::vers_sorted::order::{are_below, is_ascending, is_strictly_ascending};
 use crate::proved::vers_sorted::sparse::SparseRSVec;
 use crate::proved::vers_trees::trees::bp::BpTree;
-use crate::proved::vers_wavelet::wavelet::WaveletMatrix;
+use crate::proved::vers_wavelet::wavelet::{Integer, WaveletMatrix};
 use crate::rattle::{AllocError, Global, Vec};
 use std::panic::{catch_unwind, AssertUnwindSafe};
 use std::slice;
@@ -269,18 +269,61 @@ pub unsafe extern "C" fn vers_sorted_build(numbers: *const u64, count: usize, ha
     })
 }
 
+/// Builds symbols of numbers of any type.
+fn symbols_of<N: Integer>(numbers: &[N], width: u32, handle: &mut Handle) -> u32 {
+    fill(handle, || {
+        if width > 64 {
+            return Ok(None);
+        }
+        WaveletMatrix::from_integers(Global, numbers, width as u16).map(|symbols| Some(Kept::Symbols(symbols)))
+    })
+}
+
 /// # Safety
 /// `numbers` leads to `count` numbers.
 #[unsafe(no_mangle)]
 pub unsafe extern "C" fn vers_symbols_build(numbers: *const u64, count: usize, width: u32, handle: &mut Handle) -> u32 {
     // SAFETY: vers.h asks for an array of as many numbers, which no other thread writes.
-    let numbers = unsafe { elements(numbers, count) };
-    fill(handle, || {
-        if width > 64 {
-            return Ok(None);
-        }
-        WaveletMatrix::from_slice(Global, numbers, width as u16).map(|symbols| Some(Kept::Symbols(symbols)))
-    })
+    symbols_of(unsafe { elements(numbers, count) }, width, handle)
+}
+
+/// # Safety
+/// `numbers` leads to `count` numbers.
+#[unsafe(no_mangle)]
+pub unsafe extern "C" fn vers_symbols_build_bytes(
+    numbers: *const u8,
+    count: usize,
+    width: u32,
+    handle: &mut Handle,
+) -> u32 {
+    // SAFETY: vers.h asks for an array of as many numbers, which no other thread writes.
+    symbols_of(unsafe { elements(numbers, count) }, width, handle)
+}
+
+/// # Safety
+/// `numbers` leads to `count` numbers.
+#[unsafe(no_mangle)]
+pub unsafe extern "C" fn vers_symbols_build_u16s(
+    numbers: *const u16,
+    count: usize,
+    width: u32,
+    handle: &mut Handle,
+) -> u32 {
+    // SAFETY: vers.h asks for an array of as many numbers, which no other thread writes.
+    symbols_of(unsafe { elements(numbers, count) }, width, handle)
+}
+
+/// # Safety
+/// `numbers` leads to `count` numbers.
+#[unsafe(no_mangle)]
+pub unsafe extern "C" fn vers_symbols_build_u32s(
+    numbers: *const u32,
+    count: usize,
+    width: u32,
+    handle: &mut Handle,
+) -> u32 {
+    // SAFETY: vers.h asks for an array of as many numbers, which no other thread writes.
+    symbols_of(unsafe { elements(numbers, count) }, width, handle)
 }
 
 /// # Safety
@@ -332,6 +375,23 @@ pub unsafe extern "C" fn vers_postings_build(
     })
 }
 
+/// Builds the index of a text whose symbols are numbers of any type, by a call for that type.
+fn text_of<N: Integer>(
+    symbols: &[N],
+    width: u32,
+    step: usize,
+    handle: &mut Handle,
+    index: impl FnOnce(Global, &[N], u16, usize) -> Result<TextIndex<Global>, TextError>,
+) -> u32 {
+    fill(handle, || {
+        let is_width = (1..=16).contains(&width);
+        if step == 0 || !is_width || symbols.len() > MAX_TEXT || symbols.iter().any(|it| it.number() >> width > 0) {
+            return Ok(None);
+        }
+        index(Global, symbols, width as u16, step).map(|text| Some(Kept::Text(text)))
+    })
+}
+
 /// # Safety
 /// `symbols` leads to `count` symbols.
 #[unsafe(no_mangle)]
@@ -343,13 +403,35 @@ pub unsafe extern "C" fn vers_text_build(
     handle: &mut Handle,
 ) -> u32 {
     // SAFETY: vers.h asks for an array of as many symbols, which no other thread writes.
-    let symbols = unsafe { elements(symbols, count) };
-    fill(handle, || {
-        if step == 0 || !(1..=16).contains(&width) || symbols.len() > MAX_TEXT || !are_below(symbols, 1 << width) {
-            return Ok(None);
-        }
-        TextIndex::with_step(Global, symbols, width as u16, step).map(|text| Some(Kept::Text(text)))
-    })
+    text_of(unsafe { elements(symbols, count) }, width, step, handle, TextIndex::with_step)
+}
+
+/// # Safety
+/// `symbols` leads to `count` symbols.
+#[unsafe(no_mangle)]
+pub unsafe extern "C" fn vers_text_build_bytes(
+    symbols: *const u8,
+    count: usize,
+    width: u32,
+    step: usize,
+    handle: &mut Handle,
+) -> u32 {
+    // SAFETY: vers.h asks for an array of as many symbols, which no other thread writes.
+    text_of(unsafe { elements(symbols, count) }, width, step, handle, TextIndex::bytes_with_step)
+}
+
+/// # Safety
+/// `symbols` leads to `count` symbols.
+#[unsafe(no_mangle)]
+pub unsafe extern "C" fn vers_text_build_u16s(
+    symbols: *const u16,
+    count: usize,
+    width: u32,
+    step: usize,
+    handle: &mut Handle,
+) -> u32 {
+    // SAFETY: vers.h asks for an array of as many symbols, which no other thread writes.
+    text_of(unsafe { elements(symbols, count) }, width, step, handle, TextIndex::u16s_with_step)
 }
 
 #[cfg(test)]

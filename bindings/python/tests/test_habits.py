@@ -133,6 +133,31 @@ class Makers(unittest.TestCase):
             self.assertEqual(vers.WaveletMatrix(symbols, 3, truncate=True).tolist(), [7, 1])
         self.assertEqual(vers.WaveletMatrix([vers.NONE], 64)[0], vers.NONE)
 
+    def test_narrow_symbols(self):
+        kinds = [lambda items, kind=kind: array(kind, items) for kind in "BHILQ"] + [list, lambda it: iter(list(it))]
+        if numpy is not None:
+            kinds += [lambda items, kind=kind: numpy.array(items, kind)
+                      for kind in ("u1", "u2", "u4", "u8", "i2", ">u2", ">u4")]
+            kinds.append(lambda items: numpy.array(items + items, "u2").reshape(2, -1)[:1, ::1])
+            kinds.append(lambda items: numpy.array([items, items], "u2").T[:, 1])
+        items = [200, 7, 255, 7]
+        for made in [bytes, bytearray, lambda it: memoryview(bytes(it)), *kinds]:
+            self.assertEqual(vers.WaveletMatrix(made(items), 8)[:4].tolist(), items)
+            text = vers.TextIndex(made(items), 8, 2)
+            self.assertEqual(text.places([7])[:].tolist(), [1, 3])
+        with self.assertRaisesRegex(vers.Refused, "^the symbol at position 2 is 255, and above 127"):
+            vers.WaveletMatrix(bytes([7, 9, 255]), 7)
+        with self.assertRaisesRegex(vers.Refused, "^the symbol at position 2 is 255, and above 127"):
+            vers.TextIndex(bytes([7, 9, 255]), 7)
+
+    def test_narrow_symbols_are_not_widened(self):
+        symbols = bytes(10 ** 6)
+        tracemalloc.start()
+        vers.WaveletMatrix(symbols, 8)
+        peak = tracemalloc.get_traced_memory()[1]
+        tracemalloc.stop()
+        self.assertLess(peak, 2 * 10 ** 6)
+
     def test_buffers_of_c(self):
         for kind in (ctypes.c_uint8, ctypes.c_uint32, ctypes.c_uint64, ctypes.c_int16):
             self.assertEqual(vers.EliasFanoVec((kind * 3)(1, 2, 9)).tolist(), [1, 2, 9])

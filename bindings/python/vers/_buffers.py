@@ -6,7 +6,7 @@ import operator
 import sys
 from array import array
 from itertools import islice
-from typing import Any, Iterable, Iterator, NamedTuple, Optional, Sequence, Tuple
+from typing import Any, Container, Iterable, Iterator, NamedTuple, Optional, Sequence, Tuple
 
 #: Anything that has whole numbers: a list, an array, a numpy array, another object with a buffer.
 Numbers = Iterable[int]
@@ -15,7 +15,9 @@ MOST = (1 << 64) - 1
 # how many items are converted at once, which bounds the memory at work; a multiple of 64
 CHUNK = 1 << 16
 _NOWHERE = ctypes.c_uint64(0)
-_EXACT = ("Q", "L", "<Q", "<L", "=Q", "@Q", "@L", "N")
+# the formats of whole numbers without a sign, and the arrays of such numbers by the bytes of an item
+_UNSIGNED = {order + letter for order in ("", "<", "=", "@") for letter in "BHILQN"}
+_KINDS = {1: "B", 2: "H", 4: "I", 8: "Q"}
 # the digits of the bits 0 and 1, as a table of bytes
 _DIGITS = b"01" + bytes(254)
 
@@ -76,11 +78,14 @@ def _numpy_of(numbers: Any) -> Any:
     return numpy if numpy is not None and isinstance(numbers, numpy.ndarray) else None
 
 
-def copied(numbers: Any, what: str = "number") -> Any:
-    """The numbers in an array of their own: a numpy array of the same shape for one, else an array('Q')."""
+def copied(numbers: Any, what: str = "number", sizes: Container[int] = (8,)) -> Any:
+    """The numbers in an array of their own: a numpy array of the same shape for one, otherwise an array. Its items
+    have as many bytes as those of the caller's buffer if `sizes` has that number, and otherwise 8."""
     numpy = _numpy_of(numbers)
     if numpy is not None:
-        return numpy.array(_checked(numpy, numbers, what), dtype=numpy.uint64, order="C")
+        checked = _checked(numpy, numbers, what)
+        size = checked.dtype.itemsize if checked.dtype.kind == "u" and checked.dtype.itemsize in sizes else 8
+        return numpy.array(checked, dtype=f"u{size}", order="C")
     if isinstance(numbers, str):
         raise TypeError(f"a text is not a list of numbers: the {what} at position 0 is of type str")
     try:
@@ -88,10 +93,8 @@ def copied(numbers: Any, what: str = "number") -> Any:
         view[:1].tolist()
     except (TypeError, NotImplementedError):
         return _gathered(numbers, what)
-    if view.itemsize == 8 and view.format in _EXACT and view.c_contiguous:
-        made = array("Q")
-        made.frombytes(view.cast("B"))
-        return made
+    if view.itemsize in sizes and view.format in _UNSIGNED and view.c_contiguous:
+        return array_of(_KINDS[view.itemsize], view.cast("B"))
     return _gathered(view, what)
 
 
@@ -154,9 +157,10 @@ def address_of(made: Any) -> int:
     return int(at) or ctypes.addressof(_NOWHERE)
 
 
-def held(numbers: Any, what: str = "number") -> Held:
-    """The numbers in an array of their own, so that no other thread writes them while the library reads."""
-    return _held(copied(numbers, what))
+def held(numbers: Any, what: str = "number", sizes: Container[int] = (8,)) -> Held:
+    """The numbers in an array of their own, so that no other thread writes them while the library reads. The array is
+    that of `copied`."""
+    return _held(copied(numbers, what, sizes))
 
 
 def _held(made: Any) -> Held:

@@ -61,11 +61,14 @@ bits_build = _call(_unlocked, "vers_bits_build", _U32, _POINTER, _SIZE, _SIZE, _
 tree_build = _call(_unlocked, "vers_tree_build", _U32, _POINTER, _SIZE, _SIZE, _AT)
 sparse_build = _call(_unlocked, "vers_sparse_build", _U32, _POINTER, _SIZE, _U64, _AT)
 sorted_build = _call(_unlocked, "vers_sorted_build", _U32, _POINTER, _SIZE, _AT)
-symbols_build = _call(_unlocked, "vers_symbols_build", _U32, _POINTER, _SIZE, _U32, _AT)
+# by the number of bytes of an item
+symbols_builds = {size: _call(_unlocked, f"vers_symbols_build{name}", _U32, _POINTER, _SIZE, _U32, _AT)
+                  for size, name in ((1, "_bytes"), (2, "_u16s"), (4, "_u32s"), (8, ""))}
 fast_rmq_build = _call(_unlocked, "vers_fast_rmq_build", _U32, _POINTER, _SIZE, _AT)
 binary_rmq_build = _call(_unlocked, "vers_binary_rmq_build", _U32, _POINTER, _SIZE, _AT)
 postings_build = _call(_unlocked, "vers_postings_build", _U32, _POINTER, _SIZE, _POINTER, _SIZE, _AT)
-text_build = _call(_unlocked, "vers_text_build", _U32, _POINTER, _SIZE, _U32, _SIZE, _AT)
+text_builds = {size: _call(_unlocked, f"vers_text_build{name}", _U32, _POINTER, _SIZE, _U32, _SIZE, _AT)
+               for size, name in ((1, "_bytes"), (2, "_u16s"), (8, ""))}
 
 
 def done(status: int, why: Optional[str] = None) -> None:

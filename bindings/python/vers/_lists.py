@@ -289,11 +289,13 @@ class WaveletMatrix(Fixed[_SymbolsQuery]):
     def __new__(cls, symbols: Numbers, bits_per_symbol: int, *, truncate: bool = False) -> Any:
         """A list of symbols of a width. Raises Refused for a symbol that is wider, unless its low bits are taken by
         `truncate`."""
-        held, width = _buffers.held(symbols, "symbol"), _width(bits_per_symbol)
-        wide = None if truncate or width > 64 else _buffers.above("symbol", held, (1 << width) - 1)
+        held, width = _buffers.held(symbols, "symbol", library.symbols_builds), _width(bits_per_symbol)
+        size = held.keeper.itemsize
+        wide = None if truncate or width >= 8 * size else _buffers.above("symbol", held, (1 << width) - 1)
         if wide:
             raise Refused(f"{wide}, the greatest of {width} bits; `truncate` takes the low bits")
-        return cls._made(library.symbols_build, held, width, why=lambda: f"the width is {width}, and it is at most 64")
+        return cls._made(library.symbols_builds[size], held, width,
+                         why=lambda: f"the width is {width}, and it is at most 64")
 
     def _traits(self) -> Any:
         return len(self), self.bits_per_element()
@@ -639,7 +641,8 @@ class TextIndex(Shared[str]):
 
     def __new__(cls, symbols: Numbers, bits_per_symbol: int, step: int = 32) -> Any:
         """The index of a text. Raises Refused for a symbol that has more bits."""
-        held, width, kept = _buffers.held(symbols, "symbol"), _width(bits_per_symbol), number(step, "the step")
+        held = _buffers.held(symbols, "symbol", library.text_builds)
+        width, kept = _width(bits_per_symbol), number(step, "the step")
 
         def why() -> str:
             if not 1 <= width <= 16:
@@ -647,7 +650,7 @@ class TextIndex(Shared[str]):
             if kept == 0:
                 return "the step is 0"
             return _buffers.above("symbol", held, (1 << width) - 1) or f"{held.size} symbols are too many"
-        return cls._made(library.text_build, held, width, kept, why=why)
+        return cls._made(library.text_builds[held.keeper.itemsize], held, width, kept, why=why)
 
     def _traits(self) -> Any:
         return len(self), self.bits_per_symbol()

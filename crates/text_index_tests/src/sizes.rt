@@ -66,14 +66,14 @@ const MADE: [usize; 7] = [0, 1, 2, 99, 100, 10_000, 100_000];
 // The same for texts with enough symbols to take long to build.
 const WIDE: [usize; 3] = [0, 100, 100_000];
 
-// Returns the most bytes in use while a text is made, the text included: 9 for each position and 12 for each sample,
+// Returns the most bytes in use while a text is made, the text included: 8 for each position and 12 for each sample,
 // 24 for each symbol that there may be, and some for each level and the text.
 fn most_at_work(len: usize, width: u16, step: usize) -> usize {
     let level: usize = 200;
     let positions = len.wrapping_add(1);
     level
         .wrapping_mul(width as usize)
-        .wrapping_add(9usize.wrapping_mul(positions))
+        .wrapping_add(8usize.wrapping_mul(positions))
         .wrapping_add(12usize.wrapping_mul(positions.div_ceil(step.max(1))))
         .wrapping_add(24usize << width.min(16))
         .wrapping_add(400)

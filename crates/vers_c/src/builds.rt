@@ -1,5 +1,5 @@
 //! Exports that build a structure into an empty handle. Each returns a status.
-ghost use Rattle.std.specs.Prelude.{◌≡◌, Some, take};
+ghost use Rattle.std.specs.Prelude.{◌≡◌, map, Some, take};
 ghost use Rattle.vers_bits.specs.Bits.{pack};
 ghost use Rattle.vers_c.specs.Makes.{IsMade, posted_made, sorted_made, sparse_made, symbols_made};
 ghost use Rattle.vers_c.specs.Structures.{contents, BlockValues, GrowingBits, IndexedBits, Parentheses, TableValues};
@@ -14,7 +14,7 @@ use crate::{bits, minima, tree};
 use std::alloc::Global;
 use vers_sorted::elias_fano::EliasFanoVec;
 use vers_sorted::order::{are_below, is_ascending, is_strictly_ascending};
-use vers_wavelet::wavelet::WaveletMatrix;
+use vers_wavelet::wavelet::{Integer, WaveletMatrix};
 
 /// Builds a list of bits that can change: the first `len` bits of words.
 #[unsafe(no_mangle)]
@@ -96,6 +96,28 @@ pub extern "C" fn vers_sorted_build(alloc: Global, numbers: &[u64], handle: &mut
     }
 }
 
+// Builds the list of symbols of integers of any type.
+fn build_symbols<N: Integer>(
+    alloc: Global,
+    numbers: &[N],
+    width: u32,
+    handle: &mut VersHandle,
+) -> u32
+    ensures { IsMade (symbols_made (map N.value numbers.now) width) (contents handle.old) (contents handle.new)
+        result }
+{
+    if handle.is_built {
+        return OCCUPIED;
+    }
+    if width > 64 {
+        return REFUSED;
+    }
+    match WaveletMatrix::from_integers(alloc, numbers, width as u16) {
+        Ok(symbols) => fill(alloc, handle, Kept::Symbols(symbols)),
+        Err(_) => NO_MEMORY,
+    }
+}
+
 /// Builds a list of symbols: the `width` low bits of numbers. Refuses a width above 64.
 #[unsafe(no_mangle)]
 pub extern "C" fn vers_symbols_build(
@@ -106,16 +128,46 @@ pub extern "C" fn vers_symbols_build(
 ) -> u32
     ensures { IsMade (symbols_made numbers.now width) (contents handle.old) (contents handle.new) result }
 {
-    if handle.is_built {
-        return OCCUPIED;
-    }
-    if width > 64 {
-        return REFUSED;
-    }
-    match WaveletMatrix::from_slice(alloc, numbers, width as u16) {
-        Ok(symbols) => fill(alloc, handle, Kept::Symbols(symbols)),
-        Err(_) => NO_MEMORY,
-    }
+    build_symbols(alloc, numbers, width, handle)
+}
+
+/// Builds the list of symbols that `vers_symbols_build` does, from bytes.
+#[unsafe(no_mangle)]
+pub extern "C" fn vers_symbols_build_bytes(
+    alloc: Global,
+    bytes: &[u8],
+    width: u32,
+    handle: &mut VersHandle,
+) -> u32
+    ensures { IsMade (symbols_made bytes.now width) (contents handle.old) (contents handle.new) result }
+{
+    build_symbols(alloc, bytes, width, handle)
+}
+
+/// Builds the list of symbols that `vers_symbols_build` does, from numbers in 16 bits each.
+#[unsafe(no_mangle)]
+pub extern "C" fn vers_symbols_build_u16s(
+    alloc: Global,
+    u16s: &[u16],
+    width: u32,
+    handle: &mut VersHandle,
+) -> u32
+    ensures { IsMade (symbols_made u16s.now width) (contents handle.old) (contents handle.new) result }
+{
+    build_symbols(alloc, u16s, width, handle)
+}
+
+/// Builds the list of symbols that `vers_symbols_build` does, from numbers in 32 bits each.
+#[unsafe(no_mangle)]
+pub extern "C" fn vers_symbols_build_u32s(
+    alloc: Global,
+    u32s: &[u32],
+    width: u32,
+    handle: &mut VersHandle,
+) -> u32
+    ensures { IsMade (symbols_made u32s.now width) (contents handle.old) (contents handle.new) result }
+{
+    build_symbols(alloc, u32s, width, handle)
 }
 
 /// Builds a list of parentheses, of which a one opens: the first `len` bits of words.

@@ -8,33 +8,34 @@ pub enum Kind {
     Growing,
     /// Bits with rank and select.
     Bits,
-    /// Bits with few ones.
-    Sparse,
     /// An ascending list.
     Sorted,
     /// A list of symbols.
     Symbols,
-    /// Parentheses.
-    Tree,
+    /// Bits with few ones.
+    Sparse,
     /// Values, with range minima from blocks.
     Fast,
-    /// Values, with range minima from a sparse table.
-    Binary,
+    /// Parentheses.
+    Tree,
     /// Documents with costs.
     Postings,
+    /// Values, with range minima from a sparse table.
+    Binary,
 }
 
-/// The kind of each code, which is its index here.
+/// The kind of each code, which is its index here. From 1 to 7 the codes are the numbers of saved forms; the two
+/// types that share the form of another one have 0 and 8.
 pub const KINDS: [Kind; 9] = [
     Kind::Growing,
     Kind::Bits,
-    Kind::Sparse,
     Kind::Sorted,
     Kind::Symbols,
-    Kind::Tree,
+    Kind::Sparse,
     Kind::Fast,
-    Kind::Binary,
+    Kind::Tree,
     Kind::Postings,
+    Kind::Binary,
 ];
 
 impl Kind {

@@ -1,5 +1,6 @@
 //! Text indexes, in which patterns are found.
-ghost use Rattle.std.specs.Prelude.{◌≡◌, ◌^◌, ◌≤◌, IfOk};
+ghost use Rattle.std.specs.List.{list_all};
+ghost use Rattle.std.specs.Prelude.{◌≡◌, ◌^◌, ◌≤◌, nat_lt, IfOk};
 ghost use Rattle.text_index.specs.Makers.{is_text as are_text};
 ghost use Rattle.vers_c.specs.TextAnswers.{text_answer};
 
@@ -8,7 +9,7 @@ use crate::asked::Asked;
 use crate::query::Query;
 use std::alloc::{AllocError, Global};
 use text_index::{MAX_LEN, TextIndex};
-use vers_sorted::order::are_below;
+use vers_wavelet::wavelet::Integer;
 
 // Returns the least number that exceeds `width` bits.
 fn symbol_limit(width: u32) -> u64
@@ -18,12 +19,35 @@ fn symbol_limit(width: u32) -> u64
     1 << width
 }
 
+// Returns true if each number is below a limit.
+fn are_below<N: Integer>(numbers: &[N], limit: u64) -> bool
+    ensures { result ≡ list_all (λ number. nat_lt (N.value number) limit) numbers.now }
+{
+    numbers
+        .iter()
+        .all(|number| (number.number() as u64) < limit)
+}
+
 /// Returns true if the symbols and their width make a text: the width is from 1 to 16, each symbol fits in it,
 /// and there are not too many symbols.
 pub fn is_text(width: u32, symbols: &[u64]) -> bool
     ensures { result ≡ are_text width symbols.now }
 {
     1 <= width && width <= 16 && symbols.len() <= MAX_LEN && are_below(symbols, symbol_limit(width))
+}
+
+/// Returns what `is_text` does, of bytes.
+pub fn is_text_of_bytes(width: u32, bytes: &[u8]) -> bool
+    ensures { result ≡ are_text width bytes.now }
+{
+    1 <= width && width <= 16 && bytes.len() <= MAX_LEN && are_below(bytes, symbol_limit(width))
+}
+
+/// Returns what `is_text` does, of numbers in 16 bits each.
+pub fn is_text_of_u16s(width: u32, u16s: &[u16]) -> bool
+    ensures { result ≡ are_text width u16s.now }
+{
+    1 <= width && width <= 16 && u16s.len() <= MAX_LEN && are_below(u16s, symbol_limit(width))
 }
 
 /// Returns positions as plain numbers. Errors: `AllocError` if the allocator refuses a request.

@@ -10,7 +10,7 @@ use crate::handle::VersHandle;
 use crate::kept::Kept;
 use crate::owners::{fill, fill_made, put, taken};
 use crate::status::{NO_MEMORY, OCCUPIED, REFUSED};
-use crate::text::is_text;
+use crate::text::{is_text, is_text_of_bytes, is_text_of_u16s};
 use std::alloc::Global;
 use text_index::TextIndex;
 
@@ -33,6 +33,52 @@ pub extern "C" fn vers_text_build(
         return REFUSED;
     }
     match TextIndex::with_step(alloc, symbols, width as u16, step) {
+        Ok(text) => fill(alloc, handle, Kept::Text(text)),
+        Err(_) => NO_MEMORY,
+    }
+}
+
+/// Builds the text index that `vers_text_build` does, from bytes. Makes no copy of them.
+#[unsafe(no_mangle)]
+pub extern "C" fn vers_text_build_bytes(
+    alloc: Global,
+    bytes: &[u8],
+    width: u32,
+    step: usize,
+    handle: &mut VersHandle,
+) -> u32
+    ensures { IsMade (text_made bytes.now width step) (contents handle.old) (contents handle.new) result }
+{
+    if handle.is_built {
+        return OCCUPIED;
+    }
+    if step == 0 || !is_text_of_bytes(width, bytes) {
+        return REFUSED;
+    }
+    match TextIndex::bytes_with_step(alloc, bytes, width as u16, step) {
+        Ok(text) => fill(alloc, handle, Kept::Text(text)),
+        Err(_) => NO_MEMORY,
+    }
+}
+
+/// Builds the text index that `vers_text_build` does, from numbers in 16 bits each. Makes no copy of them.
+#[unsafe(no_mangle)]
+pub extern "C" fn vers_text_build_u16s(
+    alloc: Global,
+    u16s: &[u16],
+    width: u32,
+    step: usize,
+    handle: &mut VersHandle,
+) -> u32
+    ensures { IsMade (text_made u16s.now width step) (contents handle.old) (contents handle.new) result }
+{
+    if handle.is_built {
+        return OCCUPIED;
+    }
+    if step == 0 || !is_text_of_u16s(width, u16s) {
+        return REFUSED;
+    }
+    match TextIndex::u16s_with_step(alloc, u16s, width as u16, step) {
         Ok(text) => fill(alloc, handle, Kept::Text(text)),
         Err(_) => NO_MEMORY,
     }

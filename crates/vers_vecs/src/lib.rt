@@ -52,9 +52,9 @@ pub mod rmq {
 /// Lists of symbols of the same width.
 pub mod wavelet {
     pub use vers_wavelet::wavelet::{
-        Gathered, GatheredQuery, GetQuery, QuantileQuery, RankQuery, SelectQuery, WaveletIter,
-        WaveletMatrix, WaveletNumIter, WaveletNumRefIter, WaveletRefIter, WaveletSortedIter,
-        WaveletSortedNumIter, WaveletSortedNumRefIter, WaveletSortedRefIter,
+        Gathered, GatheredQuery, GetQuery, Integer, QuantileQuery, RankQuery, SelectQuery,
+        WaveletIter, WaveletMatrix, WaveletNumIter, WaveletNumRefIter, WaveletRefIter,
+        WaveletSortedIter, WaveletSortedNumIter, WaveletSortedNumRefIter, WaveletSortedRefIter,
     };
 }
 

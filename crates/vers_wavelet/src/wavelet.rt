@@ -8,6 +8,7 @@ mod count;
 pub(crate) mod digits;
 mod find;
 mod gathered;
+mod integer;
 mod iter;
 mod level;
 mod make;
@@ -22,6 +23,7 @@ mod way;
 
 pub use batch::{GatheredQuery, GetQuery, QuantileQuery, RankQuery, SelectQuery};
 pub use gathered::Gathered;
+pub use integer::Integer;
 pub use iter::{
     BySize, InOrder, Lists, Matrix, Numbers, Order, SortedLists, SortedNumbers, SymbolLists,
     WaveletIter, WaveletNumIter, WaveletNumRefIter, WaveletRefIter, WaveletSortedIter,

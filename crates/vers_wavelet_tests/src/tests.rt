@@ -11,6 +11,7 @@ mod memory;
 mod numbers;
 mod queries;
 mod refused;
+mod types;
 mod walks;
 mod wide;
 mod without_memory;

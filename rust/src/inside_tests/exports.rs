@@ -5,14 +5,17 @@ use crate::programs::vers_c::asked::Ask;
 use crate::programs::vers_c::asks::{vers_ask, vers_ask_each, vers_ask_rows, vers_change, vers_value};
 use crate::programs::vers_c::builds::{
     vers_binary_rmq_build, vers_bits_build, vers_fast_rmq_build, vers_growing_build, vers_postings_build,
-    vers_sorted_build, vers_sparse_build, vers_symbols_build, vers_tree_build,
+    vers_sorted_build, vers_sparse_build, vers_symbols_build, vers_symbols_build_bytes, vers_symbols_build_u16s,
+    vers_symbols_build_u32s, vers_tree_build,
 };
 use crate::programs::vers_c::handle::VersHandle;
 use crate::programs::vers_c::held::Held;
 use crate::programs::vers_c::quick;
 use crate::programs::vers_c::saves::{vers_load, vers_save, vers_saved_size};
 use crate::programs::vers_c::shares::{vers_clone, vers_free, vers_intersect};
-use crate::programs::vers_c::texts::{vers_count, vers_extract, vers_places, vers_text_build};
+use crate::programs::vers_c::texts::{
+    vers_count, vers_extract, vers_places, vers_text_build, vers_text_build_bytes, vers_text_build_u16s,
+};
 use crate::proved::vers_bits::bit_vec::MAX_LEN as MOST_BITS;
 use crate::proved::vers_rmq::rmq::fast_rmq::MAX_LEN as MOST_ITEMS;
 use crate::rattle::mutants::{grant, lower};
@@ -286,6 +289,48 @@ fn symbols_answer_as_their_list() {
     };
     compare(&mut handle, &model, &[0, 1, 2, 3, 5, 10, 15, 18, 19, 20, 21, u64::MAX]);
     refused(REFUSED, |it| vers_symbols_build(Global, &numbers, 65, it));
+}
+
+/// Asserts that a list of symbols of a width, or a text whose first symbols they are, has these symbols.
+fn has_symbols(mut handle: VersHandle, width: u64, symbols: &[u64]) {
+    assert_eq!(ask(&mut handle, 0, 0, 0, 0), found(symbols.len() as u64));
+    assert_eq!(ask(&mut handle, 13, 0, 0, 0), found(width));
+    for (at, symbol) in symbols.iter().enumerate() {
+        assert_eq!(ask(&mut handle, 1, at as u64, 0, 0), found(*symbol));
+    }
+}
+
+#[test]
+fn symbols_of_narrow_numbers_are_their_low_bits() {
+    let (bytes, shorts, words) = ([200, 7, 255, 7], [300, 7, 65535], [70000, 7, 4294967295]);
+    has_symbols(made(|it| vers_symbols_build_bytes(Global, &bytes, 7, it)), 7, &[72, 7, 127, 7]);
+    has_symbols(made(|it| vers_symbols_build_bytes(Global, &bytes, 64, it)), 64, &[200, 7, 255, 7]);
+    has_symbols(made(|it| vers_symbols_build_u16s(Global, &shorts, 9, it)), 9, &[300, 7, 511]);
+    has_symbols(made(|it| vers_symbols_build_u16s(Global, &shorts, 64, it)), 64, &[300, 7, 65535]);
+    has_symbols(made(|it| vers_symbols_build_u32s(Global, &words, 32, it)), 32, &[70000, 7, 4294967295]);
+    has_symbols(made(|it| vers_symbols_build_u32s(Global, &words, 64, it)), 64, &[70000, 7, 4294967295]);
+    refused(REFUSED, |it| vers_symbols_build_bytes(Global, &bytes, 65, it));
+    refused(REFUSED, |it| vers_symbols_build_u16s(Global, &shorts, 65, it));
+    refused(REFUSED, |it| vers_symbols_build_u32s(Global, &words, 65, it));
+}
+
+#[test]
+fn texts_of_narrow_symbols_have_their_places() {
+    let (bytes, shorts) = ([3, 200, 3, 200, 3], [300, 7, 300, 65535]);
+    let mut handle = made(|it| vers_text_build_bytes(Global, &bytes, 8, 2, it));
+    assert_eq!((ask(&mut handle, 0, 0, 0, 0), ask(&mut handle, 13, 0, 0, 0)), (found(5), found(8)));
+    assert_eq!(ask(&mut handle, 52, 0, 0, 0), found(2));
+    assert_eq!(vers_count(Global, &mut handle, &[200, 3]).value, 2);
+    let mut handle = made(|it| vers_text_build_u16s(Global, &shorts, 16, 3, it));
+    assert_eq!((ask(&mut handle, 0, 0, 0, 0), ask(&mut handle, 13, 0, 0, 0)), (found(4), found(16)));
+    assert_eq!(ask(&mut handle, 52, 0, 0, 0), found(3));
+    assert_eq!(vers_count(Global, &mut handle, &[300]).value, 2);
+    for (width, step) in [(8, 0), (0, 2), (17, 2), (7, 2)] {
+        refused(REFUSED, |it| vers_text_build_bytes(Global, &bytes, width, step, it));
+    }
+    for (width, step) in [(16, 0), (0, 2), (17, 2), (15, 2)] {
+        refused(REFUSED, |it| vers_text_build_u16s(Global, &shorts, width, step, it));
+    }
 }
 
 #[test]
@@ -594,13 +639,13 @@ fn of_each_kind() -> Vec<VersHandle> {
     vec![
         made(|it| vers_growing_build(Global, &[53, 1], 70, it)),
         made(|it| vers_bits_build(Global, &[53, 1], 70, it)),
-        made(|it| vers_sparse_build(Global, &[2, 60], 70, it)),
         made(|it| vers_sorted_build(Global, &[2, 2, 60], it)),
         made(|it| vers_symbols_build(Global, &values, 4, it)),
-        made(|it| vers_tree_build(Global, &[0b001011], 6, it)),
+        made(|it| vers_sparse_build(Global, &[2, 60], 70, it)),
         made(|it| vers_fast_rmq_build(Global, &values, it)),
-        made(|it| vers_binary_rmq_build(Global, &values, it)),
+        made(|it| vers_tree_build(Global, &[0b001011], 6, it)),
         made(|it| vers_postings_build(Global, &[2, 3, 60, 61], &values, it)),
+        made(|it| vers_binary_rmq_build(Global, &values, it)),
     ]
 }
 
@@ -620,6 +665,9 @@ fn saved(handle: &mut VersHandle) -> Vec<u8> {
 fn saved_forms_are_loaded_as_their_kind() {
     for (kind, handle) in of_each_kind().iter_mut().enumerate() {
         let bytes = saved(handle);
+        if (1..8).contains(&kind) {
+            assert_eq!(bytes[16], kind as u8, "a code is the number of the saved form");
+        }
         let mut loaded = empty();
         assert_eq!(vers_load(Global, kind as u32, &bytes, &mut loaded), DONE, "{kind}");
         assert_eq!(vers_load(Global, kind as u32, &bytes, &mut loaded), OCCUPIED);
@@ -636,7 +684,7 @@ fn saved_forms_are_loaded_as_their_kind() {
         refused(8, |it| vers_load(Global, kind as u32, &[], it));
         wrong[0] ^= 1;
         refused(9, |it| vers_load(Global, kind as u32, &wrong, it));
-        refused(11, |it| vers_load(Global, (kind as u32 + 3) % 9, &bytes, it));
+        refused(11, |it| vers_load(Global, (kind as u32 + 2) % 9, &bytes, it));
         refused(UNKNOWN, |it| vers_load(Global, 9, &bytes, it));
     }
     for mut handle in

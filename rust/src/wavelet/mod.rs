@@ -11,6 +11,8 @@ use crate::BitVec;
 use std::hash::{Hash, Hasher};
 use std::ops::Range;
 
+pub use crate::proved::vers_wavelet::wavelet::Integer;
+
 /// A symbol, and the place where it goes if equal symbols are gathered.
 #[derive(Clone, Copy, PartialEq, Eq, Hash, Debug)]
 pub struct Gathered {
@@ -90,6 +92,26 @@ impl WaveletMatrix {
     pub fn from_slice(numbers: &[u64], bits_per_element: u16) -> Self {
         assert!(bits_per_element <= 64, "a symbol has at most 64 bits");
         WaveletMatrix { symbols: granted(proved::WaveletMatrix::from_slice(Global, numbers, bits_per_element)) }
+    }
+
+    /// Indexes the low `bits_per_element` bits of each number, as [`from_slice`](Self::from_slice) does, of numbers of
+    /// 8, 16, 32 or 64 bits. The buffers of the sort have numbers of the same type, so bytes take an eighth of the
+    /// memory.
+    ///
+    /// ```
+    /// use vers_vecs::WaveletMatrix;
+    ///
+    /// let symbols = WaveletMatrix::from_integers(b"abracadabra", 8);
+    /// assert_eq!(symbols.rank_u64(8, u64::from(b'a')), Some(4));
+    /// ```
+    ///
+    /// # Panics
+    /// If `bits_per_element` is above 64.
+    #[doc = contract!(WaveletMatrix::from_integers)]
+    #[must_use]
+    pub fn from_integers<N: Integer>(numbers: &[N], bits_per_element: u16) -> Self {
+        assert!(bits_per_element <= 64, "a symbol has at most 64 bits");
+        WaveletMatrix { symbols: granted(proved::WaveletMatrix::from_integers(Global, numbers, bits_per_element)) }
     }
 
     /// Indexes numbers of at most `bits_per_element` bits, in O(`numbers.len()` · `bits_per_element`).

@@ -155,3 +155,24 @@ fn broken_symbols_are_refused() {
 fn numbers_too_great_for_counting_are_refused() {
     let _ = WaveletMatrix::from_slice_pc(&[8], 3);
 }
+
+#[test]
+fn integers_of_each_type_count_by_their_low_bits() {
+    fn symbols<N: vers_vecs::wavelet::Integer>(numbers: &[N], width: u16) -> Vec<u64> {
+        let list = WaveletMatrix::from_integers(numbers, width);
+        assert_eq!(list.bits_per_element(), usize::from(width));
+        (0..list.len()).filter_map(|place| list.get_u64(place)).collect()
+    }
+    assert_eq!(symbols(&[200_u8, 7, 255], 7), [72, 7, 127]);
+    assert_eq!(symbols(&[300_u16, 7, 65535], 9), [300, 7, 511]);
+    assert_eq!(symbols(&[70000_u32, 7, u32::MAX], 32), [70000, 7, 4294967295]);
+    assert_eq!(symbols(&[u64::MAX, 7], 64), [u64::MAX, 7]);
+    assert_eq!(symbols(&[200_u8, 7], 64), [200, 7]);
+    assert_eq!(symbols(&[200_u8, 7], 0), []);
+}
+
+#[test]
+#[should_panic(expected = "at most 64 bits")]
+fn integers_of_more_than_64_bits_are_refused() {
+    let _ = WaveletMatrix::from_integers(&[1_u8], 65);
+}

@@ -4,6 +4,7 @@ ghost use Rattle.vers_wavelet.specs.Symbols.{Symbols};
 ghost use Rattle.vers_wavelet.specs.Makers.{low_symbols, packed_symbols};
 
 use crate::wavelet::WaveletMatrix;
+use crate::wavelet::integer::Integer;
 use crate::wavelet::make::count::counted_levels;
 use crate::wavelet::make::sort::sorted_levels;
 use crate::wavelet::make::source::{Packed, Source, Words};
@@ -23,6 +24,20 @@ impl<A: Allocator + Copy> WaveletMatrix<A> {
         requires { bits_per_element ≤ 64 }
         ensures width { IfOk result (λ w. w.width ≡ bits_per_element) }
         ensures items { IfOk result (λ w. w.items ≡ low_symbols numbers.now bits_per_element) }
+    {
+        WaveletMatrix::from_integers(alloc, numbers, bits_per_element)
+    }
+
+    /// Returns the matrix that `from_slice` does, from numbers of 8, 16, 32 or 64 bits each; the buffers have numbers
+    /// of the same type. Precondition and errors as for `from_slice`.
+    pub fn from_integers<N: Integer>(
+        alloc: A,
+        numbers: &[N],
+        bits_per_element: u16,
+    ) -> Result<Self, AllocError>
+        requires { bits_per_element ≤ 64 }
+        ensures width { IfOk result (λ w. w.width ≡ bits_per_element) }
+        ensures items { IfOk result (λ w. w.items ≡ low_symbols (map N.value numbers.now) bits_per_element) }
     {
         let source = Words::new(numbers, bits_per_element as usize);
         WaveletMatrix::sorted(alloc, &source)

@@ -13,6 +13,7 @@ mod memory;
 mod numbers;
 mod queries;
 mod refused;
+mod types;
 mod walks;
 mod wide;
 mod without_memory;

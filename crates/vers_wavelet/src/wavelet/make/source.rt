@@ -5,6 +5,7 @@ ghost use Rattle.vers_bits.specs.Bits.{number, part};
 ghost use Rattle.vers_wavelet.specs.Levels.{digit};
 ghost use Rattle.vers_wavelet.specs.Makers.{prefix};
 
+use crate::wavelet::integer::Integer;
 use std::alloc::Allocator;
 use vers_bits::bit_vec::{BitVec, MAX_LEN};
 
@@ -52,15 +53,15 @@ pub(super) trait Source {
 
 // The numbers of a slice. An item is the number itself.
 #[derive(Drop)]
-pub(super) struct Words<'a> {
-    numbers: &'a [u64],
+pub(super) struct Words<'a, N: Integer> {
+    numbers: &'a [N],
     width: usize,
     ghost narrow: { width ≤ 64 },
 }
 
-impl<'a> Words<'a> {
+impl<'a, N: Integer> Words<'a, N> {
     // Returns the low digits of the numbers; no items if no digits count.
-    pub(super) fn new(numbers: &'a [u64], width: usize) -> Self
+    pub(super) fn new(numbers: &'a [N], width: usize) -> Self
         requires { width ≤ 64 }
         ensures width { result.width ≡ width }
         ensures none { width ≡ 0 → result.numbers.now ≡ [] }
@@ -74,39 +75,39 @@ impl<'a> Words<'a> {
     }
 }
 
-impl<'a> Source for Words<'a> {
-    type Item = u64;
+impl<'a, N: Integer> Source for Words<'a, N> {
+    type Item = N;
 
     ghost items = { λ s. s.numbers.now };
 
-    ghost number = { λ _ y. y };
+    ghost number = { λ _ item. N.value item };
 
     ghost width = { λ s. s.width };
 
     ghost has = { λ _ _. Unit {0} };
 
     fn len(&self) -> usize {
-        self.numbers.len()
+        N::len_of(self.numbers)
     }
 
     fn width(&self) -> usize {
         self.width
     }
 
-    fn item(&self, i: usize) -> u64 {
+    fn item(&self, i: usize) -> N {
         self.numbers[i]
     }
 
     #[inline(always)]
     #[tactic(auto, using(crate::proofs::Digits::words))]
-    fn digit(&self, item: u64, i: usize) -> bool {
-        (item >> i) & 1 == 1
+    fn digit(&self, item: N, i: usize) -> bool {
+        (item.number() >> i) & 1 == 1
     }
 
     #[inline(always)]
     #[tactic(auto, using(crate::proofs::Sources::words))]
-    fn prefix(&self, item: u64, n: usize) -> usize {
-        ((item >> (self.width - n)) & ((1 << n) - 1)) as usize
+    fn prefix(&self, item: N, n: usize) -> usize {
+        (item.number() >> (self.width - n)) & ((1 << n) - 1)
     }
 }
 

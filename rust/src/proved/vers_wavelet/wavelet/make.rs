@@ -3,6 +3,7 @@
 use crate::rattle::prelude::*;
 
 use crate::proved::vers_wavelet::wavelet::WaveletMatrix;
+use crate::proved::vers_wavelet::wavelet::integer::Integer;
 use crate::proved::vers_wavelet::wavelet::make::count::counted_levels;
 use crate::proved::vers_wavelet::wavelet::make::sort::sorted_levels;
 use crate::proved::vers_wavelet::wavelet::make::source::{Packed, Source, Words};
@@ -19,6 +20,16 @@ impl<A: Allocator + Copy> WaveletMatrix<A> {
     /// that is 0. Allocates two buffers of as many numbers, in addition to the levels. Precondition:
     /// `bits_per_element` is at most 64. Errors: `AllocError` if the allocator refuses a request.
     pub fn from_slice(alloc: A, numbers: &[u64], bits_per_element: u16) -> Result<Self, AllocError> {
+        WaveletMatrix::from_integers(alloc, numbers, bits_per_element)
+    }
+
+    /// Returns the matrix that `from_slice` does, from numbers of 8, 16, 32 or 64 bits each; the buffers have numbers
+    /// of the same type. Precondition and errors as for `from_slice`.
+    pub fn from_integers<N: Integer>(
+        alloc: A,
+        numbers: &[N],
+        bits_per_element: u16,
+    ) -> Result<Self, AllocError> {
         let source = Words::new(numbers, bits_per_element as usize);
         WaveletMatrix::sorted(alloc, &source)
     }

@@ -1,7 +1,5 @@
-use Rattle.vers_wavelet.proofs.Makes.{low_made}
+use Rattle.vers_wavelet.proofs.Makes.{plain_made}
 use Rattle.vers_wavelet.proofs.wavelet.WaveletMatrix.from_slice.Goals as goal
 
 pub returns-clause-items : goal.returns-clause-items
-returns-clause-items g c =
-    low_made c.sorted.result c.args.numbers.now c.new-source.result.numbers.now c.args.bits_per_element c.new-source.result.width
-    c.new-source.ensures.width c.new-source.ensures.none c.new-source.ensures.all c.sorted.ensures.items
+returns-clause-items g c = plain_made c.from_integers.result c.args.numbers.now c.args.bits_per_element c.from_integers.ensures.items

@@ -2,6 +2,7 @@
 
 use crate::rattle::prelude::*;
 
+use crate::proved::vers_wavelet::wavelet::integer::Integer;
 use crate::rattle::Allocator;
 use crate::proved::vers_bits::bit_vec::{BitVec, MAX_LEN};
 
@@ -26,14 +27,14 @@ pub(super) trait Source {
 }
 
 // The numbers of a slice. An item is the number itself.
-pub(super) struct Words<'a> {
-    numbers: &'a [u64],
+pub(super) struct Words<'a, N: Integer> {
+    numbers: &'a [N],
     width: usize,
 }
 
-impl<'a> Words<'a> {
+impl<'a, N: Integer> Words<'a, N> {
     // Returns the low digits of the numbers; no items if no digits count.
-    pub(super) fn new(numbers: &'a [u64], width: usize) -> Self {
+    pub(super) fn new(numbers: &'a [N], width: usize) -> Self {
         let kept = if width == 0 { 0 } else { numbers.len() };
         Words {
             numbers: numbers.split_at(kept).0,
@@ -42,29 +43,29 @@ impl<'a> Words<'a> {
     }
 }
 
-impl<'a> Source for Words<'a> {
-    type Item = u64;
+impl<'a, N: Integer> Source for Words<'a, N> {
+    type Item = N;
 
     fn len(&self) -> usize {
-        self.numbers.len()
+        N::len_of(self.numbers)
     }
 
     fn width(&self) -> usize {
         self.width
     }
 
-    fn item(&self, i: usize) -> u64 {
+    fn item(&self, i: usize) -> N {
         self.numbers[i]
     }
 
     #[inline(always)]
-    fn digit(&self, item: u64, i: usize) -> bool {
-        (item >> i) & 1 == 1
+    fn digit(&self, item: N, i: usize) -> bool {
+        (item.number() >> i) & 1 == 1
     }
 
     #[inline(always)]
-    fn prefix(&self, item: u64, n: usize) -> usize {
-        ((item >> (self.width - n)) & ((1 << n) - 1)) as usize
+    fn prefix(&self, item: N, n: usize) -> usize {
+        (item.number() >> (self.width - n)) & ((1 << n) - 1)
     }
 }
 
