@@ -51,7 +51,7 @@ TABLES = (
     ("change.rt", "vers_change_code", "", r"()Change::(\w+)(?=[,\]])"),
 )
 # the examples in Python that compare their answers with plain Python, and need nothing else
-GALLERY = ("search_engine", "sliding_quantiles", "json_tree", "dictionary_column", "ip_ranges")
+GALLERY = ("search_engine", "genome_reads", "sliding_quantiles", "json_tree", "dictionary_column", "ip_ranges")
 FENCE = re.compile(r"(?ms)^```(\w+)\n(.*?)^```\n(?:(?:[^`\n]*\n)*?^```text\n(.*?)^```\n)?")
 
 
