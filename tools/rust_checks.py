@@ -29,7 +29,7 @@ from sources import TOP, has_cargo, read, write_files
 RUST = f"{TOP}/rust"
 OLDEST = "1.63"
 REGISTRY = "/usr/share/cargo/registry"
-EXAMPLES = ("quantiles", "search_engine", "xml_tree", "dictionary_column", "ip_ranges")
+EXAMPLES = ("search_engine", "genome_reads", "quantiles", "xml_tree", "dictionary_column", "ip_ranges")
 FEATURES = "unchecked,simd,mem_dbg,bp_u16_lookup"
 ARM = "aarch64-unknown-linux-gnu"
 # Debian's compiler.

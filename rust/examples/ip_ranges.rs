@@ -1,7 +1,9 @@
 //! A set of IPv4 ranges as two sorted sequences: which range contains an address, and how many addresses there are.
 
-use std::net::Ipv4Addr;
+use std::net::{AddrParseError, Ipv4Addr};
 use vers_vecs::EliasFanoVec;
+
+const PRIVATE: [(&str, u32); 3] = [("10.0.0.0", 8), ("172.16.0.0", 12), ("192.168.0.0", 16)];
 
 /// Disjoint ranges in ascending order, each from its first address to its last.
 struct Ranges {
@@ -11,7 +13,7 @@ struct Ranges {
 
 impl Ranges {
     /// Takes ranges as an address and the number of its leading bits that all addresses of the range share.
-    fn new(networks: &[(&str, u32)]) -> Result<Self, std::net::AddrParseError> {
+    fn new(networks: &[(&str, u32)]) -> Result<Self, AddrParseError> {
         let mut ranges = Vec::new();
         for (address, bits) in networks {
             let first = u64::from(u32::from(address.parse::<Ipv4Addr>()?));
@@ -36,15 +38,20 @@ impl Ranges {
     }
 }
 
-fn main() -> Result<(), std::net::AddrParseError> {
-    let private = Ranges::new(&[("10.0.0.0", 8), ("172.16.0.0", 12), ("192.168.0.0", 16)])?;
-    for (address, is_private) in
-        [("10.1.2.3", true), ("172.32.0.1", false), ("192.168.255.255", true), ("8.8.8.8", false)]
-    {
-        let range = private.range_of(address.parse()?);
-        assert_eq!(range.is_some(), is_private);
-        println!("{address}: {range:?}");
+/// Returns the same by a test of each range.
+fn plain_range_of(address: Ipv4Addr) -> Option<(Ipv4Addr, Ipv4Addr)> {
+    PRIVATE.into_iter().find_map(|(first, bits)| {
+        let (first, rest) = (u32::from(first.parse::<Ipv4Addr>().ok()?), u32::MAX >> bits);
+        (u32::from(address) & !rest == first).then(|| (Ipv4Addr::from(first), Ipv4Addr::from(first | rest)))
+    })
+}
+
+fn main() -> Result<(), AddrParseError> {
+    let private = Ranges::new(&PRIVATE)?;
+    for number in (0..=u32::MAX).step_by(1 << 16).flat_map(|first| [first.wrapping_sub(1), first]) {
+        assert_eq!(private.range_of(number.into()), plain_range_of(number.into()));
     }
+    println!("172.20.1.1: {:?}", private.range_of("172.20.1.1".parse()?));
     println!("{} addresses in {} bytes", private.addresses(), private.firsts.heap_size() + private.lasts.heap_size());
     Ok(())
 }

@@ -14,6 +14,11 @@ fn main() -> Result<(), Box<dyn Error>> {
     let list = WaveletMatrix::load(&bytes)?;
     let medians: Vec<u64> =
         (0..=list.len() - WINDOW).filter_map(|start| list.range_median_u64(start..start + WINDOW)).collect();
+    for start in (0..medians.len()).step_by(997) {
+        let mut window = samples[start..start + WINDOW].to_vec();
+        window.sort_unstable();
+        assert_eq!(medians[start], window[(WINDOW - 1) / 2]);
+    }
     println!(
         "{} windows of {WINDOW}: medians from {:?} to {:?}",
         medians.len(),

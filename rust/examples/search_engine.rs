@@ -2,9 +2,7 @@
 
 use std::collections::{BTreeMap, BTreeSet};
 use std::error::Error;
-use vers_vecs::postings::Postings;
-use vers_vecs::text::TextIndex;
-use vers_vecs::RsVec;
+use vers_vecs::{postings::Postings, text::TextIndex, RsVec};
 
 const DOCUMENTS: [&str; 4] = [
     "the library keeps a succinct index of a text",
@@ -13,46 +11,50 @@ const DOCUMENTS: [&str; 4] = [
     "a text index finds the positions of a pattern in a text",
 ];
 
-/// The documents that contain each word, and all documents as one text of word numbers.
+/// The number and the documents of each word, and all documents as one text of word numbers.
 struct Engine {
-    postings: BTreeMap<&'static str, Postings>,
-    numbers: BTreeMap<&'static str, u64>,
+    words: BTreeMap<&'static str, (u64, Postings)>,
     text: TextIndex,
     ends: RsVec,
 }
 
 impl Engine {
     fn new(documents: &[&'static str]) -> Result<Self, Box<dyn Error>> {
-        let words: BTreeSet<&str> = documents.iter().flat_map(|it| it.split(' ')).collect();
-        let numbers: BTreeMap<&str, u64> = words.into_iter().zip(1..).collect();
-        let mut postings = BTreeMap::new();
-        for word in numbers.keys() {
-            let having = (0..).zip(documents).filter(|(_, text)| text.split(' ').any(|it| it == *word));
+        let mut words = BTreeMap::new();
+        for word in documents.iter().flat_map(|it| it.split(' ')) {
+            let having = (0..).zip(documents).filter(|(_, text)| text.split(' ').any(|it| it == word));
             // The cost of a document is its length, so that `cheapest` returns the shortest one.
             let (found, costs): (Vec<u64>, Vec<u64>) = having.map(|(k, text)| (k, text.len() as u64)).unzip();
-            postings.insert(*word, Postings::from_sorted(&found, &costs)?);
+            let number = words.len() as u64 + 1;
+            words.entry(word).or_insert((number, Postings::from_sorted(&found, &costs)?));
         }
-        // A 0 ends each document, so that no phrase continues in the next one.
-        let mut text = Vec::new();
-        for document in documents {
-            text.extend(document.split(' ').map(|word| numbers[word]).chain([0]));
-        }
+        // A 0 separates documents, so that no phrase continues in the next one.
+        let number = |word| words.get(word).map_or(0, |(number, _)| *number);
+        let text: Vec<u64> = documents.join("  ").split(' ').map(number).collect();
         let ends = text.iter().map(|number| *number == 0).collect();
-        Ok(Engine { postings, numbers, text: TextIndex::from_slice(&text, 8)?, ends })
+        Ok(Engine { text: TextIndex::from_slice(&text, 8)?, ends, words })
+    }
+
+    /// Returns the documents that contain one of two words at least.
+    fn either(&self, one: &str, other: &str) -> BTreeSet<u64> {
+        [one, other].iter().flat_map(|word| self.words[word].1.iter()).map(|(document, _)| document).collect()
     }
 
     /// Returns the documents in which some words follow one another.
-    fn phrase(&self, words: &str) -> BTreeSet<usize> {
-        let pattern: Vec<u64> = words.split(' ').map(|word| self.numbers[word]).collect();
-        self.text.places(&pattern).into_iter().map(|place| self.ends.rank1(place)).collect()
+    fn phrase(&self, words: &str) -> BTreeSet<u64> {
+        let pattern: Vec<u64> = words.split(' ').map(|word| self.words[word].0).collect();
+        self.text.places(&pattern).into_iter().map(|place| self.ends.rank1(place) as u64).collect()
     }
 }
 
 fn main() -> Result<(), Box<dyn Error>> {
     let engine = Engine::new(&DOCUMENTS)?;
-    let both = engine.postings["index"].intersect(&engine.postings["text"]);
-    assert_eq!((both, engine.phrase("rank and select")), (vec![0, 3], BTreeSet::from([1, 2])));
+    let has = |k: u64, words: &str| format!(" {} ", DOCUMENTS[k as usize]).contains(&format!(" {words} "));
+    let both = engine.words["index"].1.intersect(&engine.words["text"].1);
+    assert!((0..4).filter(|&it| has(it, "index") && has(it, "text")).eq(both));
+    assert!((0..4).filter(|&it| has(it, "symbols") || has(it, "bits")).eq(engine.either("symbols", "bits")));
+    assert!((0..4).filter(|&it| has(it, "index of")).eq(engine.phrase("index of")));
     println!("\"index of\": {:?}", engine.phrase("index of"));
-    println!("the shortest with a text: {:?}", engine.postings["text"].cheapest(0, 3));
+    println!("the shortest with a text: {:?}", engine.words["text"].1.cheapest(0, 3));
     Ok(())
 }

@@ -29,14 +29,10 @@ impl<'a> Document<'a> {
         Some(Document { tree: builder.build().ok()?, names })
     }
 
-    fn name(&self, node: usize) -> &'a str {
-        self.names[self.tree.node_index(node)]
-    }
-
     /// Returns the names from the root to a node.
     fn path(&self, node: usize) -> String {
-        let mut names: Vec<&str> =
-            std::iter::successors(Some(node), |&it| self.tree.parent(it)).map(|it| self.name(it)).collect();
+        let up = std::iter::successors(Some(node), |&it| self.tree.parent(it));
+        let mut names: Vec<&str> = up.map(|it| self.names[self.tree.node_index(it)]).collect();
         names.reverse();
         names.join("/")
     }
@@ -45,9 +41,18 @@ impl<'a> Document<'a> {
 fn main() {
     let document = Document::new(SAMPLE).expect("a balanced document");
     let tree = &document.tree;
-    let paths: Vec<String> =
-        tree.dfs_iter().filter(|&it| document.name(it) == "bits").map(|it| document.path(it)).collect();
-    assert_eq!(paths, ["library/list/bits", "library/tree/bits"]);
+    let paths: Vec<String> = tree.dfs_iter().map(|it| document.path(it)).collect();
+    let (mut open, mut plain) = (Vec::new(), Vec::new());
+    for tag in SAMPLE.split('<').skip(1) {
+        if !tag.starts_with('/') {
+            open.push(tag.trim_end_matches(['/', '>']));
+            plain.push(open.join("/"));
+        }
+        if tag.contains('/') {
+            open.pop();
+        }
+    }
+    assert_eq!(paths, plain);
     println!("{} elements, {} of them empty", tree.size(), tree.dfs_iter().filter(|&it| tree.is_leaf(it)).count());
-    println!("bits: {paths:?}");
+    println!("bits: {:?}", paths.iter().filter(|it| it.ends_with("/bits")).collect::<Vec<_>>());
 }
