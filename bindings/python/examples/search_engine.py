@@ -1,8 +1,10 @@
-"""A search engine over documents: AND and OR of words by their postings, phrases by an index of the whole text."""
+"""A search engine over documents: AND, OR and NOT of words by their postings, phrases by an index of the whole text."""
 
 import bisect
 import re
 from functools import reduce
+from itertools import product
+from operator import and_, or_, sub
 
 import vers
 
@@ -33,15 +35,9 @@ class Engine:
         self.text = vers.TextIndex(text, 16)
         self.ends = [k for k, number in enumerate(text) if number == 0]
 
-    def all_of(self, *words):
-        """The documents that have all words: the library intersects the first two lists."""
-        lists = [self.postings[it] for it in words]
-        first = lists[0].intersect(lists[1]) if len(lists) > 1 else lists[0]
-        return sorted(reduce(lambda found, it: found & set(it), lists[2:], set(first)))
-
-    def any_of(self, *words):
-        """The documents that have one of the words."""
-        return sorted(set().union(*(self.postings[it] for it in words)))
+    def found(self, combine, *words):
+        """The documents of some words: by `and_` those that have all, by `or_` any, and by `sub` the first alone."""
+        return list(reduce(combine, (self.postings[it] for it in words)))
 
     def phrase(self, text):
         """The documents that have words one after another."""
@@ -51,9 +47,12 @@ class Engine:
 
 if __name__ == "__main__":
     engine = Engine(DOCUMENTS)
-    assert engine.all_of("index", "text") == [0, 3] and engine.phrase("rank and select") == [1, 2]
-    print("index and text:", engine.all_of("index", "text"))
-    print("rank, select and symbols:", engine.all_of("rank", "select", "symbols"))
-    print("wavelet or pattern:", engine.any_of("wavelet", "pattern"))
+    having = {word: {k for k, it in enumerate(DOCUMENTS) if word in words_of(it)} for word in engine.numbers}
+    for one, other, combine in product(having, having, (and_, or_, sub)):
+        assert engine.found(combine, one, other) == sorted(combine(having[one], having[other]))
+    assert engine.phrase("rank and select") == [k for k, it in enumerate(DOCUMENTS) if "rank and select" in it]
+    print("rank, select and symbols:", engine.found(and_, "rank", "select", "symbols"))
+    print("wavelet or pattern:", engine.found(or_, "wavelet", "pattern"))
+    print("text without pattern:", engine.found(sub, "text", "pattern"))
     print('"rank and select":', engine.phrase("rank and select"))
     print("the shortest with a text:", engine.postings["text"].cheapest(0, len(DOCUMENTS)))

@@ -264,7 +264,7 @@ class InOneProcess(Tests):
 
     def test_parts_are_sent_by_path(self):
         path, = saved(self.folder, [vers.WaveletMatrix([1] * 10_000, 8)])
-        part = parts._loaded(path, parts._indexed, 9)
+        part = parts._loaded(path, vers.TextIndex.from_bytes, 9)
         sent = pickle.dumps(part)
         self.assertLess(len(sent), 500)
         again = pickle.loads(sent)

@@ -3,6 +3,7 @@
 import bisect
 import copy
 import ctypes
+import operator
 import pickle
 import random
 import re
@@ -198,10 +199,29 @@ class Lists(unittest.TestCase):
         other = vers.Postings(others, others)
         self.assertEqual(list(made.intersect(other)), sorted(set(documents) & set(others)))
         self.assertEqual(list(made.intersect(made)), documents)
+        third = vers.Postings(range(0, 1000, 3), [5] * 334)
+        self.assertEqual(list(made.intersect(other, third)), sorted(set(documents) & set(others) & {*range(0, 1000, 3)}))
         with self.assertRaises(vers.Refused):
             vers.Postings([1, 1], [0, 0])
         with self.assertRaises(vers.Refused):
             vers.Postings([1, 2], [0])
+
+    def test_sets_of_documents(self):
+        for sizes in ((300, 300), (300, 3), (0, 40), (40, 0), (0, 0), (1000, 1000)):
+            one, other = (dict(zip(sorted(RANDOM.sample(range(1000), size)), RANDOM.choices(range(9), k=size)))
+                          for size in sizes)
+            lists = [vers.Postings(list(it), list(it.values())) for it in (one, other)]
+            self.compare(lists[0] & lists[1], {it: one[it] for it in sorted(one.keys() & other.keys())})
+            self.compare(lists[0] - lists[1], {it: one[it] for it in sorted(one.keys() - other.keys())})
+            self.compare(lists[0] | lists[1], dict(sorted({**other, **one}.items())))
+        for combined in (operator.and_, operator.sub, operator.or_):
+            with self.assertRaises(TypeError):
+                combined(lists[0], [1])
+
+    def compare(self, postings, costs):
+        """Compares documents and costs with those of a dict."""
+        self.assertEqual(postings, vers.Postings(list(costs), list(costs.values())))
+        self.assertEqual((list(postings), postings.cost(range(len(costs)))), (list(costs), list(costs.values())))
 
 
 class Batches(unittest.TestCase):
@@ -342,8 +362,11 @@ class Owners(unittest.TestCase):
         for other in (pickle.loads(pickle.dumps(postings)), vers.Postings.from_bytes(postings.to_bytes())):
             self.assertEqual((list(other.intersect(postings)), other.cheapest(0, 9)), ([1, 4, 9], 4))
             self.assertEqual((list(other), other[-1], other.cost(2), other.cost(3)), ([1, 4, 9], 9, 2, None))
-        with self.assertRaises(TypeError):
-            pickle.dumps(postings.intersect(postings))
+        text = vers.TextIndex([7, 65535, 0, 7], 16)
+        for numbers in (postings.intersect(postings), text.places([9]), text.places([7]), text.extract(0, 4),
+                        vers.TextIndex([3, 3], 2).extract(0, 2)):
+            again = pickle.loads(pickle.dumps(numbers))
+            self.assertEqual((type(again), list(again)), (vers.PlainNumbers, list(numbers)))
         with self.assertRaises(TypeError):
             vers.PlainNumbers.from_bytes(b"")
 
@@ -363,8 +386,26 @@ class Owners(unittest.TestCase):
                       lambda: vers.TextIndex([], 0), lambda: vers.TextIndex([0], 17), lambda: vers.TextIndex([0], 1, 0)):
             with self.assertRaises(vers.Refused):
                 wrong()
-        with self.assertRaises(TypeError):
-            pickle.dumps(text)
+
+    def test_texts_as_lists(self):
+        plain = bytes(RANDOM.choices(range(256), k=5000))
+        text = vers.TextIndex(plain, 8, 7)
+        again = pickle.loads(pickle.dumps(text))
+        self.assertEqual((again, again.step(), again.count(plain[70:72])), (text, 7, plain.count(plain[70:72])))
+        self.assertEqual(vers.TextIndex.from_bytes(text.to_bytes()).step(), 32)
+        self.assertEqual(vers.WaveletMatrix.from_bytes(text.to_bytes()), vers.WaveletMatrix(plain, 8))
+        self.assertEqual((bytes(text), text[0], text[-1], text[4999]), (plain, plain[0], plain[-1], plain[4999]))
+        for _ in range(100):
+            ends = [RANDOM.choice([None, RANDOM.randrange(-6000, 6000)]) for _ in range(2)]
+            part = slice(*ends, RANDOM.choice([None, 1, 2, 700, -1, -3]))
+            self.assertEqual(text[part].tolist(), list(plain[part]))
+        for place in (5000, -5001):
+            with self.assertRaises(IndexError):
+                text[place]
+        with self.assertRaises(vers.OtherKind):
+            vers.TextIndex.from_bytes(vers.RsVec("01").to_bytes())
+        empty = pickle.loads(pickle.dumps(vers.TextIndex(b"", 3)))
+        self.assertEqual((len(empty), list(empty), empty.bits_per_symbol()), (0, [], 3))
 
     def test_faults_of_saved_forms(self):
         saved = vers.RsVec([0, 1, 1, 0]).to_bytes()

@@ -157,6 +157,17 @@ class List(Generic[Q]):
         for first in range(start, end, 4096):
             yield self._part(first, min(first + 4096, end))
 
+    def _place(self, place: Any) -> int:
+        """A place, which is from the end if it is negative."""
+        try:
+            at = operator.index(place)
+        except TypeError:
+            raise TypeError(f"an index is a whole number or a slice, and not of type {type(place).__name__}") from None
+        at = at + len(self) if at < 0 else at
+        if not 0 <= at <= NONE:
+            raise IndexError(f"no item at {place}")
+        return at
+
     def _traits(self) -> Any:
         """What equal lists have in common besides their items."""
         return len(self)
@@ -296,16 +307,6 @@ class Items(List[Q], Sequence[int]):
         if item is None:
             raise IndexError(f"no item at {place}")
         return item
-
-    def _place(self, place: Any) -> int:
-        try:
-            at = operator.index(place)
-        except TypeError:
-            raise TypeError(f"an index is a whole number or a slice, and not of type {type(place).__name__}") from None
-        at = at + len(self) if at < 0 else at
-        if not 0 <= at <= NONE:
-            raise IndexError(f"no item at {place}")
-        return at
 
     def __array__(self, dtype: Any = None, copy: Any = None) -> Any:
         """The items as a numpy array, which is always a copy."""

@@ -3,7 +3,9 @@
 from __future__ import annotations
 
 from array import array
+from itertools import chain, compress
 from numbers import Integral
+from operator import not_
 from typing import Any, Iterable, Iterator, Literal, Optional, Tuple
 
 from . import _buffers, _codes as codes, _library as library
@@ -387,6 +389,18 @@ class PlainNumbers(Fixed[_NumbersQuery]):
 
     _items = "numbers"
 
+    def __reduce__(self) -> Any:
+        return _plain_again, (self[:],)
+
+
+def _plain_again(numbers: Any) -> PlainNumbers:
+    """Returns numbers as a call answers them: documents and places, which ascend strictly, or symbols of a text."""
+    if not _buffers.descent("number", _buffers.held(numbers), True):
+        same = Postings(numbers, array("Q", bytes(8 * len(numbers))))
+        made: PlainNumbers = same.intersect(same)
+        return made
+    return TextIndex(numbers, 16, len(numbers)).extract(0, len(numbers))
+
 
 class BpTree(Shared[_TreeQuery]):
     """Trees as parentheses: `BpTree("(()())")`, or of bits, of which a one opens. A node is the place where it opens.
@@ -578,7 +592,9 @@ class BpTree(Shared[_TreeQuery]):
 
 
 class Postings(Fixed[_PostingsQuery]):
-    """Documents, which ascend strictly, each with a cost; Refused if they don't. `x in postings` asks for one."""
+    """Documents, which ascend strictly, each with a cost; Refused if they don't. `x in postings` asks for one. `&`, `|`
+    and `-` make the documents of both lists, of one at least, and of the left one alone. Each has its cost in the left
+    list, or in the right one if only that has it."""
 
     _items = "documents"
     _kind = codes.KIND_POSTINGS
@@ -623,12 +639,42 @@ class Postings(Fixed[_PostingsQuery]):
         """The first document of least cost from one number to another, both included. None if there is none."""
         return self._find_by(codes.CHEAPEST, first, last)
 
-    def intersect(self, other: Postings) -> PlainNumbers:
-        """The documents that another list has too, ascending."""
-        if not isinstance(other, Postings):
-            raise TypeError(f"an intersection is with Postings, and not with {type(other).__name__}")
+    def intersect(self, other: Postings, *more: Postings) -> PlainNumbers:
+        """The documents that all of some other lists have too, ascending."""
+        for it in (other, *more):
+            if not isinstance(it, Postings):
+                raise TypeError(f"an intersection is with Postings, and not with {type(it).__name__}")
+        if more:
+            both: Postings = self & other
+            return both.intersect(*more)
         own = other.__copy__()
         made: PlainNumbers = PlainNumbers._made(library.intersect, self._at, own._at)
+        return made
+
+    def __and__(self, other: Any) -> Any:
+        return self._with_costs(self.intersect(other)[:]) if isinstance(other, Postings) else NotImplemented
+
+    def __sub__(self, other: Any) -> Any:
+        if not isinstance(other, Postings):
+            return NotImplemented
+        documents = self[:]
+        return self._with_costs(array("Q", compress(documents, map(not_, other.contains(documents)))))
+
+    def __or__(self, other: Any) -> Any:
+        if not isinstance(other, Postings):
+            return NotImplemented
+        rest = other - self
+        # two runs that ascend, which a sort merges
+        rows = sorted(chain(zip(self[:], self._costs(self[:])), zip(rest[:], rest._costs(rest[:]))))
+        return Postings([it for it, _ in rows], [cost for _, cost in rows])
+
+    def _costs(self, documents: Any) -> Any:
+        """The costs of documents that the list has, in an array."""
+        return self.each("cost", self.each("rank", documents), other=0)
+
+    def _with_costs(self, documents: Any) -> Postings:
+        """A list of documents that this one has, with their costs."""
+        made: Postings = Postings(documents, self._costs(documents))
         return made
 
 
@@ -651,6 +697,37 @@ class TextIndex(Shared[str]):
                 return "the step is 0"
             return _buffers.above("symbol", held, (1 << width) - 1) or f"{held.size} symbols are too many"
         return cls._made(library.text_builds[held.keeper.itemsize], held, width, kept, why=why)
+
+    def to_bytes(self) -> bytes:
+        """The saved form of the symbols, which is that of a `WaveletMatrix`."""
+        return WaveletMatrix(self[:], self.bits_per_symbol()).to_bytes()
+
+    @classmethod
+    def from_bytes(cls, saved: Any, step: int = 32) -> Any:
+        """The index of the symbols of a saved form, which is built again. Raises the kind of Refused that says why the
+        bytes are none of symbols."""
+        symbols = WaveletMatrix.from_bytes(saved)
+        return cls(symbols[:], symbols.bits_per_element(), step)
+
+    def __reduce__(self) -> Any:
+        return type(self).from_bytes, (self.to_bytes(), self.step())
+
+    def __getitem__(self, place: Any) -> Any:
+        """The symbol at a place, from the end if it is negative; or an array of those of a slice."""
+        if isinstance(place, slice):
+            places = range(*place.indices(len(self)))
+            if not places:
+                return array("Q")
+            first, last = sorted((places[0], places[-1]))
+            return self._part(first, last + 1)[::places.step]
+        at = self._place(place)
+        if at >= len(self):
+            raise IndexError(f"no item at {place}")
+        return self._part(at, at + 1)[0]
+
+    def __iter__(self) -> Iterator[int]:
+        for part in self._parts(0, len(self)):
+            yield from part
 
     def _traits(self) -> Any:
         return len(self), self.bits_per_symbol()

@@ -504,12 +504,6 @@ class Symbols(_Parts):
         return symbol
 
 
-def _indexed(saved: bytes, step: int) -> _lists.TextIndex:
-    """Returns the index of a text, of its saved form."""
-    symbols = _lists.WaveletMatrix.from_bytes(saved)
-    return _lists.TextIndex(symbols[:], symbols.bits_per_element(), step)
-
-
 def _edges(overlap: int, text: _lists.TextIndex) -> Tuple[int, int, Any, Any]:
     """Returns the length and the width of a text, and its first and last symbols."""
     length = len(text)
@@ -545,7 +539,8 @@ class Texts:
     def __init__(self, engine: Engine, paths: Iterable[Path], overlap: int, step: int = 32,
                  documents: Iterable[Path] = ()) -> None:
         self._overlap = number(overlap, "the overlap")
-        self._files = _Files(engine, paths, partial(_edges, self._overlap), _indexed, number(step, "the step"))
+        index = _lists.TextIndex.from_bytes
+        self._files = _Files(engine, paths, partial(_edges, self._overlap), index, number(step, "the step"))
         self._own = self._own_lengths()
         self._starts = _sums(self._own)
         self._documents = _Files(engine, documents, len, _lists.EliasFanoVec.from_bytes)
