@@ -199,7 +199,8 @@ class Lists(unittest.TestCase):
         other = vers.Postings(others, others)
         self.assertEqual(list(made.intersect(other)), sorted(set(documents) & set(others)))
         self.assertEqual(list(made.intersect(made)), documents)
-        third = vers.Postings(range(0, 1000, 3), [5] * 334)
+        third = vers.Postings(range(0, 1000, 3))
+        self.assertEqual(third, vers.Postings(range(0, 1000, 3), [0] * 334))
         self.assertEqual(list(made.intersect(other, third)), sorted(set(documents) & set(others) & {*range(0, 1000, 3)}))
         with self.assertRaises(vers.Refused):
             vers.Postings([1, 1], [0, 0])

@@ -20,10 +20,14 @@ whole = parts.Bits(parts.Renewed(ThreadPoolExecutor), ["part"])
 part_rank: int = whole.rank1(3)
 member: Optional[int] = parts.Sorted(ThreadPoolExecutor(), []).successor(3)
 
+postings = vers.Postings([1, 3])
+both: vers.Postings = postings & postings | postings - postings
+
 wrong: str = bits.rank1(3)  # type: ignore[assignment]
 bits.rank1("3")  # type: ignore[arg-type]
 bits.each("rnk1", [1])  # type: ignore[arg-type]
 tree.each("depht", [0])  # type: ignore[arg-type]
 tree.each("rank1", [0])  # type: ignore[arg-type]
+postings & [1]  # type: ignore[operator]
 maybe: int = bits.get(3)  # type: ignore[assignment]
 parts.Bits(3, [])  # type: ignore[arg-type]

@@ -396,7 +396,7 @@ class PlainNumbers(Fixed[_NumbersQuery]):
 def _plain_again(numbers: Any) -> PlainNumbers:
     """Returns numbers as a call answers them: documents and places, which ascend strictly, or symbols of a text."""
     if not _buffers.descent("number", _buffers.held(numbers), True):
-        same = Postings(numbers, array("Q", bytes(8 * len(numbers))))
+        same = Postings(numbers)
         made: PlainNumbers = same.intersect(same)
         return made
     return TextIndex(numbers, 16, len(numbers)).extract(0, len(numbers))
@@ -599,9 +599,10 @@ class Postings(Fixed[_PostingsQuery]):
     _items = "documents"
     _kind = codes.KIND_POSTINGS
 
-    def __new__(cls, documents: Numbers, costs: Numbers) -> Any:
-        """A list of documents, and as many costs."""
-        held, costs_held = _buffers.held(documents, "document"), _buffers.held(costs, "cost")
+    def __new__(cls, documents: Numbers, costs: Optional[Numbers] = None) -> Any:
+        """A list of documents, and as many costs, or costs of 0."""
+        held = _buffers.held(documents, "document")
+        costs_held = _buffers.held(array("Q", bytes(8 * held.size)) if costs is None else costs, "cost")
 
         def why() -> str:
             return _buffers.descent("document", held, True) or f"{held.size} documents have {costs_held.size} costs"
@@ -645,28 +646,30 @@ class Postings(Fixed[_PostingsQuery]):
             if not isinstance(it, Postings):
                 raise TypeError(f"an intersection is with Postings, and not with {type(it).__name__}")
         if more:
-            both: Postings = self & other
-            return both.intersect(*more)
+            return (self & other).intersect(*more)
         own = other.__copy__()
         made: PlainNumbers = PlainNumbers._made(library.intersect, self._at, own._at)
         return made
 
-    def __and__(self, other: Any) -> Any:
-        return self._with_costs(self.intersect(other)[:]) if isinstance(other, Postings) else NotImplemented
+    def __and__(self, other: Postings) -> Postings:
+        if not isinstance(other, Postings):
+            return NotImplemented
+        return self._with_costs(self.intersect(other)[:])
 
-    def __sub__(self, other: Any) -> Any:
+    def __sub__(self, other: Postings) -> Postings:
         if not isinstance(other, Postings):
             return NotImplemented
         documents = self[:]
         return self._with_costs(array("Q", compress(documents, map(not_, other.contains(documents)))))
 
-    def __or__(self, other: Any) -> Any:
+    def __or__(self, other: Postings) -> Postings:
         if not isinstance(other, Postings):
             return NotImplemented
         rest = other - self
         # two runs that ascend, which a sort merges
         rows = sorted(chain(zip(self[:], self._costs(self[:])), zip(rest[:], rest._costs(rest[:]))))
-        return Postings([it for it, _ in rows], [cost for _, cost in rows])
+        made: Postings = Postings([it for it, _ in rows], [cost for _, cost in rows])
+        return made
 
     def _costs(self, documents: Any) -> Any:
         """The costs of documents that the list has, in an array."""
