@@ -11,7 +11,7 @@ int main() {
     const std::string text = "0110";
     (void)vers::EliasFanoVec::from(unsigned_numbers.begin(), unsigned_numbers.end());
     (void)vers::RsVec::from_bits(signed_numbers.begin(), signed_numbers.end());
-    (void)vers::TextIndex::from(unsigned_numbers, 2);
+    (void)vers::TextIndex::from(unsigned_numbers, 2)->count(unsigned_numbers);
     (void)text.size();
     (void)fractions.size();
 #if REFUSED == 1
@@ -48,5 +48,9 @@ int main() {
     (void)vers::BpTree::from_words(unsigned_numbers.begin(), unsigned_numbers.end(), 64);
 #elif REFUSED == 17
     (void)vers::RsVec::from_bits(text.data(), text.size());
+#elif REFUSED == 18
+    (void)vers::TextIndex::from(unsigned_numbers, 2)->count(signed_numbers);
+#elif REFUSED == 19
+    (void)vers::TextIndex::from(unsigned_numbers, 2)->places(fractions);
 #endif
 }

@@ -393,6 +393,13 @@ static void test_texts() {
     check("contains", text->contains(symbols.data(), 5) && !text->contains(wide.data(), 1));
     const vers::Numbers places = text->places(pattern.data(), 2);
     check("places", Numbers(places.begin(), places.end()) == Numbers({0, 2}));
+    const std::vector<std::uint8_t> narrow = {1, 2};
+    check("of ranges", text->count(narrow) == 2 && text->count(pattern) == 2 && text->count({2}) == 3);
+    check("in braces", text->contains({1, 2, 1}) && !text->contains({1, 1}) && !text->contains(wide));
+    const vers::Numbers of_range = text->places(narrow), of_braces = text->places({2});
+    check("places of ranges", Numbers(of_range.begin(), of_range.end()) == Numbers({1, 3}) &&
+                                  Numbers(of_braces.begin(), of_braces.end()) == Numbers({0, 2, 4}));
+    check("with a status", text->places(narrow, status)->len() == 2 && status == Status::done);
     const auto piece = text->extract(1, 4);
     check("extract", piece && Numbers(piece->begin(), piece->end()) == Numbers({1, 2, 1}));
     check("no piece", !text->extract(1, 6) && !text->extract(3, 2, status) && status == Status::refused);
@@ -440,6 +447,7 @@ static void test_moved_from() {
     auto text = *vers::TextIndex::from(documents.data(), 2, 8, 1);
     const auto kept = std::move(text);
     check("text", kept.places(documents.data(), 1).len() == 1);
+    check("no pattern in none", text.places({2}).len() == 0 && text.count({2}) == 0 && !text.contains({2}));
     check("places in none", text.places(documents.data(), 1).len() == 0 && text.count(documents.data(), 1) == 0);
     check("extract of none", !text.extract(0, 1));
     auto bits = vers::BitVec();
@@ -473,6 +481,11 @@ static void test_memory() {
     const std::list<std::uint64_t> linked(numbers.begin(), numbers.end());
     check("from a range", is_thrown([&] { vers::EliasFanoVec::from(linked); }));
     check("from_bits", is_thrown([&] { vers::BpTree::from_bits(linked.begin(), linked.end()); }));
+    const auto text = vers::TextIndex::from(numbers, 2);
+    check("count", is_thrown([&] { text->count(linked); }) && is_thrown([&] { text->contains(linked); }));
+    check("places", is_thrown([&] { text->places(linked); }));
+    is_refused_once = true;
+    check("of a pattern", !text->places(linked, status) && status == Status::no_memory);
     is_refused_once = true;
     check("of a range", !vers::FastRmq::from(linked, status) && status == Status::no_memory);
     is_refused_once = true;

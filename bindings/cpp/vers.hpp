@@ -17,6 +17,8 @@
  *  numbers is read without a copy. Iterators and ranges are over unsigned whole numbers, those of `from_bits` over
  *  whole numbers or truth values: others, and the characters of a text, don't compile.
  *
+ *  Patterns. That of a TextIndex is a pointer and a length, or such a range.
+ *
  *  Ranges. A list with `begin` and `end` is a range, with random access in C++20. Lists compare by their contents.
  *
  *  Exceptions. Only std::bad_alloc, if memory is out. If exceptions are off, or VERS_NO_EXCEPTIONS is defined, nothing
@@ -963,8 +965,22 @@ public:
     std::uint64_t count(const std::uint64_t *pattern, std::size_t length) const noexcept {
         return vers_text_count(raw(), pattern, length).value;
     }
+    template <class Range = std::initializer_list<std::uint64_t>, class = detail::Item<Range>>
+    std::uint64_t count(Range &&pattern) const {
+        Status status = Status::done;
+        const auto counted = detail::with_numbers(pattern, status, [&](const std::uint64_t *numbers, std::size_t size) {
+            return std::optional<std::uint64_t>(count(numbers, size));
+        });
+        detail::thrown(static_cast<std::uint32_t>(status));
+        if (!counted) std::abort();
+        return *counted;
+    }
     bool contains(const std::uint64_t *pattern, std::size_t length) const noexcept {
         return count(pattern, length) > 0;
+    }
+    template <class Range = std::initializer_list<std::uint64_t>, class = detail::Item<Range>>
+    bool contains(Range &&pattern) const {
+        return count(pattern) > 0;
     }
     /** The places of a pattern, ascending. */
     Numbers places(const std::uint64_t *pattern, std::size_t length) const {
@@ -974,6 +990,17 @@ public:
     std::optional<Numbers> places(const std::uint64_t *pattern, std::size_t length, Status &status) const noexcept {
         return Numbers::of(status, [&](vers_numbers *into) {
             return vers_text_places(&raw_, pattern, length, into);
+        });
+    }
+    template <class Range = std::initializer_list<std::uint64_t>, class = detail::Item<Range>>
+    Numbers places(Range &&pattern) const {
+        Status status;
+        return Numbers::needed(places(pattern, status), status);
+    }
+    template <class Range = std::initializer_list<std::uint64_t>, class = detail::Item<Range>>
+    std::optional<Numbers> places(Range &&pattern, Status &status) const {
+        return detail::with_numbers(pattern, status, [&](const std::uint64_t *numbers, std::size_t length) {
+            return places(numbers, length, status);
         });
     }
     /** The symbols from a place up to another. nullopt where the text has no such places. */
