@@ -10,6 +10,7 @@ import random
 import re
 import signal
 import threading
+import time
 import tracemalloc
 import typing
 import unittest
@@ -403,6 +404,16 @@ class Habits(unittest.TestCase):
         interrupted.set()
         thread.join()
         self.assertEqual(was_interrupted, [True])
+
+    def test_other_threads_run(self):
+        text, documents = vers.TextIndex(bytes(300_000), 1), vers.Postings(range(2_000_000))
+        for call in (lambda: text.places([0]), lambda: documents.intersect(documents)):
+            thread, turns = threading.Thread(target=call), 0
+            thread.start()
+            while thread.is_alive():
+                time.sleep(0.0001)
+                turns += 1
+            self.assertGreater(turns, 10)
 
     def test_long_builds(self):
         numbers = range(_buffers.CHUNK + 1)

@@ -1,7 +1,7 @@
 """The calls of the library vers_c, by ctypes.
 
-Single calls hold Python's lock, so that no two threads are inside one handle. Calls of many queries release it,
-and ask through a handle of their own.
+Single calls hold Python's lock, so that no two threads are inside one handle. Calls of many queries, and those that
+answer a list, release it and ask through a handle of their own.
 """
 
 import ctypes
@@ -47,13 +47,13 @@ ask_each = _call(_unlocked, "vers_ask_each", _U32, _AT, _U32, _POINTER, _SIZE, _
 ask_rows = _call(_unlocked, "vers_ask_rows", _U32, _AT, _U32, _POINTER, _SIZE, _U64)
 change = _call(_locked, "vers_change", _U32, _AT, _U32, _U64, _U64)
 clone = _call(_locked, "vers_clone", _U32, _AT, _AT)
-intersect = _call(_locked, "vers_intersect", _U32, _AT, _AT, _AT)
+intersect = _call(_unlocked, "vers_intersect", _U32, _AT, _AT, _AT)
 saved_size = _call(_locked, "vers_saved_size", Answer, _AT)
 save = _call(_locked, "vers_save", _U32, _AT, _POINTER, _SIZE)
 load = _call(_unlocked, "vers_load", _U32, _U32, _POINTER, _SIZE, _AT)
 count = _call(_locked, "vers_count", Answer, _AT, _POINTER, _SIZE)
-places = _call(_locked, "vers_places", _U32, _AT, _POINTER, _SIZE, _AT)
-extract = _call(_locked, "vers_extract", _U32, _AT, _SIZE, _SIZE, _AT)
+places = _call(_unlocked, "vers_places", _U32, _AT, _POINTER, _SIZE, _AT)
+extract = _call(_unlocked, "vers_extract", _U32, _AT, _SIZE, _SIZE, _AT)
 free = _call(_locked, "vers_free", None, _AT)
 
 growing_build = _call(_unlocked, "vers_growing_build", _U32, _POINTER, _SIZE, _SIZE, _AT)

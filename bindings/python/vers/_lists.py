@@ -647,8 +647,8 @@ class Postings(Fixed[_PostingsQuery]):
                 raise TypeError(f"an intersection is with Postings, and not with {type(it).__name__}")
         if more:
             return (self & other).intersect(*more)
-        own = other.__copy__()
-        made: PlainNumbers = PlainNumbers._made(library.intersect, self._at, own._at)
+        lists = self.__copy__(), other.__copy__()
+        made: PlainNumbers = PlainNumbers._made(library.intersect, *(it._at for it in lists))
         return made
 
     def __and__(self, other: Postings) -> Postings:
@@ -760,12 +760,14 @@ class TextIndex(Shared[str]):
     def places(self, pattern: Numbers) -> PlainNumbers:
         """The places of a pattern, ascending."""
         held = _buffers.held(pattern)
-        made: PlainNumbers = PlainNumbers._made(library.places, self._at, *held[:2])
+        own = self.__copy__()
+        made: PlainNumbers = PlainNumbers._made(library.places, own._at, *held[:2])
         return made
 
     def extract(self, start: int, end: int) -> PlainNumbers:
         """The symbols from one place up to another. Refused if the text has no such places."""
         first, past = number(start, "the start"), number(end, "the end")
+        own = self.__copy__()
         made: PlainNumbers = PlainNumbers._made(
-            library.extract, self._at, first, past, why=lambda: f"{first} to {past} is no range of {len(self)} symbols")
+            library.extract, own._at, first, past, why=lambda: f"{first} to {past} is no range of {len(self)} symbols")
         return made
