@@ -5,6 +5,7 @@
 
 import json
 import sys
+from functools import reduce
 
 import vers
 
@@ -29,14 +30,10 @@ class Document:
         walk(value, "$", shape, self.labels)
         self.tree = vers.BpTree("".join(shape))
 
-    def label(self, node):
-        """The key or the place by which a node's parent has it."""
-        return self.labels[self.tree.node_index(node)][0]
-
     def path(self, node):
-        """The labels from the root to a node."""
+        """The labels from the root to a node: the key or the place by which its parent has each."""
         up = [self.tree.level_ancestor(node, level) for level in range(self.tree.depth(node), -1, -1)]
-        return ".".join(str(self.label(it)) for it in up)
+        return [self.labels[self.tree.node_index(it)][0] for it in up]
 
     def find(self, key):
         """The nodes that have a key."""
@@ -44,16 +41,19 @@ class Document:
 
 
 def main(file=None):
-    """Prints the tree's measures, and the paths of a key."""
-    document = Document(json.load(open(file, encoding="utf-8")) if file else SAMPLE)
+    """Compares the tree with its document, and prints the tree's measures and the paths of a key."""
+    whole = json.load(open(file, encoding="utf-8")) if file else SAMPLE
+    document = Document(whole)
     tree, nodes = document.tree, list(document.tree.dfs_iter())
-    assert len(nodes) == len(document.labels) and tree.is_balanced()
+    for node, (_, leaf) in zip(nodes, document.labels):
+        value = reduce(lambda it, key: it[key], document.path(node)[1:], whole)
+        is_inner = isinstance(value, (dict, list))
+        assert (len([*tree.children(node)]), leaf) == ((len(value), None) if is_inner else (0, value))
     print(f"{tree.size()} nodes, {sum(tree.is_leaf(nodes))} leaves, {max(tree.depth(nodes))} levels below the root")
-    print("children of the root:", [document.label(it) for it in tree.children(0)])
+    print("children of the root:", [document.path(it)[-1] for it in tree.children(0)])
     for node in document.find("name"):
-        print(document.path(node), "=", document.labels[tree.node_index(node)][1])
-    largest = max(tree.children(0), key=tree.subtree_size)
-    print("largest child:", document.label(largest), "with", tree.subtree_size(largest), "nodes")
+        print(*document.path(node), "=", document.labels[tree.node_index(node)][1])
+    print("largest child of the root:", *document.path(max(tree.children(0), key=tree.subtree_size))[1:])
 
 
 if __name__ == "__main__":
