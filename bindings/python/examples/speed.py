@@ -6,6 +6,7 @@
 import bisect
 import sys
 import time
+from concurrent.futures import ThreadPoolExecutor
 
 import numpy
 import vers
@@ -60,6 +61,10 @@ def main(items=1_000_000, queries=1_000_000):
     symbols = random.integers(0, 256, items).astype(numpy.uint64)
     matrix = vers.WaveletMatrix(symbols, 8)
     row("`WaveletMatrix.get`; by index", matrix.get, lambda it: symbols[it], places)
+
+    with ThreadPoolExecutor(2) as pool:
+        taken = [best(lambda: list(pool.map(matrix.get, [places] * count)), count * queries) for count in (1, 2)]
+    print(f"\n`WaveletMatrix.get` of arrays takes {taken[0]} on one thread, and {taken[1]} on two at once")
 
     plainly = sums.nbytes + ones.nbytes, members.nbytes, symbols.nbytes
     print(f"\nBytes: {bits.heap_size()}, {listed.heap_size()} and {matrix.heap_size()}; in numpy {plainly}")
