@@ -1,8 +1,9 @@
 """Quantiles of a sliding window over a column: one structure answers them for windows of every width.
 
-    python3 sliding_quantiles.py [ROWS]      # a table of times beside numpy, if that is there
+    python3 sliding_quantiles.py [ROWS]      # times beside numpy, if that is there, and a picture
 """
 
+import math
 import random
 import sys
 import time
@@ -24,9 +25,9 @@ def timed(what, call):
 
 
 def main(rows=20_000):
-    """Asks for the median and the 90th percentile of each window, and compares them."""
+    """Asks for the median and the 90th percentile of each window, compares them, and draws the quantiles of some."""
     draw = random.Random(1)
-    values = [draw.randrange(1000) for _ in range(rows)]
+    values = [350 + int(350 * math.sin(12 * k / rows)) + draw.randrange(300) for k in range(rows)]
     matrix = timed("structure", lambda: vers.WaveletMatrix(values, 10))
     for width in (11, 101):
         starts = range(rows - width + 1)
@@ -43,6 +44,12 @@ def main(rows=20_000):
     least, greatest = matrix.range_min(0, 100), matrix.range_max(0, 100)
     assert (least, greatest) == (min(values[:100]), max(values[:100]))
     print("the least and the greatest of the first 100:", least, greatest)
+    print("the median of 101 rows, from quantile 0.1 to 0.9:")
+    starts = range(0, rows - 100, max(1, rows // 70))
+    lines = [matrix.quantile(starts, [it + 101 for it in starts], number) for number in (90, 50, 10)]
+    for level in range(900, 0, -75):
+        print("".join("*" if level - 75 < middle <= level else "|" if low <= level <= high else " "
+                      for high, middle, low in zip(*lines)))
 
 
 if __name__ == "__main__":
