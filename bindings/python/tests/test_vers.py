@@ -201,7 +201,7 @@ class Lists(unittest.TestCase):
         self.assertEqual(list(made.intersect(made)), documents)
         third = vers.Postings(range(0, 1000, 3))
         self.assertEqual(third, vers.Postings(range(0, 1000, 3), [0] * 334))
-        self.assertEqual(list(made.intersect(other, third)), sorted(set(documents) & set(others) & {*range(0, 1000, 3)}))
+        self.assertEqual(list(made.intersect(other, third)), sorted({*documents} & {*others} & {*range(0, 1000, 3)}))
         with self.assertRaises(vers.Refused):
             vers.Postings([1, 1], [0, 0])
         with self.assertRaises(vers.Refused):

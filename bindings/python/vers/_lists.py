@@ -395,11 +395,12 @@ class PlainNumbers(Fixed[_NumbersQuery]):
 
 def _plain_again(numbers: Any) -> PlainNumbers:
     """Returns numbers as a call answers them: documents and places, which ascend strictly, or symbols of a text."""
-    if not _buffers.descent("number", _buffers.held(numbers), True):
+    try:
         same = Postings(numbers)
-        made: PlainNumbers = same.intersect(same)
-        return made
-    return TextIndex(numbers, 16, len(numbers)).extract(0, len(numbers))
+    except Refused:
+        return TextIndex(numbers, 16, len(numbers)).extract(0, len(numbers))
+    made: PlainNumbers = same.intersect(same)
+    return made
 
 
 class BpTree(Shared[_TreeQuery]):
