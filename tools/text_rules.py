@@ -11,6 +11,8 @@
 - A crate imports no proofs of a crate below it but the page of laws (`PublicLaws`), or one that its `proofs/Lib.antt`
   passes on under another name, and nothing of its `specs/inside`.
 - What only proofs need is in `specs/inside`: no public contract and no other page of `specs/` cites a word of it.
+- The table of structures in `docs/ARCHITECTURE.md` names modules, load lines, types and kinds of `vers.h`, and series
+  of the benchmark that there are.
 - The page of layouts ends with the stored run of the program whose values it draws (`DRAWN`).
 - Proofs that depend only on the contracts of another part of their crate import nothing of that part's inside
   (`ON_CONTRACTS`).
@@ -33,6 +35,7 @@ from functools import lru_cache
 from sources import TOP, Source, by_path, closed, line_of, load_edit, public_functions, read, tell, wrong_bodies
 
 DEFINITIONS = "docs/DEFINITIONS.md"
+NAMED = "docs/ARCHITECTURE.md"
 DRAWN = "docs/LAYOUTS.md", "crates/vers_layouts/stdout"
 TEXTS = re.compile(r"(?!rust/src/(?:proved|contracts)).*\.(?:md|rt|antt|edits?|py|sh|txt|rs|h|hpp|c|cpp)|(?:.*/)?(?:test|vers|run|stdout)")
 # between two words of a phrase there may be the end of a line and the marks of a comment
@@ -125,6 +128,25 @@ def undefined(sources, defined):
                     yield f"{said} `{word}`, which {DEFINITIONS} doesn't define"
 
 
+def misnamed(texts):
+    """Yields a line for each name of the table of structures that a room doesn't have, and for each kind of `vers.h`
+    that the table lacks."""
+    table = texts[NAMED].partition('<a id="names"></a>')[2].partition("\n## ")[0]
+    kinds = dict(re.findall(r"VERS_KIND_\w+ = (\d+),? +/\*\*< A (\w+)\.", texts["bindings/c/vers.h"]))
+    rows = [[it.strip().strip("`") for it in row.split("|")[1:-1]] for row in table.splitlines() if row[:3] == "| `"]
+    for name, module, line, c_name, kind, series in rows:
+        path = "crates/{}/src/{}.rt".format(module.split("::")[0], "/".join(module.split("::")[1:]))
+        rooms = {
+            module: f"pub struct {name}<" in texts.get(path, ""),
+            line: not line or any(f'(b"{line}", ' in text for path, text in texts.items() if path.endswith("/name.rt")),
+            c_name: f"typedef struct {c_name} {{" in texts["bindings/c/vers.h"] and (not kind or kinds[kind] == c_name),
+            series: f'"{series}"' in texts["crates/vers_bench/src/main.rt"],
+        }
+        yield from (f"{NAMED}: `{it}` is no name of `{name}`" for it, is_there in rooms.items() if not is_there)
+    if lacking := set(kinds) - {row[4] for row in rows}:
+        yield f"{NAMED}: the table of names lacks the kinds {sorted(lacking)}"
+
+
 def missing_wrong_bodies(texts):
     """Yields a line for each public function that computes something and that no edit of its crate reaches."""
     for crate, sources in crates_of(texts).items():
@@ -194,6 +216,7 @@ def faults(texts):
         yield f"crates.txt lists {sorted(named)}, and crates/ holds {sorted(crates)}"
     if not texts[DRAWN[0]].endswith(f"```text\n{texts[DRAWN[1]]}```\n"):
         yield f"{DRAWN[0]}: its end isn't {DRAWN[1]}"
+    yield from misnamed(texts)
     pages = {it: {"PublicLaws", *PASSED_ON.findall(texts.get(f"crates/{it}/proofs/Lib.antt", ""))} for it in crates}
     for path, text in texts.items():
         yield from text_faults(path, text)
@@ -230,6 +253,11 @@ BREAKS = {
     "imports `specs.inside` of vers_tally": (f"{RANK}src/fast_rs_vec.rt", "specs.Reads", "specs.inside.Reads"),
     "depends on `specs.inside.Queries`": (f"{RANK}specs/Rows.antt", "rank.specs.Queries", "rank.specs.inside.Queries"),
     "cites `no_reads` of `specs/inside`": (TALLY, "vers_tally.specs.Reads", "vers_tally.specs.inside.Reads"),
+    "`vers_rank` is no name of `RsVec`": (NAMED, "`vers_rank::fast_rs_vec` |", "`vers_rank` |"),
+    "`order` is no name of `EliasFanoVec`": (NAMED, "| `sorted` | `vers_sorted` |", "| `order` | `vers_sorted` |"),
+    "`vers_sparse` is no name of `SparseRSVec`": (NAMED, "| `vers_sparse` | 4 |", "| `vers_sparse` | 3 |"),
+    "`trees` is no name of `BpTree`": (NAMED, "| `vers_tree` | 6 | `tree` |", "| `vers_tree` | 6 | `trees` |"),
+    "lacks the kinds ['8']": (NAMED, "| 8 |", "| |"),
     "drops `self.chunks()`": (TALLY, "        self.chunks\n", "        let _ = self.chunks();\n        self.chunks\n"),
     "imports `Tables`": (MINIMA, "rmq.proofs.Minima", "rmq.specs.inside.Tables"),
     "its end isn't": (DRAWN[1], "bits", "bit"),
