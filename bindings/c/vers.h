@@ -131,7 +131,8 @@ enum vers_change_code {
     VERS_DROP_LAST = 3 /**< Drops the last a bits. */
 };
 
-/** The kinds of lists that have a saved form. */
+/** The kinds of lists that have a saved form: from 1 to 7 the numbers of those forms. A vers_growing has that of a
+ *  vers_bits, and a vers_binary_rmq that of a vers_fast_rmq. */
 enum vers_kind {
     VERS_KIND_GROWING = 0,  /**< A vers_growing. */
     VERS_KIND_BITS = 1,     /**< A vers_bits. */
