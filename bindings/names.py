@@ -69,7 +69,7 @@ LEFT_OUT = (
     (r"\w+\.\w*iter\w*|BpTree\.\w*children",
      "Iterators: the query of the next place, or `_each` over a range of places."),
     (r"\w+Rmq\.range_min_\w+", "Ranges are from one place to another."),
-    (r"TextIndex\.(places|first_places)", "Places are answered ascending."),
+    (r"TextIndex\.places", "Places are answered ascending, or the first ones by `first_places`."),
 )
 HEAD = """# Names
 

@@ -549,6 +549,27 @@ static bool stands_at(const uint64_t *text, size_t n, const uint64_t *pattern, s
 }
 
 /* A pattern has the places of a plain loop. */
+/* Whether the suffix of one place comes before that of another. */
+static bool is_suffix_below(const uint64_t *text, size_t n, size_t one, size_t other) {
+    while (one < n && other < n && text[one] == text[other]) one++, other++;
+    return one == n ? other < n : other < n && text[one] < text[other];
+}
+
+/* The first places of a pattern, each before the next one in the order of the suffixes. */
+static void test_first_places(const vers_text *text, const uint64_t *symbols, size_t n, const uint64_t *pattern,
+                              size_t m, size_t all, size_t limit) {
+    vers_numbers first = {0};
+    is("first places", vers_text_first_places(text, pattern, m, limit, &first), VERS_DONE);
+    found("first places len", limit, vers_numbers_len(&first), limit < all ? limit : all);
+    for (size_t k = 0; k < limit && k < all; k++) {
+        uint64_t place = vers_numbers_get(&first, k).value;
+        is("first place", stands_at(symbols, n, pattern, m, place), true);
+        if (k > 0) is("order", is_suffix_below(symbols, n, vers_numbers_get(&first, k - 1).value, place), true);
+    }
+    is("first places into a full one", vers_text_first_places(text, pattern, m, limit, &first), VERS_OCCUPIED);
+    vers_numbers_free(&first);
+}
+
 static void test_pattern(const vers_text *text, const uint64_t *symbols, size_t n, const uint64_t *pattern, size_t m) {
     vers_numbers places = {0};
     is("places", vers_text_places(text, pattern, m, &places), VERS_DONE);
@@ -560,6 +581,7 @@ static void test_pattern(const vers_text *text, const uint64_t *symbols, size_t 
     found("contains", m, vers_text_contains(text, pattern, m), k > 0);
     is("places into a full one", vers_text_places(text, pattern, m, &places), VERS_OCCUPIED);
     vers_numbers_free(&places);
+    for (size_t limit = 0; limit <= k + 1; limit++) test_first_places(text, symbols, n, pattern, m, k, limit);
 }
 
 static void test_text(size_t n, uint32_t width, size_t step) {

@@ -55,6 +55,7 @@ static uint32_t binary_rmq(vers_handle *handle) { return vers_binary_rmq_build(n
 static uint32_t postings(vers_handle *handle) { return vers_postings_build(numbers, COUNT, numbers, COUNT, handle); }
 static uint32_t text(vers_handle *handle) { return vers_text_build(numbers, COUNT, 16, 3, handle); }
 static uint32_t places(vers_handle *handle) { return vers_places(&texts, numbers, 0, handle); }
+static uint32_t first_places(vers_handle *handle) { return vers_first_places(&texts, numbers, 0, COUNT, handle); }
 static uint32_t extract(vers_handle *handle) { return vers_extract(&texts, 1, COUNT, handle); }
 static uint32_t clone(vers_handle *handle) { return vers_clone(&one, handle); }
 static uint32_t intersect(vers_handle *handle) { return vers_intersect(&one, &two, handle); }
@@ -165,6 +166,7 @@ int main(void) {
     check("texts", text(&texts) == VERS_DONE);
     test_fill("text", text);
     test_fill("places", places);
+    test_fill("first_places", first_places);
     test_fill("extract", extract);
     test_fill("clone", clone);
     test_fill("intersect", intersect);

@@ -204,6 +204,11 @@ vers_answer vers_count(vers_handle *handle, const uint64_t *pattern, size_t coun
  *  where the first holds no text, VERS_OCCUPIED, VERS_NO_MEMORY. The two handles differ; reads `pattern`. */
 uint32_t vers_places(vers_handle *handle, const uint64_t *pattern, size_t count, vers_handle *into);
 
+/** Puts the first `limit` places of a pattern in a vers_text, or all if there are fewer, into an empty other handle, as
+ *  vers_numbers, in the order of the suffixes that begin there. VERS_REFUSED if the first holds no text, VERS_OCCUPIED,
+ *  VERS_NO_MEMORY. The two handles differ; reads `pattern`. */
+uint32_t vers_first_places(vers_handle *handle, const uint64_t *pattern, size_t count, size_t limit, vers_handle *into);
+
 /** Puts the symbols of a vers_text from place `start` up to `end` into an empty other handle, as vers_numbers.
  *  VERS_REFUSED where the first holds no text with such places, VERS_OCCUPIED, VERS_NO_MEMORY. The two handles
  *  differ. */
@@ -1574,6 +1579,14 @@ static inline uint32_t vers_text_places(const vers_text *text, const uint64_t *p
                                         vers_numbers *into) {
     if (vers_is_missing(pattern, count)) return VERS_REFUSED;
     return vers_places(vers_held(&text->handle), vers_array(pattern), count, &into->handle);
+}
+
+/** Puts the first `limit` places of a pattern, or all if there are fewer, into an empty other handle, in the order of
+ * the suffixes that begin there: in less time than all of them take. VERS_OCCUPIED, VERS_NO_MEMORY. */
+static inline uint32_t vers_text_first_places(const vers_text *text, const uint64_t *pattern, size_t count,
+                                              size_t limit, vers_numbers *into) {
+    if (vers_is_missing(pattern, count)) return VERS_REFUSED;
+    return vers_first_places(vers_held(&text->handle), vers_array(pattern), count, limit, &into->handle);
 }
 
 /** Puts the symbols from place `start` up to `end` into an empty other handle. VERS_REFUSED where the text has no such

@@ -400,6 +400,9 @@ static void test_texts() {
     check("places of ranges", Numbers(of_range.begin(), of_range.end()) == Numbers({1, 3}) &&
                                   Numbers(of_braces.begin(), of_braces.end()) == Numbers({0, 2, 4}));
     check("with a status", text->places(narrow, status)->len() == 2 && status == Status::done);
+    const vers::Numbers first = text->first_places({2}, 2), all = text->first_places(pattern.data(), 2, 9);
+    check("first places", Numbers(first.begin(), first.end()) == Numbers({4, 2}));
+    check("all places", Numbers(all.begin(), all.end()) == Numbers({2, 0}) && text->first_places({9}, 9).len() == 0);
     const auto piece = text->extract(1, 4);
     check("extract", piece && Numbers(piece->begin(), piece->end()) == Numbers({1, 2, 1}));
     check("no piece", !text->extract(1, 6) && !text->extract(3, 2, status) && status == Status::refused);

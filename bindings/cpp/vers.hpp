@@ -997,6 +997,24 @@ public:
         Status status;
         return Numbers::needed(places(pattern, status), status);
     }
+    /** The first `limit` places of a pattern, or all if there are fewer, in the order of the suffixes there. */
+    Numbers first_places(const std::uint64_t *pattern, std::size_t length, std::size_t limit) const {
+        Status status;
+        return Numbers::needed(first_places(pattern, length, limit, status), status);
+    }
+    std::optional<Numbers> first_places(const std::uint64_t *pattern, std::size_t length, std::size_t limit,
+                                        Status &status) const noexcept {
+        return Numbers::of(status, [&](vers_numbers *into) {
+            return vers_text_first_places(&raw_, pattern, length, limit, into);
+        });
+    }
+    template <class Range = std::initializer_list<std::uint64_t>, class = detail::Item<Range>>
+    Numbers first_places(Range &&pattern, std::size_t limit) const {
+        Status status;
+        return Numbers::needed(detail::with_numbers(pattern, status, [&](const std::uint64_t *numbers, std::size_t length) {
+            return first_places(numbers, length, limit, status);
+        }), status);
+    }
     template <class Range = std::initializer_list<std::uint64_t>, class = detail::Item<Range>>
     std::optional<Numbers> places(Range &&pattern, Status &status) const {
         return detail::with_numbers(pattern, status, [&](const std::uint64_t *numbers, std::size_t length) {

@@ -162,6 +162,21 @@ pub unsafe extern "C" fn vers_places(handle: &Handle, pattern: *const u64, count
     fill(into, || handle.kept().map_or(Ok(None), |kept| kept.places(pattern)))
 }
 
+/// # Safety
+/// `pattern` leads to `count` symbols.
+#[unsafe(no_mangle)]
+pub unsafe extern "C" fn vers_first_places(
+    handle: &Handle,
+    pattern: *const u64,
+    count: usize,
+    limit: usize,
+    into: &mut Handle,
+) -> u32 {
+    // SAFETY: vers.h asks for an array of as many symbols, which no other thread writes.
+    let pattern = unsafe { elements(pattern, count) };
+    fill(into, || handle.kept().map_or(Ok(None), |kept| kept.first_places(pattern, limit)))
+}
+
 #[unsafe(no_mangle)]
 pub extern "C" fn vers_extract(handle: &Handle, start: usize, end: usize, into: &mut Handle) -> u32 {
     fill(into, || handle.kept().map_or(Ok(None), |kept| kept.extract(start, end)))

@@ -121,10 +121,16 @@ impl Kept {
         let Kept::Text(text) = self else {
             return Ok(None);
         };
-        let places = text.places_ascending(pattern)?;
-        let mut numbers = Vec::with_capacity(Global, places.len())?;
-        numbers.extend(places.iter().map(|place| *place as u64))?;
-        Ok(Some(Kept::Numbers(numbers)))
+        Ok(Some(Kept::Numbers(as_numbers(&text.places_ascending(pattern)?)?)))
+    }
+
+    /// The first positions of a pattern in a text, at most `limit`, in the order of the suffixes. None if this is no
+    /// text.
+    pub fn first_places(&self, pattern: &[u64], limit: usize) -> Result<Option<Kept>, AllocError> {
+        match self {
+            Kept::Text(text) => Ok(Some(Kept::Numbers(as_numbers(&text.first_places(pattern, limit)?)?))),
+            _ => Ok(None),
+        }
     }
 
     /// The symbols of a text from one position up to another. None where this is no text with such positions.
@@ -196,6 +202,13 @@ impl Kept {
         };
         loaded.map_err(fault)
     }
+}
+
+/// Positions as plain numbers.
+fn as_numbers(places: &[usize]) -> Result<Vec<u64>, AllocError> {
+    let mut numbers = Vec::with_capacity(Global, places.len())?;
+    numbers.extend(places.iter().map(|place| *place as u64))?;
+    Ok(numbers)
 }
 
 /// The saved form of a list.

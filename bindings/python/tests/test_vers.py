@@ -380,6 +380,9 @@ class Owners(unittest.TestCase):
             places = [place for place in range(len(plain) + 1) if plain.startswith(pattern, place)]
             self.assertEqual((text.count(pattern), list(text.places(pattern)), pattern in text),
                              (len(places), places, bool(places)))
+            order = sorted(places, key=lambda place: plain[place:])
+            for limit in (0, 1, 3, vers.NONE):
+                self.assertEqual(list(text.first_places(pattern, limit)), order[:limit])
         self.assertEqual(bytes(text.extract(3, 11)), plain[3:11])
         self.assertEqual(text.count([ord("a"), 1 << 60]), 0)
         self.assertGreater(copy.copy(text).heap_size(), 55)

@@ -53,6 +53,7 @@ save = _call(_locked, "vers_save", _U32, _AT, _POINTER, _SIZE)
 load = _call(_unlocked, "vers_load", _U32, _U32, _POINTER, _SIZE, _AT)
 count = _call(_locked, "vers_count", Answer, _AT, _POINTER, _SIZE)
 places = _call(_unlocked, "vers_places", _U32, _AT, _POINTER, _SIZE, _AT)
+first_places = _call(_unlocked, "vers_first_places", _U32, _AT, _POINTER, _SIZE, _SIZE, _AT)
 extract = _call(_unlocked, "vers_extract", _U32, _AT, _SIZE, _SIZE, _AT)
 free = _call(_locked, "vers_free", None, _AT)
 

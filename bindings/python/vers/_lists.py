@@ -765,6 +765,13 @@ class TextIndex(Shared[str]):
         made: PlainNumbers = PlainNumbers._made(library.places, own._at, *held[:2])
         return made
 
+    def first_places(self, pattern: Numbers, limit: int) -> PlainNumbers:
+        """The first `limit` places of a pattern, or all if there are fewer, in the order of the suffixes there."""
+        held, most = _buffers.held(pattern), number(limit, "the limit")
+        own = self.__copy__()
+        made: PlainNumbers = PlainNumbers._made(library.first_places, own._at, *held[:2], most)
+        return made
+
     def extract(self, start: int, end: int) -> PlainNumbers:
         """The symbols from one place up to another. Refused if the text has no such places."""
         first, past = number(start, "the start"), number(end, "the end")

@@ -1,7 +1,7 @@
 -- Texts, in which patterns are found.
-use Rattle.std.specs.Prelude.{ℕ, ◌==◌, ◌&&◌, min, not, nat_le, List, length, Option, Some, None, if◌then◌else◌}
+use Rattle.std.specs.Prelude.{ℕ, ◌==◌, ◌&&◌, min, not, nat_le, List, length, take, Option, Some, None, if◌then◌else◌}
 use Rattle.std.specs.List.{slice_range}
-use Rattle.text_index.specs.Texts.{Text, places_of}
+use Rattle.text_index.specs.Texts.{Text, places_in_order, places_of}
 use Rattle.text_index.specs.Sizes.{text_size}
 use Rattle.text_index.specs.Makers.{is_text}
 use Rattle.vers_c.specs.declared.answer.Answer.{Answer}
@@ -37,6 +37,11 @@ contents_count (Some held) pattern = pattern_count held pattern
 abbrev pub pattern_places : Structure → List ℕ → Option Structure
 pattern_places (IndexedText text) pattern = Some (PlainNumbers (places_of text.items pattern))
 pattern_places held pattern = None
+
+-- the first occurrences of a pattern in the order of the suffixes, at most `limit`, as plain numbers
+abbrev pub first_pattern_places : Structure → List ℕ → ℕ → Option Structure
+first_pattern_places (IndexedText text) pattern limit = Some (PlainNumbers (take limit (places_in_order text.items pattern)))
+first_pattern_places held pattern limit = None
 
 -- the symbols of a text from one position to before another, as plain numbers, if it has these positions
 abbrev pub piece : Structure → ℕ → ℕ → Option Structure

@@ -6,7 +6,7 @@ ghost use Rattle.vers_c.specs.Changes.{IsChanged, changed_by_code, coded_status}
 ghost use Rattle.vers_c.specs.Queries.{batch_status, coded_answer, query_of, structure_answer};
 ghost use Rattle.vers_c.specs.Lists.{common_of};
 ghost use Rattle.vers_c.specs.Structures.{structure_of};
-ghost use Rattle.vers_c.specs.TextAnswers.{pattern_count, pattern_places, piece};
+ghost use Rattle.vers_c.specs.TextAnswers.{first_pattern_places, pattern_count, pattern_places, piece};
 
 use crate::answer::Answer;
 use crate::asked::{Asked, Row, answer_each, answer_once};
@@ -242,6 +242,28 @@ impl Kept {
         match self {
             Kept::Text(text) => {
                 let places = text.places_ascending(pattern)?;
+                Ok(Some(Kept::Numbers(as_numbers(alloc, &places)?)))
+            }
+            _ => Ok(None),
+        }
+    }
+
+    /// Returns the first positions of a pattern in a text, at most `limit`, in suffix-array order, as plain
+    /// numbers. `None` if this is no text. Errors: `AllocError` if the allocator refuses a request.
+    pub fn first_places(
+        &self,
+        alloc: Global,
+        pattern: &[u64],
+        limit: usize,
+    ) -> Result<Option<Kept>, AllocError>
+        ensures places { IfOk result (λ made. option_map structure_of made
+            ≡ first_pattern_places (structure_of self.now) pattern.now limit) }
+        ensures text { IsErr result
+            → IsSome (first_pattern_places (structure_of self.now) pattern.now limit) }
+    {
+        match self {
+            Kept::Text(text) => {
+                let places = text.first_places(pattern, limit)?;
                 Ok(Some(Kept::Numbers(as_numbers(alloc, &places)?)))
             }
             _ => Ok(None),

@@ -2,7 +2,7 @@
 ghost use Rattle.std.specs.Prelude.{◌≡◌};
 ghost use Rattle.std.specs.Option.{option_and_then};
 ghost use Rattle.vers_c.specs.Makes.{IsMade};
-ghost use Rattle.vers_c.specs.TextAnswers.{contents_count, pattern_places, piece, text_made};
+ghost use Rattle.vers_c.specs.TextAnswers.{contents_count, first_pattern_places, pattern_places, piece, text_made};
 ghost use Rattle.vers_c.specs.Structures.{contents};
 
 use crate::answer::Answer;
@@ -121,6 +121,33 @@ pub extern "C" fn vers_places(
     }
     let owner = taken(alloc, handle);
     let made = owner.places(alloc, pattern);
+    put(handle, owner);
+    fill_made(alloc, into, made)
+}
+
+/// Puts the first positions of a pattern in a text, at most `limit`, in suffix-array order, into another handle,
+/// as plain numbers. The handles are distinct.
+#[unsafe(no_mangle)]
+pub extern "C" fn vers_first_places(
+    alloc: Global,
+    handle: &mut VersHandle,
+    pattern: &[u64],
+    limit: usize,
+    into: &mut VersHandle,
+) -> u32
+    ensures made { IsMade
+        (option_and_then (λ held. first_pattern_places held pattern.now limit) (contents handle.old))
+        (contents into.old) (contents into.new) result }
+    ensures kept { contents handle.new ≡ contents handle.old }
+{
+    if into.is_built {
+        return OCCUPIED;
+    }
+    if !handle.is_built {
+        return REFUSED;
+    }
+    let owner = taken(alloc, handle);
+    let made = owner.first_places(alloc, pattern, limit);
     put(handle, owner);
     fill_made(alloc, into, made)
 }

@@ -14,7 +14,8 @@ use crate::programs::vers_c::quick;
 use crate::programs::vers_c::saves::{vers_load, vers_save, vers_saved_size};
 use crate::programs::vers_c::shares::{vers_clone, vers_free, vers_intersect};
 use crate::programs::vers_c::texts::{
-    vers_count, vers_extract, vers_places, vers_text_build, vers_text_build_bytes, vers_text_build_u16s,
+    vers_count, vers_extract, vers_first_places, vers_places, vers_text_build, vers_text_build_bytes,
+    vers_text_build_u16s,
 };
 use crate::proved::vers_bits::bit_vec::MAX_LEN as MOST_BITS;
 use crate::proved::vers_rmq::rmq::fast_rmq::MAX_LEN as MOST_ITEMS;
@@ -417,7 +418,16 @@ fn texts_answer_as_their_symbols() {
         let mut into = empty();
         assert_eq!(vers_places(Global, &mut handle, pattern, &mut into), DONE);
         assert_eq!(vers_places(Global, &mut handle, pattern, &mut into), OCCUPIED);
-        compare(&mut into, &numbers_model(places), &[0, 1, 5, 69, 70, 71]);
+        compare(&mut into, &numbers_model(places.clone()), &[0, 1, 5, 69, 70, 71]);
+        let mut order = places;
+        order.sort_by_key(|place| &symbols[*place as usize..]);
+        for limit in [0, 1, 3, 71, usize::MAX] {
+            let mut into = empty();
+            let first = order.iter().copied().take(limit).collect();
+            assert_eq!(vers_first_places(Global, &mut handle, pattern, limit, &mut into), DONE);
+            assert_eq!(vers_first_places(Global, &mut handle, pattern, limit, &mut into), OCCUPIED);
+            compare(&mut into, &numbers_model(first), &[0, 1, 5, 69, 70, 71]);
+        }
     }
     for (from, to) in [(0, 0), (0, 70), (3, 9), (70, 70), (9, 3), (60, 71), (71, 71)] {
         let mut into = empty();
@@ -438,6 +448,8 @@ fn texts_answer_as_their_symbols() {
     let mut other = made(|it| vers_sorted_build(Global, &[1], it));
     assert_eq!(vers_count(Global, &mut other, &[1]).status, UNKNOWN);
     refused(REFUSED, |it| vers_places(Global, &mut made(|it| vers_sorted_build(Global, &[1], it)), &[1], it));
+    refused(REFUSED, |it| vers_first_places(Global, &mut made(|it| vers_sorted_build(Global, &[1], it)), &[1], 1, it));
+    refused(REFUSED, |it| vers_first_places(Global, &mut empty(), &[1], 1, it));
     refused(REFUSED, |it| vers_extract(Global, &mut empty(), 0, 0, it));
 }
 
