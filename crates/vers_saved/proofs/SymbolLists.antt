@@ -1,5 +1,5 @@
 -- Saved forms of lists of symbols.
-use Rattle.vers_saved.proofs.Names.{number_below, ◌≡◌, ℕ, zero, suc, ◌+◌, ◌-◌, ◌*◌, ◌/◌, ◌%◌, ◌^◌, ◌<◌, ◌≤◌, Bool, List, [], ◌∷◌, ◌++◌, length, get_or, take, drop, refl, sym, ap, ◌∙◌, inl, inr, arith, map, All, Option, None, Result, Ok, Err, nat_le, slice_get, unwrap_or, take-add, mod-eq_of_lt, set, cases_lt, le-leb, drop-drop, take_all, take_at, drop_at, take-take, drop-take, length-take, length-map, get_or_past, slice_get-get_or, slice_get_past, mod_below, number, low_bits, part, limbs, limb_count, pack, length-low_bits, number-low_bits, number-take, length-packed, SYMBOL_LISTS, IsWhole, pow-add, below_more, get_or-set_same, get_or-set_other, ◌≢◌, IfOk, if◌then◌else◌, pow-le-pow_right, mul-le-mul_left, mul-le-mul_right, mul-div_cancel, mul-mod_left, le-mul_of_pos_right, lt_of_mul-lt-mul_right, mod-eq-sub-div-mul, div-mul-le_self, map-set, get_or-map, All-map, element, low_bits-add, number-drop, low_bits_of_part, low_symbols, packed_symbols}
+use Rattle.vers_saved.proofs.Names.{number_below, ◌≡◌, ℕ, zero, suc, ◌+◌, ◌-◌, ◌*◌, ◌/◌, ◌%◌, ◌^◌, ◌<◌, ◌≤◌, Bool, List, [], ◌∷◌, ◌++◌, length, get_or, take, drop, refl, sym, ap, ◌∙◌, inl, inr, arith, map, All, Option, None, Result, Ok, Err, nat_le, slice_get, unwrap_or, take-add, mod-eq_of_lt, pow-le-pow_right, set, cases_lt, le-leb, drop-drop, take_all, take_at, drop_at, take-take, drop-take, length-take, length-map, get_or_past, slice_get-get_or, slice_get_past, mod_below, number, low_bits, part, limbs, limb_count, pack, length-low_bits, number-low_bits, number-take, length-packed, SYMBOL_LISTS, IsWhole, pow-add, below_more, get_or-set_same, get_or-set_other, ◌≢◌, IfOk, if◌then◌else◌, pow-le-pow_right, mul-le-mul_left, mul-le-mul_right, mul-div_cancel, mul-mod_left, le-mul_of_pos_right, lt_of_mul-lt-mul_right, mod-eq-sub-div-mul, div-mul-le_self, map-set, get_or-map, All-map, element, low_bits-add, number-drop, low_bits_of_part, low_symbols, packed_symbols}
 use Rattle.std.specs.List.{range_with_len}
 use Rattle.std.proofs.lemmas.List.FromFn.{length-map-range_with_len, map-range_with_len_more}
 use Rattle.vers_wavelet.specs.Symbols.{Symbols}
@@ -134,6 +134,13 @@ all_numbers bits k n is = ap (first_numbers bits k) is
 
 pub number_inside : (bits : List Bool) (k e : ℕ) → e < length bits / k → e * k + k ≤ length bits
 number_inside bits k e h = grind (arith, mul-le-mul_right, div-mul-le_self)
+
+-- a number of at most 8 bits is a byte
+pub byte_number : (bits : List Bool) (k e : ℕ) → k ≤ 8 → number (part bits (e * k) k) < 256
+byte_number bits k e few =
+    let small : number (part bits (e * k) k) < 2 ^ k = number_below (part bits (e * k) k) k (omega (arith, length-take k (drop (e * k) bits))) in
+    let most : 2 ^ k ≤ 2 ^ 8 = pow-le-pow_right {n = 2} (omega arith) {i = k} {j = 8} few in
+    omega (arith, small, most)
 
 pub ruleset unpacking = (more_numbers, all_numbers, number_inside)
 

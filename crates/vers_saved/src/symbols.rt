@@ -1,7 +1,7 @@
 //! Lists of symbols, saved by the limbs of their bits, one symbol after another.
 ghost use Rattle.std.specs.Prelude.{◌≡◌, ℕ, ◌+◌, ◌-◌, ◌*◌, ◌/◌, ◌%◌, ◌<◌, ◌≤◌, ◌^◌, All, IfOk, None, length, map, slice_get, slice_index, slice_index_or, unwrap_or};
 ghost use Rattle.vers_bits.specs.Bits.{limbs, pack};
-ghost use Rattle.vers_wavelet.specs.Makers.{low_symbols, packed_symbols};
+ghost use Rattle.vers_wavelet.specs.Makers.{packed_symbols};
 ghost use Rattle.vers_saved.specs.declared.kind.TheConstants.{SYMBOL_LISTS};
 ghost use Rattle.vers_saved.specs.Kinds.{IsWhole};
 ghost use Rattle.vers_saved.specs.inside.Groups.{IsGroup};
@@ -153,6 +153,24 @@ fn unpacked<A: Allocator + Copy>(bits: &BitVec<A>, width: usize) -> Result<Vec<u
     Ok(numbers)
 }
 
+// Returns the numbers of at most 8 bits each in a list of bits, one after another.
+#[tactic(auto, using(crate::proofs::SymbolLists::unpacking))]
+fn unpacked_bytes<A: Allocator + Copy>(
+    bits: &BitVec<A>,
+    width: usize,
+) -> Result<Vec<u8, A>, AllocError>
+    requires some { 1 ≤ width }
+    requires few { width ≤ 8 }
+    ensures { IfOk result (λ v. v.items ≡ packed_symbols bits.now width) }
+{
+    let count = bits.len() / width;
+    let mut numbers = Vec::with_capacity(bits.allocator(), count)?;
+    for e in 0..count {
+        numbers.push(bits.unpack_element_unchecked(e, width) as u8)?;
+    }
+    Ok(numbers)
+}
+
 // Returns the symbols in words.
 #[tactic(auto, using(crate::proofs::SymbolLists::symbols))]
 fn symbols_of<A: Allocator + Copy>(of: Shape, words: Vec<u64, A>) -> Result<Vec<u64, A>, AllocError>
@@ -165,25 +183,46 @@ fn symbols_of<A: Allocator + Copy>(of: Shape, words: Vec<u64, A>) -> Result<Vec<
     unpacked(&bits, of.width)
 }
 
-/// The greatest width at which symbols are counted by their prefixes; wider ones are sorted.
-const COUNTED_WIDTH: u16 = 8;
+// Returns the symbols of at most 8 bits in words, as bytes.
+#[tactic(auto, using(crate::proofs::SymbolLists::symbols))]
+fn bytes_of<A: Allocator + Copy>(of: Shape, words: Vec<u64, A>) -> Result<Vec<u8, A>, AllocError>
+    requires whole { IsWhole SYMBOL_LISTS of.count of.width words.items }
+    requires few { of.width ≤ 8 }
+    ensures count { IfOk result (λ v. length v.items ≡ of.count) }
+    ensures limbs { IfOk result (λ v. limbs (pack v.items of.width) ≡ words.items) }
+    ensures fit { IfOk result (λ v. All (λ y. y < 2 ^ of.width) v.items) }
+{
+    let bits = bits_of(&SYMBOL_LISTS, of, words);
+    unpacked_bytes(&bits, of.width)
+}
 
-// Returns the matrix of symbols of a width, by the constructor that is faster for it.
+// Returns the matrix of the symbols in words.
 fn matrix_of<A: Allocator + Copy>(
     alloc: A,
-    symbols: &[u64],
-    width: u16,
+    of: Shape,
+    words: Vec<u64, A>,
 ) -> Result<WaveletMatrix<A>, AllocError>
-    requires some { 1 ≤ width }
-    requires few { width ≤ 64 }
-    ensures width { IfOk result (λ w. w.width ≡ width) }
-    ensures items { IfOk result (λ w. w.items ≡ low_symbols symbols.now width) }
+    requires { IsWhole SYMBOL_LISTS of.count of.width words.items }
+    ensures { IfOk result (λ v. (length v.items ≡ of.count) × (v.width ≡ of.width)
+        × (limbs (pack v.items v.width) ≡ words.items) × All (λ y. y < 2 ^ v.width) v.items) }
 {
-    if width <= COUNTED_WIDTH {
-        WaveletMatrix::from_slice_pc(alloc, symbols, width)
-    } else {
-        WaveletMatrix::from_slice(alloc, symbols, width)
-    }
+    let symbols = symbols_of(of, words)?;
+    WaveletMatrix::from_slice(alloc, symbols.as_slice(), of.width as u16)
+}
+
+// Returns the matrix of the symbols of at most 8 bits in words.
+fn matrix_of_bytes<A: Allocator + Copy>(
+    alloc: A,
+    of: Shape,
+    words: Vec<u64, A>,
+) -> Result<WaveletMatrix<A>, AllocError>
+    requires whole { IsWhole SYMBOL_LISTS of.count of.width words.items }
+    requires few { of.width ≤ 8 }
+    ensures { IfOk result (λ v. (length v.items ≡ of.count) × (v.width ≡ of.width)
+        × (limbs (pack v.items v.width) ≡ words.items) × All (λ y. y < 2 ^ v.width) v.items) }
+{
+    let bytes = bytes_of(of, words)?;
+    WaveletMatrix::from_integers(alloc, bytes.as_slice(), of.width as u16)
 }
 
 #[tactic(auto, using(crate::proofs::SymbolLists::symbols))]
@@ -235,8 +274,12 @@ impl<A: Allocator + Copy> Loaded<A> for WaveletMatrix<A> {
 
     fn make(of: Shape, held: &mut Vec<u64, A>) -> Result<Self, AllocError> {
         let alloc = *held.allocator();
-        let symbols = symbols_of(of, taken(held))?;
-        matrix_of(alloc, symbols.as_slice(), of.width as u16)
+        let words = taken(held);
+        if of.width <= 8 {
+            matrix_of_bytes(alloc, of, words)
+        } else {
+            matrix_of(alloc, of, words)
+        }
     }
 
     ghost tells = { symbols_tell };

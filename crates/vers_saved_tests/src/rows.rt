@@ -1,7 +1,8 @@
 //! Stored forms, loaded and saved again, with each byte flipped and each cut.
 use crate::stored::{
-    BITS, DESCENDING, EQUAL_DOCUMENTS, HOSTILE, NO_BITS, NO_LENGTH, NOT_OURS, OTHER_VERSION,
-    PADDING, POSTINGS, SORTED, SPARSE, SYMBOLS, TOO_LONG, VALUES, WIDE_SYMBOLS,
+    BITS, BYTE_SYMBOLS, DESCENDING, EQUAL_DOCUMENTS, HOSTILE, NINE_BIT_SYMBOLS, NO_BITS, NO_LENGTH,
+    NOT_OURS, OTHER_VERSION, PADDING, POSTINGS, SORTED, SPARSE, SYMBOLS, TOO_LONG, VALUES,
+    WIDE_SYMBOLS,
 };
 use postings::Postings;
 use std::alloc::{AllocError, Allocator, Global};
@@ -169,6 +170,8 @@ fn documents(rt: HostRuntime) {
 #[test]
 fn symbols(rt: HostRuntime) {
     assert!(rt; is_kept::<WaveletMatrix<Global>>(rt.alloc(), &SYMBOLS));
+    assert!(rt; is_kept::<WaveletMatrix<Global>>(rt.alloc(), &BYTE_SYMBOLS));
+    assert!(rt; is_kept::<WaveletMatrix<Global>>(rt.alloc(), &NINE_BIT_SYMBOLS));
     assert!(rt; is_kept::<WaveletMatrix<Global>>(rt.alloc(), &WIDE_SYMBOLS));
 }
 

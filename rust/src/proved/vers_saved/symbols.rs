@@ -104,26 +104,49 @@ fn unpacked<A: Allocator + Copy>(bits: &BitVec<A>, width: usize) -> Result<Vec<u
     Ok(numbers)
 }
 
+// Returns the numbers of at most 8 bits each in a list of bits, one after another.
+fn unpacked_bytes<A: Allocator + Copy>(
+    bits: &BitVec<A>,
+    width: usize,
+) -> Result<Vec<u8, A>, AllocError> {
+    let count = bits.len() / width;
+    let mut numbers = Vec::with_capacity(bits.allocator(), count)?;
+    for e in 0..count {
+        numbers.push(bits.unpack_element_unchecked(e, width) as u8)?;
+    }
+    Ok(numbers)
+}
+
 // Returns the symbols in words.
 fn symbols_of<A: Allocator + Copy>(of: Shape, words: Vec<u64, A>) -> Result<Vec<u64, A>, AllocError> {
     let bits = bits_of(&SYMBOL_LISTS, of, words);
     unpacked(&bits, of.width)
 }
 
-/// The greatest width at which symbols are counted by their prefixes; wider ones are sorted.
-const COUNTED_WIDTH: u16 = 8;
+// Returns the symbols of at most 8 bits in words, as bytes.
+fn bytes_of<A: Allocator + Copy>(of: Shape, words: Vec<u64, A>) -> Result<Vec<u8, A>, AllocError> {
+    let bits = bits_of(&SYMBOL_LISTS, of, words);
+    unpacked_bytes(&bits, of.width)
+}
 
-// Returns the matrix of symbols of a width, by the constructor that is faster for it.
+// Returns the matrix of the symbols in words.
 fn matrix_of<A: Allocator + Copy>(
     alloc: A,
-    symbols: &[u64],
-    width: u16,
+    of: Shape,
+    words: Vec<u64, A>,
 ) -> Result<WaveletMatrix<A>, AllocError> {
-    if width <= COUNTED_WIDTH {
-        WaveletMatrix::from_slice_pc(alloc, symbols, width)
-    } else {
-        WaveletMatrix::from_slice(alloc, symbols, width)
-    }
+    let symbols = symbols_of(of, words)?;
+    WaveletMatrix::from_slice(alloc, symbols.as_slice(), of.width as u16)
+}
+
+// Returns the matrix of the symbols of at most 8 bits in words.
+fn matrix_of_bytes<A: Allocator + Copy>(
+    alloc: A,
+    of: Shape,
+    words: Vec<u64, A>,
+) -> Result<WaveletMatrix<A>, AllocError> {
+    let bytes = bytes_of(of, words)?;
+    WaveletMatrix::from_integers(alloc, bytes.as_slice(), of.width as u16)
 }
 
 impl<A: Allocator + Copy> Saved for WaveletMatrix<A> {
@@ -161,7 +184,11 @@ impl<A: Allocator + Copy> Saved for WaveletMatrix<A> {
 impl<A: Allocator + Copy> Loaded<A> for WaveletMatrix<A> {
     fn make(of: Shape, held: &mut Vec<u64, A>) -> Result<Self, AllocError> {
         let alloc = *held.allocator();
-        let symbols = symbols_of(of, taken(held))?;
-        matrix_of(alloc, symbols.as_slice(), of.width as u16)
+        let words = taken(held);
+        if of.width <= 8 {
+            matrix_of_bytes(alloc, of, words)
+        } else {
+            matrix_of(alloc, of, words)
+        }
     }
 }

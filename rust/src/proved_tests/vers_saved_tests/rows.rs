@@ -2,8 +2,9 @@
 
 use crate::rattle::prelude::*;
 use crate::proved_tests::vers_saved_tests::stored::{
-    BITS, DESCENDING, EQUAL_DOCUMENTS, HOSTILE, NO_BITS, NO_LENGTH, NOT_OURS, OTHER_VERSION,
-    PADDING, POSTINGS, SORTED, SPARSE, SYMBOLS, TOO_LONG, VALUES, WIDE_SYMBOLS,
+    BITS, BYTE_SYMBOLS, DESCENDING, EQUAL_DOCUMENTS, HOSTILE, NINE_BIT_SYMBOLS, NO_BITS, NO_LENGTH,
+    NOT_OURS, OTHER_VERSION, PADDING, POSTINGS, SORTED, SPARSE, SYMBOLS, TOO_LONG, VALUES,
+    WIDE_SYMBOLS,
 };
 use crate::proved::postings::Postings;
 use crate::rattle::AllocError;
@@ -170,6 +171,8 @@ fn documents() {
 fn symbols() {
     let rt = HostRuntime;
     assert!(is_kept::<WaveletMatrix<Global>>(rt.alloc(), &SYMBOLS));
+    assert!(is_kept::<WaveletMatrix<Global>>(rt.alloc(), &BYTE_SYMBOLS));
+    assert!(is_kept::<WaveletMatrix<Global>>(rt.alloc(), &NINE_BIT_SYMBOLS));
     assert!(is_kept::<WaveletMatrix<Global>>(rt.alloc(), &WIDE_SYMBOLS));
 }
 

@@ -1,0 +1,86 @@
+//! Builds the text index of each file, and counts patterns: `text_files SIZE FILE..`, of a file its first SIZE bytes that
+//! aren't 0. `fibonacci` is a Fibonacci word, and no file. Each line has the file, the number of symbols, the nanoseconds
+//! a symbol of a build, those of a count of 16 symbols, the bytes a symbol of the index, and the sum of the counts.
+
+use std::time::Instant;
+use vers_vecs::text::TextIndex;
+
+const PATTERNS: usize = 10_000;
+const LENGTH: usize = 16;
+
+/// The generator splitmix64.
+struct Random(u64);
+
+impl Random {
+    fn below(&mut self, bound: u64) -> u64 {
+        self.0 = self.0.wrapping_add(0x9E37_79B9_7F4A_7C15);
+        let z = (self.0 ^ (self.0 >> 30)).wrapping_mul(0xBF58_476D_1CE4_E5B9);
+        let z = (z ^ (z >> 27)).wrapping_mul(0x94D0_49BB_1331_11EB);
+        (z ^ (z >> 31)) % bound
+    }
+}
+
+fn fibonacci(size: usize) -> Vec<u8> {
+    let (mut text, mut before) = (b"a".to_vec(), b"b".to_vec());
+    while text.len() < size {
+        let next = [&text[..], &before].concat();
+        before = std::mem::replace(&mut text, next);
+    }
+    text
+}
+
+fn text_of(name: &str, size: usize) -> std::io::Result<Vec<u8>> {
+    let mut text = if name == "fibonacci" {
+        fibonacci(size)
+    } else {
+        std::fs::read(name)?
+    };
+    text.retain(|it| *it != 0);
+    text.truncate(size);
+    Ok(text)
+}
+
+/// Returns the least time of three runs, in nanoseconds, and what the last one returned.
+fn timed<T>(mut run: impl FnMut() -> T) -> (f64, T) {
+    let mut least = f64::INFINITY;
+    let mut last = None;
+    for _ in 0..3 {
+        drop(last.take());
+        let start = Instant::now();
+        last = Some(run());
+        least = least.min(start.elapsed().as_secs_f64() * 1e9);
+    }
+    (least, last.expect("three runs"))
+}
+
+fn main() -> Result<(), Box<dyn std::error::Error>> {
+    let mut arguments = std::env::args().skip(1);
+    let size = arguments
+        .next()
+        .ok_or("usage: text_files SIZE FILE..")?
+        .parse()?;
+    for name in arguments {
+        let text = text_of(&name, size)?;
+        let (build, index) = timed(|| TextIndex::from_bytes(&text, 8).expect("memory"));
+        let mut random = Random(7);
+        let patterns: Vec<Vec<u64>> = (0..PATTERNS)
+            .map(|_| random.below((text.len() - LENGTH) as u64) as usize)
+            .map(|at| {
+                text[at..at + LENGTH]
+                    .iter()
+                    .map(|it| u64::from(*it))
+                    .collect()
+            })
+            .collect();
+        let (count, sum) = timed(|| patterns.iter().map(|it| index.count(it)).sum::<usize>());
+        let (symbols, bytes) = (text.len() as f64, index.heap_size() as f64);
+        println!(
+            "{name}\t{}\t{:.1}\t{:.0}\t{:.2}\t{sum}",
+            text.len(),
+            build / symbols,
+            count / PATTERNS as f64,
+            bytes / symbols
+        );
+    }
+    Ok(())
+}
