@@ -13,9 +13,13 @@ mod batch;
 mod codes;
 mod exports;
 mod handle;
+mod heap;
 mod kept;
 mod queries;
 mod quick;
+
+#[global_allocator]
+static HEAP: heap::Heap = heap::Heap;
 
 #[path = "../../../rust/src/proved/mod.rs"]
 #[rustfmt::skip]
