@@ -1,6 +1,6 @@
 //! Structures in files.
 use crate::lines::{fail, say_waiting, status};
-use std::fs::File;
+use std::fs::{self, File};
 use std::process::ExitCode;
 use vers_cli::Device;
 use vers_files::{
@@ -79,7 +79,13 @@ pub fn save(rt: &HostRuntime, path: &str) -> ExitCode {
         Err(LoadError::Memory) => return fail(rt, "out of memory"),
         Err(_) => return fail(rt, "the line can't be read"),
     };
-    let Ok(beside) = format!(in rt.alloc(); "{path}.new") else {
+    // A link leads to the file that is replaced.
+    let resolved = fs::canonicalize(rt, path);
+    let file = match &resolved {
+        Ok(file) => file.as_path().as_str(),
+        Err(_) => path,
+    };
+    let Ok(beside) = format!(in rt.alloc(); "{file}.new") else {
         return fail(rt, "out of memory");
     };
     let line = match input.as_slice() {
@@ -88,7 +94,7 @@ pub fn save(rt: &HostRuntime, path: &str) -> ExitCode {
     };
     let mut place = FilePlace {
         files: rt,
-        path,
+        path: file,
         beside: beside.as_str(),
     };
     match save_to(rt.alloc(), line, &mut place) {

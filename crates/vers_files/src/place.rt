@@ -79,8 +79,16 @@ impl<R: Files<File = File>> Place for FilePlace<'_, R> {
 
     ghost settled = { λ _. None };
 
+    // The temporary file has the permissions of the file that it replaces.
     fn begin(&mut self) -> io::Result<File> {
-        File::create_new(self.files, self.beside)
+        let beside = File::create_new(self.files, self.beside)?;
+        if let Ok(replaced) = fs::metadata(self.files, self.path) {
+            if let Err(error) = beside.set_permissions(replaced.permissions()) {
+                self.leave();
+                return Err(error);
+            }
+        }
+        Ok(beside)
     }
 
     fn sync(&mut self, beside: &File) -> io::Result<()> {
