@@ -77,8 +77,8 @@ to_le_bytes trailing_ones trailing_zeros unwrap unwrap_or wrapping_add wrapping_
 write_usize""".split())
 # Those that programs call besides.
 PROGRAM_METHODS = set("""as_chunks as_str cast_signed cast_unsigned chain checked_add_unsigned checked_sub_unsigned
-copied discard into_box into_owner is_ascii_digit position read_all replace shrink_to sync_all take then_some
-unsigned_abs""".split())
+copied discard into_box into_owner is_ascii_digit permissions position read_all replace set_permissions shrink_to
+sync_all take then_some unsigned_abs""".split())
 # A method that takes a list of Rust's own there, and the one of the support module that takes a list of Rattle's.
 RENAMED = {"read_to_end": "read_all"}
 

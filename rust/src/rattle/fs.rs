@@ -45,6 +45,11 @@ impl File {
         fs::OpenOptions::new().write(true).create_new(true).open(path).map(File)
     }
 
+    /// Replaces its permissions.
+    pub fn set_permissions(&self, permissions: fs::Permissions) -> io::Result<()> {
+        self.0.set_permissions(permissions)
+    }
+
     /// Waits until the file is on its disk.
     pub fn sync_all(&self) -> io::Result<()> {
         self.0.sync_all()
@@ -59,6 +64,11 @@ impl Write for File {
     fn flush(&mut self) -> io::Result<()> {
         self.0.flush()
     }
+}
+
+/// Returns what the system says of a file.
+pub fn metadata<R: Files<File = File>>(_files: &R, path: &str) -> io::Result<fs::Metadata> {
+    fs::metadata(path)
 }
 
 /// Renames a file.
