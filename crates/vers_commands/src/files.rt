@@ -44,11 +44,7 @@ pub fn describe(rt: &HostRuntime, path: &str) -> ExitCode {
     let Ok(mut file) = File::open(rt, path) else {
         return fail_about(rt, path, CANNOT_OPEN);
     };
-    let shown = match read(rt.alloc(), &mut file) {
-        Ok(bytes) => show(rt.alloc(), bytes.as_slice()),
-        Err(fault) => Err(fault),
-    };
-    match shown {
+    match show(rt.alloc(), &mut file) {
         Ok(list) => print_shown(rt, &list),
         Err(fault) => fail_about(rt, path, fault_line(&fault)),
     }

@@ -1,13 +1,15 @@
 //! Descriptions of the lists of files.
-ghost use Rattle.std.specs.Prelude.{◌≡◌, length, IfOk, IfErr, ◌⊎◌, Some, None};
+ghost use Rattle.std.specs.Prelude.{◌≡◌, length, IfOk, IfErr, IfSome, None};
 ghost use Rattle.vers_cli.specs.Holding.{Holding, holding_of, length_of};
-ghost use Rattle.vers_files.specs.Forms.{saved_form, Fits, HasForm, form_fault};
+ghost use Rattle.vers_files.specs.Forms.{saved_form, HasForm, IsFormOf, IsNoForm};
 ghost use Rattle.vers_files.specs.Shown.{kind_text, width_of};
 
-use crate::loading::load;
+use crate::loading::load_file;
 use std::alloc::Allocator;
+use std::io::Read;
 use vers_cli::Held;
 use vers_saved::fault::LoadError;
+use vers_saved::saved::saved_size;
 
 /// A description of the list of a file.
 #[derive(Clone, Copy, Drop)]
@@ -52,17 +54,39 @@ fn width_of<A: Allocator + Copy>(held: &Held<'_, A>) -> u64
     }
 }
 
-/// Returns the description of the list in a saved form. Errors as for `load`.
-pub fn show<A: Allocator + Copy>(alloc: A, bytes: &[u8]) -> Result<Shown, LoadError>
-    ensures shown { IfOk result (λ shown. (held : Holding) × (bytes.now ≡ saved_form held) × HasForm held × Fits held
-        × (shown.kind.now ≡ kind_text held) × (shown.len ≡ length_of held)
-        × (shown.width ≡ width_of held) × (shown.bytes ≡ length bytes.now)) }
-    ensures refused { IfErr result (λ e. (form_fault bytes.now ≡ Some e)
-        ⊎ ((e ≡ LoadError.Memory) × (form_fault bytes.now ≡ None))) }
+// Returns the number of bytes of the saved form of the current structure, or `None` if it has none.
+fn size_of<A: Allocator + Copy>(held: &Held<'_, A>) -> Option<usize>
+    ensures size { IfSome result (λ size. size ≡ length (saved_form (holding_of held.now))) }
+    ensures none { result ≡ None → ¬ HasForm (holding_of held.now) }
 {
-    match load(&alloc, bytes) {
+    match held {
+        Held::Nothing => None,
+        Held::Bits(bits) => saved_size(bits),
+        Held::Sorted(members) => saved_size(members),
+        Held::Sparse(bits) => saved_size(bits),
+        Held::Values(values) => saved_size(values),
+        Held::Tree(tree) => saved_size(&**tree),
+        Held::Symbols(symbols) => saved_size(symbols),
+        Held::Postings(posted) => saved_size(posted),
+    }
+}
+
+/// Returns the description of the list in a saved form, the rest of a reader. It is read by blocks, at most one
+/// byte past the end that its head says.
+///
+/// # Errors
+///
+/// Those of `load_file`.
+pub fn show<A: Allocator + Copy, F: Read>(alloc: A, file: &mut F) -> Result<Shown, LoadError>
+    ensures shown { IfOk result (λ shown. (held : Holding) × IsFormOf (F.remaining file.old) held
+        × (shown.kind.now ≡ kind_text held) × (shown.len ≡ length_of held)
+        × (shown.width ≡ width_of held) × (shown.bytes ≡ length (saved_form held))) }
+    ensures refused { IfErr result (λ e. IsNoForm (F.remaining file.old) e) }
+{
+    match load_file(&alloc, file) {
         Ok(store) => {
-            let shown = told_of(store.held(), bytes.len() as u64);
+            let bytes = size_of(store.held()).unwrap_or(0);
+            let shown = told_of(store.held(), bytes as u64);
             // (by a call, so that the proof of this function doesn't go through the fields)
             drop(store);
             Ok(shown)

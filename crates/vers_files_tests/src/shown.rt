@@ -6,7 +6,8 @@ use vers_saved::fault::LoadError;
 
 // Returns true if a file has this description: its kind, length and width.
 fn is_shown(alloc: Global, file: &[u8], kind: &str, len: u64, width: u64) -> bool {
-    match show(alloc, file) {
+    let mut reader = file;
+    match show(alloc, &mut reader) {
         Ok(list) => {
             list.kind == kind
                 && list.len == len
@@ -27,5 +28,18 @@ fn files_are_shown(rt: HostRuntime) {
     assert!(rt; is_shown(alloc, &SYMBOLS, "symbols", 3, 3));
     assert!(rt; is_shown(alloc, &TREE, "tree", 6, 512));
     assert!(rt; is_shown(alloc, &POSTINGS, "postings", 3, 128));
-    assert!(rt; show(alloc, &OTHER_KIND).err() == Some(LoadError::OtherKind));
+}
+
+// Returns the error in a file that is described.
+fn fault_of(alloc: Global, file: &[u8]) -> Option<LoadError> {
+    let mut reader = file;
+    show(alloc, &mut reader).err()
+}
+
+#[test]
+fn other_files_are_not_shown(rt: HostRuntime) {
+    let alloc = rt.alloc();
+    assert!(rt; fault_of(alloc, &OTHER_KIND) == Some(LoadError::OtherKind));
+    assert!(rt; fault_of(alloc, &BITS[..55]) == Some(LoadError::TooShort));
+    assert!(rt; fault_of(alloc, &[0; 48]) == Some(LoadError::NotOurs));
 }

@@ -1,5 +1,5 @@
 use Rattle.std.proofs.Common.{◌≡◌, ◌∙◌, Some, ap}
-use Rattle.vers_cli.specs.Holding.{Holding, SymbolsHeld}
+use Rattle.vers_cli.specs.Holding.{SymbolsHeld}
 use Rattle.vers_files.specs.Forms.{saved_form}
 use Rattle.vers_files.proofs.Named.{only_symbols}
 use Rattle.vers_files.proofs.loading.load_numbered.Goals as goal
