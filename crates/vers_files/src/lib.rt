@@ -13,7 +13,7 @@ mod texts;
 
 pub use asking::ask;
 pub use cut::symbols_cut;
-pub use loading::{fault_line, load, load_file, read};
+pub use loading::{fault_line, load_file, read};
 pub use place::{FilePlace, Place};
 pub use saving::{SaveFault, save, save_line, save_to};
 pub use showing::{Shown, show};

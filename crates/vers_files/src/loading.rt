@@ -1,20 +1,18 @@
 //! Loading files into stores.
-ghost use Rattle.std.specs.Prelude.{◌≡◌, Bool, List, ℕ, ◌⊎◌, Err, IfOk, IfErr, IfSome, MatchResult, Some, None};
+ghost use Rattle.std.specs.Prelude.{◌≡◌, Bool, List, ℕ, ◌⊎◌, Err, IfOk, IfErr, IfSome, MatchResult, Some};
 ghost use Rattle.vers_saved.specs.Format.{bytes_word};
-ghost use Rattle.vers_saved.specs.Faults.{fault_of};
 ghost use Rattle.vers_saved.specs.Kinds.{tree_kind};
 ghost use Rattle.vers_saved.specs.Streams.{IsRefused};
 ghost use Rattle.vers_cli.specs.Holding.{Holding, TreeHeld};
-ghost use Rattle.vers_files.specs.Forms.{saved_form, HasForm, Fits, form_fault, kind_numbered, number_of_kind, IsFormOf, IsNoForm, fault_text};
+ghost use Rattle.vers_files.specs.Forms.{saved_form, HasForm, Fits, kind_numbered, number_of_kind, IsFormOf, IsNoForm, fault_text};
 
 use std::alloc::Allocator;
 use std::io::{ErrorKind, Read};
 use vers_cli::{Held, Source, Store};
 use vers_saved::fault::LoadError;
 use vers_saved::kind::{PARENTHESES, POSTINGS, SORTED, SPARSE, SYMBOLS, VALUES};
-use vers_saved::saved::load_from_slice;
 use vers_saved::stream::{fill, load as load_list};
-use vers_saved::trees::{load_tree, load_tree_from_slice};
+use vers_saved::trees::load_tree;
 
 // Returns the word of eight bytes.
 #[tactic(auto, unfolding(vers_saved::specs::Format::bytes_word))]
@@ -61,39 +59,6 @@ fn boxed<T: Drop, A: Allocator>(
     }
 }
 
-// Loads a list of the kind with a number: a tree by one function, and all others by another.
-macro_rules! stored_by_kind {
-    ($alloc:expr, $number:expr, $list:expr, $tree:expr) => {
-        match $number {
-            SORTED => stored!($alloc, $list, Held::Sorted),
-            SYMBOLS => stored!($alloc, $list, Held::Symbols),
-            SPARSE => stored!($alloc, $list, Held::Sparse),
-            VALUES => stored!($alloc, $list, Held::Values),
-            PARENTHESES => $tree,
-            POSTINGS => stored!($alloc, $list, Held::Postings),
-            _ => stored!($alloc, $list, Held::Bits),
-        }
-    };
-}
-
-// Loads a tree from its saved form, as a store.
-fn tree_of_slice<'a, A: Allocator + Copy>(
-    alloc: &'a A,
-    bytes: &[u8],
-) -> Result<Store<'a, A>, LoadError>
-    ensures loaded { IfOk result (λ held. (bytes.now ≡ saved_form held) × HasForm held × Fits held) }
-    ensures refused { IfErr result (λ e. (fault_of (tree_kind 512) bytes.now ≡ Some e)
-        ⊎ ((e ≡ LoadError.Memory) × (fault_of (tree_kind 512) bytes.now ≡ None))) }
-    ensures back { (x : List Bool) → HasForm (TreeHeld x) → bytes.now ≡ saved_form (TreeHeld x)
-        → MatchResult result (λ held. held ≡ TreeHeld x) (λ e. e ≡ LoadError.Memory) }
-{
-    stored!(
-        alloc,
-        boxed(alloc, load_tree_from_slice(alloc, bytes)),
-        Held::Tree
-    )
-}
-
 // Loads a tree from its saved form, the rest of a reader, as a store.
 fn tree_of_reader<'a, A: Allocator + Copy, R: Source>(
     alloc: &'a A,
@@ -109,27 +74,6 @@ fn tree_of_reader<'a, A: Allocator + Copy, R: Source>(
     stored!(alloc, boxed(alloc, load_tree(alloc, reader)), Held::Tree)
 }
 
-/// Loads a list from its saved form, as a store.
-///
-/// # Errors
-///
-/// That of the bytes as a form of the kind that they name; `Memory` if the allocator refuses a request.
-#[tactic(auto, using(crate::proofs::Numbered::kinds, crate::proofs::Named::numbers))]
-pub fn load<'a, A: Allocator + Copy>(alloc: &'a A, bytes: &[u8]) -> Result<Store<'a, A>, LoadError>
-    ensures loaded { IfOk result (λ held. (bytes.now ≡ saved_form held) × HasForm held × Fits held) }
-    ensures refused { IfErr result (λ e. (form_fault bytes.now ≡ Some e)
-        ⊎ ((e ≡ LoadError.Memory) × (form_fault bytes.now ≡ None))) }
-    ensures back { (x : Holding) → HasForm x → Fits x → bytes.now ≡ saved_form x
-        → MatchResult result (λ held. held ≡ x) (λ e. e ≡ LoadError.Memory) }
-{
-    stored_by_kind!(
-        alloc,
-        number_of_kind(bytes),
-        load_from_slice(*alloc, bytes),
-        tree_of_slice(alloc, bytes)
-    )
-}
-
 // Loads a list of the kind with a number from its saved form, the rest of a reader, as a store.
 #[tactic(auto, using(crate::proofs::Numbered::kinds, crate::proofs::Named::numbers))]
 fn load_numbered<'a, A: Allocator + Copy, R: Source>(
@@ -143,12 +87,15 @@ fn load_numbered<'a, A: Allocator + Copy, R: Source>(
         → R.remaining reader.old ≡ Some (saved_form x)
         → MatchResult result (λ held. held ≡ x) (λ e. (e ≡ LoadError.Read) ⊎ (e ≡ LoadError.Memory)) }
 {
-    stored_by_kind!(
-        alloc,
-        number,
-        load_list(*alloc, reader),
-        tree_of_reader(alloc, reader)
-    )
+    match number {
+        SORTED => stored!(alloc, load_list(*alloc, reader), Held::Sorted),
+        SYMBOLS => stored!(alloc, load_list(*alloc, reader), Held::Symbols),
+        SPARSE => stored!(alloc, load_list(*alloc, reader), Held::Sparse),
+        VALUES => stored!(alloc, load_list(*alloc, reader), Held::Values),
+        PARENTHESES => tree_of_reader(alloc, reader),
+        POSTINGS => stored!(alloc, load_list(*alloc, reader), Held::Postings),
+        _ => stored!(alloc, load_list(*alloc, reader), Held::Bits),
+    }
 }
 
 /// Returns all bytes that a reader has left.
@@ -176,7 +123,8 @@ const NAMED: usize = 24;
 ///
 /// # Errors
 ///
-/// Those of `load`; `Read` if the reader fails.
+/// That of the bytes as a form of the kind that they name; `Memory` if the allocator refuses a request; `Read` if
+/// the reader fails.
 pub fn load_file<'a, A: Allocator + Copy, F: Read>(
     alloc: &'a A,
     file: &mut F,
