@@ -329,6 +329,7 @@ fn texts_of_narrow_symbols_have_their_places() {
     for (width, step) in [(8, 0), (0, 2), (17, 2), (7, 2)] {
         refused(REFUSED, |it| vers_text_build_bytes(Global, &bytes, width, step, it));
     }
+    refused(REFUSED, |it| vers_text_build_bytes(Global, &[127, 128], 7, 2, it));
     for (width, step) in [(16, 0), (0, 2), (17, 2), (15, 2)] {
         refused(REFUSED, |it| vers_text_build_u16s(Global, &shorts, width, step, it));
     }
