@@ -48,6 +48,7 @@ TABLES = {
     "Blocks.masks": "Vec<BlockMasks, A>", "ByteTables.forward": "[u64; 256]", "ByteTables.backward": "[u64; 256]",
     "ChunkWalk.offsets": "[u8; CHUNK]", "SliceNumbers.rest": "&'a [u64]", "Parts.high": "BitVec<A>",
     "Parts.low": "BitVec<A>",
+    "AllOf.others": "Vec<S, A>", "AnyOf.others": "Vec<S, A>",
     "Asked.numbers": "[usize; GROUP]", "Group.slots": "[usize; GROUP]",
 }
 # The calls that bodies have to make: public calls those of their kernels, and kernels those that make them kernels.

@@ -21,6 +21,7 @@ TITLES = {
     "vers_wavelet": "Lists of symbols",
     "vers_rmq": "Range minima",
     "vers_trees": "Trees of parentheses",
+    "sets": "Sets of numbers",
     "postings": "Documents with costs",
     "vers_saved": "Saved forms",
     "text_index": "Texts",

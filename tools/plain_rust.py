@@ -19,10 +19,10 @@ from sources import read as read_text
 
 RUST = "rust/src"
 # The crates: each becomes a module of `proved`, and each crate of tests a module of `proved_tests`.
-CRATES = """vers_bits vers_tally vers_rank vers_sorted vers_rmq vers_wavelet vers_trees postings text_index
+CRATES = """vers_bits vers_tally vers_rank vers_sorted vers_rmq vers_wavelet vers_trees postings text_index sets
 vers_saved""".split()
 TESTS = """test_alloc vers_bits_tests vers_rank_tests vers_sorted_tests vers_rmq_tests vers_wavelet_tests
-vers_trees_tests postings_tests text_index_tests vers_saved_tests""".split()
+vers_trees_tests postings_tests text_index_tests sets_tests vers_saved_tests""".split()
 # The programs as libraries, the exports to C, and their tests: written only for the build of wrong bodies
 # (tools/mutants.py).
 PROGRAMS = "vers_words vers_engine vers_cli vers_texts vers_files vers_vecs vers_uses vers_c".split()

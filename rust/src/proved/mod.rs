@@ -11,4 +11,5 @@ pub mod vers_wavelet;
 pub mod vers_trees;
 pub mod postings;
 pub mod text_index;
+pub mod sets;
 pub mod vers_saved;

@@ -11,4 +11,5 @@ pub mod vers_wavelet_tests;
 pub mod vers_trees_tests;
 pub mod postings_tests;
 pub mod text_index_tests;
+pub mod sets_tests;
 pub mod vers_saved_tests;

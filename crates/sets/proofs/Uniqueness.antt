@@ -1,0 +1,104 @@
+-- A set is one list.
+use Rattle.std.proofs.Common.{◌≡◌, ℕ, suc, ◌<◌, ◌≤◌, Bool, true, false, List, [], ◌∷◌, refl, sym, ap, ◌∙◌, inl, inr, arith}
+use Rattle.std.specs.Prelude.{◌&&◌, not, filter}
+use Rattle.std.specs.List.Sorted.{IsStrictlyIncreasing}
+use Rattle.std.proofs.lemmas.Bool.{cases_lt, eq-eqb, ne_eqb}
+use Rattle.std.proofs.Math.Bool.{and-false}
+use Rattle.std.proofs.lemmas.List.Kept.{AllPairs-from_increasing, IsStrictlyIncreasing-filter}
+use Rattle.std.specs.List.{AllPairs}
+use Rattle.sets.specs.Sets.{is_member, IsSetOf, in_both, in_first_alone}
+use Rattle.sets.specs.Laws.{SetIsOneList, IntersectionIsFilter, DifferenceIsFilter}
+use Rattle.sets.proofs.Lists.{not_member}
+
+-- each number is below all later ones
+abbrev Rising : List ℕ → Type 0
+Rising xs = AllPairs (λ x y. x < y) xs
+
+rising_tail : (x : ℕ) (xs : List ℕ) → Rising (x ∷ xs) → Rising xs
+rising_tail x xs up i j d before inside = up (suc i) (suc j) d (omega arith) (omega arith)
+
+member_head : (y : ℕ) (ys : List ℕ) (x : ℕ) → y ≡ x → is_member (y ∷ ys) x ≡ true
+unfolding is_member
+member_head y ys x same = rw (eq-eqb y x same) refl
+
+member_tail : (y : ℕ) (ys : List ℕ) (x : ℕ) → (y ≡ x → ⊥) → is_member (y ∷ ys) x ≡ is_member ys x
+unfolding is_member
+member_tail y ys x apart = rw (ne_eqb y x apart) refl
+
+-- what is not above the first of a rising list isn't among the others
+not_later : (x : ℕ) (xs : List ℕ) (z : ℕ) → Rising (x ∷ xs) → z ≤ x → is_member xs z ≡ false
+not_later x xs z up upto = not_member xs z (λ j inside same. omega (arith, same, upto, up 0 (suc j) 0 (omega arith) (omega (arith, inside))))
+
+-- what is below the first isn't a member
+not_before : (x : ℕ) (xs : List ℕ) (z : ℕ) → Rising (x ∷ xs) → z < x → is_member (x ∷ xs) z ≡ false
+not_before x xs z up less = member_tail x xs z (λ same. omega (arith, same, less)) ∙ not_later x xs z up (omega (arith, less))
+
+no_member : (z : ℕ) → is_member [] z ≡ false
+unfolding is_member
+no_member z = refl
+
+true-false : {A : Type 0} → true ≡ false → A
+true-false e = cc
+
+one_list : (xs ys : List ℕ) → Rising xs → Rising ys → ((z : ℕ) → is_member xs z ≡ is_member ys z) → xs ≡ ys
+one_list [] [] up upper same = refl
+one_list [] (y ∷ ys) up upper same = true-false (sym (member_head y ys y refl) ∙ sym (same y) ∙ no_member y)
+one_list (x ∷ xs) [] up upper same = true-false (sym (member_head x xs x refl) ∙ same x ∙ no_member x)
+one_list (x ∷ xs) (y ∷ ys) up upper same =
+    elim (cases_lt x y) [
+      | inl less ↦ true-false (sym (member_head x xs x refl) ∙ same x ∙ not_before y ys x upper less)
+      | inr more ↦ elim (cases_lt y x) [
+        | inl less ↦ true-false (sym (member_head y ys y refl) ∙ sym (same y) ∙ not_before x xs y up less)
+        | inr upto ↦
+            let equal : x ≡ y = omega (arith, more, upto) in
+            let tails : xs ≡ ys = one_list xs ys (rising_tail x xs up) (rising_tail y ys upper) (λ z. tail_same x y xs ys up upper equal same z) in
+            rw (equal, tails) refl
+      ]
+    ]
+  where
+    tail_same : (x y : ℕ) (xs ys : List ℕ) → Rising (x ∷ xs) → Rising (y ∷ ys) → x ≡ y → ((z : ℕ) → is_member (x ∷ xs) z ≡ is_member (y ∷ ys) z) → (z : ℕ) → is_member xs z ≡ is_member ys z
+    tail_same x y xs ys up upper equal same z = elim (cases_lt x z) [
+      | inl above ↦ sym (member_tail x xs z (λ e. omega (arith, e, above))) ∙ same z ∙ member_tail y ys z (λ e. omega (arith, e, above, equal))
+      | inr upto ↦ not_later x xs z up upto ∙ sym (not_later y ys z upper (omega (arith, upto, equal)))
+    ]
+
+pub set_is_one_list : SetIsOneList
+set_is_one_list has xs ys a b = one_list xs ys (AllPairs-from_increasing xs a.ascending) (AllPairs-from_increasing ys b.ascending) (λ z. a.numbers z ∙ sym (b.numbers z))
+
+-- ---- the members that pass a test
+
+member_filter : (p : ℕ → Bool) (xs : List ℕ) (z : ℕ) → is_member (filter p xs) z ≡ is_member xs z && p z
+member_filter p [] z = no_member z ∙ rw (no_member z) refl
+member_filter p (x ∷ xs) z = elim (cases_lt x z) [
+  | inl less ↦ apart x xs (λ e. omega (arith, e, less)) (member_filter p xs z)
+  | inr from ↦ elim (cases_lt z x) [
+    | inl less ↦ apart x xs (λ e. omega (arith, e, less)) (member_filter p xs z)
+    | inr upto ↦ equal x xs (omega (arith, from, upto)) (p x) refl (member_filter p xs z)
+  ]
+]
+  where
+    apart : (x : ℕ) (xs : List ℕ) → (x ≡ z → ⊥) → is_member (filter p xs) z ≡ is_member xs z && p z → is_member (filter p (x ∷ xs)) z ≡ is_member (x ∷ xs) z && p z
+    apart x xs ne rest = rw (member_tail x xs z ne) (either (p x) refl)
+      where
+        either : (b : Bool) → p x ≡ b → is_member (filter p (x ∷ xs)) z ≡ is_member xs z && p z
+        either true e = rw e (member_tail x (filter p xs) z ne ∙ rest)
+        either false e = rw e rest
+
+    equal : (x : ℕ) (xs : List ℕ) → x ≡ z → (b : Bool) → p x ≡ b → is_member (filter p xs) z ≡ is_member xs z && p z → is_member (filter p (x ∷ xs)) z ≡ is_member (x ∷ xs) z && p z
+    equal x xs same true e rest =
+        let passes : p z ≡ true = sym (ap p same) ∙ e in
+        rw (member_head x xs z same, passes, e) (member_head x (filter p xs) z same)
+    equal x xs same false e rest =
+        let fails : p z ≡ false = sym (ap p same) ∙ e in
+        rw (fails, e) (rest ∙ rw (fails, and-false (is_member xs z)) (sym (and-false (is_member (x ∷ xs) z))))
+
+pub filter_is_set : (p : ℕ → Bool) (xs : List ℕ) → IsStrictlyIncreasing xs → IsSetOf (λ z. is_member xs z && p z) (filter p xs)
+filter_is_set p xs up = record { ascending = IsStrictlyIncreasing-filter p xs up; numbers = member_filter p xs }
+
+pub intersection_is_filter : IntersectionIsFilter
+intersection_is_filter one other found up set = set_is_one_list (in_both one other) found (filter (is_member other) one) set (filter_is_set (is_member other) one up)
+
+pub difference_is_filter : DifferenceIsFilter
+difference_is_filter one other found up set = set_is_one_list (in_first_alone one other) found (filter (λ x. not (is_member other x)) one) set (filter_is_set (λ x. not (is_member other x)) one up)
+
+pub ruleset laws = (set_is_one_list, intersection_is_filter, difference_is_filter)

@@ -1,0 +1,18 @@
+-- The laws of sets as ascending lists, as statements.
+use Rattle.std.specs.Prelude.{◌≡◌, ℕ, not, Bool, List, filter}
+use Rattle.std.specs.List.Sorted.{IsStrictlyIncreasing}
+use Rattle.sets.specs.Sets.{is_member, IsSetOf, in_both, in_first_alone}
+
+-- a set is one list
+abbrev pub SetIsOneList : Type 0
+SetIsOneList = (has : ℕ → Bool) (xs ys : List ℕ) → IsSetOf has xs → IsSetOf has ys → xs ≡ ys
+
+-- the intersection with a strictly ascending list is a filter of this list
+abbrev pub IntersectionIsFilter : Type 0
+IntersectionIsFilter = (one other found : List ℕ) → IsStrictlyIncreasing one → IsSetOf (in_both one other) found
+    → found ≡ filter (is_member other) one
+
+-- the difference of a strictly ascending list and another is a filter of this list
+abbrev pub DifferenceIsFilter : Type 0
+DifferenceIsFilter = (one other found : List ℕ) → IsStrictlyIncreasing one → IsSetOf (in_first_alone one other) found
+    → found ≡ filter (λ x. not (is_member other x)) one

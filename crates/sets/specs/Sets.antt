@@ -1,0 +1,33 @@
+-- Ascending lists read as sets: equal elements count once.
+use Rattle.std.specs.Prelude.{◌≡◌, ℕ, ◌==◌, ◌&&◌, ◌||◌, not, Bool, List}
+use Rattle.std.specs.List.{list_all, list_any}
+use Rattle.std.specs.List.Sorted.{IsStrictlyIncreasing}
+
+-- whether x is an element of a list
+unfoldable pub is_member : List ℕ → ℕ → Bool
+is_member members x = list_any (λ m. m == x) members
+
+-- the list ascends strictly, and its elements are exactly the numbers for which `has` is true
+pub record IsSetOf (has : ℕ → Bool) (members : List ℕ) : Type 0 where
+  pub ascending : IsStrictlyIncreasing members
+  pub numbers : (x : ℕ) → is_member members x ≡ has x
+
+-- whether x is in both lists
+abbrev pub in_both : List ℕ → List ℕ → ℕ → Bool
+in_both one other x = is_member one x && is_member other x
+
+-- whether x is in one list or in both
+abbrev pub in_either : List ℕ → List ℕ → ℕ → Bool
+in_either one other x = is_member one x || is_member other x
+
+-- whether x is in the first list and not in the other
+abbrev pub in_first_alone : List ℕ → List ℕ → ℕ → Bool
+in_first_alone one other x = is_member one x && not (is_member other x)
+
+-- whether x is in the first list and in each of the others
+abbrev pub in_all : List ℕ → List (List ℕ) → ℕ → Bool
+in_all first others x = is_member first x && list_all (λ other. is_member other x) others
+
+-- whether x is in at least one list
+abbrev pub in_any : List (List ℕ) → ℕ → Bool
+in_any lists x = list_any (λ members. is_member members x) lists

@@ -1,0 +1,72 @@
+//! An ascending list as a source.
+ghost use Rattle.std.specs.Prelude.{◌≡◌, ℕ, length};
+ghost use Rattle.std.specs.List.Sorted.{IsNonDecreasing};
+ghost use Rattle.vers_tally.specs.Reads.{AddsAtMost};
+ghost use Rattle.vers_sorted.specs.Layout.{member_reads};
+ghost use Rattle.vers_sorted.specs.Sorted.{below, least_not_below};
+ghost use Rattle.sets.specs.Sets.{is_member};
+ghost use Rattle.sets.specs.Steps.{IsStep, PassesOne, Rises};
+ghost use Rattle.sets.specs.Sources.{searched_list};
+
+use crate::seek::Seek;
+use crate::step::Step;
+use std::alloc::Allocator;
+use std::marker::Model;
+use vers_sorted::elias_fano::EliasFanoVec;
+use vers_tally::tally::Tally;
+
+/// The members of an ascending list, as a source. Contracts see it as the list.
+#[derive(Drop)]
+pub struct Cursor<'a, A: Allocator + Copy> {
+    list: &'a EliasFanoVec<A>,
+}
+
+impl<'a, A: Allocator + Copy> Model for Cursor<'a, A> {
+    ghost use Rattle.std.specs.Prelude.{List, ℕ};
+
+    ghost Value = { List ℕ };
+
+    ghost view = { λ cursor. cursor.list.now };
+}
+
+impl<'a, A: Allocator + Copy> Cursor<'a, A> {
+    /// Returns a cursor at the first member of a list.
+    pub fn new(list: &'a EliasFanoVec<A>) -> Self
+        ensures { result ≡ list.now }
+    {
+        Cursor { list }
+    }
+}
+
+impl<'a, A: Allocator + Copy> Seek for Cursor<'a, A> {
+    ghost set = { λ members. searched_list members };
+
+    fn seek_counted(&mut self, at: u64, tally: &mut Tally) -> Step {
+        let next = self.list.successor_counted(at, tally);
+        step_to(self.list, next, tally)
+    }
+}
+
+// Returns the step to a member. The greatest number of 64 bits is the last member, which is read again.
+fn step_to<A: Allocator + Copy>(
+    list: &EliasFanoVec<A>,
+    next: Option<u64>,
+    tally: &mut Tally,
+) -> Step
+    requires { IsNonDecreasing list.now }
+    ensures value { (at : ℕ) → next ≡ least_not_below list.now at
+        → IsStep (is_member list.now) at result }
+    ensures passes { (at : ℕ) → next ≡ least_not_below list.now at
+        → PassesOne (below list.now) at result }
+    ensures rises { Rises (below list.now) (length list.now) }
+    ensures adds { AddsAtMost tally.old tally.new (member_reads list.now) }
+{
+    let Some(member) = next else {
+        return Step::Ended;
+    };
+    if member < u64::MAX {
+        return Step::Found(member);
+    }
+    let last = list.get_counted(list.len().saturating_sub(1), tally);
+    Step::Found(last.unwrap_or(member))
+}

@@ -1,0 +1,119 @@
+//! Operations on ascending lists, as tests need them.
+use sets::{
+    difference, difference_numbers_counted, intersection, intersection_numbers_counted,
+    intersection_of, intersection_of_numbers_counted, union, union_numbers_counted, union_of,
+    union_of_numbers_counted,
+};
+use std::alloc::{AllocError, Allocator};
+use test_alloc::{asked, asked_both};
+use vers_sorted::elias_fano::EliasFanoVec;
+use vers_sorted::order::is_ascending;
+use vers_tally::tally::Tally;
+
+/// Returns the list of these numbers, which ascend.
+pub fn listed<A: Allocator + Copy>(
+    alloc: A,
+    numbers: &[u64],
+) -> Result<EliasFanoVec<A>, AllocError> {
+    if !is_ascending(numbers) {
+        return Err(AllocError);
+    }
+    EliasFanoVec::from_slice(alloc, numbers)
+}
+
+/// Returns true if a list has these members.
+pub fn has_members<A: Allocator + Copy>(list: &EliasFanoVec<A>, wanted: &[u64]) -> bool {
+    for (place, number) in wanted.iter().enumerate() {
+        if list.get(place) != Some(*number) {
+            return false;
+        }
+    }
+    list.len() == wanted.len()
+}
+
+/// An operation on two lists.
+#[derive(Clone, Copy, Drop)]
+pub enum Operation {
+    Intersection,
+    Union,
+    Difference,
+    IntersectionOf,
+    UnionOf,
+}
+
+/// All operations.
+pub const OPERATIONS: [Operation; 5] = [
+    Operation::Intersection,
+    Operation::Union,
+    Operation::Difference,
+    Operation::IntersectionOf,
+    Operation::UnionOf,
+];
+
+/// Returns the result of an operation on two lists.
+pub fn combined<A: Allocator + Copy>(
+    alloc: A,
+    operation: Operation,
+    one: &EliasFanoVec<A>,
+    other: &EliasFanoVec<A>,
+) -> Result<EliasFanoVec<A>, AllocError> {
+    match operation {
+        Operation::Intersection => intersection(alloc, one, other),
+        Operation::Union => union(alloc, one, other),
+        Operation::Difference => difference(alloc, one, other),
+        Operation::IntersectionOf => intersection_of(alloc, one, &[other]),
+        Operation::UnionOf => union_of(alloc, one, &[other]),
+    }
+}
+
+/// Returns the numbers of the counted form.
+pub fn counted<A: Allocator + Copy>(
+    alloc: A,
+    operation: Operation,
+    one: &EliasFanoVec<A>,
+    other: &EliasFanoVec<A>,
+    tally: &mut Tally,
+) -> Result<Vec<u64, A>, AllocError> {
+    match operation {
+        Operation::Intersection => intersection_numbers_counted(alloc, one, other, tally),
+        Operation::Union => union_numbers_counted(alloc, one, other, tally),
+        Operation::Difference => difference_numbers_counted(alloc, one, other, tally),
+        Operation::IntersectionOf => {
+            intersection_of_numbers_counted(alloc, one, &[other], tally)
+        }
+        Operation::UnionOf => union_of_numbers_counted(alloc, one, &[other], tally),
+    }
+}
+
+/// Returns true if the result of an operation has these members.
+pub fn gives<A: Allocator + Copy>(
+    alloc: A,
+    operation: Operation,
+    one: &EliasFanoVec<A>,
+    other: &EliasFanoVec<A>,
+    wanted: &[u64],
+) -> bool {
+    let is_wanted = asked(
+        combined(alloc, operation, one, other),
+        |found: &EliasFanoVec<A>| has_members(found, wanted),
+    );
+    is_wanted == Ok(true)
+}
+
+/// Returns true if the result of an operation on two lists that are made has these members.
+pub fn given<A: Allocator + Copy>(
+    alloc: A,
+    operation: Operation,
+    one: &[u64],
+    other: &[u64],
+    wanted: &[u64],
+) -> bool {
+    let is_wanted = asked_both(
+        listed(alloc, one),
+        listed(alloc, other),
+        |one: &EliasFanoVec<A>, other: &EliasFanoVec<A>| gives(
+            alloc, operation, one, other, wanted,
+        ),
+    );
+    is_wanted == Ok(true)
+}

