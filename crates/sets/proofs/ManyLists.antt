@@ -1,14 +1,13 @@
 -- The sets and bounds of many lists.
-use Rattle.std.proofs.Common.{◌≡◌, ℕ, ◌+◌, Bool, List, [], ◌∷◌, length, map, refl, sym, ap, ◌∙◌, arith}
-use Rattle.std.specs.Prelude.{◌&&◌, ◌||◌, IfOk, Result}
+use Rattle.std.proofs.Common.{◌≡◌, ℕ, ◌+◌, Bool, List, [], ◌∷◌, length, map, refl, sym, ap, ◌∙◌}
+use Rattle.std.specs.Prelude.{◌||◌, IfOk, Result}
 use Rattle.std.specs.List.{list_all, list_any, sum_by}
 use Rattle.std.proofs.lemmas.List.Folds.{list_all-map}
 use Rattle.std.proofs.lemmas.List.Sums.{sum_by-cons}
 use Rattle.std.proofs.lemmas.Result.{IfOk-weaker}
-use Rattle.vers_tally.specs.Reads.{plus}
 use Rattle.sets.specs.Sets.{is_member}
-use Rattle.sets.specs.Sets.{IsSetOf, in_any}
-use Rattle.sets.specs.Sources.{any_of, searched_list, seek_reads_of, step_reads_of}
+use Rattle.sets.specs.Sets.{IsSetOf}
+use Rattle.sets.specs.Sources.{searched_list, seek_reads_of, step_reads_of}
 
 -- a result that is the set of a test is the set of an equal test
 pub ok_same : {E : Type 0} (r : Result (List ℕ) E) (p q : ℕ → Bool) → ((x : ℕ) → p x ≡ q x) → IfOk r (IsSetOf p) → IfOk r (IsSetOf q)

@@ -1,5 +1,5 @@
 -- The sets and bounds of sources.
-use Rattle.std.specs.Prelude.{ℕ, ◌+◌, List, [], ◌∷◌, length}
+use Rattle.std.specs.Prelude.{ℕ, List, [], ◌∷◌, length}
 use Rattle.std.specs.List.{list_any, sum_by}
 use Rattle.vers_sorted.specs.Layout.{member_reads, search_reads}
 use Rattle.vers_sorted.specs.Sorted.{below}

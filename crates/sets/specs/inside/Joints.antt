@@ -1,11 +1,8 @@
 -- Sources that combine others.
-use Rattle.std.specs.Prelude.{◌≡◌, ℕ, ◌+◌, ◌==◌, ◌&&◌, ◌||◌, not, Bool, true, List, [], ◌∷◌, map, min, nat_lt, if◌then◌else◌}
-use Rattle.std.specs.List.{list_all, list_any}
-use Rattle.vers_tally.specs.Reads.{Reads, no_reads, plus}
-use Rattle.vers_sorted.specs.Sorted.{below}
+use Rattle.std.specs.Prelude.{◌≡◌, ℕ, ◌+◌, ◌==◌, Bool, true, min, nat_lt, if◌then◌else◌}
 use Rattle.sets.specs.declared.step.Step.{Step}
 use Rattle.sets.specs.declared.step.Step.TheVariants.{Ended, Past, Found}
-use Rattle.sets.specs.Steps.{Searched, HasNoMore, IsPast}
+use Rattle.sets.specs.Steps.{HasNoMore, IsPast}
 
 -- the earlier of two steps from one number
 abbrev pub earlier_of : Step → Step → Step

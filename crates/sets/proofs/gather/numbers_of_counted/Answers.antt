@@ -1,5 +1,4 @@
-use Rattle.std.proofs.Common.{◌≡◌, ◌∙◌}
-use Rattle.vers_tally.specs.Reads.{AddsAtMost}
+use Rattle.std.proofs.Common.{◌∙◌}
 use Rattle.sets.specs.Steps.{Searched}
 use Rattle.sets.proofs.Gathered.{after_end, after_found, after_past, after_refusal}
 use Rattle.sets.proofs.gather.numbers_of_counted.Goals as goal

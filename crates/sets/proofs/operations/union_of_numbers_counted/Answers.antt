@@ -1,4 +1,4 @@
-use Rattle.std.proofs.Common.{◌≡◌, ◌∷◌, map}
+use Rattle.std.proofs.Common.{◌∷◌, map}
 use Rattle.std.specs.List.{list_any}
 use Rattle.sets.specs.Sets.{in_any}
 use Rattle.sets.specs.Sources.{searched_list}

@@ -1,4 +1,4 @@
-use Rattle.std.proofs.Common.{◌≡◌, ◌∙◌, List, map, arith}
+use Rattle.std.proofs.Common.{List, map, arith}
 use Rattle.sets.specs.Steps.{Searched}
 use Rattle.sets.proofs.Joints.{ended_in_each, here_in_each, inside_same, item_same, later_in_each, past_in_each, searched_last, searched_more, sets_same}
 use Rattle.sets.proofs.several.in_each.Goals as goal

@@ -1,4 +1,4 @@
-use Rattle.std.proofs.Common.{◌≡◌, ◌∙◌}
+use Rattle.std.proofs.Common.{◌∙◌}
 use Rattle.sets.specs.Steps.{Searched}
 use Rattle.sets.proofs.Gathered.{after_refusal, passed_adds, walk_ended, walk_ends, walk_finds, walk_passes}
 use Rattle.sets.proofs.walk.next_from.Goals as goal

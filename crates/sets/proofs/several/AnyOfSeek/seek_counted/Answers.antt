@@ -1,6 +1,6 @@
-use Rattle.std.proofs.Common.{◌≡◌, ◌∙◌, ◌+◌, ◌∷◌, List, map, arith, sym}
+use Rattle.std.proofs.Common.{◌+◌, ◌∷◌, List, map, arith}
 use Rattle.sets.specs.Steps.{Searched}
-use Rattle.sets.proofs.Joints.{adds_first, inside_next, next_same, searched_more, sets_same, step_of_first, step_of_more}
+use Rattle.sets.proofs.Joints.{inside_next, next_same, searched_more, sets_same, step_of_more}
 use Rattle.sets.proofs.several.AnyOfSeek.seek_counted.Goals as goal
 
 pub loop-i-preserved : goal.loop-i-preserved
