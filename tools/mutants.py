@@ -361,7 +361,8 @@ def main():
         print("left out: the wrong bodies that a test refuses (no cargo 1.88 or newer)")
         return 0
     edits = {(crate, name): edit for crate, name, edit in wrong_bodies({
-        os.path.relpath(it, TOP): read(it) for it in Path(TOP, "crates").glob("*/*/**/*.edit*")})}
+        os.path.relpath(it, TOP): read(it) for folder in ("wrong", "must-fail")
+        for it in Path(TOP, "crates").glob(f"*/{folder}/**/*.edit*")})}
     mutants = [Mutant(*it, edit) for it, edit in edits.items() if it[0] in (flags.crates or it)]
     mutants = [it for it in mutants if not (flags.find and it.row)]
     if not flags.find:
