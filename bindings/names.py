@@ -1,15 +1,15 @@
 #!/usr/bin/env python3
-"""Writes bindings/NAMES.md: by which name each call of a structure is asked from C, C++, Rust and Python, and what is
-left out and why.
+"""Writes bindings/NAMES.md: the name of each call of a structure in C, C++, Rust and Python, and what is left out.
 
 The calls are the public ones of the library, as docs/CALLS.md has them. A call has its own name in each language, or
-that of `NAMES`, or is left out for a reason of `LEFT_OUT`. Each name has to be in the header, the classes and the
+that of `NAMES`, or is left out for a reason in `LEFT_OUT`. Each name has to be in the header, the classes and the
 crate; a call that is neither named nor left out is a fault.
 """
 import os
 import re
 import sys
 import textwrap
+from fnmatch import fnmatchcase
 from glob import glob
 
 sys.path.append(os.path.join(os.path.dirname(os.path.abspath(__file__)), "../tools"))
@@ -17,7 +17,7 @@ from pages import CRATES, public_calls
 from sources import TOP, read, write_or_check
 
 PAGE, LANGUAGES = "bindings/NAMES.md", ("C", "C++", "Rust", "Python")
-# a structure, what its names begin with in C, and its files of the Rust crate
+# A structure, what its names begin with in C, and its files of the Rust crate.
 STRUCTURES = {
     "BitVec": ("growing", "bit_vec/mod.rs"),
     "RsVec": ("bits", "bit_vec/fast_rs_vec.rs"),
@@ -30,47 +30,56 @@ STRUCTURES = {
     "Postings": ("postings", "postings.rs"),
     "TextIndex": ("text", "text.rs"),
 }
-# a call's names in the four languages, where they are others than its own without `_u64`; `=` is its own, `-`
-# for none, and `()` and `[]` for what the language writes so. The first row that fits counts.
-NAMES = (
-    (r"(?!BpTree)\w+\.len", "= = = len()"),
-    (r"\w+\.is_empty", "len = = len()"),
-    (r"RsVec\.from_bit_vec|BpTree\.from_bit_vector", "of from_words = from_words"),
-    (r"BitVec\.from_limbs", "of from_words from_vec from_words"),
-    (r"BitVec\.set", "= = = []"),
-    (r"SparseRSVec\.new|EliasFanoVec\.from_slice|WaveletMatrix\.from_slice|\w+Rmq\.from_vec|Postings\.from_sorted",
-     "of from = ()"),
-    (r"TextIndex\.with_step", "of from = ()"),
-    (r"TextIndex\.bytes_with_step|WaveletMatrix\.from_integers", "of_bytes from = ()"),
-    (r"TextIndex\.u16s_with_step", "of_u16s from = ()"),
-    (r"\w+Rmq\.(item|as_slice)", "get get [] []"),
-    (r"Postings\.documents", "= get get get"),
-    (r"Postings\.costs", "cost cost cost cost"),
-    (r"EliasFanoVec\.select", "get get get get"),
-    (r"SparseRSVec\.is_set", "get get = get"),
-    (r"BitVec\.is_bit_set", "get get = get"),
-    (r"BpTree\.len", "= = - len()"),
-    (r"TextIndex\.bits_per_symbol", "width width = ="),
-    (r"TextIndex\.contains", "count = = in"),
-    (r"TextIndex\.places_ascending", "places places places places"),
-    (r"WaveletMatrix\.get_sorted_u64", "quantile quantile = quantile"),
-    (r"WaveletMatrix\.rank_offset_u64", "rank_range rank_range = rank_range"),
-    (r"(RsVec|EliasFanoVec|WaveletMatrix)\.(?!gathered)\w+_each", "each each = each"),
-)
-# why calls have no name in C, C++ and Python: the first row that fits counts
-LEFT_OUT = (
-    (r"\w+\.(is_one_counted|select_counted|rank0_with_bit|limb_block|items|allocator|select[01]_pair|\w*gathered_\w+)|BpTree\.(bits|relative|measure|level_end)", "They serve what is built on the structure in Rattle."),
-    (r"BitVec\.(append_bit|append_word|append_bit_u\d+|flip_bit|limb|extend\w*|from_\w+|new|with_capacity|count_\w+|split_at|pack_\w+|unpack_\w+|\w*mask_\w+)",
-     "Words of 64 bits by `get_bits` and `append_bits`; counts by a `vers_bits`."),
-    (r"RsVec\.(into_bit_vec|\w+_equals)|BpTree\.into_parentheses_vec|SparseRSVec\.from_\w+|\w+\.from_iter|EliasFanoVec\.from_numbers|TextIndex\.(from_\w+|\w+_with_step)",
-     "A structure is made of an array, and its items are written over one."),
-    (r"WaveletMatrix\.(bit_len|from_\w+|get_value|(iter|into_iter|rank|rank_range|rank_offset|select|select_offset|quantile|predecessor|successor|get_sorted|range_m[a-z]+)(_sorted)?)",
-     "Symbols are numbers of at most 64 bits, and not lists of bits."),
-    (r"\w+\.\w*iter\w*|BpTree\.\w*children",
-     "Iterators: the query of the next place, or `_each` over a range of places."),
-    (r"\w+Rmq\.range_min_\w+", "Ranges are from one place to another."),
-    (r"TextIndex\.places", "Places are answered ascending, or the first ones by `first_places`."),
-)
+# The names of calls in languages in which they are not their own (in all but Rust: without `_u64`), or None for none.
+# Python writes `len()` and `in`, `[]` is an index, and `()` the class. The first row that fits a call counts; a row has
+# patterns as file names have: `*` is any text, `?` a letter, `[01]` one of these.
+NAMES = {
+    "BpTree.len": {"Rust": None, "Python": "len()"},
+    "*.len": {"Python": "len()"},
+    "*.is_empty": {"C": "len", "Python": "len()"},
+    "RsVec.from_bit_vec BpTree.from_bit_vector": {"C": "of", "C++": "from_words", "Python": "from_words"},
+    "BitVec.from_limbs": {"C": "of", "C++": "from_words", "Rust": "from_vec", "Python": "from_words"},
+    "BitVec.set": {"Python": "[]"},
+    """SparseRSVec.new EliasFanoVec.from_slice WaveletMatrix.from_slice *Rmq.from_vec Postings.from_sorted
+    TextIndex.with_step""":
+        {"C": "of", "C++": "from", "Python": "()"},
+    "TextIndex.bytes_with_step WaveletMatrix.from_integers": {"C": "of_bytes", "C++": "from", "Python": "()"},
+    "TextIndex.u16s_with_step": {"C": "of_u16s", "C++": "from", "Python": "()"},
+    "*Rmq.item *Rmq.as_slice": {"C": "get", "C++": "get", "Rust": "[]", "Python": "[]"},
+    "Postings.documents": {"C++": "get", "Rust": "get", "Python": "get"},
+    "Postings.costs": dict.fromkeys(LANGUAGES, "cost"),
+    "EliasFanoVec.select": dict.fromkeys(LANGUAGES, "get"),
+    "SparseRSVec.is_set BitVec.is_bit_set": {"C": "get", "C++": "get", "Python": "get"},
+    "TextIndex.bits_per_symbol": {"C": "width", "C++": "width"},
+    "TextIndex.contains": {"C": "count", "Python": "in"},
+    "TextIndex.places_ascending": dict.fromkeys(LANGUAGES, "places"),
+    "WaveletMatrix.get_sorted_u64": {"C": "quantile", "C++": "quantile", "Python": "quantile"},
+    "WaveletMatrix.rank_offset_u64": {"C": "rank_range", "C++": "rank_range", "Python": "rank_range"},
+    """RsVec.*_each EliasFanoVec.*_each WaveletMatrix.get_u64_each WaveletMatrix.rank_u64_each
+    WaveletMatrix.select_u64_each WaveletMatrix.quantile_u64_each""": {"C": "each", "C++": "each", "Python": "each"},
+}
+# The calls that have no row above and no name in C, C++ and Python, by the reason. The first that fits counts.
+LEFT_OUT = {
+    "They serve what is built on the structure in Rattle.":
+        """*.is_one_counted *.select_counted *.rank0_with_bit *.limb_block *.items *.allocator *.select[01]_pair
+        *.*gathered_* BpTree.bits BpTree.relative BpTree.measure BpTree.level_end""",
+    "Words of 64 bits by `get_bits` and `append_bits`; counts by a `vers_bits`.":
+        """BitVec.append_bit BitVec.append_word BitVec.append_bit_u* BitVec.flip_bit BitVec.limb BitVec.extend*
+        BitVec.from_* BitVec.new BitVec.with_capacity BitVec.count_* BitVec.split_at BitVec.pack_* BitVec.unpack_*
+        BitVec.*mask_*""",
+    "A structure is made of an array, and its items are written over one.":
+        """RsVec.into_bit_vec RsVec.*_equals BpTree.into_parentheses_vec SparseRSVec.from_* *.from_iter
+        EliasFanoVec.from_numbers TextIndex.from_* TextIndex.*_with_step""",
+    "Symbols are numbers of at most 64 bits, and not lists of bits.":
+        """WaveletMatrix.bit_len WaveletMatrix.from_* WaveletMatrix.get_value WaveletMatrix.get_sorted
+        WaveletMatrix.iter WaveletMatrix.iter_sorted WaveletMatrix.into_iter WaveletMatrix.into_iter_sorted
+        WaveletMatrix.rank WaveletMatrix.rank_range WaveletMatrix.rank_offset WaveletMatrix.select
+        WaveletMatrix.select_offset WaveletMatrix.quantile WaveletMatrix.predecessor WaveletMatrix.successor
+        WaveletMatrix.range_min WaveletMatrix.range_max WaveletMatrix.range_median""",
+    "Iterators: the query of the next place, or `_each` over a range of places.": "*.*iter* BpTree.*children",
+    "Ranges are from one place to another.": "*Rmq.range_min_*",
+    "Places are answered ascending, or the first ones by `first_places`.": "TextIndex.places",
+}
 HEAD = """# Names
 
 The name of each call in C, C++, Rust and Python. `bindings/names.py` writes this page from
@@ -132,43 +141,38 @@ def has(structure, language, name):
 
 def named_alike(call):
     """Returns the names of a call in each language if they are its own."""
-    plain = call.replace("_u64", "")
-    return [plain, plain, call, plain]
+    return {language: call if language == "Rust" else call.replace("_u64", "") for language in LANGUAGES}
 
 
-def named(structure, call):
-    """Returns the names of a call in each language, or `None` if there is none."""
-    row = next((row for fits, row in NAMES if re.fullmatch(fits, f"{structure}.{call}")), None)
-    if row is None and any(re.fullmatch(fits, f"{structure}.{call}") for fits, _ in LEFT_OUT):
-        return None
-    own = named_alike(call)
-    return [own[k] if name == "=" else name for k, name in enumerate((row or "= = = =").split())]
+def row_of(table, call):
+    """Returns the value of the first row of a table that fits a call, or None."""
+    return next((value for fits, value in table if any(fnmatchcase(call, it) for it in fits.split())), None)
 
 
 def shown(structure, language, name):
     """Returns a name as the table has it."""
-    if name == "-":
-        return ""
     name = structure if (language, name) == ("Python", "()") else name
-    return f"`vers_{STRUCTURES[structure][0]}_{name}`" if language == "C" else f"`{name}`"
+    return f"`vers_{STRUCTURES[structure][0]}_{name}`" if language == "C" else f"`{name}`" if name else ""
 
 
 def main():
     """Writes the page."""
-    text, left, faults = HEAD, {reason: [] for _, reason in LEFT_OUT}, []
+    text, left, faults = HEAD, {reason: [] for reason in LEFT_OUT}, []
+    reasons = [(fits, reason) for reason, fits in LEFT_OUT.items()]
     for structure, names in calls().items():
         same, rows = [], ""
         for call in dict.fromkeys(names):
-            row = named(structure, call)
-            if row is None:
-                reason = next(reason for fits, reason in LEFT_OUT if re.fullmatch(fits, f"{structure}.{call}"))
+            row, reason = (row_of(table, f"{structure}.{call}") for table in (NAMES.items(), reasons))
+            if row is None and reason:
                 left[reason].append(f"`{structure}::{call}`")
                 continue
-            faults += [f"{structure}.{call}: no {it} in {language}" for language, it in zip(LANGUAGES, row) if it != "-" and not has(structure, language, it)]
+            row = named_alike(call) | (row or {})
+            faults += [f"{structure}.{call}: no {name} in {language}" for language, name in row.items()
+                       if name and not has(structure, language, name)]
             if row == named_alike(call):
                 same.append(f"`{call}`")
             else:
-                rows += f"| `{call}` | {' | '.join(shown(structure, *it) for it in zip(LANGUAGES, row))} |\n"
+                rows += f"| `{call}` | {' | '.join(shown(structure, *it) for it in row.items())} |\n"
         text += f"\n## `{structure}`: `vers_{STRUCTURES[structure][0]}_`\n\n{textwrap.fill(', '.join(same), 120)}\n"
         text += f"\n| Call | {' | '.join(LANGUAGES)} |\n|---|{'---|' * len(LANGUAGES)}\n{rows}"
     text += "\n## Left out of C, C++ and Python\n\nRust has those that vers-vecs has.\n\n| Why | Calls |\n|---|---|\n"
