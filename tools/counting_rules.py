@@ -27,7 +27,7 @@ import sys
 from collections import defaultdict
 
 from proofs import Crates
-from sources import TOP, bare_keeping_lines, closed, line_of, read_crate, tell
+from sources import TOP, bare_keeping_lines, closed, line_of, read_crate, report
 
 BELOW, COUNTERS = "vers_bits", "vers_tally"
 # The functions that may read a whole list without a counter.
@@ -369,4 +369,4 @@ if __name__ == "__main__":
     if "--self-test" in sys.argv:
         from counting_plants import self_test
         sys.exit(self_test(read, faults))
-    sys.exit(tell("counting rules", faults(read)))
+    sys.exit(report("counting rules", faults(read)))

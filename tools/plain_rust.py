@@ -14,7 +14,7 @@ import sys
 
 import rust_contracts
 from rust_contracts import guard_faults, pages
-from sources import TOP, tell, write_files
+from sources import TOP, report, write_files
 from sources import read as read_text
 
 RUST = "rust/src"
@@ -676,7 +676,7 @@ def main():
         faults += guard_faults(TOP, folder, CRATES)
     elif not faults:
         write_files(folder, files)
-    return tell("tools/plain_rust.py", faults)
+    return report("tools/plain_rust.py", faults)
 
 
 if __name__ == "__main__":

@@ -179,8 +179,8 @@ def by_path(sources):
 
 def edited(text, edit):
     """Returns a file's text with the pairs of an edit, or raises a `ValueError` that says why they don't apply."""
-    said = re.findall(r"(?m)^(file|old|new): ?(.*)$", edit)
-    pairs = [(old, new) for (one, old), (other, new) in zip(said, said[1:]) if (one, other) == ("old", "new")]
+    fields = re.findall(r"(?m)^(file|old|new): ?(.*)$", edit)
+    pairs = [(old, new) for (one, old), (other, new) in zip(fields, fields[1:]) if (one, other) == ("old", "new")]
     if not pairs:
         raise ValueError("it has no pair of texts")
     for old, new in pairs:
@@ -255,11 +255,11 @@ def has_cargo():
     return bool(found) and (int(found[1]), int(found[2])) >= NEW_CARGO
 
 
-def tell(name, faults):
-    """Prints what is broken, and returns the exit status that says so."""
-    said = list(faults)
-    print("\n".join(said) or f"{name}: ok")
-    return 1 if said else 0
+def report(name, faults):
+    """Prints what is broken, and returns the exit status, 1 if anything is."""
+    lines = list(faults)
+    print("\n".join(lines) or f"{name}: ok")
+    return int(bool(lines))
 
 
 def write_files(top, files):

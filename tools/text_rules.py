@@ -32,7 +32,7 @@ import sys
 from collections import defaultdict
 from functools import lru_cache
 
-from sources import TOP, Source, by_path, closed, line_of, load_edit, public_functions, read, tell, wrong_bodies
+from sources import TOP, Source, by_path, closed, line_of, load_edit, public_functions, read, report, wrong_bodies
 
 DEFINITIONS = "docs/DEFINITIONS.md"
 NAMED = "docs/ARCHITECTURE.md"
@@ -117,15 +117,15 @@ def undefined(sources, defined):
     """Yields a line for each word of `specs/` that a public contract cites, and that isn't defined or is of
     `specs/inside`."""
     for function in public_functions(sources):
-        said = f"{function.where}: {function.full_name} cites"
+        start = f"{function.where}: {function.full_name} cites"
         cited = set(re.findall(r"(?<![\w.])\w+", " ".join(fact for _, fact in function.clauses)))
         for page, names in SPECS.findall(function.source.text):
             words = [it.strip().split(" as ") for it in names.split(",")]
             for word in [it[0] for it in words if it[-1] in cited]:
                 if page.startswith("inside"):
-                    yield f"{said} `{word}` of `specs/inside`, which no public contract may"
+                    yield f"{start} `{word}` of `specs/inside`, which no public contract may"
                 elif word not in defined:
-                    yield f"{said} `{word}`, which {DEFINITIONS} doesn't define"
+                    yield f"{start} `{word}`, which {DEFINITIONS} doesn't define"
 
 
 def misnamed(texts):
@@ -198,11 +198,11 @@ def is_target(path, text, link, anchor):
 @lru_cache(maxsize=None)
 def text_faults(path, text):
     """Returns what is broken in one text."""
-    found = [(it, said) for files, pattern, said in PATTERNS if re.fullmatch(files, path)
+    found = [(it, message) for files, pattern, message in PATTERNS if re.fullmatch(files, path)
              for it in re.finditer(pattern, text)]
     links = LINK.findall(text) if path.endswith(".md") else []
     return [
-        *(f"{path}:{line_of(text, it.end())}: {said.format(it[0], *it.groups())}" for it, said in found),
+        *(f"{path}:{line_of(text, it.end())}: {message.format(it[0], *it.groups())}" for it, message in found),
         *(f"{path}: the link {it}{anchor and '#'}{anchor} leads nowhere" for it, anchor in links
           if not is_target(path, text, it, anchor)),
     ]
@@ -232,7 +232,7 @@ def faults(texts):
 
 TALLY, RANK, MINIMA = "crates/vers_tally/src/tally.rt", "crates/vers_rank/", "crates/vers_rmq/proofs/Blocks.antt"
 CHUNKS = "    /// Returns the number of chunks of bits loaded.\n"
-# what is wanted to be said, and the change that asks for it
+# what has to be printed, and the change that breaks a rule
 BREAKS = {
     "has no doc comment": (TALLY, CHUNKS, ""),
     "doesn't say what the module is": (TALLY, "//! Counters", "// Counters"),
@@ -272,7 +272,7 @@ BREAKS = {
 
 
 def self_test():
-    """Makes each change to the texts, and wants what it breaks to be found."""
+    """Makes each change to the texts, and requires that what it breaks is found."""
     texts = texts_of(TOP)
     for want, (path, old, new) in BREAKS.items():
         assert old in texts[path], (path, old)
@@ -287,4 +287,4 @@ if __name__ == "__main__":
     elif "--wrong-bodies" in sys.argv:
         print("\n".join(missing_wrong_bodies(texts_of(TOP))))
     else:
-        sys.exit(tell("text rules", faults(texts_of(TOP))))
+        sys.exit(report("text rules", faults(texts_of(TOP))))
