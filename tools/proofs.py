@@ -2,7 +2,7 @@
 """Proves crates with those below them, two side by side on four processors: proofs.py CRATE..
 
 Each crate begins once those below it are proved, and a library whose build is newer than its sources, by this script or
-by `rt ci`, is passed over. Standard error tells of each. A library is built as `rt ci` builds it: the crates above read
+by `rt ci`, is passed over. Standard error reports each. A library is built as `rt ci` builds it: the crates above read
 what it says, and not its proofs. A static library is built into `out`. A program is built and linked, and its file
 `out/NAME.built` is then as old as the beginning of the run.
 """
@@ -118,7 +118,7 @@ class Commands:
         """Runs a command in a folder, adds what it took to a part, and returns what it printed and its status."""
         with (
             tempfile.TemporaryDirectory(prefix="proof-", ignore_cleanup_errors=True) as room,
-            open(f"{room}/said", "w+", encoding="utf-8", errors="replace") as out,
+            open(f"{room}/output", "w+", encoding="utf-8", errors="replace") as out,
         ):
             # (what an ended command leaves goes with this folder)
             how = {"stdin": subprocess.DEVNULL, "stdout": out, "stderr": out, "env": {**os.environ, "TMPDIR": room}}
@@ -168,8 +168,8 @@ def longest_ways(crates, asked):
     return ways
 
 
-def prove_all(crates, names, commands, tell):
-    """Proves crates with those below them, half as many at a time as there are processors, and tells the name of each.
+def prove_all(crates, names, commands, report):
+    """Proves crates with those below them, half as many at a time as there are processors, and reports each name.
     Of two, that with the shorter way up yields."""
     asked = {it for name in names for it in [*crates.below(name), name]}
     ways, order, running = longest_ways(crates, asked), TopologicalSorter({it: crates.uses(it) for it in asked}), {}
@@ -183,7 +183,7 @@ def prove_all(crates, names, commands, tell):
                 done.result()
                 name = running.pop(done)
                 order.done(name)
-                tell(name)
+                report(name)
 
 
 def prove(crates, name, niceness, commands):
@@ -193,10 +193,10 @@ def prove(crates, name, niceness, commands):
     began, built = time.time(), Path(crates.built(name))
     os.makedirs(built.parent, exist_ok=True)
     for command in crates.building(name, commands.count // 2 + 1):
-        said, status = commands.run((name, "proof"), ["nice", "-n", str(niceness), *command], crates.folder(name))
+        output, status = commands.run((name, "proof"), ["nice", "-n", str(niceness), *command], crates.folder(name))
         if status:
-            reasons = "\n".join(it[0] for it in REASON.finditer(said))
-            commands.fail(f"{name} is not proved:\n{reasons or said[-4000:]}")
+            reasons = "\n".join(it[0] for it in REASON.finditer(output))
+            commands.fail(f"{name} is not proved:\n{reasons or output[-4000:]}")
     if built.is_dir():
         # (a source that changed meanwhile is newer)
         os.utime(built, (began, began))
@@ -211,18 +211,18 @@ def main():
     """Proves the crates that are named."""
     began, names, crates, commands = time.time(), sys.argv[1:], Crates(TOP), Commands(processor_count())
 
-    def tell(text):
+    def report(text):
         print(f"{names[0]}: {text}", file=sys.stderr, flush=True)
 
     commands.end_on_interrupt()
     try:
-        tell("proving the crates, those below first; this takes some minutes the first time")
-        prove_all(crates, names, commands, lambda name: tell(
+        report("proving the crates, those below first; this takes some minutes the first time")
+        prove_all(crates, names, commands, lambda name: report(
             f"{name} is proved by {commands.seconds[name, 'proof']:.0f} processor seconds, "
             f"after {(time.time() - began) / 60:.1f} minutes"
             if (name, "proof") in commands.seconds else f"{name} is up to date"))
     except Failure as failure:
-        tell(failure)
+        report(failure)
         return 1
     for name in filter(crates.is_program, names):
         write_files(crates.folder(name), {f"out/{name}.built": ""})
