@@ -78,7 +78,7 @@ class Mutant:
         self.row, self.file = row and row[1], f"{crate}/{'mod' if file == 'lib' else file}.rs"
         self.number, self.functions = 0, set()
 
-    def said(self, what):
+    def line(self, what):
         """Returns a line about it."""
         return f"{self.crate}: {self.name}: {what}"
 
@@ -159,11 +159,11 @@ class Build:
                 load_edit(mutant.name, mutant.edit, known)
             others = split(Writer(mutant.crate, path).file(edited(text, mutant.edit)))
         except (Refused, ValueError) as why:
-            self.faults.append(mutant.said(f"it can't be written: {why}"))
+            self.faults.append(mutant.line(f"it can't be written: {why}"))
             return
         found = changed(parts, others)
         if not found:
-            self.faults.append(mutant.said("it changes no body, or something besides"))
+            self.faults.append(mutant.line("it changes no body, or something besides"))
         for k in found or []:
             if parts[k].number is None:
                 parts[k].number, self.bodies = self.bodies, self.bodies + 1
@@ -223,13 +223,14 @@ def compiled(mutants):
     """Compiles the tests with all wrong bodies, and returns the program and the faults."""
     build = Build(mutants)
     build.write(f"{RUST}/target/mutants")
-    told = cargo("test", "--lib", "--no-run")
-    errors = [it["message"] for it in told if it["reason"] == "compiler-message" and it["message"]["level"] == "error"]
+    messages = cargo("test", "--lib", "--no-run")
+    errors = [it["message"] for it in messages
+              if it["reason"] == "compiler-message" and it["message"]["level"] == "error"]
     wrong = build.at_fault(errors)
-    faults = build.faults + [it.said("rustc refuses it") for it in mutants if it.number in wrong]
+    faults = build.faults + [it.line("rustc refuses it") for it in mutants if it.number in wrong]
     if errors and not wrong:
         faults += [it["rendered"] for it in errors[:3]]
-    built = [it["executable"] for it in told if it["reason"] == "compiler-artifact" and it.get("executable")]
+    built = [it["executable"] for it in messages if it["reason"] == "compiler-artifact" and it.get("executable")]
     return next(iter(built), None), faults
 
 
@@ -265,8 +266,8 @@ def run(program, test, mutant, seconds):
 def timed(program, test):
     """Returns how many seconds a test takes with the right bodies, what it says of them, and how it failed."""
     start = time.monotonic()
-    end, said = run(program, test, "reach", 300)
-    return time.monotonic() - start, said, end
+    end, output = run(program, test, "reach", 300)
+    return time.monotonic() - start, output, end
 
 
 def kind_of(end):
@@ -285,9 +286,9 @@ def judged(program, mutants, jobs):
                         mutants)
         for it, end in zip(mutants, ends):
             if fault := right[it.row][2]:
-                yield False, it.said(f"{it.row} fails with the right bodies too: {fault}"), ""
+                yield False, it.line(f"{it.row} fails with the right bodies too: {fault}"), ""
             else:
-                yield bool(end) != it.is_right, it.said(f"{it.row} {end or 'passes'}"), kind_of(end or "right: passes")
+                yield bool(end) != it.is_right, it.line(f"{it.row} {end or 'passes'}"), kind_of(end or "right: passes")
 
 
 def found_rows(program, mutants):
@@ -304,7 +305,7 @@ def found_rows(program, mutants):
         near = sorted(names, key=lambda it: (f"::{mutant.crate}_tests::" not in it, tests[it][0]))
         for name in [it for it in near if reached[it] & mutant.functions and not tests[it][2]]:
             if run(program, name, mutant.number, SECONDS + TIMES * tests[name][0])[0]:
-                print(mutant.said(f"row: {re.sub('^(proved|program)_tests::', '', name)}"))
+                print(mutant.line(f"row: {re.sub('^(proved|program)_tests::', '', name)}"))
                 break
         else:
             yield mutant
@@ -368,10 +369,10 @@ def main():
     if not flags.find:
         mutants += [Mutant(crate, name, edits[crate, name], texts) for crate, name, *texts in RIGHT]
     program, faults = compiled(mutants)
-    faults += [it.said("it names no test that fails with it") for it in mutants if not (it.row or flags.find)]
+    faults += [it.line("it names no test that fails with it") for it in mutants if not (it.row or flags.find)]
     passed, ends = 0, Counter()
     if program and flags.find:
-        faults += [it.said("no test finds it") for it in found_rows(program, mutants)]
+        faults += [it.line("no test finds it") for it in found_rows(program, mutants)]
     elif program:
         for is_as_wanted, line, end in judged(program, [it for it in mutants if it.row], flags.jobs):
             passed += is_as_wanted

@@ -109,9 +109,9 @@ def user(checks, name, dependencies, path, text):
 def check_git(checks):
     """Builds a program that takes the crate from this repository by cargo alone, with the example of the crate's
     page."""
-    told = subprocess.run(["git", "-C", TOP, "rev-parse", "--is-shallow-repository"], capture_output=True, text=True,
+    answer = subprocess.run(["git", "-C", TOP, "rev-parse", "--is-shallow-repository"], capture_output=True, text=True,
                           check=False).stdout
-    if told.strip() != "false":
+    if answer.strip() != "false":
         return checks.leave_out("a program that takes the crate by git", "no whole repository")
     example = re.search(r"(?ms)^```rust\n(.*?)^```", read(f"{RUST}/README.md"))[1]
     program = f"fn main() {{\n{example}\nprintln!(\"done\");\n}}\n"
