@@ -16,14 +16,14 @@ from sources import public_functions, read, read_crate, write_files
 
 DEFINITIONS, GUARDS = "docs/DEFINITIONS.md", "guards.txt"
 WRITTEN = ("proved", "proved_tests", "rattle", "contracts.rs")
-CITED = re.compile(r"\bcontract!\(\s*(\$?\w+::\$?\w+)\s*\)")
+CITED = re.compile(r"\bcontract!\(\s*(\$?\w+(?:::\$?\w+)?)\s*\)")
 IMPORT = re.compile(r"\bghost use Rattle\.(\w+)\.specs\.[\w.]+\.\{([^}]*)\}")
 CALL = re.compile(r"(?P<receiver>(?:<?[$\w]+(?:::<\w+>)?(?:\(\))?>?(?:\.|::))+)(?P<name>[a-z]\w*)(?:::<[^<>]*>)?\(")
 HEAD = re.compile(r"^( *)(?:pub(?:\([a-z]+\))? )?(?:const )?fn (\w+)")
 BRACKETS, PLAIN = r"^\((.*)\)$", r"\1"
 # A function of the facade with a contract, and its parameters. Besides those that the contract speaks of it may have
 # these.
-SHOWN = re.compile(r"#\[doc = contract!\((\w+::\w+)\)\]\n(?:\s*(?:#\[.*\]|///.*)\n)*\s*(?:pub )?fn \w+(?:<[^(]*>)?\(([^)]*)\)")
+SHOWN = re.compile(r"#\[doc = contract!\((\w+(?:::\w+)?)\)\]\n(?:\s*(?:#\[.*\]|///.*)\n)*\s*(?:pub )?fn \w+(?:<[^(]*>)?\(([^)]*)\)")
 ADDED = {"tally", "other"}
 ADDS = "AddsAtMost tally.old tally.new "
 

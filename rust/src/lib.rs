@@ -72,6 +72,8 @@ pub mod saved;
 #[cfg(feature = "serde")]
 mod serde_forms;
 #[cfg(target_pointer_width = "64")]
+pub mod sets;
+#[cfg(target_pointer_width = "64")]
 pub mod text;
 #[cfg(target_pointer_width = "64")]
 pub mod trees;

@@ -26,7 +26,7 @@ use crate::saved::saved;
 /// assert_eq!(list.successor(91), None);
 /// ```
 pub struct EliasFanoVec {
-    numbers: proved::EliasFanoVec<Global>,
+    pub(crate) numbers: proved::EliasFanoVec<Global>,
 }
 
 clones!(EliasFanoVec, numbers);

@@ -8,6 +8,7 @@ mod panics;
 mod plain;
 mod postings;
 mod saved;
+mod sets;
 mod symbols;
 mod text;
 mod threads;

@@ -1,0 +1,68 @@
+//! Intersections, unions and differences of ascending lists, which the crate vers-vecs doesn't have. Equal numbers of a
+//! list count once, and a result has none.
+//!
+//! ```
+//! use vers_vecs::{sets, EliasFanoVec};
+//!
+//! let even = EliasFanoVec::from_slice(&[0, 2, 4, 6, 8, 10]);
+//! let triple = EliasFanoVec::from_slice(&[0, 3, 6, 9]);
+//! assert_eq!(sets::intersection(&even, &triple).iter().collect::<Vec<_>>(), [0, 6]);
+//! assert_eq!(sets::union(&even, &triple).len(), 8);
+//! assert_eq!(sets::difference(&triple, &even).iter().collect::<Vec<_>>(), [3, 9]);
+//! ```
+
+use crate::contracts::contract;
+use crate::elias_fano::EliasFanoVec;
+use crate::error::granted;
+use crate::proved::sets as proved;
+use crate::proved::vers_sorted::elias_fano as lists;
+use crate::rattle::Global;
+
+/// Returns the numbers that are in both lists, by at most one search more in each than the shorter has numbers.
+#[doc = contract!(intersection)]
+#[must_use]
+pub fn intersection(one: &EliasFanoVec, other: &EliasFanoVec) -> EliasFanoVec {
+    made(proved::intersection(Global, &one.numbers, &other.numbers))
+}
+
+/// Returns the numbers that are in one of two lists, or in both, by at most one search more in each than both have
+/// numbers.
+#[doc = contract!(union)]
+#[must_use]
+pub fn union(one: &EliasFanoVec, other: &EliasFanoVec) -> EliasFanoVec {
+    made(proved::union(Global, &one.numbers, &other.numbers))
+}
+
+/// Returns the numbers of the first list that are not in the other, by at most one search more in each than the first
+/// has numbers.
+#[doc = contract!(difference)]
+#[must_use]
+pub fn difference(one: &EliasFanoVec, other: &EliasFanoVec) -> EliasFanoVec {
+    made(proved::difference(Global, &one.numbers, &other.numbers))
+}
+
+/// Returns the numbers that are in the first list and in each of the others, by at most one search more in each than
+/// the first has numbers: the shortest list should come first.
+#[doc = contract!(intersection_of)]
+#[must_use]
+pub fn intersection_of(first: &EliasFanoVec, others: &[&EliasFanoVec]) -> EliasFanoVec {
+    made(proved::intersection_of(Global, &first.numbers, &numbers_of(others)))
+}
+
+/// Returns the numbers that are in the first list or in one of the others, by at most one search more in each than all
+/// have numbers.
+#[doc = contract!(union_of)]
+#[must_use]
+pub fn union_of(first: &EliasFanoVec, others: &[&EliasFanoVec]) -> EliasFanoVec {
+    made(proved::union_of(Global, &first.numbers, &numbers_of(others)))
+}
+
+/// Returns the proved structures of lists.
+fn numbers_of<'a>(lists: &[&'a EliasFanoVec]) -> Vec<&'a lists::EliasFanoVec<Global>> {
+    lists.iter().map(|list| &list.numbers).collect()
+}
+
+/// Returns a list that was made.
+fn made(numbers: Result<lists::EliasFanoVec<Global>, crate::rattle::AllocError>) -> EliasFanoVec {
+    EliasFanoVec { numbers: granted(numbers) }
+}
