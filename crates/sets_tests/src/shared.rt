@@ -85,7 +85,7 @@ pub fn counted<A: Allocator + Copy>(
     }
 }
 
-/// Returns true if the result of an operation has these members.
+/// Returns true if the results of both forms of an operation have these members.
 pub fn gives<A: Allocator + Copy>(
     alloc: A,
     operation: Operation,
@@ -93,14 +93,18 @@ pub fn gives<A: Allocator + Copy>(
     other: &EliasFanoVec<A>,
     wanted: &[u64],
 ) -> bool {
-    let is_wanted = asked(
+    let is_list = asked(
         combined(alloc, operation, one, other),
         |found: &EliasFanoVec<A>| has_members(found, wanted),
     );
-    is_wanted == Ok(true)
+    let is_counted = asked(
+        counted(alloc, operation, one, other, &mut Tally::new()),
+        |found: &Vec<u64, A>| found.as_slice() == wanted,
+    );
+    is_list == Ok(true) && is_counted == Ok(true)
 }
 
-/// Returns true if the result of an operation on two lists that are made has these members.
+/// Returns true if the results of both forms of an operation on two lists that are made have these members.
 pub fn given<A: Allocator + Copy>(
     alloc: A,
     operation: Operation,
