@@ -5,7 +5,7 @@ use sets::{
     union_of_numbers_counted,
 };
 use std::alloc::{AllocError, Allocator};
-use test_alloc::{asked, asked_both};
+use test_alloc::asked;
 use vers_sorted::elias_fano::EliasFanoVec;
 use vers_sorted::order::is_ascending;
 use vers_tally::tally::Tally;
@@ -104,6 +104,21 @@ pub fn gives<A: Allocator + Copy>(
     is_list == Ok(true) && is_counted == Ok(true)
 }
 
+// Returns true if the results of both forms of an operation on a list and one that is made have these members.
+fn gives_with<A: Allocator + Copy>(
+    alloc: A,
+    operation: Operation,
+    one: &EliasFanoVec<A>,
+    other: &[u64],
+    wanted: &[u64],
+) -> bool {
+    let is_wanted = asked(
+        listed(alloc, other),
+        |other: &EliasFanoVec<A>| gives(alloc, operation, one, other, wanted),
+    );
+    is_wanted == Ok(true)
+}
+
 /// Returns true if the results of both forms of an operation on two lists that are made have these members.
 pub fn given<A: Allocator + Copy>(
     alloc: A,
@@ -112,12 +127,9 @@ pub fn given<A: Allocator + Copy>(
     other: &[u64],
     wanted: &[u64],
 ) -> bool {
-    let is_wanted = asked_both(
+    let is_wanted = asked(
         listed(alloc, one),
-        listed(alloc, other),
-        |one: &EliasFanoVec<A>, other: &EliasFanoVec<A>| gives(
-            alloc, operation, one, other, wanted,
-        ),
+        |one: &EliasFanoVec<A>| gives_with(alloc, operation, one, other, wanted),
     );
     is_wanted == Ok(true)
 }

@@ -105,8 +105,8 @@ fn scattered<A: Allocator + Copy>(
 ) -> Result<Vec<u64, A>, AllocError> {
     let mut list = Vec::new(alloc);
     let mut state = seed;
-    let mut end = gap;
-    while end < LIMIT {
+    for k in 0..(LIMIT - 1).checked_div(gap).unwrap_or(0) {
+        let end = k.wrapping_add(1).wrapping_mul(gap);
         state = state
             .wrapping_mul(6364136223846793005)
             .wrapping_add(1442695040888963407);
@@ -115,7 +115,6 @@ fn scattered<A: Allocator + Copy>(
         if list.len() < twice {
             list.push(number)?;
         }
-        end = end.wrapping_add(gap);
     }
     Ok(list)
 }
