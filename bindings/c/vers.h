@@ -63,8 +63,7 @@ enum vers_status {
     VERS_BAD_LENGTH = 12,    /**< No such list is as long, or the bytes go on after it. */
     VERS_BAD_SUM = 13,       /**< The sum is not that of what stands before it. */
     VERS_BAD_PADDING = 14,   /**< A bit is set past the end of the list. */
-    VERS_NOT_ASCENDING = 15, /**< The numbers do not ascend as those of the list do. */
-    VERS_NOT_A_TEXT = 16     /**< No text has the column and the rows of a saved form. */
+    VERS_NOT_ASCENDING = 15  /**< The numbers do not ascend as those of the list do. */
 };
 
 /** The queries by their codes. They matter to `_each` and `_rows`; for single queries there are the names below. */
@@ -250,7 +249,7 @@ vers_answer vers_saved_size(vers_handle *handle);
 uint32_t vers_save(vers_handle *handle, uint8_t *bytes, size_t count);
 
 /** Makes the list of a kind of which bytes are the saved form. Where they are none, the status says which test of them
- *  fails, by the first one that does: VERS_TOO_SHORT to VERS_NOT_A_TEXT. VERS_UNKNOWN for no kind, VERS_OCCUPIED,
+ *  fails, by the first one that does: VERS_TOO_SHORT to VERS_NOT_ASCENDING. VERS_UNKNOWN for no kind, VERS_OCCUPIED,
  *  VERS_NO_MEMORY. One handle; reads `bytes`. */
 uint32_t vers_load(uint32_t kind, const uint8_t *bytes, size_t count, vers_handle *handle);
 
@@ -299,7 +298,6 @@ static inline const char *vers_status_text(uint32_t status) {
         "the saved form is of another version", "the saved form is of another kind of list",
         "no such list is as long, or the bytes go on after it", "the sum is not that of what stands before it",
         "a bit is set past the end of the list", "the numbers do not ascend",
-        "no text has the column and the rows of a saved form",
     };
     return status < sizeof texts / sizeof *texts ? texts[status] : "no status of this library";
 }

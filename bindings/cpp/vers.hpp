@@ -64,7 +64,6 @@ enum class Status : std::uint32_t {
     bad_sum = VERS_BAD_SUM,
     bad_padding = VERS_BAD_PADDING,
     not_ascending = VERS_NOT_ASCENDING,
-    not_a_text = VERS_NOT_A_TEXT,
 };
 
 /** What a status says, in words. */

@@ -16,7 +16,6 @@ pub const BAD_LENGTH: u32 = 12;
 pub const BAD_SUM: u32 = 13;
 pub const BAD_PADDING: u32 = 14;
 pub const NOT_ASCENDING: u32 = 15;
-pub const NOT_A_TEXT: u32 = 16;
 
 pub const LEN: u32 = 0;
 pub const GET: u32 = 1;

@@ -236,7 +236,6 @@ fn fault(error: LoadError) -> u32 {
         LoadError::BadSum => BAD_SUM,
         LoadError::BadPadding => BAD_PADDING,
         LoadError::NotAscending => NOT_ASCENDING,
-        LoadError::NotAText => NOT_A_TEXT,
         // It never comes, since bytes are read.
         LoadError::Read => REFUSED,
     }

@@ -340,9 +340,9 @@ class Owners(unittest.TestCase):
 
     def test_names_of_faults(self):
         for kind in _faults.FAULTS:
-            status = getattr(_codes, re.sub("(?<=[a-zA])(?=[A-Z])", "_", kind.__name__).upper())
+            status = getattr(_codes, re.sub("(?<=[a-z])(?=[A-Z])", "_", kind.__name__).upper())
             self.assertEqual((type(_faults.fault(status)), getattr(vers, kind.__name__)), (kind, kind))
-        self.assertEqual(_codes.NOT_A_TEXT, len(_faults.FAULTS) + 1)
+        self.assertEqual(_codes.NOT_ASCENDING, len(_faults.FAULTS) + 1)
         self.assertTrue(issubclass(vers.NoMemory, MemoryError) and issubclass(vers.NoMemory, vers.VersError))
 
     def test_saved_forms(self):

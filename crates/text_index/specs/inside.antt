@@ -2,5 +2,4 @@
 pub mod Suffixes
 pub mod Building
 pub mod Checking
-pub mod Paths
 pub mod Samples

@@ -5,8 +5,6 @@
 #[cfg(test)]
 mod built;
 #[cfg(test)]
-mod loads;
-#[cfg(test)]
 mod memory;
 #[cfg(test)]
 mod pieces;

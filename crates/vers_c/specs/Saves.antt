@@ -9,7 +9,7 @@ use Rattle.vers_saved.specs.Kinds.{IsWhole, tree_kind}
 use Rattle.vers_saved.specs.declared.kind.Kind.{Kind as SavedKind}
 use Rattle.vers_saved.specs.declared.kind.TheConstants.{BIT_LISTS, SORTED_LISTS, SYMBOL_LISTS, SPARSE_LISTS, TABLE_VALUES, BLOCK_VALUES, POSTING_LISTS}
 use Rattle.vers_saved.specs.declared.fault.LoadError.{LoadError}
-use Rattle.vers_saved.specs.declared.fault.LoadError.TheVariants.{TooShort, NotOurs, OtherVersion, OtherKind, BadLength, BadSum, BadPadding, NotAscending, NotAText, Memory, Read}
+use Rattle.vers_saved.specs.declared.fault.LoadError.TheVariants.{TooShort, NotOurs, OtherVersion, OtherKind, BadLength, BadSum, BadPadding, NotAscending, Memory, Read}
 use Rattle.vers_c.specs.Answers.{IsToldAs}
 use Rattle.vers_c.specs.declared.kind.Kind.{Kind}
 use Rattle.vers_c.specs.declared.kind.Kind.TheVariants as kind
@@ -96,7 +96,6 @@ fault_as BadLength = 12
 fault_as BadSum = 13
 fault_as BadPadding = 14
 fault_as NotAscending = 15
-fault_as NotAText = 16
 fault_as Read = 4
 
 -- the status of bytes by the first test of them that fails, if one does

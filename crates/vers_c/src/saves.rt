@@ -13,8 +13,8 @@ use crate::kept::Kept;
 use crate::kind::Kind;
 use crate::owners::{fill, put, taken};
 use crate::status::{
-    ABSENT, BAD_LENGTH, BAD_PADDING, BAD_SUM, DONE, NO_MEMORY, NOT_A_TEXT, NOT_ASCENDING, NOT_OURS,
-    OCCUPIED, OTHER_KIND, OTHER_VERSION, REFUSED, TOO_SHORT, UNKNOWN, VACANT,
+    ABSENT, BAD_LENGTH, BAD_PADDING, BAD_SUM, DONE, NO_MEMORY, NOT_ASCENDING, NOT_OURS, OCCUPIED,
+    OTHER_KIND, OTHER_VERSION, REFUSED, TOO_SHORT, UNKNOWN, VACANT,
 };
 use crate::tree::load_parentheses;
 use std::alloc::Global;
@@ -211,7 +211,6 @@ fn fault(error: LoadError) -> u32
         LoadError::BadSum => BAD_SUM,
         LoadError::BadPadding => BAD_PADDING,
         LoadError::NotAscending => NOT_ASCENDING,
-        LoadError::NotAText => NOT_A_TEXT,
         // Not possible: the bytes are in memory.
         LoadError::Read => REFUSED,
     }

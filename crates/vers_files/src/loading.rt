@@ -154,7 +154,6 @@ pub fn fault_line(fault: &LoadError) -> &'static str
         LoadError::BadSum => "BadSum: the sum is not that of what stands before it",
         LoadError::BadPadding => "BadPadding: a bit is set past the end of the list",
         LoadError::NotAscending => "NotAscending: the numbers do not ascend",
-        LoadError::NotAText => "NotAText: no text has the column and the rows of the file",
         LoadError::Memory => "Memory: out of memory",
         LoadError::Read => "Read: the file can't be read",
     }

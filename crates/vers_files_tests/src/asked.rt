@@ -122,7 +122,6 @@ fn each_fault_has_its_line(rt: HostRuntime) {
     assert!(rt; fault_line(&LoadError::BadSum).starts_with("BadSum: "));
     assert!(rt; fault_line(&LoadError::BadPadding).starts_with("BadPadding: "));
     assert!(rt; fault_line(&LoadError::NotAscending).starts_with("NotAscending: "));
-    assert!(rt; fault_line(&LoadError::NotAText).starts_with("NotAText: "));
     assert!(rt; fault_line(&LoadError::Memory).starts_with("Memory: "));
     assert!(rt; fault_line(&LoadError::Read).starts_with("Read: "));
 }

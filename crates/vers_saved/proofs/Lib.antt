@@ -14,7 +14,6 @@ pub mod Parentheses
 pub mod SparseLists
 pub mod PostingLists
 pub mod SymbolLists
-pub mod TextLists
 pub mod Streams
 pub mod ReadForms
 pub mod Sources

@@ -15,6 +15,4 @@ mod stored;
 #[cfg(test)]
 mod streams;
 #[cfg(test)]
-mod texts;
-#[cfg(test)]
 mod trees;
