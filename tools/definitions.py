@@ -25,7 +25,6 @@ TITLES = {
     "postings": "Documents with costs",
     "vers_saved": "Saved forms",
     "text_index": "Texts",
-    "catalogue": "The catalogue of structures",
     "vers_words": "Words of lines",
     "vers_engine": "The engine of lines",
     "vers_cli": "The line program",

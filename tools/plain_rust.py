@@ -25,7 +25,7 @@ TESTS = """test_alloc vers_bits_tests vers_rank_tests vers_sorted_tests vers_rmq
 vers_trees_tests postings_tests text_index_tests sets_tests vers_saved_tests""".split()
 # The programs as libraries, the exports to C, and their tests: written only for the build of wrong bodies
 # (tools/mutants.py).
-PROGRAMS = "catalogue vers_words vers_engine vers_cli vers_texts vers_files vers_vecs vers_uses vers_c".split()
+PROGRAMS = "vers_words vers_engine vers_cli vers_texts vers_files vers_vecs vers_uses vers_c".split()
 PROGRAM_TESTS = "vers_cli_tests vers_texts_tests vers_files_tests vers_uses_tests".split()
 # The module that each belongs to, and the modules that are stored.
 MODULES = {"proved": CRATES, "proved_tests": TESTS, "programs": PROGRAMS, "program_tests": PROGRAM_TESTS}

@@ -1,9 +1,22 @@
-//! Many queries of one structure.
+//! Structures that can be queried, once or many times.
 ghost use Rattle.std.specs.Prelude.{◌≡◌, ℕ, map};
 ghost use Rattle.vers_c.specs.Batches.{told_row};
 
-use catalogue::query::Query;
-use catalogue::queryable::Queryable;
+use crate::answer::Answer;
+use crate::query::Query;
+
+/// A structure that can be queried.
+pub trait Asked {
+    ghost use Rattle.vers_c.specs.declared.answer.Answer.{Answer};
+    ghost use Rattle.vers_c.specs.declared.query.Query.{Query};
+
+    // The answer to a query with three numbers.
+    ghost answers: { Self → Query → ℕ → ℕ → ℕ → Answer };
+
+    /// Returns the answer to a query with three numbers.
+    fn answer(&self, query: Query, a: u64, b: u64, c: u64) -> Answer
+        ensures { result ≡ answers self.now query a b c };
+}
 
 /// The three numbers of a query. The first is replaced by the answer.
 #[repr(C)]
@@ -76,9 +89,18 @@ impl Row for Ask {
     }
 }
 
+/// Returns the answer of a structure. It is a function of its own, so that it saves no registers that only
+/// other paths need.
+#[inline(never)]
+pub fn answer_once<S: Asked>(structure: &S, query: Query, a: u64, b: u64, c: u64) -> Answer
+    ensures { result ≡ S.answers structure.now query a b c }
+{
+    structure.answer(query, a, b, c)
+}
+
 /// Replaces each row by the answer to its numbers, or by `other` if there is none.
 #[inline(always)]
-pub fn answer_each<S: Queryable, R: Row>(
+pub fn answer_each<S: Asked, R: Row>(
     structure: &S,
     query: Query,
     rows: &mut [R],

@@ -2,14 +2,15 @@
 ghost use Rattle.std.specs.Prelude.{◌≡◌, map, Some, take};
 ghost use Rattle.vers_bits.specs.Bits.{pack};
 ghost use Rattle.vers_c.specs.Makes.{IsMade, posted_made, sorted_made, sparse_made, symbols_made};
-ghost use Rattle.catalogue.specs.Contents.{BlockValues, GrowingBits, IndexedBits, Parentheses, TableValues};
-ghost use Rattle.vers_c.specs.Structures.{contents};
+ghost use Rattle.vers_c.specs.Structures.{contents, BlockValues, GrowingBits, IndexedBits, Parentheses, TableValues};
 
 use crate::handle::VersHandle;
-use crate::makes::{binary, bits, fast, growing, posted, sparse, tree};
+use crate::kept::Kept;
 use crate::owners::{fill, fill_made};
+use crate::posted::posted;
+use crate::sparse::sparse;
 use crate::status::{NO_MEMORY, OCCUPIED, REFUSED};
-use catalogue::structure::Structure;
+use crate::{bits, minima, tree};
 use std::alloc::Global;
 use vers_sorted::elias_fano::EliasFanoVec;
 use vers_sorted::order::{are_below, is_ascending, is_strictly_ascending};
@@ -29,8 +30,8 @@ pub extern "C" fn vers_growing_build(
     if handle.is_built {
         return OCCUPIED;
     }
-    match growing(alloc, words, len) {
-        Ok(bits) => fill(alloc, handle, Structure::Growing(bits)),
+    match bits::growing(alloc, words, len) {
+        Ok(bits) => fill(alloc, handle, Kept::Growing(bits)),
         Err(_) => NO_MEMORY,
     }
 }
@@ -49,8 +50,8 @@ pub extern "C" fn vers_bits_build(
     if handle.is_built {
         return OCCUPIED;
     }
-    match bits(alloc, words, len) {
-        Ok(bits) => fill(alloc, handle, Structure::Bits(bits)),
+    match bits::bits(alloc, words, len) {
+        Ok(bits) => fill(alloc, handle, Kept::Bits(bits)),
         Err(_) => NO_MEMORY,
     }
 }
@@ -73,7 +74,7 @@ pub extern "C" fn vers_sparse_build(
         return REFUSED;
     }
     match sparse(alloc, ones, len) {
-        Ok(bits) => fill(alloc, handle, Structure::Sparse(bits)),
+        Ok(bits) => fill(alloc, handle, Kept::Sparse(bits)),
         Err(_) => NO_MEMORY,
     }
 }
@@ -90,7 +91,7 @@ pub extern "C" fn vers_sorted_build(alloc: Global, numbers: &[u64], handle: &mut
         return REFUSED;
     }
     match EliasFanoVec::from_slice(alloc, numbers) {
-        Ok(members) => fill(alloc, handle, Structure::Sorted(members)),
+        Ok(members) => fill(alloc, handle, Kept::Sorted(members)),
         Err(_) => NO_MEMORY,
     }
 }
@@ -112,7 +113,7 @@ fn build_symbols<N: Integer>(
         return REFUSED;
     }
     match WaveletMatrix::from_integers(alloc, numbers, width as u16) {
-        Ok(symbols) => fill(alloc, handle, Structure::Symbols(symbols)),
+        Ok(symbols) => fill(alloc, handle, Kept::Symbols(symbols)),
         Err(_) => NO_MEMORY,
     }
 }
@@ -183,8 +184,8 @@ pub extern "C" fn vers_tree_build(
     if handle.is_built {
         return OCCUPIED;
     }
-    match tree(alloc, words, len) {
-        Ok(made) => fill(alloc, handle, Structure::Tree(made)),
+    match tree::tree(alloc, words, len) {
+        Ok(made) => fill(alloc, handle, Kept::Tree(made)),
         Err(_) => NO_MEMORY,
     }
 }
@@ -197,8 +198,8 @@ pub extern "C" fn vers_fast_rmq_build(alloc: Global, values: &[u64], handle: &mu
     if handle.is_built {
         return OCCUPIED;
     }
-    match fast(alloc, values) {
-        Ok(made) => fill(alloc, handle, Structure::Fast(made)),
+    match minima::fast(alloc, values) {
+        Ok(made) => fill(alloc, handle, Kept::Fast(made)),
         Err(_) => NO_MEMORY,
     }
 }
@@ -215,8 +216,8 @@ pub extern "C" fn vers_binary_rmq_build(
     if handle.is_built {
         return OCCUPIED;
     }
-    match binary(alloc, values) {
-        Ok(made) => fill(alloc, handle, Structure::Binary(made)),
+    match minima::binary(alloc, values) {
+        Ok(made) => fill(alloc, handle, Kept::Binary(made)),
         Err(_) => NO_MEMORY,
     }
 }

@@ -1,35 +1,91 @@
 //! Saved forms of the structures of handles.
-ghost use Rattle.std.specs.Prelude.{◌≡◌, ◌≢◌, ◌↔◌, ◌⊎◌, Bool, List, Some, None, IfOk, IfErr, OnOk, MatchResult, length, option_map};
-ghost use Rattle.catalogue.specs.Contents.{Content, content_of};
-ghost use Rattle.catalogue.specs.Forms.{Fits, HasForm, kind_of, saved_form, saved_kind};
-ghost use Rattle.vers_bits.specs.Bits.{limbs};
+ghost use Rattle.std.specs.Prelude.{◌≡◌, ◌≢◌, ◌↔◌, ◌⊎◌, Some, None, IfOk, IfErr, IfSome, OnOk, IsSome, MatchResult, length, option_map};
 ghost use Rattle.vers_saved.specs.Faults.{fault_of};
-ghost use Rattle.vers_saved.specs.Format.{saved_parentheses};
-ghost use Rattle.vers_saved.specs.Kinds.{IsWhole, tree_kind};
+ghost use Rattle.vers_saved.specs.Format.{saved};
+ghost use Rattle.vers_saved.specs.Kinds.{IsWhole};
 ghost use Rattle.vers_c.specs.Answers.{absent, found_or_absent, vacant};
-ghost use Rattle.vers_c.specs.Saves.{ContentsHaveForm, IsFormOf, IsLoaded, IsSaved, contents_form, fault_as};
-ghost use Rattle.vers_c.specs.Structures.{contents};
+ghost use Rattle.vers_c.specs.Saves.{ContentsHaveForm, Fits, HasForm, IsFormOf, IsLoaded, IsSaved, contents_form, fault_as, form_of, kind_of, saved_kind};
+ghost use Rattle.vers_c.specs.Structures.{Structure, contents, structure_of};
 
-use crate::answer::VersAnswer;
+use crate::answer::Answer;
 use crate::handle::VersHandle;
 use crate::kept::Kept;
-use crate::makes::{Parentheses, boxed};
+use crate::kind::Kind;
 use crate::owners::{fill, put, taken};
 use crate::status::{
     ABSENT, BAD_LENGTH, BAD_PADDING, BAD_SUM, DONE, NO_MEMORY, NOT_ASCENDING, NOT_OURS, OCCUPIED,
     OTHER_KIND, OTHER_VERSION, REFUSED, TOO_SHORT, UNKNOWN, VACANT,
 };
-use catalogue::answer::Answer;
-use catalogue::kind::Kind;
-use catalogue::structure::Structure;
+use crate::tree::load_parentheses;
 use std::alloc::Global;
 use vers_saved::fault::{LoadError, SaveError};
-use vers_saved::saved::load_from_slice;
-use vers_saved::trees::load_parentheses_from_slice;
+use vers_saved::saved::{Loaded, Saved, load_from_slice, save_to_vec, saved_size};
+
+// Returns the saved form of a list.
+fn saved_of<S: Saved>(alloc: Global, list: &S) -> Result<Vec<u8, Global>, SaveError>
+    ensures saved { IfOk result (λ out. out.items
+        ≡ saved S.kind.number (S.count list.now) (S.width list.now) (S.words list.now)) }
+    ensures whole { OnOk result (IsWhole S.kind (S.count list.now) (S.width list.now) (S.words list.now)) }
+    ensures fits { OnOk result (S.Fits list.now) }
+    ensures refused { IfErr result (λ e. (e ≡ SaveError.Memory) ⊎ ((e ≡ SaveError.NoForm)
+        × ¬ IsWhole S.kind (S.count list.now) (S.width list.now) (S.words list.now))) }
+{
+    let mut out = Vec::new(alloc);
+    save_to_vec(list, &mut out)?;
+    Ok(out)
+}
+
+impl Kept {
+    /// Returns the number of bytes of the saved form, or `None` if there is none.
+    pub fn saved_size(&self) -> Option<usize>
+        ensures size { IsSome result → result ≡ option_map length (form_of (structure_of self.now)) }
+        ensures some { IsSome result → HasForm (structure_of self.now) }
+        ensures none { result ≡ None → ¬ HasForm (structure_of self.now) }
+    {
+        match self {
+            Kept::Growing(bits) => saved_size(bits),
+            Kept::Bits(bits) => saved_size(bits),
+            Kept::Sparse(bits) => saved_size(bits),
+            Kept::Sorted(members) => saved_size(members),
+            Kept::Symbols(symbols) => saved_size(symbols),
+            Kept::Tree(tree) => saved_size(&**tree),
+            Kept::Fast(values) => saved_size(values),
+            Kept::Binary(values) => saved_size(values),
+            Kept::Posted(posted) => saved_size(posted),
+            Kept::Text(_) | Kept::Numbers(_) => None,
+        }
+    }
+
+    /// Returns the saved form.
+    ///
+    /// # Errors
+    ///
+    /// `NoForm` if there is none; `Memory` if the allocator refuses a request.
+    pub fn save(&self, alloc: Global) -> Result<Vec<u8, Global>, SaveError>
+        ensures saved { IfOk result (λ out. form_of (structure_of self.now) ≡ Some out.items) }
+        ensures whole { OnOk result (HasForm (structure_of self.now)) }
+        ensures fits { OnOk result (Fits (structure_of self.now)) }
+        ensures refused { IfErr result (λ e. (e ≡ SaveError.Memory)
+            ⊎ ((e ≡ SaveError.NoForm) × ¬ HasForm (structure_of self.now))) }
+    {
+        match self {
+            Kept::Growing(bits) => saved_of(alloc, bits),
+            Kept::Bits(bits) => saved_of(alloc, bits),
+            Kept::Sparse(bits) => saved_of(alloc, bits),
+            Kept::Sorted(members) => saved_of(alloc, members),
+            Kept::Symbols(symbols) => saved_of(alloc, symbols),
+            Kept::Tree(tree) => saved_of(alloc, &**tree),
+            Kept::Fast(values) => saved_of(alloc, values),
+            Kept::Binary(values) => saved_of(alloc, values),
+            Kept::Posted(posted) => saved_of(alloc, posted),
+            Kept::Text(_) | Kept::Numbers(_) => Err(SaveError::NoForm),
+        }
+    }
+}
 
 /// Returns the number of bytes of the saved form of the handle's structure.
 #[unsafe(no_mangle)]
-pub extern "C" fn vers_saved_size(alloc: Global, handle: &mut VersHandle) -> VersAnswer
+pub extern "C" fn vers_saved_size(alloc: Global, handle: &mut VersHandle) -> Answer
     ensures value { result.status ≡ DONE
         → result ≡ found_or_absent (option_map length (contents_form (contents handle.old))) }
     ensures whole { result.status ≡ DONE → ContentsHaveForm (contents handle.old) }
@@ -39,14 +95,14 @@ pub extern "C" fn vers_saved_size(alloc: Global, handle: &mut VersHandle) -> Ver
     ensures kept { contents handle.new ≡ contents handle.old }
 {
     if !handle.is_built {
-        return VersAnswer::vacant();
+        return Answer::vacant();
     }
     let owner = taken(alloc, handle);
     let size = owner.saved_size();
     put(handle, owner);
     match size {
-        Some(size) => VersAnswer::of(Answer::place(size)),
-        None => VersAnswer::of(Answer::Absent),
+        Some(size) => Answer::place(size),
+        None => Answer::absent(),
     }
 }
 
@@ -61,7 +117,7 @@ pub extern "C" fn vers_save(alloc: Global, handle: &mut VersHandle, bytes: &mut 
         return VACANT;
     }
     let owner = taken(alloc, handle);
-    let made = owner.to_bytes(alloc);
+    let made = owner.save(alloc);
     put(handle, owner);
     match made {
         Ok(out) => written(&out, bytes),
@@ -84,63 +140,42 @@ fn written(from: &[u8], to: &mut [u8]) -> u32
     DONE
 }
 
-// Loads parentheses from their saved form.
-//
-// # Errors
-//
-// That of the first test that fails; `Memory` if the allocator refuses a request.
-fn load_parentheses(alloc: Global, bytes: &[u8]) -> Result<Box<Parentheses, Global>, LoadError>
-    ensures loaded { IfOk result (λ tree. bytes.now ≡ saved_parentheses 512 tree.value) }
-    ensures whole { IfOk result (λ tree.
-        IsWhole (tree_kind 512) (length tree.value) 512 (limbs tree.value)) }
-    ensures none { OnOk result (fault_of (tree_kind 512) bytes.now ≡ None) }
-    ensures refused { IfErr result (λ e. (fault_of (tree_kind 512) bytes.now ≡ Some e)
-        ⊎ ((e ≡ LoadError.Memory) × (fault_of (tree_kind 512) bytes.now ≡ None))) }
-    ensures back { (x : List Bool) → IsWhole (tree_kind 512) (length x) 512 (limbs x)
-        → bytes.now ≡ saved_parentheses 512 x
-        → MatchResult result (λ tree. tree.value ≡ x) (λ e. e ≡ LoadError.Memory) }
-{
-    let bits = load_parentheses_from_slice(alloc, 512, bytes)?;
-    match boxed(alloc, bits) {
-        Ok(tree) => Ok(tree),
-        Err(_) => Err(LoadError::Memory),
-    }
-}
-
 // Returns a loaded list as a structure.
 macro_rules! loaded_as {
-    ($loaded:expr, $structure:path) => {
+    ($loaded:expr, $kept:path) => {
         match $loaded {
-            Ok(list) => Ok($structure(list)),
+            Ok(list) => Ok($kept(list)),
             Err(error) => Err(error),
         }
     };
 }
 
-// Loads a structure of a kind from its saved form.
-//
-// # Errors
-//
-// That of the first test that fails; `Memory` if the allocator refuses a request.
-fn load(alloc: Global, kind: Kind, bytes: &[u8]) -> Result<Kept, LoadError>
-    ensures kind { IfOk result (λ kept. kind_of (content_of kept) ≡ Some kind) }
-    ensures form { IfOk result (λ kept. IsFormOf bytes.now (content_of kept)) }
-    ensures back { (held : Content) → kind_of held ≡ Some kind → IsFormOf bytes.now held
-        → MatchResult result (λ kept. content_of kept ≡ held) (λ e. e ≡ LoadError.Memory) }
-    ensures none { OnOk result (fault_of (saved_kind kind) bytes.now ≡ None) }
-    ensures refused { IfErr result (λ e. (fault_of (saved_kind kind) bytes.now ≡ Some e)
-        ⊎ ((e ≡ LoadError.Memory) × (fault_of (saved_kind kind) bytes.now ≡ None))) }
-{
-    match kind {
-        Kind::Growing => loaded_as!(load_from_slice(alloc, bytes), Structure::Growing),
-        Kind::Bits => loaded_as!(load_from_slice(alloc, bytes), Structure::Bits),
-        Kind::Sparse => loaded_as!(load_from_slice(alloc, bytes), Structure::Sparse),
-        Kind::Sorted => loaded_as!(load_from_slice(alloc, bytes), Structure::Sorted),
-        Kind::Symbols => loaded_as!(load_from_slice(alloc, bytes), Structure::Symbols),
-        Kind::Tree => loaded_as!(load_parentheses(alloc, bytes), Structure::Tree),
-        Kind::Fast => loaded_as!(load_from_slice(alloc, bytes), Structure::Fast),
-        Kind::Binary => loaded_as!(load_from_slice(alloc, bytes), Structure::Binary),
-        Kind::Postings => loaded_as!(load_from_slice(alloc, bytes), Structure::Postings),
+impl Kept {
+    /// Loads a structure of a kind from its saved form.
+    ///
+    /// # Errors
+    ///
+    /// That of the first test that fails; `Memory` if the allocator refuses a request.
+    pub fn load(alloc: Global, kind: Kind, bytes: &[u8]) -> Result<Kept, LoadError>
+        ensures kind { IfOk result (λ kept. kind_of (structure_of kept) ≡ Some kind) }
+        ensures form { IfOk result (λ kept. IsFormOf bytes.now (structure_of kept)) }
+        ensures back { (held : Structure) → kind_of held ≡ Some kind → IsFormOf bytes.now held
+            → MatchResult result (λ kept. structure_of kept ≡ held) (λ e. e ≡ LoadError.Memory) }
+        ensures none { OnOk result (fault_of (saved_kind kind) bytes.now ≡ None) }
+        ensures refused { IfErr result (λ e. (fault_of (saved_kind kind) bytes.now ≡ Some e)
+            ⊎ ((e ≡ LoadError.Memory) × (fault_of (saved_kind kind) bytes.now ≡ None))) }
+    {
+        match kind {
+            Kind::Growing => loaded_as!(load_from_slice(alloc, bytes), Kept::Growing),
+            Kind::Bits => loaded_as!(load_from_slice(alloc, bytes), Kept::Bits),
+            Kind::Sparse => loaded_as!(load_from_slice(alloc, bytes), Kept::Sparse),
+            Kind::Sorted => loaded_as!(load_from_slice(alloc, bytes), Kept::Sorted),
+            Kind::Symbols => loaded_as!(load_from_slice(alloc, bytes), Kept::Symbols),
+            Kind::Tree => loaded_as!(load_parentheses(alloc, bytes), Kept::Tree),
+            Kind::Fast => loaded_as!(load_from_slice(alloc, bytes), Kept::Fast),
+            Kind::Binary => loaded_as!(load_from_slice(alloc, bytes), Kept::Binary),
+            Kind::Postings => loaded_as!(load_from_slice(alloc, bytes), Kept::Posted),
+        }
     }
 }
 
@@ -156,7 +191,7 @@ pub extern "C" fn vers_load(alloc: Global, code: u32, bytes: &[u8], handle: &mut
     let Some(kind) = Kind::of(code) else {
         return UNKNOWN;
     };
-    match load(alloc, kind, bytes) {
+    match Kept::load(alloc, kind, bytes) {
         Ok(kept) => fill(alloc, handle, kept),
         Err(error) => fault(error),
     }

@@ -3,9 +3,8 @@ use Rattle.std.proofs.Common.{◌≡◌, ℕ, List, ◌++◌, [], ◌∷◌, len
 use Rattle.vers_bits.specs.Bits.{limbs}
 use Rattle.vers_wavelet.specs.Symbols.{Symbols}
 use Rattle.vers_saved.specs.Format.{saved, with_sum, word_bytes, bytes_word, bytes_of, words_of, check_sum, sparse_words, posting_words}
-use Rattle.catalogue.specs.Contents.{Content, GrowingBits, IndexedBits, SparseBits, SortedMembers, SymbolList, Parentheses, BlockValues, TableValues, Documents, IndexedText, PlainNumbers}
-use Rattle.catalogue.specs.Forms.{Fits, HasForm, saved_form}
-use Rattle.vers_files.specs.Forms.{number_of_kind}
+use Rattle.vers_cli.specs.Holding.{Holding, Nothing, BitsHeld, SortedHeld, SparseHeld, ValuesHeld, TreeHeld, SymbolsHeld, PostingsHeld}
+use Rattle.vers_files.specs.Forms.{saved_form, HasForm, Fits, number_of_kind}
 use Rattle.vers_files.proofs.Fronts.{same_number}
 
 -- the bytes of the first three words of a form
@@ -47,16 +46,13 @@ postings_number count width words = same_number (front 7) (rest 7 count width wo
 pub ruleset numbers = (bits_number, sorted_number, symbols_number, sparse_number, values_number, parentheses_number, postings_number)
 
 -- a structure whose saved form names symbols is a list of them
-pub only_symbols : (P : Content → Type 0) (x : Content) → HasForm x → Fits x → number_of_kind (saved_form x) ≡ 3
-    → ((symbols : Symbols) → x ≡ SymbolList symbols → HasForm (SymbolList symbols) → Fits (SymbolList symbols) → P (SymbolList symbols)) → P x
-only_symbols P (GrowingBits bits) whole fits named of = absurd (omega (arith, named, bits_number (length bits) 1 (limbs bits)))
-only_symbols P (IndexedBits bits) whole fits named of = absurd (omega (arith, named, bits_number (length bits) 1 (limbs bits)))
-only_symbols P (SortedMembers members) whole fits named of = absurd (omega (arith, named, sorted_number (length members) 64 members))
-only_symbols P (SparseBits bits) whole fits named of = absurd (omega (arith, named, sparse_number (length (sparse_words bits)) 64 (sparse_words bits)))
-only_symbols P (BlockValues values) whole fits named of = absurd (omega (arith, named, values_number (length values) 64 values))
-only_symbols P (TableValues values) whole fits named of = absurd (omega (arith, named, values_number (length values) 64 values))
-only_symbols P (Parentheses bits) whole fits named of = absurd (omega (arith, named, parentheses_number (length bits) 512 (limbs bits)))
-only_symbols P (SymbolList symbols) whole fits named of = of symbols refl whole fits
-only_symbols P (Documents posted) whole fits named of = absurd (omega (arith, named, postings_number (length posted.documents) 128 (posting_words posted)))
-only_symbols P (IndexedText text) whole fits named of = absurd whole
-only_symbols P (PlainNumbers numbers) whole fits named of = absurd whole
+pub only_symbols : (P : Holding → Type 0) (x : Holding) → HasForm x → Fits x → number_of_kind (saved_form x) ≡ 3
+    → ((symbols : Symbols) → x ≡ SymbolsHeld symbols → HasForm (SymbolsHeld symbols) → Fits (SymbolsHeld symbols) → P (SymbolsHeld symbols)) → P x
+only_symbols P Nothing whole fits named of = absurd whole
+only_symbols P (BitsHeld bits) whole fits named of = absurd (omega (arith, named, bits_number (length bits) 1 (limbs bits)))
+only_symbols P (SortedHeld members) whole fits named of = absurd (omega (arith, named, sorted_number (length members) 64 members))
+only_symbols P (SparseHeld bits) whole fits named of = absurd (omega (arith, named, sparse_number (length (sparse_words bits)) 64 (sparse_words bits)))
+only_symbols P (ValuesHeld values) whole fits named of = absurd (omega (arith, named, values_number (length values) 64 values))
+only_symbols P (TreeHeld bits) whole fits named of = absurd (omega (arith, named, parentheses_number (length bits) 512 (limbs bits)))
+only_symbols P (SymbolsHeld symbols) whole fits named of = of symbols refl whole fits
+only_symbols P (PostingsHeld posted) whole fits named of = absurd (omega (arith, named, postings_number (length posted.documents) 128 (posting_words posted)))

@@ -15,6 +15,6 @@ pub use asking::ask;
 pub use cut::symbols_cut;
 pub use loading::{fault_line, load_file, read};
 pub use place::{FilePlace, Place};
-pub use saving::{SaveFault, save_line, save_to};
+pub use saving::{SaveFault, save, save_line, save_to};
 pub use showing::{Shown, show};
 pub use texts::{TextFault, ask_text, text_fault_line};

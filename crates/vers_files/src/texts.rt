@@ -3,17 +3,17 @@ ghost use Rattle.std.specs.Prelude.{◌≡◌, ◌<◌, ◌≤◌, ◌↔◌, �
 ghost use Rattle.vers_engine.specs.Device.{FollowsReadFault, FollowsWriteFault};
 ghost use Rattle.vers_wavelet.specs.Symbols.{Symbols};
 ghost use Rattle.text_index.specs.Makers.{IsSymbolWidth};
-ghost use Rattle.catalogue.specs.Contents.{Content, SymbolList, content_of};
+ghost use Rattle.vers_cli.specs.Holding.{Holding, SymbolsHeld};
 ghost use Rattle.vers_texts.specs.Answers.{by_the_rules};
 ghost use Rattle.vers_files.specs.Asked.{AnswersFrom};
 ghost use Rattle.vers_files.specs.Forms.{IsFormOf, IsNoForm};
 ghost use Rattle.vers_files.specs.TextFiles.{AreSymbolsOf, HasNoSymbols, IsNoText, text_fault_text};
 
 use crate::loading::{fault_line, load_file};
-use catalogue::structure::Structure;
 use std::alloc::{AllocError, Allocator};
 use std::io::Read;
 use text_index::{MAX_LEN, TextError, TextIndex};
+use vers_cli::Held;
 use vers_saved::fault::LoadError;
 use vers_texts::{Device, RunError, Sink, Source, Store, run_from};
 use vers_wavelet::wavelet::WaveletMatrix;
@@ -117,11 +117,11 @@ fn symbols_of<A: Allocator + Copy, O: Owner<A>>(
     alloc: A,
     loaded: Result<O, LoadError>,
 ) -> Result<PlainSymbols<A>, TextFault>
-    ensures loaded { (left : Option (List ℕ)) → IfOk loaded (λ owner. IsFormOf left (O.content owner))
+    ensures loaded { (left : Option (List ℕ)) → IfOk loaded (λ owner. IsFormOf left (O.holding owner))
         → IfOk result (λ symbols. AreSymbolsOf left
         (record { width = symbols.width; items = symbols.items.items })) }
     ensures width { IfOk result (λ symbols. IsSymbolWidth symbols.width) }
-    ensures refused { (left : Option (List ℕ)) → IfOk loaded (λ owner. IsFormOf left (O.content owner))
+    ensures refused { (left : Option (List ℕ)) → IfOk loaded (λ owner. IsFormOf left (O.holding owner))
         → IfErr loaded (IsNoForm left) → IfErr result (IsNoText left) }
 {
     match loaded {
@@ -132,24 +132,24 @@ fn symbols_of<A: Allocator + Copy, O: Owner<A>>(
 
 // An owner of a list.
 trait Owner<A: Allocator + Copy>: Drop {
-    ghost content: { Self → Content };
+    ghost holding: { Self → Holding };
 
-    // Returns the symbols.
+    // Returns the symbols of the current structure.
     fn symbols(&self, alloc: A) -> Result<PlainSymbols<A>, TextFault>
-        ensures held { IfOk result (λ symbols. content self.now
-            ≡ SymbolList (record { width = symbols.width; items = symbols.items.items })) }
+        ensures held { IfOk result (λ symbols. holding self.now
+            ≡ SymbolsHeld (record { width = symbols.width; items = symbols.items.items })) }
         ensures width { IfOk result (λ symbols. IsSymbolWidth symbols.width) }
         ensures refused { IfErr result (λ e. (e ≡ TextFault.Memory)
-            ⊎ ((e ≡ TextFault.NoSymbols) × HasNoSymbols (content self.now))
-            ⊎ ((e ≡ TextFault.OtherWidth) × ((symbols : Symbols) × (content self.now ≡ SymbolList symbols)
+            ⊎ ((e ≡ TextFault.NoSymbols) × HasNoSymbols (holding self.now))
+            ⊎ ((e ≡ TextFault.OtherWidth) × ((symbols : Symbols) × (holding self.now ≡ SymbolsHeld symbols)
             × (IsSymbolWidth symbols.width → ⊥)))) };
 }
 
-impl<A: Allocator + Copy> Owner<A> for Structure<&A> {
-    ghost content = { content_of };
+impl<A: Allocator + Copy> Owner<A> for vers_cli::Store<'_, A> {
+    ghost holding = { λ store. store };
 
     fn symbols(&self, alloc: A) -> Result<PlainSymbols<A>, TextFault> {
-        let Structure::Symbols(symbols) = self else {
+        let Held::Symbols(symbols) = self.held() else {
             return Err(TextFault::NoSymbols);
         };
         let width = symbols.bit_len();
@@ -166,7 +166,7 @@ impl<A: Allocator + Copy> Owner<A> for Structure<&A> {
 // Returns the items of a list of symbols of at most 64 bits.
 fn items_of<A: Allocator + Copy>(
     alloc: A,
-    symbols: &WaveletMatrix<&A>,
+    symbols: &WaveletMatrix<A>,
 ) -> Result<Vec<u64, A>, AllocError>
     requires { symbols.now.width ≤ 64 }
     ensures { IfOk result (λ items. items.items ≡ symbols.now.items) }

@@ -6,7 +6,7 @@ use types.Kit.{drop}
 use Rattle.vers_c.proofs.OwnerBoxes.{E}
 use Rattle.std.specs.contracts.alloc.Global as Heap
 use Rattle.vers_c.specs.contracts.held.Held as Held
-use Rattle.catalogue.specs.declared.structure.Structure.TheVariants.{Growing}
+use Rattle.vers_c.specs.declared.kept.Kept.TheVariants.{Growing}
 use Rattle.vers_c.specs.contracts.held.Held.vacant as F
 use Rattle.vers_c.specs.contracts.held.Held.vacant.Key.{name as #self}
 use Rattle.vers_c.proofs.held.Held.vacant.Statement as stated

@@ -1,0 +1,55 @@
+//! Kinds of structures and their codes.
+ghost use Rattle.std.specs.Prelude.{◌≡◌, slice_get};
+
+/// The structure as which a saved form is loaded.
+#[derive(Clone, Copy, Drop)]
+pub enum Kind {
+    /// Bits that can change.
+    Growing,
+    /// Bits with rank and select.
+    Bits,
+    /// An ascending list.
+    Sorted,
+    /// A list of symbols.
+    Symbols,
+    /// Bits with few ones.
+    Sparse,
+    /// Values, with range minima from blocks.
+    Fast,
+    /// Parentheses.
+    Tree,
+    /// Documents with costs.
+    Postings,
+    /// Values, with range minima from a sparse table.
+    Binary,
+}
+
+/// The kind of each code, which is its index here. From 1 to 7 the codes are the numbers of saved forms; the two
+/// types that share the form of another one have 0 and 8.
+pub const KINDS: [Kind; 9] = [
+    Kind::Growing,
+    Kind::Bits,
+    Kind::Sorted,
+    Kind::Symbols,
+    Kind::Sparse,
+    Kind::Fast,
+    Kind::Tree,
+    Kind::Postings,
+    Kind::Binary,
+];
+
+impl Kind {
+    // Returns the kind at a position of a table.
+    fn at(table: &[Kind], place: usize) -> Option<Kind>
+        ensures { result ≡ slice_get table.now place }
+    {
+        table.get(place).copied()
+    }
+
+    /// Returns the kind of a code, or `None` if there is none.
+    pub fn of(code: u32) -> Option<Kind>
+        ensures { result ≡ slice_get KINDS code }
+    {
+        Kind::at(&KINDS, code as usize)
+    }
+}
