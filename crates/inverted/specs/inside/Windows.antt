@@ -1,0 +1,26 @@
+-- How many lists of documents are stored as one list of numbers.
+use Rattle.std.specs.Prelude.{◌≡◌, ℕ, ◌+◌, ◌-◌, ◌*◌, ◌<◌, ◌≤◌, ◌==◌, ◌&&◌, Bool, List, [], filter, map, nat_le, nat_lt, Option, Some, None, if◌then◌else◌}
+use Rattle.std.specs.List.{range_with_len}
+use Rattle.std.specs.List.Sorted.{IsStrictlyIncreasing}
+
+-- whether a number is that of a document of a term
+abbrev pub is_of : ℕ → ℕ → ℕ → Bool
+is_of universe t number = nat_le (t * universe) number && nat_lt number (t * universe + universe)
+
+-- the documents of a term
+unfoldable pub documents_of : List ℕ → ℕ → ℕ → List ℕ
+documents_of numbers universe t = map (λ number. number - t * universe) (filter (is_of universe t) numbers)
+
+-- all lists
+unfoldable pub lists_of : List ℕ → ℕ → ℕ → List (List ℕ)
+lists_of numbers universe terms = map (documents_of numbers universe) (range_with_len 0 terms)
+
+-- the document of a number from `start` on, if it is below the end of the term
+abbrev pub clip : ℕ → ℕ → Option ℕ → Option ℕ
+clip start universe None = None
+clip start universe (Some number) = if nat_lt number (start + universe) then Some (number - start) else None
+
+-- the numbers ascend strictly, and the end of the last term has 64 bits
+pub record IsIndex (numbers : List ℕ) (universe terms : ℕ) : Type 0 where
+  pub ascending : IsStrictlyIncreasing numbers
+  pub fits : terms * universe ≤ 18446744073709551615
