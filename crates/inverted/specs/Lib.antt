@@ -1,4 +1,0 @@
-pub mod Lists
-pub mod Makers
-pub mod Rows
-pub mod inside

@@ -1,2 +1,0 @@
--- What only proofs and private functions need: no contract of a public function cites a word of it.
-pub mod Windows
