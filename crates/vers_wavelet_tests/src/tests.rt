@@ -4,6 +4,7 @@
 mod batches;
 mod compared;
 mod gathered;
+mod iterators;
 mod lists;
 mod makers;
 mod memory;

@@ -253,17 +253,26 @@ fn the_unchecked_forms(rt: HostRuntime) {
 fn back_by_law<A: Allocator + Copy>(
     copy: Result<BitVec<A>, AllocError>,
 ) -> Result<BitVec<A>, AllocError> {
-    bits_come_back(copy?)
+    match copy {
+        Ok(bits) => bits_come_back(bits),
+        Err(fault) => Err(fault),
+    }
 }
 
 fn back_by_from<A: Allocator + Copy>(
     copy: Result<BitVec<A>, AllocError>,
 ) -> Result<BitVec<A>, AllocError> {
-    converted(copy?)
+    match copy {
+        Ok(bits) => converted(bits),
+        Err(fault) => Err(fault),
+    }
 }
 
 fn converted<A: Allocator + Copy>(bits: BitVec<A>) -> Result<BitVec<A>, AllocError> {
-    Ok(BitVec::from(RsVec::from_bit_vec(bits)?))
+    match RsVec::from_bit_vec(bits) {
+        Ok(list) => Ok(BitVec::from(list)),
+        Err(fault) => Err(fault),
+    }
 }
 
 fn is_back<A: Allocator + Copy>(back: Result<BitVec<A>, AllocError>, bits: &BitVec<A>) -> bool {

@@ -19,7 +19,10 @@ fn plain_of<A: Allocator + Copy>(
     look: Look,
     len: usize,
 ) -> Result<PlainList<A>, GrowError> {
-    Ok(PlainList::new(bits_of(alloc, look, len)?))
+    match bits_of(alloc, look, len) {
+        Ok(bits) => Ok(PlainList::new(bits)),
+        Err(fault) => Err(fault),
+    }
 }
 
 // Returns the answer of the plain list.

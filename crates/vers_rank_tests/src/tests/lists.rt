@@ -81,7 +81,10 @@ pub fn list_of<A: Allocator + Copy>(
     look: Look,
     len: usize,
 ) -> Result<RsVec<A>, GrowError> {
-    indexed(bits_of(alloc, look, len)?)
+    match bits_of(alloc, look, len) {
+        Ok(bits) => indexed(bits),
+        Err(fault) => Err(fault),
+    }
 }
 
 /// Returns the same bits, indexed, with another one at one position.

@@ -268,5 +268,8 @@ impl<A: Allocator + Copy> RangeMinima for FastRmq<A> {
 
 /// Returns the range minima of numbers.
 pub fn made<A, R: MadeOf<A>>(alloc: A, numbers: &[u64]) -> Result<R, AllocError> {
-    R::of_vec(R::vec_of(alloc, numbers)?)
+    match R::vec_of(alloc, numbers) {
+        Ok(items) => R::of_vec(items),
+        Err(fault) => Err(fault),
+    }
 }

@@ -91,19 +91,28 @@ impl<A: Allocator + Copy> Check<RsVec<A>> for ListOf {
 fn bits_walk<A: Allocator + Copy>(
     list: Result<RsVec<A>, GrowError>,
 ) -> Result<RsVecIter<A>, GrowError> {
-    Ok(list?.into_iter())
+    match list {
+        Ok(list) => Ok(list.into_iter()),
+        Err(fault) => Err(fault),
+    }
 }
 
 fn zeros_walk<A: Allocator + Copy>(
     list: Result<RsVec<A>, GrowError>,
 ) -> Result<SelectIntoIter<true, A>, GrowError> {
-    Ok(list?.into_iter0())
+    match list {
+        Ok(list) => Ok(list.into_iter0()),
+        Err(fault) => Err(fault),
+    }
 }
 
 fn ones_walk<A: Allocator + Copy>(
     list: Result<RsVec<A>, GrowError>,
 ) -> Result<SelectIntoIter<false, A>, GrowError> {
-    Ok(list?.into_iter1())
+    match list {
+        Ok(list) => Ok(list.into_iter1()),
+        Err(fault) => Err(fault),
+    }
 }
 
 // A call that allocates.

@@ -47,7 +47,10 @@ pub enum Query {
 
 // Returns a boolean as a number.
 fn as_number(bit: Option<bool>) -> Option<u64> {
-    Some(u64::from(bit?))
+    match bit {
+        Some(bit) => Some(u64::from(bit)),
+        None => None,
+    }
 }
 
 /// Returns the answer of one query, a boolean as 1 or 0. An unchecked one is called only if its precondition
