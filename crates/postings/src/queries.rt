@@ -1,5 +1,5 @@
 //! Queries of a list of documents.
-ghost use Rattle.std.specs.Prelude.{◌≡◌, ◌+◌, ◌≤◌, All, length, nat_le, if◌then◌else◌, IfOk};
+ghost use Rattle.std.specs.Prelude.{◌≡◌, ◌+◌, ◌≤◌, All, length, IfOk};
 ghost use Rattle.vers_tally.specs.Reads.{AddsAtMost};
 ghost use Rattle.vers_sorted.specs.Sorted.{below, least_not_below};
 ghost use Rattle.vers_sorted.specs.Layout.{search_reads};
@@ -7,7 +7,7 @@ ghost use Rattle.postings.specs.Posted.{is_among, cheapest, common, cheapest_rea
 
 use crate::postings::Postings;
 use std::alloc::{AllocError, Allocator};
-use vers_sorted::elias_fano::EliasFanoVec;
+use vers_sorted::elias_fano::{EliasFanoVec, by_length};
 use vers_tally::tally::Tally;
 
 impl<A: Allocator + Copy> Postings<A> {
@@ -114,24 +114,6 @@ impl<A: Allocator + Copy> Postings<A> {
     {
         let (shorter, longer) = by_length(&self.documents, &other.documents);
         common_documents(self.costs.allocator(), shorter, longer, tally)
-    }
-}
-
-// Returns two lists, the shorter first.
-#[inline(always)]
-fn by_length<'a, A: Allocator + Copy>(
-    one: &'a EliasFanoVec<A>,
-    other: &'a EliasFanoVec<A>,
-) -> (&'a EliasFanoVec<A>, &'a EliasFanoVec<A>)
-    ensures shorter { result.0.now
-        ≡ (if nat_le (length one.now) (length other.now) then one.now else other.now) }
-    ensures longer { result.1.now
-        ≡ (if nat_le (length one.now) (length other.now) then other.now else one.now) }
-{
-    if one.len() <= other.len() {
-        (one, other)
-    } else {
-        (other, one)
     }
 }
 

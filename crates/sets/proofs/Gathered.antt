@@ -1,7 +1,8 @@
 -- What a search has found so far.
 use Rattle.std.proofs.Common.{◌≡◌, ℕ, ◌+◌, ◌-◌, ◌*◌, ◌<◌, ◌≤◌, Bool, true, false, List, [], ◌∷◌, ◌++◌, length, get_or, refl, sym, ap, ◌∙◌, arith, inl, inr, Some, None, Option, subst, length-append}
 use Rattle.std.specs.Prelude.{◌==◌}
-use Rattle.std.specs.List.Sorted.{IsStrictlyIncreasing}
+use Rattle.std.specs.List.Sorted.{IsNonDecreasing, IsStrictlyIncreasing}
+use Rattle.std.proofs.lemmas.Map.Keys.{non_decreasing_from_sorted, sorted_from_strictly_increasing}
 use Rattle.std.proofs.lemmas.Bool.{cases_lt, ne_eqb}
 use Rattle.std.proofs.lemmas.Option.{none-some}
 use Rattle.std.proofs.lemmas.List.Folds.{list_any-append}
@@ -222,3 +223,8 @@ pub passed_adds : (passed : ℕ → ℕ) (most at x : ℕ) (from : Option ℕ) (
 passed_adds passed most at x from p a b c is added step pass =
     let steps_before : AddsAtMost a b (times (passed at) p) = subst (λ (f : Option ℕ). AddsAtMost a b (times (steps_so_far passed most f) p)) is added in
     steps_add (passed at) (passed x) p a b c steps_before step pass
+
+-- ---- the list of a set
+
+pub ascending_set : {has : ℕ → Bool} {found : List ℕ} → IsSetOf has found → IsNonDecreasing found
+ascending_set {found} set = non_decreasing_from_sorted found (sorted_from_strictly_increasing found set.ascending)

@@ -12,21 +12,25 @@ use crate::seek::Seek;
 use crate::step::Step;
 use std::alloc::Allocator;
 use std::marker::Model;
-use vers_sorted::elias_fano::EliasFanoVec;
+use vers_sorted::elias_fano::{EliasFanoVec, Successors};
 use vers_tally::tally::Tally;
 
-/// The members of an ascending list, as a source. Contracts see it as the list.
+/// The members of an ascending list, as a source. If the numbers that are searched rise, each search begins where the
+/// last one ended. Contracts see it as the list.
 #[derive(Drop)]
 pub struct Cursor<'a, A: Allocator + Copy> {
     list: &'a EliasFanoVec<A>,
+    successors: Successors<'a, A>,
 }
 
 impl<'a, A: Allocator + Copy> Model for Cursor<'a, A> {
-    ghost use Rattle.std.specs.Prelude.{List, ℕ};
+    ghost use Rattle.std.specs.Prelude.{◌≡◌, List, ℕ};
 
     ghost Value = { List ℕ };
 
     ghost view = { λ cursor. cursor.list.now };
+
+    ghost invariant = { λ cursor. cursor.successors ≡ cursor.list.now };
 }
 
 impl<'a, A: Allocator + Copy> Cursor<'a, A> {
@@ -34,7 +38,10 @@ impl<'a, A: Allocator + Copy> Cursor<'a, A> {
     pub fn new(list: &'a EliasFanoVec<A>) -> Self
         ensures { result ≡ list.now }
     {
-        Cursor { list }
+        Cursor {
+            list,
+            successors: Successors::new(list),
+        }
     }
 }
 
@@ -42,7 +49,7 @@ impl<'a, A: Allocator + Copy> Seek for Cursor<'a, A> {
     ghost set = { λ members. searched_list members };
 
     fn seek_counted(&mut self, at: u64, tally: &mut Tally) -> Step {
-        let next = self.list.successor_counted(at, tally);
+        let next = self.successors.successor_counted(at, tally);
         step_to(self.list, next, tally)
     }
 }

@@ -1,16 +1,16 @@
 //! Intersections, unions and differences of ascending lists. Equal members count once.
-ghost use Rattle.std.specs.Prelude.{◌≡◌, ◌+◌, ◌∷◌, IfOk, if◌then◌else◌, length, map, min, nat_le};
+ghost use Rattle.std.specs.Prelude.{◌≡◌, ◌+◌, ◌∷◌, IfOk, length, map, min};
 ghost use Rattle.std.specs.List.{sum_by};
 ghost use Rattle.vers_tally.specs.Reads.{AddsAtMost, plus, times};
 ghost use Rattle.sets.specs.Sets.{IsSetOf, in_all, in_any, in_both, in_either, in_first_alone};
 ghost use Rattle.sets.specs.Sources.{seek_reads, seek_reads_of};
 
 use crate::cursor::Cursor;
-use crate::gather::{collect, numbers_of_counted};
+use crate::gather::numbers_of_counted;
 use crate::joined::{Both, Either, Without};
 use crate::several::{AllOf, AnyOf};
 use std::alloc::{AllocError, Allocator};
-use vers_sorted::elias_fano::EliasFanoVec;
+use vers_sorted::elias_fano::{EliasFanoVec, by_length};
 use vers_tally::tally::Tally;
 
 /// Returns the numbers that are in both lists. Errors: `AllocError` only if the allocator refuses a request.
@@ -21,12 +21,9 @@ pub fn intersection<A: Allocator + Copy>(
 ) -> Result<EliasFanoVec<A>, AllocError>
     ensures { IfOk result (IsSetOf (in_both one.now other.now)) }
 {
-    let (shorter, longer) = by_length(one, other);
-    let both = Both {
-        one: Cursor::new(shorter),
-        other: Cursor::new(longer),
-    };
-    collect(alloc, both)
+    let mut tally = Tally::new();
+    let found = intersection_numbers_counted(alloc, one, other, &mut tally)?;
+    EliasFanoVec::from_slice(alloc, found.as_slice())
 }
 
 /// Returns the members of `intersection(alloc, one, other)`. Takes at most one step more in each list than
@@ -59,11 +56,9 @@ pub fn union<A: Allocator + Copy>(
 ) -> Result<EliasFanoVec<A>, AllocError>
     ensures { IfOk result (IsSetOf (in_either one.now other.now)) }
 {
-    let either = Either {
-        one: Cursor::new(one),
-        other: Cursor::new(other),
-    };
-    collect(alloc, either)
+    let mut tally = Tally::new();
+    let found = union_numbers_counted(alloc, one, other, &mut tally)?;
+    EliasFanoVec::from_slice(alloc, found.as_slice())
 }
 
 /// Returns the members of `union(alloc, one, other)`. Takes at most one step more in each list than both have
@@ -95,11 +90,9 @@ pub fn difference<A: Allocator + Copy>(
 ) -> Result<EliasFanoVec<A>, AllocError>
     ensures { IfOk result (IsSetOf (in_first_alone one.now other.now)) }
 {
-    let without = Without {
-        one: Cursor::new(one),
-        other: Cursor::new(other),
-    };
-    collect(alloc, without)
+    let mut tally = Tally::new();
+    let found = difference_numbers_counted(alloc, one, other, &mut tally)?;
+    EliasFanoVec::from_slice(alloc, found.as_slice())
 }
 
 /// Returns the members of `difference(alloc, one, other)`. Takes at most one step more in each list than
@@ -130,12 +123,9 @@ pub fn intersection_of<'a, A: Allocator + Copy>(
 ) -> Result<EliasFanoVec<A>, AllocError>
     ensures { IfOk result (IsSetOf (in_all first.now (map (λ list. list.now) others.now))) }
 {
-    let others = cursors_of(alloc, others)?;
-    let all = AllOf {
-        first: Cursor::new(first),
-        others,
-    };
-    collect(alloc, all)
+    let mut tally = Tally::new();
+    let found = intersection_of_numbers_counted(alloc, first, others, &mut tally)?;
+    EliasFanoVec::from_slice(alloc, found.as_slice())
 }
 
 /// Returns the members of `intersection_of(alloc, first, others)`. Takes at most one step more in each list than
@@ -169,12 +159,9 @@ pub fn union_of<'a, A: Allocator + Copy>(
 ) -> Result<EliasFanoVec<A>, AllocError>
     ensures { IfOk result (IsSetOf (in_any (first.now ∷ map (λ list. list.now) others.now))) }
 {
-    let others = cursors_of(alloc, others)?;
-    let any = AnyOf {
-        first: Cursor::new(first),
-        others,
-    };
-    collect(alloc, any)
+    let mut tally = Tally::new();
+    let found = union_of_numbers_counted(alloc, first, others, &mut tally)?;
+    EliasFanoVec::from_slice(alloc, found.as_slice())
 }
 
 /// Returns the members of `union_of(alloc, first, others)`. Takes at most one step more in each list than
@@ -197,24 +184,6 @@ pub fn union_of_numbers_counted<'a, A: Allocator + Copy>(
         others,
     };
     numbers_of_counted(alloc, any, tally)
-}
-
-// Returns two lists, the shorter first.
-#[inline(always)]
-fn by_length<'a, A: Allocator + Copy>(
-    one: &'a EliasFanoVec<A>,
-    other: &'a EliasFanoVec<A>,
-) -> (&'a EliasFanoVec<A>, &'a EliasFanoVec<A>)
-    ensures shorter { result.0.now
-        ≡ (if nat_le (length one.now) (length other.now) then one.now else other.now) }
-    ensures longer { result.1.now
-        ≡ (if nat_le (length one.now) (length other.now) then other.now else one.now) }
-{
-    if one.len() <= other.len() {
-        (one, other)
-    } else {
-        (other, one)
-    }
 }
 
 // Returns a cursor at the first member of each list.

@@ -5,6 +5,8 @@
 #[cfg(test)]
 mod combined;
 #[cfg(test)]
+mod cursor;
+#[cfg(test)]
 mod memory;
 #[cfg(test)]
 mod plain;

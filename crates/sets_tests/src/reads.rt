@@ -1,20 +1,11 @@
 //! The reads of operations, which are within their bounds.
-use crate::shared::{Operation, counted, listed};
-use std::alloc::{AllocError, Global};
+use crate::shared::{Operation, counted, multiples};
+use std::alloc::Global;
 use test_alloc::{asked, asked_both};
 use vers_sorted::elias_fano::EliasFanoVec;
 use vers_tally::tally::Tally;
 
 type List = EliasFanoVec<Global>;
-
-// Returns the multiples of a step, as a list of that many members.
-fn multiples(alloc: Global, count: u64, step: u64) -> Result<List, AllocError> {
-    let mut numbers = Vec::new(alloc);
-    for k in 0..count {
-        numbers.push(k.wrapping_mul(step))?;
-    }
-    listed(alloc, numbers.as_slice())
-}
 
 // Returns the low parts that an operation reads whose result has that many members.
 fn low_parts(

@@ -6,6 +6,7 @@ pub mod Neighbours
 pub mod Ones
 pub mod Holds
 pub mod Packed
+pub mod Passes
 pub mod Buckets
 pub mod Begins
 pub mod Batches

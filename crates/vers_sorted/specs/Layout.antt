@@ -4,7 +4,7 @@ use Rattle.std.specs.List.{range_with_len}
 use Rattle.vers_bits.specs.Bits.{pack, limb_count}
 use Rattle.vers_rank.specs.Queries.{index_size, select_reads, superblock_count}
 use Rattle.vers_sorted.specs.Ones.{ones_at}
-use Rattle.vers_tally.specs.Reads.{Reads, times, digits}
+use Rattle.vers_tally.specs.Reads.{Reads, plus, times, digits}
 pub use Rattle.vers_tally.specs.Reads.{clog}
 
 -- the first and the last element, 0 for the empty list
@@ -61,3 +61,7 @@ member_reads members = select_calls 2 members
 -- bound on a search
 abbrev pub search_reads : List ℕ → Reads
 search_reads members = select_calls (digits (length members) + 8) members
+
+-- bound on a search from the last successor on: one search, and 9 elements
+abbrev pub next_reads : List ℕ → Reads
+next_reads members = plus (search_reads members) (times 9 (member_reads members))

@@ -3,4 +3,5 @@ pub mod Parts
 pub mod Buckets
 pub mod Begun
 pub mod Ahead
+pub mod Passed
 pub mod Gathered

@@ -1,5 +1,5 @@
 //! Ascending lists of numbers.
-ghost use Rattle.std.specs.Prelude.{◌≡◌, ◌<◌, ◌≤◌, ◌==◌, ◌↔◌, [], length, slice_index, slice_get, IsTrue, IsSome, Some};
+ghost use Rattle.std.specs.Prelude.{◌≡◌, ◌<◌, ◌≤◌, ◌==◌, ◌↔◌, [], length, slice_index, slice_get, nat_le, if◌then◌else◌, IsTrue, IsSome, Some};
 ghost use Rattle.std.specs.List.{list_any};
 ghost use Rattle.std.specs.List.Sorted.{IsNonDecreasing};
 ghost use Rattle.vers_sorted.specs.Sorted.{below, greatest_not_above, least_not_below, delta};
@@ -15,11 +15,13 @@ mod narrow;
 mod neighbours;
 mod scan;
 mod search;
+mod successors;
 
 pub use iter::{EliasFanoIter, EliasFanoRefIter};
 pub use make::{MAX_LEN, Numbers};
 use std::alloc::{AllocError, Allocator};
 use std::marker::Model;
+pub use successors::Successors;
 use vers_rank::fast_rs_vec::RsVec;
 use vers_tally::tally::{CountedBits, Tally, Uncounted};
 
@@ -215,5 +217,23 @@ impl<A: Allocator + Copy> EliasFanoVec<A> {
         ensures ascending { IsNonDecreasing self.now }
     {
         self.successor(v).unwrap()
+    }
+}
+
+/// Returns two lists, the shorter first.
+#[inline(always)]
+pub fn by_length<'a, A: Allocator + Copy>(
+    one: &'a EliasFanoVec<A>,
+    other: &'a EliasFanoVec<A>,
+) -> (&'a EliasFanoVec<A>, &'a EliasFanoVec<A>)
+    ensures shorter { result.0.now
+        ≡ (if nat_le (length one.now) (length other.now) then one.now else other.now) }
+    ensures longer { result.1.now
+        ≡ (if nat_le (length one.now) (length other.now) then other.now else one.now) }
+{
+    if one.len() <= other.len() {
+        (one, other)
+    } else {
+        (other, one)
     }
 }

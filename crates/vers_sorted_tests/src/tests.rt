@@ -8,4 +8,5 @@ mod iterators;
 mod lists;
 mod memory;
 mod sparse;
+mod successors;
 mod walks;

@@ -1,7 +1,7 @@
 //! The bits of the high parts that a walk along the members has read ahead.
 ghost use Rattle.std.specs.Prelude.{◌≡◌, ◌+◌, ◌<◌, length, slice_index};
 ghost use Rattle.vers_tally.specs.Reads.{AddsAtMost};
-ghost use Rattle.vers_sorted.specs.inside.Ahead.{IsAhead};
+ghost use Rattle.vers_sorted.specs.inside.Ahead.{HasRead, IsAhead};
 ghost use Rattle.vers_sorted.specs.Layout.{high_length, high_place};
 ghost use Rattle.vers_sorted.specs.inside.Parts.{reads};
 
@@ -21,7 +21,7 @@ impl Ahead {
     // Returns an empty read-ahead.
     #[inline]
     pub(super) fn none() -> Ahead
-        ensures { result.word ≡ 0 }
+        ensures { result ≡ record { place = 0; len = 0; word = 0 } }
     {
         Ahead {
             place: 0,
@@ -44,11 +44,7 @@ impl<A: Allocator + Copy> EliasFanoVec<A> {
     {
         let bits = self.high.len();
         if ahead.word != 0 {
-            let skip = ahead.word.trailing_zeros() as usize;
-            ahead.word = (ahead.word >> skip) >> 1;
-            ahead.place += skip + 1;
-            ahead.len -= skip + 1;
-            return ahead.place - 1;
+            return self.place_read(i, ahead);
         }
         let place = self.high.select1_counted(i, tally);
         let len = (bits - place - 1).min(64);
@@ -59,6 +55,25 @@ impl<A: Allocator + Copy> EliasFanoVec<A> {
             .get_bits_counted(place + 1, len, tally)
             .unwrap_or(0);
         place
+    }
+
+    // Returns the position of the one of a member, which was read ahead.
+    #[inline(always)]
+    #[tactic(auto, using(crate::proofs::Aheads::steps))]
+    pub(super) fn place_read(&self, i: usize, ahead: &mut Ahead) -> usize
+        requires some { 0 < ahead.old.word }
+        requires read { HasRead self.now i ahead.old }
+        ensures within { i < length self.now }
+        ensures value { result ≡ high_place self.now i }
+        ensures read { HasRead self.now (i + 1) ahead.new }
+        ensures fewer { ahead.new.len < ahead.old.len }
+    {
+        let _ = self.high.len();
+        let skip = ahead.word.trailing_zeros() as usize;
+        ahead.word = (ahead.word >> skip) >> 1;
+        ahead.place += skip + 1;
+        ahead.len -= skip + 1;
+        ahead.place - 1
     }
 
     // Returns a member, by the position of its one.

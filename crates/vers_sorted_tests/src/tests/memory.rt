@@ -5,7 +5,7 @@ use crate::tests::lists::{Query, answer, counted_answer, list_in_turn, list_of};
 use crate::tests::walks::{Step, end, follows, plain_answer, sum_by_mut, sum_by_reference};
 use std::alloc::{AllocError, Allocator, Global};
 use test_alloc::{
-    Check, Ending, LENGTHS, Making, Refusing, Trial, first_wrong_trial, try_clone_checked,
+    Check, Ending, LENGTHS, Making, Refusing, Trial, done_if, first_wrong_trial, try_clone_checked,
     try_making, try_use_checked,
 };
 use vers_bits::bit_vec::{BitVec, GrowError};
@@ -200,10 +200,6 @@ impl<'a> Making for Members<'a, '_> {
 
     type Fault = AllocError;
 
-    fn out_of_memory(&self) -> AllocError {
-        AllocError
-    }
-
     fn make(&self) -> Result<EliasFanoVec<&'a Heap>, AllocError> {
         if self.in_turn {
             return list_in_turn(self.heap, self.numbers);
@@ -280,7 +276,7 @@ where
     }
     heap.start();
     let mut walk = it.into_iter();
-    ending_if(check.is_right(&mut walk))
+    done_if(check.is_right(&mut walk))
 }
 
 fn tried_end<B: Allocator, T: Walked, X: Drop>(
@@ -293,15 +289,7 @@ fn tried_end<B: Allocator, T: Walked, X: Drop>(
         return Ending::Wrong;
     };
     heap.start();
-    ending_if(it.end_of_walk(asked) == wanted)
-}
-
-fn ending_if(is_right: bool) -> Ending {
-    if is_right {
-        Ending::Done
-    } else {
-        Ending::Wrong
-    }
+    done_if(it.end_of_walk(asked) == wanted)
 }
 
 // Tests a call of an ascending list, of a generic type, since a list itself is slower to prove.
@@ -428,10 +416,6 @@ impl<'a> Making for SparseMaker<'a, '_> {
     type Made = SparseRSVec<&'a Heap>;
 
     type Fault = AllocError;
-
-    fn out_of_memory(&self) -> AllocError {
-        AllocError
-    }
 
     fn make(&self) -> Result<SparseRSVec<&'a Heap>, AllocError> {
         match self.call {

@@ -1,11 +1,5 @@
-use Rattle.vers_sorted.proofs.Names.{refl, arith}
-use Rattle.vers_sorted.proofs.Aheads.{step_read, read_maybe}
+use Rattle.vers_sorted.proofs.Aheads.{read_maybe}
 use Rattle.vers_sorted.proofs.elias_fano.EliasFanoVec.place_ahead.Goals as goal
-
-pub returns-then-ahead-ne0-clause-ahead : goal.returns-then-ahead-ne0-clause-ahead
-returns-then-ahead-ne0-clause-ahead g c =
-    let packed = rw c.self.view_is at c.self.invariant in
-    λ more. step_read c.args.self.now c.args.i c.args.ahead.now packed.ascending (c.requires.ahead (omega arith)) (omega arith) _ refl refl refl
 
 pub returns-clause-ahead : goal.returns-clause-ahead
 returns-clause-ahead g c =
