@@ -1,0 +1,9 @@
+use Rattle.std.specs.Prelude.{IfOk}
+use Rattle.sets.specs.Sets.{IsSetOf, in_first_alone}
+use Rattle.inverted.specs.Lists.{list_of}
+use Rattle.inverted.proofs.inverted_index.InvertedIndex.difference.Goals as goal
+
+pub returns : goal.returns
+returns g c =
+    let made : IfOk c.collect.result (IsSetOf (in_first_alone (list_of c.new.result.index c.new.result.term) (list_of c.new-2.result.index c.new-2.result.term))) = c.collect.ensures in
+    rw (c.new.ensures, c.new-2.ensures) at made

@@ -1,0 +1,4 @@
+pub mod Lists
+pub mod Makers
+pub mod Rows
+pub mod inside

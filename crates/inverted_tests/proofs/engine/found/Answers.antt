@@ -1,0 +1,11 @@
+use Rattle.std.specs.Prelude.{◌&&◌, IfOk, not}
+use Rattle.sets.specs.Sets.{IsSetOf, is_member}
+use Rattle.inverted.specs.Lists.{list_of}
+use Rattle.inverted_tests.proofs.engine.found.Goals as goal
+
+pub returns : goal.returns
+returns c =
+    let made : IfOk c.collect.result (IsSetOf (λ document. (is_member (list_of c.new.result.index c.new.result.term) document
+    && is_member (list_of c.new-2.result.index c.new-2.result.term) document)
+    && not (is_member (list_of c.new-3.result.index c.new-3.result.term) document))) = c.collect.ensures in
+    rw (c.new.ensures, c.new-2.ensures, c.new-3.ensures) at made
