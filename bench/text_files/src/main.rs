@@ -1,8 +1,10 @@
 //! Builds the text index of each file, and counts patterns: `text_files SIZE FILE..`, of a file its first SIZE bytes that
 //! aren't 0. `fibonacci` is a Fibonacci word, and no file. Each line has the file, the number of symbols, the nanoseconds
-//! a symbol of a build, those of a count of 16 symbols, the bytes a symbol of the index, and the sum of the counts.
+//! a symbol of a build, those of a count of 16 symbols, the bytes a symbol of the index, the sum of the counts, and the
+//! nanoseconds a symbol of a save and of a load.
 
 use std::time::Instant;
+use vers_vecs::saved::Saved;
 use vers_vecs::text::TextIndex;
 
 const PATTERNS: usize = 10_000;
@@ -74,12 +76,16 @@ fn main() -> Result<(), Box<dyn std::error::Error>> {
             .collect();
         let (count, sum) = timed(|| patterns.iter().map(|it| index.count(it)).sum::<usize>());
         let (symbols, bytes) = (text.len() as f64, index.heap_size() as f64);
+        let (save, form) = timed(|| index.save().expect("memory"));
+        let (load, _) = timed(|| TextIndex::load(&form).expect("a saved index"));
         println!(
-            "{name}\t{}\t{:.1}\t{:.0}\t{:.2}\t{sum}",
+            "{name}\t{}\t{:.1}\t{:.0}\t{:.2}\t{sum}\t{:.1}\t{:.1}",
             text.len(),
             build / symbols,
             count / PATTERNS as f64,
-            bytes / symbols
+            bytes / symbols,
+            save / symbols,
+            load / symbols
         );
     }
     Ok(())

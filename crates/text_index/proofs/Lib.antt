@@ -9,11 +9,15 @@ pub mod Building
 pub mod Patterns
 pub mod Making
 pub mod Heads
+pub mod Paths
+pub mod Loading
+pub mod Restoring
 pub mod Columns
 pub mod Stepping
 pub mod Packing
 pub mod Sampling
 pub mod Keeping
+pub mod Numbering
 pub mod Ascending
 pub mod Bounds
 pub mod PublicLaws

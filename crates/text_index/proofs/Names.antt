@@ -21,13 +21,16 @@ pub use Rattle.std.proofs.lemmas.List.Edits.{length-remove}
 pub use Rattle.std.specs.List.{AllPairs, count_by, insert, position_or_len, prefix_len, range_with_len, remove}
 pub use Rattle.std.specs.List.Sorted.{IsNonDecreasing, IsNonDecreasingBy, IsPermutation, IsStrictlyIncreasing}
 pub use Rattle.std.specs.Prelude.{All, Contains, filter, slice_get, slice_index_or, slice_range, ◌↔◌, ◌⊎◌}
+pub use Rattle.text_index.specs.Columns.{HasColumn, IsIndexable}
 pub use Rattle.text_index.specs.Makers.{count_reads, pattern_reads, place_reads, step_reads, symbols_of}
-pub use Rattle.text_index.specs.Sizes.{greatest, kept_rows, number_width, packed_size}
+pub use Rattle.text_index.specs.Sizes.{column_of, greatest, kept_rows, number_width, packed_size}
 pub use Rattle.text_index.specs.Texts.{IsSuffixOrder, is_kept, row_of, symbols_before}
 unfoldable pub use Rattle.text_index.specs.Texts.{begins_with, below, by_suffix, comes_before, places_in_order, places_of, stands_at}
 pub use Rattle.text_index.specs.inside.Building.{OrdersBy, PairedUpTo, RankedUpTo, SameOrder, rank_of}
 pub use Rattle.text_index.specs.inside.Checking.{CheckedUpTo, HeadsAt, HeadsUpTo, LeadsBack, follows, led}
-pub use Rattle.text_index.specs.inside.Samples.{AreSamplesOf, HoldRows, IsPacked, PutRows, Walked, between, unpacked}
+pub use Rattle.text_index.specs.inside.Paths.{AreLinked, HasCome, HaveCome, IsKeptPath, IsNext, IsOnePath, IsWalk, NextUpTo, SteppedUpTo, led_by}
+unfoldable pub use Rattle.text_index.specs.inside.Paths.{walked, walked_on}
+pub use Rattle.text_index.specs.inside.Samples.{AreNumbers, AreSamplesOf, HoldRows, IsPacked, PutRows, Walked, between, unpacked}
 pub use Rattle.text_index.specs.inside.Suffixes.{AreStarts, Found, IsIndexOf, StepsBack, back, column_place, is_not_after, lesser, passing, preceding, seen, text_in}
 unfoldable pub use Rattle.text_index.specs.inside.Suffixes.{not_above, spelled, text_of}
 pub use Rattle.vers_bits.proofs.PublicLaws.{length-packed, passes_first}

@@ -2,4 +2,5 @@
 pub mod Suffixes
 pub mod Building
 pub mod Checking
+pub mod Paths
 pub mod Samples

@@ -1,6 +1,5 @@
 //! Why a text was not indexed.
 ghost use Rattle.std.specs.Prelude.{◌≡◌};
-ghost use Rattle.text_index.specs.declared.fault.TextError.TheVariants.{Memory};
 
 use std::alloc::AllocError;
 
@@ -20,9 +19,30 @@ pub enum TextError {
 }
 
 impl From<AllocError> for TextError {
+    ghost use Rattle.text_index.specs.declared.fault.TextError.TheVariants.{Memory};
+
     ghost from_gives = { λ _ e. e ≡ Memory };
 
     fn from(_: AllocError) -> TextError {
         TextError::Memory
+    }
+}
+
+/// Why no index was made from a column.
+#[derive(Clone, Copy, PartialEq, Eq, Debug, Drop)]
+pub enum ColumnError {
+    /// No text has this column, row of the whole text, width, step and rows of the sampled positions.
+    NotAText,
+    /// The allocator refused a request.
+    Memory,
+}
+
+impl From<AllocError> for ColumnError {
+    ghost use Rattle.text_index.specs.declared.fault.ColumnError.TheVariants.{Memory};
+
+    ghost from_gives = { λ _ e. e ≡ Memory };
+
+    fn from(_: AllocError) -> ColumnError {
+        ColumnError::Memory
     }
 }

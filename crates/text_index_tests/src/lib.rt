@@ -5,6 +5,8 @@
 #[cfg(test)]
 mod built;
 #[cfg(test)]
+mod loads;
+#[cfg(test)]
 mod memory;
 #[cfg(test)]
 mod pieces;

@@ -14,6 +14,8 @@ pub mod Parentheses
 pub mod SparseLists
 pub mod PostingLists
 pub mod SymbolLists
+pub mod TextLists
+pub mod TextLoads
 pub mod Streams
 pub mod ReadForms
 pub mod Sources

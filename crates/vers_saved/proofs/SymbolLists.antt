@@ -29,7 +29,7 @@ part_number items w q r n m h is =
     ∙ ap (λ l. take n (drop r l)) all ∙ symbol_part (get_or items q 0) r n m) ∙ number-low_bits (get_or items q 0 / 2 ^ r) n
 
 -- the number of bits, by that of the first of them and that of the others
-number_split : (bits : List Bool) (n k : ℕ) → number (take (n + k) bits) ≡ number (take n bits) + 2 ^ n * number (take k (drop n bits))
+pub number_split : (bits : List Bool) (n k : ℕ) → number (take (n + k) bits) ≡ number (take n bits) + 2 ^ n * number (take k (drop n bits))
 number_split bits n k =
     let first : number (take n bits) ≡ number (take (n + k) bits) % 2 ^ n = ap number (sym (take-take n (n + k) bits (omega arith))) ∙ number-take n (take (n + k) bits) in
     let rest : number (take k (drop n bits)) ≡ number (take (n + k) bits) / 2 ^ n = ap number (sym (drop-take n k bits)) ∙ number-drop n (take (n + k) bits) in

@@ -4,8 +4,10 @@ use Rattle.std.specs.Prelude.{ℕ, ◌+◌, ◌*◌, ◌/◌, ◌%◌, ◌^◌, 
 use Rattle.std.specs.Int.{w64, to_le_bytes, from_le_bytes, rotate_left}
 use Rattle.std.specs.Simd.{first_chunks}
 use Rattle.vers_bits.specs.Bits.{limbs, limb_count, pack, places}
-use Rattle.vers_saved.specs.declared.kind.TheConstants.{BITS, SORTED, SYMBOLS, SPARSE, VALUES, PARENTHESES, POSTINGS}
+use Rattle.vers_saved.specs.declared.kind.TheConstants.{BITS, SORTED, SYMBOLS, SPARSE, VALUES, PARENTHESES, POSTINGS, TEXTS}
 use Rattle.postings.specs.Posted.{Posted}
+use Rattle.text_index.specs.Texts.{Text, row_of}
+use Rattle.text_index.specs.Sizes.{column_of, kept_rows}
 use Rattle.vers_saved.specs.declared.TheConstants.{MAGIC, VERSION, START, FACTOR, TURN}
 
 -- the eight bytes of a word, the lowest first
@@ -83,3 +85,23 @@ posting_words posted = posted.documents ++ posted.costs
 -- the saved form of documents with costs
 abbrev pub saved_postings : Posted → List ℕ
 saved_postings posted = saved POSTINGS (length posted.documents) 128 (posting_words posted)
+
+-- three numbers of a text: its length, the step of the samples, and the row of the whole text
+abbrev pub text_numbers : Text → List ℕ
+text_numbers text = length text.items ∷ text.step ∷ row_of text.items 0 ∷ []
+
+-- the limbs of its column (BWT), one symbol after another
+abbrev pub column_limbs : Text → List ℕ
+column_limbs text = limbs (pack (column_of text.items) text.width)
+
+-- the limbs of the rows of its sampled positions, 32 bits each
+abbrev pub row_limbs : Text → List ℕ
+row_limbs text = limbs (pack (kept_rows text.step text.items) 32)
+
+-- the words of the index of a text
+abbrev pub text_words : Text → List ℕ
+text_words text = text_numbers text ++ column_limbs text ++ row_limbs text
+
+-- the saved form of the index of a text
+abbrev pub saved_text : Text → List ℕ
+saved_text text = saved TEXTS (length (text_words text)) text.width (text_words text)

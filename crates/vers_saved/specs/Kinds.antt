@@ -5,6 +5,8 @@ use Rattle.vers_bits.specs.declared.bit_vec.TheConstants.{MAX_LEN}
 use Rattle.vers_saved.specs.declared.kind.Kind.{Kind}
 use Rattle.vers_saved.specs.declared.kind.Order.TheVariants.{Any}
 use Rattle.vers_saved.specs.declared.kind.TheConstants.{PARENTHESES}
+use Rattle.text_index.specs.Texts.{Text}
+use Rattle.text_index.specs.Columns.{IsIndexable}
 use Rattle.vers_trees.specs.declared.trees.bp.TheConstants.{MAX_BLOCK_SIZE}
 use Rattle.vers_saved.specs.Faults.{takes_width, takes_count, item_bits, in_order}
 
@@ -39,3 +41,7 @@ tree_kind size = record {
   greatest_count = 9223372036854775807;
   order = Any;
 }
+
+-- a text whose index has a saved form
+abbrev pub HasTextForm : Text → Type 0
+HasTextForm text = IsIndexable text × (text.step < 2 ^ 64)

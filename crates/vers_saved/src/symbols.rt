@@ -120,7 +120,7 @@ fn limb_of<A: Allocator + Copy>(list: &WaveletMatrix<A>, symbols: &[u64], k: usi
 }
 
 // Copies the limbs of the bits of all symbols from a limb on, as many as the slice has.
-fn copy_limbs<A: Allocator + Copy>(list: &WaveletMatrix<A>, from: usize, out: &mut [u64])
+pub(crate) fn copy_limbs<A: Allocator + Copy>(list: &WaveletMatrix<A>, from: usize, out: &mut [u64])
     requires whole { IsWhole SYMBOL_LISTS (length list.now.items) list.now.width
         (limbs (pack list.now.items list.now.width)) }
     requires within { from + length out.old ≤ length (limbs (pack list.now.items list.now.width)) }
@@ -173,7 +173,10 @@ fn unpacked_bytes<A: Allocator + Copy>(
 
 // Returns the symbols in words.
 #[tactic(auto, using(crate::proofs::SymbolLists::symbols))]
-fn symbols_of<A: Allocator + Copy>(of: Shape, words: Vec<u64, A>) -> Result<Vec<u64, A>, AllocError>
+pub(crate) fn symbols_of<A: Allocator + Copy>(
+    of: Shape,
+    words: Vec<u64, A>,
+) -> Result<Vec<u64, A>, AllocError>
     requires { IsWhole SYMBOL_LISTS of.count of.width words.items }
     ensures count { IfOk result (λ v. length v.items ≡ of.count) }
     ensures limbs { IfOk result (λ v. limbs (pack v.items of.width) ≡ words.items) }
@@ -185,7 +188,10 @@ fn symbols_of<A: Allocator + Copy>(of: Shape, words: Vec<u64, A>) -> Result<Vec<
 
 // Returns the symbols of at most 8 bits in words, as bytes.
 #[tactic(auto, using(crate::proofs::SymbolLists::symbols))]
-fn bytes_of<A: Allocator + Copy>(of: Shape, words: Vec<u64, A>) -> Result<Vec<u8, A>, AllocError>
+pub(crate) fn bytes_of<A: Allocator + Copy>(
+    of: Shape,
+    words: Vec<u64, A>,
+) -> Result<Vec<u8, A>, AllocError>
     requires whole { IsWhole SYMBOL_LISTS of.count of.width words.items }
     requires few { of.width ≤ 8 }
     ensures count { IfOk result (λ v. length v.items ≡ of.count) }

@@ -14,4 +14,6 @@ mod stored;
 #[cfg(test)]
 mod streams;
 #[cfg(test)]
+mod texts;
+#[cfg(test)]
 mod trees;
