@@ -584,6 +584,25 @@ static void test_pattern(const vers_text *text, const uint64_t *symbols, size_t 
     for (size_t limit = 0; limit <= k + 1; limit++) test_first_places(text, symbols, n, pattern, m, k, limit);
 }
 
+/* A text is what its saved form is loaded as. With the row of the whole text changed, and the sum made right again, it is
+ * the form of no text. */
+static void test_saved_text(const vers_text *text, const uint64_t *symbols, size_t n) {
+    size_t size = (size_t)vers_text_saved_size(text).value;
+    uint8_t *bytes = room(size, sizeof *bytes);
+    vers_text loaded = {0};
+    is("save", vers_text_save(text, bytes, size), VERS_DONE);
+    is("save over less", vers_text_save(text, bytes, size - 1), VERS_REFUSED);
+    is("load", vers_text_load(&loaded, bytes, size), VERS_DONE);
+    is("load again", vers_text_load(&loaded, bytes, size), VERS_OCCUPIED);
+    found("step of loaded", n, vers_text_step(&loaded), vers_text_step(text).value);
+    test_pattern(&loaded, symbols, n, symbols, n < 2 ? n : 2);
+    vers_text_free(&loaded);
+    is("load of less", vers_text_load(&loaded, bytes, size - 1), VERS_TOO_SHORT);
+    bytes[size - 9] ^= 1;
+    is("load of another sum", vers_text_load(&loaded, bytes, size), VERS_BAD_SUM);
+    free(bytes);
+}
+
 static void test_text(size_t n, uint32_t width, size_t step) {
     uint64_t *symbols = room(n, 8), copied[8] = {0};
     for (size_t i = 0; i < n; i++) symbols[i] = next() % 3 % (1u << width);
@@ -614,9 +633,9 @@ static void test_text(size_t n, uint32_t width, size_t step) {
     is("backwards", vers_text_extract(&text, 1, 0, &piece), VERS_REFUSED);
     is("copy of none", vers_numbers_copy(&piece, copied, 8), VERS_VACANT);
     compare("no item", 0, vers_ask(&text.handle, VERS_GET, 0, 0, 0), VERS_UNKNOWN, 0);
-    compare("no form", 0, vers_saved_size(&text.handle), VERS_ABSENT, 0);
     vers_text other = {0};
     is("clone", vers_text_clone(&text, &other), VERS_DONE);
+    test_saved_text(&text, symbols, n);
     vers_text_free(&text);
     test_pattern(&other, symbols, n, symbols, n < 2 ? n : 2);
     vers_text_free(&other);

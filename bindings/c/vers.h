@@ -63,7 +63,8 @@ enum vers_status {
     VERS_BAD_LENGTH = 12,    /**< No such list is as long, or the bytes go on after it. */
     VERS_BAD_SUM = 13,       /**< The sum is not that of what stands before it. */
     VERS_BAD_PADDING = 14,   /**< A bit is set past the end of the list. */
-    VERS_NOT_ASCENDING = 15  /**< The numbers do not ascend as those of the list do. */
+    VERS_NOT_ASCENDING = 15, /**< The numbers do not ascend as those of the list do. */
+    VERS_NOT_A_TEXT = 16     /**< No text has the column and the rows of a saved form. */
 };
 
 /** The queries by their codes. They matter to `_each` and `_rows`; for single queries there are the names below. */
@@ -131,8 +132,8 @@ enum vers_change_code {
     VERS_DROP_LAST = 3 /**< Drops the last a bits. */
 };
 
-/** The kinds of lists that have a saved form: from 1 to 7 the numbers of those forms. A vers_growing has that of a
- *  vers_bits, and a vers_binary_rmq that of a vers_fast_rmq. */
+/** The kinds of lists that have a saved form: from 1 to 7, and 9, the numbers of those forms. A vers_growing has that
+ *  of a vers_bits, and a vers_binary_rmq that of a vers_fast_rmq. */
 enum vers_kind {
     VERS_KIND_GROWING = 0,  /**< A vers_growing. */
     VERS_KIND_BITS = 1,     /**< A vers_bits. */
@@ -142,7 +143,8 @@ enum vers_kind {
     VERS_KIND_FAST = 5,     /**< A vers_fast_rmq. */
     VERS_KIND_TREE = 6,     /**< A vers_tree. */
     VERS_KIND_POSTINGS = 7, /**< A vers_postings. */
-    VERS_KIND_BINARY = 8    /**< A vers_binary_rmq. */
+    VERS_KIND_BINARY = 8,   /**< A vers_binary_rmq. */
+    VERS_KIND_TEXT = 9      /**< A vers_text. */
 };
 
 /** The answer of a query: `value` counts where `status` is VERS_DONE, and is 0 else. */
@@ -249,7 +251,7 @@ vers_answer vers_saved_size(vers_handle *handle);
 uint32_t vers_save(vers_handle *handle, uint8_t *bytes, size_t count);
 
 /** Makes the list of a kind of which bytes are the saved form. Where they are none, the status says which test of them
- *  fails, by the first one that does: VERS_TOO_SHORT to VERS_NOT_ASCENDING. VERS_UNKNOWN for no kind, VERS_OCCUPIED,
+ *  fails, by the first one that does: VERS_TOO_SHORT to VERS_NOT_A_TEXT. VERS_UNKNOWN for no kind, VERS_OCCUPIED,
  *  VERS_NO_MEMORY. One handle; reads `bytes`. */
 uint32_t vers_load(uint32_t kind, const uint8_t *bytes, size_t count, vers_handle *handle);
 
@@ -298,6 +300,7 @@ static inline const char *vers_status_text(uint32_t status) {
         "the saved form is of another version", "the saved form is of another kind of list",
         "no such list is as long, or the bytes go on after it", "the sum is not that of what stands before it",
         "a bit is set past the end of the list", "the numbers do not ascend",
+        "no text has the column and the rows of a saved form",
     };
     return status < sizeof texts / sizeof *texts ? texts[status] : "no status of this library";
 }
@@ -1537,6 +1540,23 @@ static inline void vers_text_free(vers_text *text) {
  * VERS_NO_MEMORY. */
 static inline uint32_t vers_text_clone(const vers_text *text, vers_text *other) {
     return vers_cloned(&text->handle, &other->handle);
+}
+
+/** How many bytes the saved form of the text has. */
+static inline vers_answer vers_text_saved_size(const vers_text *text) {
+    return vers_saved_size(vers_held(&text->handle));
+}
+
+/** Writes the saved form over `count` bytes, as many as `_saved_size` says. VERS_REFUSED for another count,
+ * VERS_NO_MEMORY. */
+static inline uint32_t vers_text_save(const vers_text *text, uint8_t *bytes, size_t count) {
+    return vers_saved(&text->handle, bytes, count);
+}
+
+/** Makes the text of which bytes are the saved form, without sorting it again. Where they are of no such text, the
+ * status says why, as at vers_load. VERS_OCCUPIED, VERS_NO_MEMORY. */
+static inline uint32_t vers_text_load(vers_text *text, const uint8_t *bytes, size_t count) {
+    return vers_loaded(VERS_KIND_TEXT, bytes, count, &text->handle);
 }
 
 /** How many symbols. */

@@ -406,7 +406,9 @@ static void test_texts() {
     const auto piece = text->extract(1, 4);
     check("extract", piece && Numbers(piece->begin(), piece->end()) == Numbers({1, 2, 1}));
     check("no piece", !text->extract(1, 6) && !text->extract(3, 2, status) && status == Status::refused);
-    check("no form", !text->saved_size());
+    const auto loaded = loaded_form(*text);
+    check("loaded", *loaded == *text && loaded->step() == text->step() && loaded->count({2}) == text->count({2}));
+    check("no form", !piece->saved_size());
     test_owner(text->clone());
 }
 

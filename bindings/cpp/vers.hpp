@@ -64,6 +64,7 @@ enum class Status : std::uint32_t {
     bad_sum = VERS_BAD_SUM,
     bad_padding = VERS_BAD_PADDING,
     not_ascending = VERS_NOT_ASCENDING,
+    not_a_text = VERS_NOT_A_TEXT,
 };
 
 /** What a status says, in words. */
@@ -274,7 +275,7 @@ public:
         return static_cast<Status>(vers_asked_rows(&raw_.handle, query, rows, count, other));
     }
 
-    /** How many bytes the saved form has. nullopt where there is none: of symbols without bits, Numbers, TextIndex. */
+    /** How many bytes the saved form has. nullopt if there is none: of symbols without bits, and of Numbers. */
     std::optional<std::uint64_t> saved_size() const noexcept { return found(vers_saved_size(handle())); }
 
     /** Writes the saved form over `count` bytes, as many as `saved_size` says; Status::refused for another count. */
@@ -952,7 +953,9 @@ private:
 /** A text of symbols of at most 16 bits, in which patterns are found. `from(symbols, width, step)` keeps one place for
  *  each `step`, 32 if none is named. It refuses symbols of more than `width` bits, more than 2^32 - 2 symbols, a width
  *  of 0 or above 16, and a step of 0. The pattern without symbols has each place, and the end. */
-class TextIndex : public detail::Owner<TextIndex, vers_text>, public detail::FromText, public detail::FromTextByStep {
+class TextIndex : public detail::Owner<TextIndex, vers_text, VERS_KIND_TEXT>,
+                  public detail::FromText,
+                  public detail::FromTextByStep {
 public:
     using detail::FromText::from;
     using detail::FromTextByStep::from;

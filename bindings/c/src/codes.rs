@@ -16,6 +16,7 @@ pub const BAD_LENGTH: u32 = 12;
 pub const BAD_SUM: u32 = 13;
 pub const BAD_PADDING: u32 = 14;
 pub const NOT_ASCENDING: u32 = 15;
+pub const NOT_A_TEXT: u32 = 16;
 
 pub const LEN: u32 = 0;
 pub const GET: u32 = 1;
@@ -80,6 +81,7 @@ pub const KIND_FAST: u32 = 5;
 pub const KIND_TREE: u32 = 6;
 pub const KIND_POSTINGS: u32 = 7;
 pub const KIND_BINARY: u32 = 8;
+pub const KIND_TEXT: u32 = 9;
 
 pub const PUSH: u32 = 0;
 pub const APPEND: u32 = 1;

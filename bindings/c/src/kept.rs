@@ -12,6 +12,7 @@ use crate::proved::vers_rmq::rmq::binary_rmq::BinaryRmq;
 use crate::proved::vers_rmq::rmq::fast_rmq::FastRmq;
 use crate::proved::vers_saved::fault::{LoadError, SaveError};
 use crate::proved::vers_saved::saved::{load_from_slice, save_to_vec, saved_size, Saved};
+use crate::proved::vers_saved::texts::load_text_from_slice;
 use crate::proved::vers_saved::trees::load_parentheses_from_slice;
 use crate::proved::vers_sorted::elias_fano::EliasFanoVec;
 use crate::proved::vers_sorted::sparse::SparseRSVec;
@@ -153,7 +154,8 @@ impl Kept {
             Kept::Fast(values) => saved_size(values),
             Kept::Binary(values) => saved_size(values),
             Kept::Posted(posted) => saved_size(posted),
-            Kept::Text(_) | Kept::Numbers(_) => None,
+            Kept::Text(text) => saved_size(text),
+            Kept::Numbers(_) => None,
         }
     }
 
@@ -169,7 +171,8 @@ impl Kept {
             Kept::Fast(values) => form_of(values),
             Kept::Binary(values) => form_of(values),
             Kept::Posted(posted) => form_of(posted),
-            Kept::Text(_) | Kept::Numbers(_) => Err(SaveError::NoForm),
+            Kept::Text(text) => form_of(text),
+            Kept::Numbers(_) => Err(SaveError::NoForm),
         }
     }
 
@@ -198,6 +201,7 @@ impl Kept {
             KIND_FAST => load_from_slice(Global, bytes).map(Kept::Fast),
             KIND_BINARY => load_from_slice(Global, bytes).map(Kept::Binary),
             KIND_POSTINGS => load_from_slice(Global, bytes).map(Kept::Posted),
+            KIND_TEXT => load_text_from_slice(Global, bytes).map(Kept::Text),
             _ => return Err(UNKNOWN),
         };
         loaded.map_err(fault)
@@ -236,6 +240,7 @@ fn fault(error: LoadError) -> u32 {
         LoadError::BadSum => BAD_SUM,
         LoadError::BadPadding => BAD_PADDING,
         LoadError::NotAscending => NOT_ASCENDING,
+        LoadError::NotAText => NOT_A_TEXT,
         // It never comes, since bytes are read.
         LoadError::Read => REFUSED,
     }

@@ -11,8 +11,8 @@ in brackets IndexError; the text names the position in an array. The module `ver
 """
 
 from ._faults import (
-    BadLength, BadPadding, BadSum, NoMemory, NotAscending, NotOurs, Occupied, OtherKind, OtherVersion, Refused, Shared,
-    TooShort, Unknown, Vacant, VersError,
+    BadLength, BadPadding, BadSum, NoMemory, NotAscending, NotAText, NotOurs, Occupied, OtherKind, OtherVersion,
+    Refused, Shared, TooShort, Unknown, Vacant, VersError,
 )
 from ._bases import NONE
 from ._lists import (
@@ -20,10 +20,10 @@ from ._lists import (
     WaveletMatrix,
 )
 
-__version__ = "0.17.0"
+__version__ = "0.18.0"
 
 __all__ = [
     "BadLength", "BadPadding", "BadSum", "BinaryRmq", "BitVec", "BpTree", "EliasFanoVec", "FastRmq", "NONE", "NoMemory",
-    "NotAscending", "NotOurs", "Occupied", "OtherKind", "OtherVersion", "PlainNumbers", "Postings", "Refused", "RsVec",
-    "Shared", "SparseRSVec", "TextIndex", "TooShort", "Unknown", "Vacant", "VersError", "WaveletMatrix",
+    "NotAText", "NotAscending", "NotOurs", "Occupied", "OtherKind", "OtherVersion", "PlainNumbers", "Postings",
+    "Refused", "RsVec", "Shared", "SparseRSVec", "TextIndex", "TooShort", "Unknown", "Vacant", "VersError", "WaveletMatrix",
 ]

@@ -131,7 +131,8 @@ class List(Generic[Q]):
     @classmethod
     def from_bytes(cls, saved: Any) -> Any:
         """The list of which some bytes are the saved form. If they are of no such list, raises the kind of Refused that
-        says why: TooShort, NotOurs, OtherVersion, OtherKind, BadLength, BadSum, BadPadding or NotAscending."""
+        says why: TooShort, NotOurs, OtherVersion, OtherKind, BadLength, BadSum, BadPadding, NotAscending or
+        NotAText."""
         if cls._kind is None:
             raise TypeError(f"{cls.__name__} has no saved form")
         content = bytes(memoryview(saved))

@@ -63,10 +63,14 @@ class NotAscending(Refused):
     """The numbers do not ascend as those of the list do."""
 
 
+class NotAText(Refused):
+    """No text has the column and the rows of a saved form."""
+
+
 # by the library's statuses from 2 on
 FAULTS = (
     Unknown, Vacant, Refused, Occupied, NoMemory, Shared, TooShort, NotOurs, OtherVersion, OtherKind, BadLength, BadSum,
-    BadPadding, NotAscending,
+    BadPadding, NotAscending, NotAText,
 )
 
 

@@ -11,7 +11,7 @@ from typing import Any, Iterable, Iterator, Literal, Optional, Tuple
 from . import _buffers, _codes as codes, _library as library
 from ._bases import NONE, Bits, Fixed, Shared
 from ._buffers import Held, Numbers, number, signed_number
-from ._faults import Refused
+from ._faults import OtherKind, Refused
 from ._queries import Query, finished, many, query
 
 # the queries of each class by name, as `each` takes them
@@ -687,6 +687,7 @@ class TextIndex(Shared[str]):
     `TextIndex(b"abracadabra", 8)`. One place is kept for each `step`. `pattern in text` asks whether a pattern has a
     place; the one without symbols has each, and the end."""
 
+    _kind = codes.KIND_TEXT
     _items = "symbols"
 
     def __new__(cls, symbols: Numbers, bits_per_symbol: int, step: int = 32) -> Any:
@@ -702,19 +703,16 @@ class TextIndex(Shared[str]):
             return _buffers.above("symbol", held, (1 << width) - 1) or f"{held.size} symbols are too many"
         return cls._made(library.text_builds[held.keeper.itemsize], held, width, kept, why=why)
 
-    def to_bytes(self) -> bytes:
-        """The saved form of the symbols, which is that of a `WaveletMatrix`."""
-        return WaveletMatrix(self[:], self.bits_per_symbol()).to_bytes()
-
     @classmethod
     def from_bytes(cls, saved: Any, step: int = 32) -> Any:
-        """The index of the symbols of a saved form, which is built again. Raises the kind of Refused that says why the
-        bytes are none of symbols."""
-        symbols = WaveletMatrix.from_bytes(saved)
-        return cls(symbols[:], symbols.bits_per_element(), step)
-
-    def __reduce__(self) -> Any:
-        return type(self).from_bytes, (self.to_bytes(), self.step())
+        """The index of which some bytes are the saved form, without a sort; or the index, with a place kept for each
+        `step`, of the symbols of which they are the saved form, as versions below 0.18 saved a text. Raises the kind of
+        Refused that says why they are neither."""
+        try:
+            return super().from_bytes(saved)
+        except OtherKind:
+            symbols = WaveletMatrix.from_bytes(saved)
+            return cls(symbols[:], symbols.bits_per_element(), step)
 
     def __getitem__(self, place: Any) -> Any:
         """The symbol at a place, from the end if it is negative; or an array of those of a slice."""

@@ -4,12 +4,12 @@ use Rattle.std.specs.Option.{option_and_then}
 use Rattle.postings.specs.Posted.{ArePaired}
 use Rattle.vers_bits.specs.Bits.{limbs, pack}
 use Rattle.vers_saved.specs.Faults.{fault_of}
-use Rattle.vers_saved.specs.Format.{saved_bits, saved_sorted, saved_sparse, saved_symbols, saved_values, saved_parentheses, saved_postings, sparse_words, posting_words}
-use Rattle.vers_saved.specs.Kinds.{IsWhole, tree_kind}
+use Rattle.vers_saved.specs.Format.{saved_bits, saved_sorted, saved_sparse, saved_symbols, saved_values, saved_parentheses, saved_postings, saved_text, sparse_words, posting_words, text_words}
+use Rattle.vers_saved.specs.Kinds.{HasTextForm, IsWhole, tree_kind}
 use Rattle.vers_saved.specs.declared.kind.Kind.{Kind as SavedKind}
-use Rattle.vers_saved.specs.declared.kind.TheConstants.{BIT_LISTS, SORTED_LISTS, SYMBOL_LISTS, SPARSE_LISTS, TABLE_VALUES, BLOCK_VALUES, POSTING_LISTS}
+use Rattle.vers_saved.specs.declared.kind.TheConstants.{BIT_LISTS, SORTED_LISTS, SYMBOL_LISTS, SPARSE_LISTS, TABLE_VALUES, BLOCK_VALUES, POSTING_LISTS, TEXT_INDEXES}
 use Rattle.vers_saved.specs.declared.fault.LoadError.{LoadError}
-use Rattle.vers_saved.specs.declared.fault.LoadError.TheVariants.{TooShort, NotOurs, OtherVersion, OtherKind, BadLength, BadSum, BadPadding, NotAscending, Memory, Read}
+use Rattle.vers_saved.specs.declared.fault.LoadError.TheVariants.{TooShort, NotOurs, OtherVersion, OtherKind, BadLength, BadSum, BadPadding, NotAscending, NotAText, Memory, Read}
 use Rattle.vers_c.specs.Answers.{IsToldAs}
 use Rattle.vers_c.specs.declared.kind.Kind.{Kind}
 use Rattle.vers_c.specs.declared.kind.Kind.TheVariants as kind
@@ -27,7 +27,7 @@ form_of (Parentheses bits) = Some (saved_parentheses 512 bits)
 form_of (BlockValues values) = Some (saved_values values)
 form_of (TableValues values) = Some (saved_values values)
 form_of (Documents posted) = Some (saved_postings posted)
-form_of (IndexedText text) = None
+form_of (IndexedText text) = Some (saved_text text)
 form_of (PlainNumbers numbers) = None
 
 -- the same for a handle, which may be empty
@@ -45,7 +45,7 @@ HasForm (Parentheses bits) = IsWhole (tree_kind 512) (length bits) 512 (limbs bi
 HasForm (BlockValues values) = IsWhole BLOCK_VALUES (length values) 64 values
 HasForm (TableValues values) = IsWhole TABLE_VALUES (length values) 64 values
 HasForm (Documents posted) = IsWhole POSTING_LISTS (length posted.documents) 128 (posting_words posted)
-HasForm (IndexedText text) = ⊥
+HasForm (IndexedText text) = IsWhole TEXT_INDEXES (length (text_words text)) text.width (text_words text)
 HasForm (PlainNumbers numbers) = ⊥
 
 -- the same for a handle, which may be empty
@@ -53,10 +53,11 @@ abbrev pub ContentsHaveForm : Option Structure → Type 0
 ContentsHaveForm None = ⊥
 ContentsHaveForm (Some held) = HasForm held
 
--- a property of a structure that its words don't show: no symbol has more bits than the width, and documents have a cost each
+-- a property of a structure that its words don't show: no symbol has more bits than the width, documents have a cost each, and a text has an index
 abbrev pub Fits : Structure → Type 0
 Fits (SymbolList symbols) = All (λ y. y < 2 ^ symbols.width) symbols.items
 Fits (Documents posted) = ArePaired posted
+Fits (IndexedText text) = HasTextForm text
 Fits held = ⊤
 
 -- the kind of a structure, if such are loaded
@@ -70,7 +71,7 @@ kind_of (Parentheses bits) = Some kind.Tree
 kind_of (BlockValues values) = Some kind.Fast
 kind_of (TableValues values) = Some kind.Binary
 kind_of (Documents posted) = Some kind.Postings
-kind_of (IndexedText text) = None
+kind_of (IndexedText text) = Some kind.Text
 kind_of (PlainNumbers numbers) = None
 
 -- what the saved forms of a kind have to meet
@@ -84,6 +85,7 @@ saved_kind kind.Tree = tree_kind 512
 saved_kind kind.Fast = BLOCK_VALUES
 saved_kind kind.Binary = TABLE_VALUES
 saved_kind kind.Postings = POSTING_LISTS
+saved_kind kind.Text = TEXT_INDEXES
 
 -- the status of a load error; a read never fails, since the source is memory
 abbrev pub fault_as : LoadError → ℕ
@@ -96,6 +98,7 @@ fault_as BadLength = 12
 fault_as BadSum = 13
 fault_as BadPadding = 14
 fault_as NotAscending = 15
+fault_as NotAText = 16
 fault_as Read = 4
 
 -- the status of bytes by the first test of them that fails, if one does
@@ -113,6 +116,12 @@ abbrev pub load_status : Option Structure → ℕ → List ℕ → ℕ
 load_status (Some held) code bytes = 5
 load_status None code bytes = bytes_status (slice_get KINDS code) bytes
 
+-- the status is that of a load: of the first test of the bytes that fails, or 16 if they pass the tests and are the form of no text
+abbrev pub IsLoadStatus : Option Structure → ℕ → List ℕ → ℕ → Type 0
+IsLoadStatus before code bytes status =
+    IsToldAs (load_status before code bytes) status
+    ⊎ ((status ≡ 16) × (slice_get KINDS code ≡ Some kind.Text) × (load_status before code bytes ≡ 0))
+
 -- the bytes are the saved form of a structure
 pub record IsFormOf (bytes : List ℕ) (held : Structure) : Type 0 where
   pub form : form_of held ≡ Some bytes
@@ -122,7 +131,7 @@ pub record IsFormOf (bytes : List ℕ) (held : Structure) : Type 0 where
 -- the handle has the structure whose saved form the bytes are, of the kind of that code, if the status is 0, otherwise it is unchanged:
 -- an empty handle gets each structure of the kind back from its saved form, unless an allocation fails
 pub record IsLoaded (code : ℕ) (bytes : List ℕ) (before after : Option Structure) (status : ℕ) : Type 0 where
-  pub told : IsToldAs (load_status before code bytes) status
+  pub told : IsLoadStatus before code bytes status
   pub held : status ≡ 0 → IsSome after
   pub kind : status ≡ 0 → option_and_then kind_of after ≡ slice_get KINDS code
   pub form : status ≡ 0 → contents_form after ≡ Some bytes

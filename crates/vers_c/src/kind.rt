@@ -22,11 +22,13 @@ pub enum Kind {
     Postings,
     /// Values, with range minima from a sparse table.
     Binary,
+    /// A text index.
+    Text,
 }
 
-/// The kind of each code, which is its index here. From 1 to 7 the codes are the numbers of saved forms; the two
-/// types that share the form of another one have 0 and 8.
-pub const KINDS: [Kind; 9] = [
+/// The kind of each code, which is its index here. From 1 to 7, and from 9 on, the codes are the numbers of saved
+/// forms; the two types that share the form of another one have 0 and 8.
+pub const KINDS: [Kind; 10] = [
     Kind::Growing,
     Kind::Bits,
     Kind::Sorted,
@@ -36,6 +38,7 @@ pub const KINDS: [Kind; 9] = [
     Kind::Tree,
     Kind::Postings,
     Kind::Binary,
+    Kind::Text,
 ];
 
 impl Kind {

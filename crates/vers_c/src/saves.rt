@@ -3,6 +3,7 @@ ghost use Rattle.std.specs.Prelude.{◌≡◌, ◌≢◌, ◌↔◌, ◌⊎◌, 
 ghost use Rattle.vers_saved.specs.Faults.{fault_of};
 ghost use Rattle.vers_saved.specs.Format.{saved};
 ghost use Rattle.vers_saved.specs.Kinds.{IsWhole};
+ghost use Rattle.vers_c.specs.declared.kind.Kind.TheVariants as kinds;
 ghost use Rattle.vers_c.specs.Answers.{absent, found_or_absent, vacant};
 ghost use Rattle.vers_c.specs.Saves.{ContentsHaveForm, Fits, HasForm, IsFormOf, IsLoaded, IsSaved, contents_form, fault_as, form_of, kind_of, saved_kind};
 ghost use Rattle.vers_c.specs.Structures.{Structure, contents, structure_of};
@@ -13,13 +14,14 @@ use crate::kept::Kept;
 use crate::kind::Kind;
 use crate::owners::{fill, put, taken};
 use crate::status::{
-    ABSENT, BAD_LENGTH, BAD_PADDING, BAD_SUM, DONE, NO_MEMORY, NOT_ASCENDING, NOT_OURS, OCCUPIED,
-    OTHER_KIND, OTHER_VERSION, REFUSED, TOO_SHORT, UNKNOWN, VACANT,
+    ABSENT, BAD_LENGTH, BAD_PADDING, BAD_SUM, DONE, NO_MEMORY, NOT_A_TEXT, NOT_ASCENDING, NOT_OURS,
+    OCCUPIED, OTHER_KIND, OTHER_VERSION, REFUSED, TOO_SHORT, UNKNOWN, VACANT,
 };
 use crate::tree::load_parentheses;
 use std::alloc::Global;
 use vers_saved::fault::{LoadError, SaveError};
 use vers_saved::saved::{Loaded, Saved, load_from_slice, save_to_vec, saved_size};
+use vers_saved::texts::load_text_from_slice;
 
 // Returns the saved form of a list.
 fn saved_of<S: Saved>(alloc: Global, list: &S) -> Result<Vec<u8, Global>, SaveError>
@@ -52,7 +54,8 @@ impl Kept {
             Kept::Fast(values) => saved_size(values),
             Kept::Binary(values) => saved_size(values),
             Kept::Posted(posted) => saved_size(posted),
-            Kept::Text(_) | Kept::Numbers(_) => None,
+            Kept::Text(text) => saved_size(text),
+            Kept::Numbers(_) => None,
         }
     }
 
@@ -78,7 +81,8 @@ impl Kept {
             Kept::Fast(values) => saved_of(alloc, values),
             Kept::Binary(values) => saved_of(alloc, values),
             Kept::Posted(posted) => saved_of(alloc, posted),
-            Kept::Text(_) | Kept::Numbers(_) => Err(SaveError::NoForm),
+            Kept::Text(text) => saved_of(alloc, text),
+            Kept::Numbers(_) => Err(SaveError::NoForm),
         }
     }
 }
@@ -155,7 +159,8 @@ impl Kept {
     ///
     /// # Errors
     ///
-    /// That of the first test that fails; `Memory` if the allocator refuses a request.
+    /// That of the first test that fails, the last of which is that of a text; `Memory` if the allocator refuses a
+    /// request.
     pub fn load(alloc: Global, kind: Kind, bytes: &[u8]) -> Result<Kept, LoadError>
         ensures kind { IfOk result (λ kept. kind_of (structure_of kept) ≡ Some kind) }
         ensures form { IfOk result (λ kept. IsFormOf bytes.now (structure_of kept)) }
@@ -163,7 +168,8 @@ impl Kept {
             → MatchResult result (λ kept. structure_of kept ≡ held) (λ e. e ≡ LoadError.Memory) }
         ensures none { OnOk result (fault_of (saved_kind kind) bytes.now ≡ None) }
         ensures refused { IfErr result (λ e. (fault_of (saved_kind kind) bytes.now ≡ Some e)
-            ⊎ ((e ≡ LoadError.Memory) × (fault_of (saved_kind kind) bytes.now ≡ None))) }
+            ⊎ (((e ≡ LoadError.Memory) ⊎ ((e ≡ LoadError.NotAText) × (kind ≡ kinds.Text)))
+            × (fault_of (saved_kind kind) bytes.now ≡ None))) }
     {
         match kind {
             Kind::Growing => loaded_as!(load_from_slice(alloc, bytes), Kept::Growing),
@@ -175,6 +181,7 @@ impl Kept {
             Kind::Fast => loaded_as!(load_from_slice(alloc, bytes), Kept::Fast),
             Kind::Binary => loaded_as!(load_from_slice(alloc, bytes), Kept::Binary),
             Kind::Postings => loaded_as!(load_from_slice(alloc, bytes), Kept::Posted),
+            Kind::Text => loaded_as!(load_text_from_slice(alloc, bytes), Kept::Text),
         }
     }
 }
@@ -211,6 +218,7 @@ fn fault(error: LoadError) -> u32
         LoadError::BadSum => BAD_SUM,
         LoadError::BadPadding => BAD_PADDING,
         LoadError::NotAscending => NOT_ASCENDING,
+        LoadError::NotAText => NOT_A_TEXT,
         // Not possible: the bytes are in memory.
         LoadError::Read => REFUSED,
     }

@@ -48,3 +48,6 @@ pub const BAD_PADDING: u32 = 14;
 
 /// The numbers of a saved form do not ascend as the kind requires.
 pub const NOT_ASCENDING: u32 = 15;
+
+/// No text has the column and the rows of a saved form.
+pub const NOT_A_TEXT: u32 = 16;
