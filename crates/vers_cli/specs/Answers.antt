@@ -3,6 +3,7 @@ use Rattle.std.specs.Prelude.{ℕ, List, Result}
 use Rattle.vers_engine.specs.declared.engine.RunError.{RunError}
 use Rattle.vers_engine.specs.Answers.{Answering, answers_of, WrittenOf}
 use Rattle.vers_engine.specs.Replies.{Replying, answering_by}
+use Rattle.vers_words.specs.Text.{words_in}
 use Rattle.vers_cli.specs.Name.{name_of}
 use Rattle.vers_cli.specs.Holding.{Holding, Nothing}
 use Rattle.vers_cli.specs.Rules.{reply_to, holding_after_name}
@@ -10,8 +11,8 @@ use Rattle.vers_cli.specs.Rules.{reply_to, holding_after_name}
 -- the reply to a line, and the structure after it, by the words of the line
 abbrev pub replies_by_the_rules : Replying Holding
 replies_by_the_rules = record {
-  reply_to = λ held word arguments. reply_to held (name_of word) arguments;
-  holding_after = λ held word arguments. holding_after_name held (name_of word) arguments;
+  reply_to = λ held word arguments. reply_to held (name_of word) (words_in arguments);
+  holding_after = λ held word arguments. holding_after_name held (name_of word) (words_in arguments);
 }
 
 -- the answer to a line, and the structure after it, as the engine takes them

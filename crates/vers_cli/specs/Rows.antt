@@ -15,7 +15,7 @@ use Rattle.postings.specs.Posted.{is_among, places_between as places_of_range, c
 use Rattle.vers_trees.specs.declared.trees.bp.relatives.LevelEnd.TheVariants.{Rightmost}
 use Rattle.vers_words.specs.Text.{number_of, signed_number_of}
 use Rattle.vers_engine.specs.Lines.{lines_of}
-use Rattle.vers_engine.specs.Replies.{answer_to_words, holding_after_words}
+use Rattle.vers_engine.specs.Replies.{answer_to_parts, holding_after_parts}
 use Rattle.vers_cli.specs.declared.name.Name.TheVariants.{Query}
 use Rattle.vers_cli.specs.declared.name.Query.TheVariants.{Rank1, Tree, Symbols, Forest}
 use Rattle.vers_cli.specs.declared.name.TreeQuery.TheVariants.{Place, Search}
@@ -65,85 +65,85 @@ name_of-level_rightmost = refl
 
 -- a load line answers the length, and its list is held
 pub answer-bits_0110 : answer_to Nothing (codes "bits 0110") ≡ ended (codes "4")
-unfolding answer_to_words digits
+unfolding answer_to_parts digits
 answer-bits_0110 = refl
 
 pub held-bits_0110 : holding_after Nothing (codes "bits 0110") ≡ held_0110
-unfolding holding_after_words
+unfolding holding_after_parts
 held-bits_0110 = refl
 
 -- a malformed load line keeps what was held
 pub held-bits_2 : holding_after held_0110 (codes "bits 2") ≡ held_0110
-unfolding holding_after_words
+unfolding holding_after_parts
 held-bits_2 = refl
 
 pub answer-rank1_3 : answer_to held_0110 (codes "rank1 3") ≡ ended (codes "2")
-unfolding answer_to_words number_of count digits
+unfolding answer_to_parts number_of count digits
 answer-rank1_3 = refl
 
 pub answer-select1_1 : answer_to held_0110 (codes "select1 1") ≡ ended (codes "2")
-unfolding answer_to_words number_of select places digits
+unfolding answer_to_parts number_of select places digits
 answer-select1_1 = refl
 
 pub answer-select1_2 : answer_to held_0110 (codes "select1 2") ≡ ended (codes "4")
-unfolding answer_to_words number_of select places digits
+unfolding answer_to_parts number_of select places digits
 answer-select1_2 = refl
 
 pub answer-get_9 : answer_to held_0110 (codes "get 9") ≡ ended (codes "none")
-unfolding answer_to_words number_of
+unfolding answer_to_parts number_of
 answer-get_9 = refl
 
 -- the name comes before what is held, and what is held before the arguments
 pub answer-no_name : answer_to Nothing (codes "foo 1") ≡ ended (codes "bad line")
-unfolding answer_to_words
+unfolding answer_to_parts
 answer-no_name = refl
 
 pub answer-nothing_held : answer_to Nothing (codes "rank1 x") ≡ ended (codes "wrong structure")
-unfolding answer_to_words
+unfolding answer_to_parts
 answer-nothing_held = refl
 
 pub answer-malformed : answer_to held_0110 (codes "rank1 x") ≡ ended (codes "bad line")
-unfolding answer_to_words number_of
+unfolding answer_to_parts number_of
 answer-malformed = refl
 
 -- an ascending list may have equal members, and a sparse list takes each place once
 pub answer-sorted_449 : answer_to Nothing (codes "sorted 4 4 9") ≡ ended (codes "3")
-unfolding answer_to_words number_of digits
+unfolding answer_to_parts number_of digits
 answer-sorted_449 = refl
 
 pub held-sorted_449 : holding_after Nothing (codes "sorted 4 4 9") ≡ held_449
-unfolding holding_after_words number_of
+unfolding holding_after_parts number_of
 held-sorted_449 = refl
 
 pub answer-rank_5 : answer_to held_449 (codes "rank 5") ≡ ended (codes "2")
-unfolding answer_to_words number_of below digits
+unfolding answer_to_parts number_of below digits
 answer-rank_5 = refl
 
 -- a list is answered with one space between its numbers, the empty list by an empty line
 pub answer-iter : answer_to held_449 (codes "iter") ≡ ended (codes "4 4 9")
-unfolding answer_to_words digits
+unfolding answer_to_parts digits
 answer-iter = refl
 
 pub answer-iter_none : answer_to (SortedHeld []) (codes "iter") ≡ ended []
-unfolding answer_to_words
+unfolding answer_to_parts
 answer-iter_none = refl
 
 -- the lines of another structure
 pub answer-rank1_of_sorted : answer_to held_449 (codes "rank1 5") ≡ ended (codes "wrong structure")
-unfolding answer_to_words
+unfolding answer_to_parts
 answer-rank1_of_sorted = refl
 
 pub held-sparse_5_13 : holding_after Nothing (codes "sparse 5 1 3") ≡ SparseHeld (false ∷ true ∷ false ∷ true ∷ false ∷ [])
-unfolding holding_after_words number_of ones_at
+unfolding holding_after_parts number_of ones_at
 held-sparse_5_13 = refl
 
 -- a place that is not below the length, and a line without a length
 pub answer-place_outside : answer_to held_449 (codes "sparse 3 3") ≡ ended (codes "refused")
-unfolding answer_to_words number_of
+unfolding answer_to_parts number_of
 answer-place_outside = refl
 
 pub answer-no_length : answer_to held_449 (codes "sparse") ≡ ended (codes "bad line")
-unfolding answer_to_words
+unfolding answer_to_parts
 answer-no_length = refl
 
 -- a range has both its ends, and of equal least values the first place counts
@@ -167,11 +167,11 @@ pub first_least-0-5 : first_least values_31211 0 5 ≡ None
 first_least-0-5 = refl
 
 pub answer-range_min_2_4 : answer_to (ValuesHeld values_31211) (codes "range_min 2 4") ≡ ended (codes "3")
-unfolding answer_to_words number_of digits least_place first_least_of costs_least
+unfolding answer_to_parts number_of digits least_place first_least_of costs_least
 answer-range_min_2_4 = refl
 
 pub answer-range_min_0_5 : answer_to (ValuesHeld values_31211) (codes "range_min 0 5") ≡ ended (codes "refused")
-unfolding answer_to_words number_of
+unfolding answer_to_parts number_of
 answer-range_min_0_5 = refl
 
 -- a node with two leaves, held
@@ -179,32 +179,32 @@ abbrev held_tree : Holding
 held_tree = TreeHeld (true ∷ true ∷ false ∷ true ∷ false ∷ false ∷ [])
 
 pub held-tree_110100 : holding_after held_0110 (codes "tree 110100") ≡ held_tree
-unfolding holding_after_words
+unfolding holding_after_parts
 held-tree_110100 = refl
 
 pub answer-close_0 : answer_to held_tree (codes "close 0") ≡ ended (codes "5")
-unfolding answer_to_words number_of first_rise_after excess count digits
+unfolding answer_to_parts number_of first_rise_after excess count digits
 answer-close_0 = refl
 
 pub answer-enclose_4 : answer_to held_tree (codes "enclose 4") ≡ ended (codes "0")
-unfolding answer_to_words number_of enclosing last_rise_before excess count digits
+unfolding answer_to_parts number_of enclosing last_rise_before excess count digits
 answer-enclose_4 = refl
 
 pub answer-bwd_search_5 : answer_to held_tree (codes "bwd_search 5 -1") ≡ ended (codes "0")
-unfolding answer_to_words number_of signed_number_of last_rise_before excess count digits
+unfolding answer_to_parts number_of signed_number_of last_rise_before excess count digits
 answer-bwd_search_5 = refl
 
 pub answer-dfs_iter : answer_to held_tree (codes "dfs_iter") ≡ ended (codes "0 1 3")
-unfolding answer_to_words places digits
+unfolding answer_to_parts places digits
 answer-dfs_iter = refl
 
 -- the excess may be below 0, and is refused past the end
 pub answer-excess_0 : answer_to (TreeHeld (false ∷ true ∷ [])) (codes "excess 0") ≡ ended (codes "-1")
-unfolding answer_to_words number_of excess count digits
+unfolding answer_to_parts number_of excess count digits
 answer-excess_0 = refl
 
 pub answer-excess_2 : answer_to (TreeHeld (false ∷ true ∷ [])) (codes "excess 2") ≡ ended (codes "refused")
-unfolding answer_to_words number_of
+unfolding answer_to_parts number_of
 answer-excess_2 = refl
 
 pub name_of-range_median_u64 : name_of (codes "range_median_u64") ≡ Some (Query (Symbols (Range RangeMedianU64)))
@@ -215,112 +215,112 @@ abbrev held_153 : Holding
 held_153 = SymbolsHeld (record { width = 3; items = 1 ∷ 5 ∷ 3 ∷ [] })
 
 pub held-symbols_153 : holding_after held_0110 (codes "symbols 3 1 5 3") ≡ held_153
-unfolding holding_after_words number_of low_symbols
+unfolding holding_after_parts number_of low_symbols
 held-symbols_153 = refl
 
 -- the low bits of each number count, and symbols of no bits are none
 pub held-symbols_9_2 : holding_after held_0110 (codes "symbols 1 9 2") ≡ SymbolsHeld (record { width = 1; items = 1 ∷ 0 ∷ [] })
-unfolding holding_after_words number_of low_symbols
+unfolding holding_after_parts number_of low_symbols
 held-symbols_9_2 = refl
 
 pub answer-symbols_0 : answer_to held_153 (codes "symbols 0 7 7") ≡ ended (codes "0")
-unfolding answer_to_words number_of low_symbols digits
+unfolding answer_to_parts number_of low_symbols digits
 answer-symbols_0 = refl
 
 -- a width of more than 64 bits, and a line without a width
 pub answer-symbols_65 : answer_to held_153 (codes "symbols 65 1") ≡ ended (codes "refused")
-unfolding answer_to_words number_of
+unfolding answer_to_parts number_of
 answer-symbols_65 = refl
 
 pub answer-no_width : answer_to held_153 (codes "symbols") ≡ ended (codes "bad line")
-unfolding answer_to_words
+unfolding answer_to_parts
 answer-no_width = refl
 
 pub answer-iter_sorted_u64 : answer_to held_153 (codes "iter_sorted_u64") ≡ ended (codes "1 3 5")
-unfolding answer_to_words digits
+unfolding answer_to_parts digits
 answer-iter_sorted_u64 = refl
 
 pub answer-rank_u64_3_11 : answer_to held_153 (codes "rank_u64 3 11") ≡ ended (codes "1")
-unfolding answer_to_words number_of occurrences digits as_word
+unfolding answer_to_parts number_of occurrences digits as_word
 answer-rank_u64_3_11 = refl
 
 pub answer-select_u64_0_3 : answer_to held_153 (codes "select_u64 0 3") ≡ ended (codes "2")
-unfolding answer_to_words number_of occurrences digits as_word
+unfolding answer_to_parts number_of occurrences digits as_word
 answer-select_u64_0_3 = refl
 
 pub answer-predecessor_u64_4 : answer_to held_153 (codes "predecessor_u64 0 3 4") ≡ ended (codes "3")
-unfolding answer_to_words number_of range_members greatest_up_to digits as_word
+unfolding answer_to_parts number_of range_members greatest_up_to digits as_word
 answer-predecessor_u64_4 = refl
 
 pub answer-successor_u64_4 : answer_to held_153 (codes "successor_u64 0 3 4") ≡ ended (codes "5")
-unfolding answer_to_words number_of range_members least_from digits as_word
+unfolding answer_to_parts number_of range_members least_from digits as_word
 answer-successor_u64_4 = refl
 
 pub answer-range_median_u64_0_2 : answer_to held_153 (codes "range_median_u64 0 2") ≡ ended (codes "1")
-unfolding answer_to_words number_of range_members kth_by_size digits as_word
+unfolding answer_to_parts number_of range_members kth_by_size digits as_word
 answer-range_median_u64_0_2 = refl
 
 -- a range that begins past the last place, and one that ends before it begins
 pub answer-rank_range_u64_3_3 : answer_to held_153 (codes "rank_range_u64 3 3 1") ≡ ended (codes "none")
-unfolding answer_to_words number_of as_word
+unfolding answer_to_parts number_of as_word
 answer-rank_range_u64_3_3 = refl
 
 pub answer-range_max_u64_3_2 : answer_to held_153 (codes "range_max_u64 3 2") ≡ ended (codes "none")
-unfolding answer_to_words number_of range_members kth_by_size as_word
+unfolding answer_to_parts number_of range_members kth_by_size as_word
 answer-range_max_u64_3_2 = refl
 
 -- the nodes of a forest
 pub answer-children_0 : answer_to held_tree (codes "children 0") ≡ ended (codes "1 3")
-unfolding answer_to_words number_of digits forest_of closing is_ancestor is_proper_ancestor depth parent nodes_under level level_ancestor subtree node_index
+unfolding answer_to_parts number_of digits forest_of closing is_ancestor is_proper_ancestor depth parent nodes_under level level_ancestor subtree node_index
 answer-children_0 = refl
 
 pub answer-children_1 : answer_to held_tree (codes "children 1") ≡ ended ([])
-unfolding answer_to_words number_of digits forest_of closing is_ancestor is_proper_ancestor depth parent nodes_under level level_ancestor subtree node_index
+unfolding answer_to_parts number_of digits forest_of closing is_ancestor is_proper_ancestor depth parent nodes_under level level_ancestor subtree node_index
 answer-children_1 = refl
 
 pub answer-rev_children_0 : answer_to held_tree (codes "rev_children 0") ≡ ended (codes "3 1")
-unfolding answer_to_words number_of digits forest_of closing is_ancestor is_proper_ancestor depth parent nodes_under level level_ancestor subtree node_index
+unfolding answer_to_parts number_of digits forest_of closing is_ancestor is_proper_ancestor depth parent nodes_under level level_ancestor subtree node_index
 answer-rev_children_0 = refl
 
 pub answer-dfs_post_iter : answer_to held_tree (codes "dfs_post_iter") ≡ ended (codes "1 3 0")
-unfolding answer_to_words digits forest_of
+unfolding answer_to_parts digits forest_of
 answer-dfs_post_iter = refl
 
 pub answer-subtree_post_iter_0 : answer_to held_tree (codes "subtree_post_iter 0") ≡ ended (codes "1 3 0")
-unfolding answer_to_words number_of digits forest_of closing is_ancestor is_proper_ancestor depth parent nodes_under level level_ancestor subtree node_index subtree_post
+unfolding answer_to_parts number_of digits forest_of closing is_ancestor is_proper_ancestor depth parent nodes_under level level_ancestor subtree node_index subtree_post
 answer-subtree_post_iter_0 = refl
 
 pub answer-depth_3 : answer_to held_tree (codes "depth 3") ≡ ended (codes "1")
-unfolding answer_to_words number_of digits forest_of closing is_ancestor is_proper_ancestor depth parent nodes_under level level_ancestor subtree node_index
+unfolding answer_to_parts number_of digits forest_of closing is_ancestor is_proper_ancestor depth parent nodes_under level level_ancestor subtree node_index
 answer-depth_3 = refl
 
 pub answer-is_leaf_3 : answer_to held_tree (codes "is_leaf 3") ≡ ended (codes "1")
-unfolding answer_to_words number_of digits forest_of closing is_ancestor is_proper_ancestor depth parent nodes_under level level_ancestor subtree node_index
+unfolding answer_to_parts number_of digits forest_of closing is_ancestor is_proper_ancestor depth parent nodes_under level level_ancestor subtree node_index
 answer-is_leaf_3 = refl
 
 pub answer-is_ancestor_1_3 : answer_to held_tree (codes "is_ancestor 1 3") ≡ ended (codes "0")
-unfolding answer_to_words number_of digits forest_of closing is_ancestor is_proper_ancestor depth parent nodes_under level level_ancestor subtree node_index
+unfolding answer_to_parts number_of digits forest_of closing is_ancestor is_proper_ancestor depth parent nodes_under level level_ancestor subtree node_index
 answer-is_ancestor_1_3 = refl
 
 pub answer-level_ancestor_3_2 : answer_to held_tree (codes "level_ancestor 3 2") ≡ ended (codes "none")
-unfolding answer_to_words number_of digits forest_of closing is_ancestor is_proper_ancestor depth parent nodes_under level level_ancestor subtree node_index
+unfolding answer_to_parts number_of digits forest_of closing is_ancestor is_proper_ancestor depth parent nodes_under level level_ancestor subtree node_index
 answer-level_ancestor_3_2 = refl
 
 -- a place without a one, parentheses that are not balanced, and malformed arguments, which come first
 pub answer-parent_2 : answer_to held_tree (codes "parent 2") ≡ ended (codes "refused")
-unfolding answer_to_words number_of
+unfolding answer_to_parts number_of
 answer-parent_2 = refl
 
 pub answer-parent_of_unbalanced : answer_to (TreeHeld (false ∷ true ∷ [])) (codes "parent 1") ≡ ended (codes "refused")
-unfolding answer_to_words number_of
+unfolding answer_to_parts number_of
 answer-parent_of_unbalanced = refl
 
 pub answer-level_leftmost_of_unbalanced : answer_to (TreeHeld (false ∷ true ∷ [])) (codes "level_leftmost 0") ≡ ended (codes "refused")
-unfolding answer_to_words number_of
+unfolding answer_to_parts number_of
 answer-level_leftmost_of_unbalanced = refl
 
 pub answer-parent_x_of_unbalanced : answer_to (TreeHeld (false ∷ true ∷ [])) (codes "parent x") ≡ ended (codes "bad line")
-unfolding answer_to_words number_of
+unfolding answer_to_parts number_of
 answer-parent_x_of_unbalanced = refl
 
 -- documents and costs in turn, and a document without a cost
@@ -335,41 +335,41 @@ abbrev held_postings : Holding
 held_postings = PostingsHeld (record { documents = 2 ∷ 5 ∷ 9 ∷ 12 ∷ []; costs = 7 ∷ 3 ∷ 3 ∷ 8 ∷ [] })
 
 pub held-postings : holding_after held_0110 (codes "postings 2 7 5 3 9 3 12 8") ≡ held_postings
-unfolding holding_after_words number_of
+unfolding holding_after_parts number_of
 held-postings = refl
 
 pub answer-contains_6 : answer_to held_postings (codes "contains 6") ≡ ended (codes "0")
-unfolding answer_to_words number_of is_among digits
+unfolding answer_to_parts number_of is_among digits
 answer-contains_6 = refl
 
 pub answer-next_6 : answer_to held_postings (codes "next 6") ≡ ended (codes "9")
-unfolding answer_to_words number_of least_not_below digits
+unfolding answer_to_parts number_of least_not_below digits
 answer-next_6 = refl
 
 pub answer-cheapest_6_12 : answer_to held_postings (codes "cheapest 6 12") ≡ ended (codes "9")
-unfolding answer_to_words number_of cheapest places_of_range first_least_of costs_least digits
+unfolding answer_to_parts number_of cheapest places_of_range first_least_of costs_least digits
 answer-cheapest_6_12 = refl
 
 pub answer-intersect : answer_to held_postings (codes "intersect 5 6 12 40") ≡ ended (codes "5 12")
-unfolding answer_to_words number_of common is_among digits
+unfolding answer_to_parts number_of common is_among digits
 answer-intersect = refl
 
 -- documents that don't ascend strictly are refused, and a document without a cost is malformed
 pub answer-intersect_5_5 : answer_to held_postings (codes "intersect 5 5") ≡ ended (codes "refused")
-unfolding answer_to_words number_of
+unfolding answer_to_parts number_of
 answer-intersect_5_5 = refl
 
 pub answer-postings_3_1_2_1 : answer_to held_postings (codes "postings 3 1 2 1") ≡ ended (codes "refused")
-unfolding answer_to_words number_of
+unfolding answer_to_parts number_of
 answer-postings_3_1_2_1 = refl
 
 pub answer-postings_1 : answer_to held_postings (codes "postings 1") ≡ ended (codes "bad line")
-unfolding answer_to_words number_of
+unfolding answer_to_parts number_of
 answer-postings_1 = refl
 
 -- a line without words has no answer
 pub answer-no_words : answer_to held_0110 (codes "  ") ≡ []
-unfolding answer_to_words
+unfolding answer_to_parts
 answer-no_words = refl
 
 -- an input of five lines and all its answers
@@ -378,5 +378,5 @@ input = ended (codes "bits 0110") ++ ended (codes "rank1 3") ++ ended (codes "se
 
 pub answers-input : answers_to Nothing (lines_of input)
     ≡ ended (codes "4") ++ ended (codes "2") ++ ended (codes "2") ++ ended (codes "4") ++ ended (codes "none")
-unfolding answer_to_words holding_after_words number_of count select places digits
+unfolding answer_to_parts holding_after_parts number_of count select places digits
 answers-input = refl

@@ -2,9 +2,10 @@
 use Rattle.std.specs.Prelude.{◌≡◌, ℕ, ◌+◌, List, ◌++◌, [], ◌∷◌, codes, length, refl}
 use Rattle.std.specs.Fmt.{digits}
 use Rattle.vers_words.specs.Reply.{Number}
+use Rattle.vers_words.specs.Text.{words_in}
 use Rattle.vers_engine.specs.Lines.{whole_lines, last_part, lines_of}
 use Rattle.vers_engine.specs.Answers.{Answering, answers_of, held_after}
-use Rattle.vers_engine.specs.Replies.{Replying, answer_to_words, holding_after_words, answering_by}
+use Rattle.vers_engine.specs.Replies.{Replying, answer_to_parts, holding_after_parts, answering_by}
 
 -- a text with the end of a line
 abbrev ended : List ℕ → List ℕ
@@ -33,11 +34,11 @@ answers_of-counting = refl
 pub held_after-counting : held_after counting 3 (codes "ab" ∷ [] ∷ codes "c" ∷ []) ≡ 6
 held_after-counting = refl
 
--- the same as replies: by how many words came before, where the first word of a line counts for none
+-- the same as replies: by how many words came before, except the first of each line
 abbrev replying : Replying ℕ
-replying = record { reply_to = λ held word arguments. Number held; holding_after = λ held word arguments. held + length arguments }
+replying = record { reply_to = λ held word arguments. Number held; holding_after = λ held word arguments. held + length (words_in arguments) }
 
 -- a line without words has no answer
 pub answers_of-replying : answers_of (answering_by replying) 3 (codes "a b c" ∷ codes " " ∷ codes "d" ∷ []) ≡ ended (codes "3") ++ ended (codes "5")
-unfolding answer_to_words holding_after_words digits
+unfolding answer_to_parts holding_after_parts digits
 answers_of-replying = refl

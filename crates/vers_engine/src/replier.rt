@@ -1,6 +1,5 @@
 //! Replying to lines by their first word.
 ghost use Rattle.std.specs.Prelude.{◌≡◌, ◌++◌, ◌∷◌, [], length, take, IfOk, OnOk};
-ghost use Rattle.vers_words.specs.Text.{words_in};
 ghost use Rattle.vers_words.specs.Reply.{plain_reply, reply_text};
 ghost use Rattle.vers_engine.specs.Replies.{Replying, answering_by};
 
@@ -10,8 +9,8 @@ use vers_words::reply::Reply;
 use vers_words::text::{split_first_word, without_return};
 
 /// A type that replies to lines, one after another. The reply to a line, and the replier afterwards, depend
-/// only on the line's words and the replier before. It answers a line with the text of its reply, and a line
-/// without words with nothing. It implements `Answerer`.
+/// only on the line's first word, the text after it, and the replier before. It answers a line with the text of
+/// its reply, and a line without words with nothing. It implements `Answerer`.
 pub trait Replier<A: Allocator + Copy> {
     // The function from a line and a replier to its reply and the next replier.
     ghost replying: { Replying Self };
@@ -20,9 +19,9 @@ pub trait Replier<A: Allocator + Copy> {
     /// allocator refuses a request.
     fn reply(&mut self, word: &[u8], arguments: &[u8]) -> Result<Reply<A>, AllocError>
         ensures reply { IfOk result (λ reply. plain_reply reply
-            ≡ replying.reply_to self.old word.now (words_in arguments.now)) }
+            ≡ replying.reply_to self.old word.now arguments.now) }
         ensures holds { OnOk result (self.new
-            ≡ replying.holding_after self.old word.now (words_in arguments.now)) };
+            ≡ replying.holding_after self.old word.now arguments.now) };
 }
 
 impl<A: Allocator + Copy, S: Replier<A>> Answerer<A> for S {

@@ -6,7 +6,7 @@
 -- 5. a load line that writes no text: refused;
 -- 6. the answer.
 use Rattle.std.specs.Prelude.{ℕ, List, Option, Some, None}
-use Rattle.vers_words.specs.Arguments.{all_numbers}
+use Rattle.vers_words.specs.Patterns.{number_and_pattern}
 use Rattle.vers_words.specs.Reply.{PlainReply, BadLine, WrongStructure}
 use Rattle.vers_engine.specs.Replies.{Replying}
 use Rattle.vers_texts.specs.declared.name.Name.{Name}
@@ -15,19 +15,19 @@ use Rattle.vers_texts.specs.Name.{name_of}
 use Rattle.vers_texts.specs.TextLines.{text_reply, held_after_text, query_reply}
 
 -- the reply of a line whose first word is this name, or none
-abbrev pub reply_to : Option (List ℕ) → Option Name → List (List ℕ) → PlainReply
+abbrev pub reply_to : Option (List ℕ) → Option Name → List ℕ → PlainReply
 reply_to held None arguments = BadLine
-reply_to held (Some name.Text) arguments = text_reply (all_numbers arguments)
+reply_to held (Some name.Text) arguments = text_reply (number_and_pattern arguments)
 reply_to None (Some (name.Query query)) arguments = WrongStructure
 reply_to (Some text) (Some (name.Query query)) arguments = query_reply text query arguments
 
 -- the text after a line whose first word is this name, or none
-abbrev pub holding_after_name : Option (List ℕ) → Option Name → List (List ℕ) → Option (List ℕ)
+abbrev pub holding_after_name : Option (List ℕ) → Option Name → List ℕ → Option (List ℕ)
 holding_after_name held None arguments = held
-holding_after_name held (Some name.Text) arguments = held_after_text held (all_numbers arguments)
+holding_after_name held (Some name.Text) arguments = held_after_text held (number_and_pattern arguments)
 holding_after_name held (Some (name.Query query)) arguments = held
 
--- both, by the words of a line
+-- both, by the first word of a line and the text after it
 abbrev pub replies_by_the_rules : Replying (Option (List ℕ))
 replies_by_the_rules = record {
   reply_to = λ held word arguments. reply_to held (name_of word) arguments;

@@ -9,6 +9,7 @@ pub enum Query {
     Len,
     Count,
     Places,
+    First,
     Extract,
 }
 
@@ -20,11 +21,12 @@ pub enum Name {
 }
 
 /// All names, with their text. It is the only table of names: the contract of `Name::of` reads it too.
-pub const NAMES: [(&[u8], Name); 5] = [
+pub const NAMES: [(&[u8], Name); 6] = [
     (b"text", Name::Text),
     (b"len", Name::Query(Query::Len)),
     (b"count", Name::Query(Query::Count)),
     (b"places", Name::Query(Query::Places)),
+    (b"first", Name::Query(Query::First)),
     (b"extract", Name::Query(Query::Extract)),
 ];
 

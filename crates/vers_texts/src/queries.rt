@@ -1,14 +1,14 @@
 //! The query lines of a text.
-ghost use Rattle.std.specs.Prelude.{◌≡◌, IfOk};
-ghost use Rattle.vers_words.specs.Text.{words_in};
+ghost use Rattle.std.specs.Prelude.{◌≡◌, IfOk, take};
 ghost use Rattle.vers_words.specs.Reply.{plain_reply, Numbers};
-ghost use Rattle.text_index.specs.Texts.{places_of};
+ghost use Rattle.text_index.specs.Texts.{places_in_order, places_of};
 ghost use Rattle.vers_texts.specs.TextLines.{query_reply, piece_reply as reply_of_piece};
 
 use crate::name::Query;
 use std::alloc::{AllocError, Allocator};
 use text_index::TextIndex;
-use vers_words::arguments::{all_numbers, no_arguments, two_numbers};
+use vers_words::arguments::{no_arguments, two_numbers};
+use vers_words::patterns::{number_and_pattern, pattern};
 use vers_words::reply::Reply;
 
 /// Returns the reply to a query of this text. Errors: `AllocError` if the allocator refuses a request.
@@ -19,20 +19,24 @@ pub fn reply<A: Allocator + Copy>(
     arguments: &[u8],
 ) -> Result<Reply<A>, AllocError>
     ensures { IfOk result (λ reply.
-        plain_reply reply ≡ query_reply text.now.items query (words_in arguments.now)) }
+        plain_reply reply ≡ query_reply text.now.items query arguments.now) }
 {
     match query {
         Query::Len => match no_arguments(arguments) {
             None => Ok(Reply::BadLine),
             Some(()) => Ok(Reply::Number(text.len() as u64)),
         },
-        Query::Count => match all_numbers(alloc, arguments)? {
+        Query::Count => match pattern(alloc, arguments)? {
             None => Ok(Reply::BadLine),
             Some(pattern) => Ok(Reply::Number(text.count(pattern.as_slice()) as u64)),
         },
-        Query::Places => match all_numbers(alloc, arguments)? {
+        Query::Places => match pattern(alloc, arguments)? {
             None => Ok(Reply::BadLine),
             Some(pattern) => places_reply(alloc, text, pattern.as_slice()),
+        },
+        Query::First => match number_and_pattern(alloc, arguments)? {
+            None => Ok(Reply::BadLine),
+            Some((limit, pattern)) => first_reply(alloc, text, limit as usize, pattern.as_slice()),
         },
         Query::Extract => match two_numbers(arguments) {
             None => Ok(Reply::BadLine),
@@ -51,6 +55,20 @@ fn places_reply<A: Allocator + Copy>(
         plain_reply reply ≡ Numbers (places_of text.now.items pattern.now)) }
 {
     let places = text.places_ascending(pattern)?;
+    Ok(Reply::Numbers(numbers_of(alloc, places.as_slice())?))
+}
+
+// Returns the reply with the first positions of a pattern in suffix-array order, at most `limit`.
+fn first_reply<A: Allocator + Copy>(
+    alloc: A,
+    text: &TextIndex<A>,
+    limit: usize,
+    pattern: &[u64],
+) -> Result<Reply<A>, AllocError>
+    ensures { IfOk result (λ reply.
+        plain_reply reply ≡ Numbers (take limit (places_in_order text.now.items pattern.now))) }
+{
+    let places = text.first_places(pattern, limit)?;
     Ok(Reply::Numbers(numbers_of(alloc, places.as_slice())?))
 }
 

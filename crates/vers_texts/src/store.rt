@@ -1,8 +1,7 @@
 //! Replies to lines, and the current text after them.
 ghost use Rattle.std.specs.Prelude.{◌≡◌, Some, None, IfOk, OnOk, IsOk, IsErr, MatchResult};
 ghost use Rattle.text_index.specs.Makers.{is_text as are_text};
-ghost use Rattle.vers_words.specs.Text.{words_in};
-ghost use Rattle.vers_words.specs.Arguments.{all_numbers as numbers_all};
+ghost use Rattle.vers_words.specs.Patterns.{number_and_pattern as number_then_pattern};
 ghost use Rattle.vers_words.specs.Reply.{plain_reply};
 ghost use Rattle.vers_texts.specs.TextLines.{text_reply, held_after_text};
 ghost use Rattle.vers_texts.specs.Rules.{replies_by_the_rules};
@@ -14,7 +13,7 @@ use std::marker::Model;
 use text_index::{MAX_LEN, TextIndex};
 use vers_engine::Replier;
 use vers_sorted::order::are_below;
-use vers_words::arguments::all_numbers;
+use vers_words::patterns::number_and_pattern;
 use vers_words::reply::Reply;
 
 /// The current text, if there is one, with the allocator for answers and for the next text. Contracts see its
@@ -49,23 +48,20 @@ impl<A: Allocator + Copy> Store<A> {
         Store { alloc, held }
     }
 
-    // Returns the reply to the load line `text K S..`. The current text is kept unless the line is accepted.
+    // Returns the reply to the load line `text K PATTERN`. The current text is kept unless the line is accepted.
     fn load(&mut self, arguments: &[u8]) -> Result<Reply<A>, AllocError>
         ensures reply { IfOk result (λ reply.
-            plain_reply reply ≡ text_reply (numbers_all (words_in arguments.now))) }
+            plain_reply reply ≡ text_reply (number_then_pattern arguments.now)) }
         ensures holds { OnOk result (self.new
-            ≡ held_after_text self.old (numbers_all (words_in arguments.now))) }
+            ≡ held_after_text self.old (number_then_pattern arguments.now)) }
     {
-        let Some(numbers) = all_numbers(self.alloc, arguments)? else {
+        let Some((width, symbols)) = number_and_pattern(self.alloc, arguments)? else {
             return Ok(Reply::BadLine);
         };
-        let Some((width, symbols)) = numbers.as_slice().split_first() else {
-            return Ok(Reply::BadLine);
-        };
-        if !is_text(*width, symbols) {
+        if !is_text(width, symbols.as_slice()) {
             return Ok(Reply::Refused);
         }
-        self.hold(*width as u16, symbols)?;
+        self.hold(width as u16, symbols.as_slice())?;
         Ok(Reply::Number(symbols.len() as u64))
     }
 

@@ -10,5 +10,5 @@ pub use Rattle.std.specs.List.{All, filter, flat_map, list_all, position, positi
 pub use Rattle.std.specs.Prelude.{FitsSigned, if◌then◌else◌, option_and_then, option_map}
 pub use Rattle.std.specs.Str.Parse.{digits_value}
 pub use Rattle.vers_words.specs.Arguments.{all_numbers}
-pub use Rattle.vers_words.specs.Text.{has_bytes, with_sign, words_in}
+pub use Rattle.vers_words.specs.Text.{after_spaces, first_word, has_bytes, split_at_space, with_sign, words_in}
 unfoldable pub use Rattle.vers_words.specs.Text.{number_of, signed_number_of}

@@ -1,5 +1,5 @@
 -- The words of a text, found from its front.
-use Rattle.vers_words.proofs.Imports.{◌≡◌, ◌==◌, ◌+◌, ◌<◌, ◌≤◌, ℕ, zero, suc, Bool, true, not, List, [], ◌∷◌, ◌++◌, length, take, drop, get_or, Option, Some, None, unwrap_or, inl, inr, refl, sym, ap, ◌∙◌, arith, position, position_or_len, slice_split, filter, ne_eqb, eqb_tells, drop_all, take_all, take-append-drop, length-take, position-Some, has_bytes, words_in, ints}
+use Rattle.vers_words.proofs.Imports.{◌≡◌, ◌==◌, ◌+◌, ◌<◌, ◌≤◌, ℕ, zero, suc, Bool, true, not, List, [], ◌∷◌, ◌++◌, length, take, drop, get_or, Option, Some, None, unwrap_or, inl, inr, refl, sym, ap, ◌∙◌, arith, position, position_or_len, slice_split, filter, ne_eqb, eqb_tells, drop_all, take_all, take-append-drop, length-take, length-drop, position-Some, after_spaces, first_word, has_bytes, split_at_space, words_in, ints}
 use Rattle.std.proofs.lemmas.Option.{cond_some}
 use Rattle.std.proofs.lemmas.List.Splits.{slice_split_at, slice_split_none}
 use Rattle.vers_words.proofs.Places.{position-None, lacks, lacks_before, byte_at, from_byte}
@@ -53,3 +53,21 @@ words_in-first t None n h e some other =
     rw e (some, rw (take_all (length t) t all, drop_all (length t) t all) (grind (arith, ints, slice_split_none, lacks, first_kept)))
 words_in-first t (Some m) n h e some other =
     let first = above_zero t m h other in rw e (first, words_in-word t m first h)
+
+-- a text is split at its first space, or at its end
+split_there : (t : List ℕ) (place : Option ℕ) (n : ℕ) → position (λ b. b == 32) t ≡ place → n ≡ unwrap_or place (length t) → split_at_space t ≡ (take n t, drop n t)
+split_there t None n h e =
+    let far = position-None (λ b. b == 32) t h in
+    let all : length t ≤ length t = omega arith in
+    rw e (rw (take_all (position_or_len (λ b. b == 32) t) t far, drop_all (position_or_len (λ b. b == 32) t) t far, take_all (length t) t all, drop_all (length t) t all) refl)
+split_there t (Some m) n h e = rw (e, (cond_some _ _ _ h).1) refl
+
+-- the first word begins with the first byte that is no space
+pub first_word-from : (t : List ℕ) (i : ℕ) (place : Option ℕ) (n : ℕ) → position is_other t ≡ Some i → position (λ b. b == 32) (drop i t) ≡ place → n ≡ unwrap_or place (length (drop i t))
+    → Some (take n (drop i t), drop n (drop i t)) ≡ first_word t
+first_word-from t i place n from h e =
+    let within : i < length t = (position-Some is_other t i 0 from).0 in
+    let some : 0 < length (drop i t) = omega (arith, length-drop i t) in
+    let start : after_spaces t ≡ drop i t = rw (cond_some _ _ _ from).1 refl in
+    let bytes : has_bytes (drop i t) ≡ true = rw (ne_eqb (length (drop i t)) 0 (λ z. omega arith)) refl in
+    sym (rw (start, bytes, split_there (drop i t) place n h e) refl)

@@ -2,5 +2,6 @@ pub mod Text
 pub mod Arguments
 pub mod Loading
 pub mod Names
+pub mod Patterns
 pub mod Reply
 pub mod Rows

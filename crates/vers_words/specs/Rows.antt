@@ -3,6 +3,7 @@ use Rattle.std.specs.Prelude.{◌≡◌, ◌++◌, pos, negsuc, [], ◌∷◌, c
 use Rattle.std.specs.Fmt.{digits}
 use Rattle.vers_words.specs.Text.{number_of, signed_number_of, words_of}
 use Rattle.vers_words.specs.Arguments.{bits_of, two_numbers, three_numbers, number_and_signed, all_numbers}
+use Rattle.vers_words.specs.Patterns.{number_and_pattern, pattern_of}
 use Rattle.vers_words.specs.Reply.{Signed, Numbers, reply_text}
 
 pub number_of-007 : number_of (codes "007") ≡ Some 7
@@ -116,3 +117,36 @@ reply_text-numbers = refl
 
 pub reply_text-no_numbers : reply_text (Numbers []) ≡ []
 reply_text-no_numbers = refl
+
+-- numbers, a text with a space in it, and two bytes
+pub pattern_of-mixed : pattern_of (codes " 7 \"a b\" 0x0Aff ") ≡ Some (7 ∷ 97 ∷ 32 ∷ 98 ∷ 10 ∷ 255 ∷ [])
+unfolding number_of
+pattern_of-mixed = refl
+
+-- texts side by side, and an empty one
+pub pattern_of-joined : pattern_of (codes "\"ab\"\"\"\"c\"") ≡ Some (codes "abc")
+pattern_of-joined = refl
+
+pub pattern_of-nothing : pattern_of [] ≡ Some []
+pattern_of-nothing = refl
+
+-- a text without a quote at its end, half of a byte, no byte, and a word that is no number
+pub pattern_of-open : pattern_of (codes "\"ab") ≡ None
+pattern_of-open = refl
+
+pub pattern_of-half : pattern_of (codes "0x0") ≡ None
+pattern_of-half = refl
+
+pub pattern_of-no_byte : pattern_of (codes "0x") ≡ None
+pattern_of-no_byte = refl
+
+pub pattern_of-word : pattern_of (codes "\"a\"b") ≡ None
+unfolding number_of
+pattern_of-word = refl
+
+pub number_and_pattern-3 : number_and_pattern (codes " 3 \"ab\"") ≡ Some (3, codes "ab")
+unfolding number_of
+number_and_pattern-3 = refl
+
+pub number_and_pattern-nothing : number_and_pattern (codes " ") ≡ None
+number_and_pattern-nothing = refl

@@ -1,7 +1,7 @@
 -- Words and numbers of a text. A text is a list of bytes: 32 separates words, and 13 may end
 -- a line.
-use Rattle.std.specs.Prelude.{ℕ, ◌^◌, ℤ, pos, neg_ℤ, Bool, true, false, ◌&&◌, ◌==◌, not, nat_le, nat_lt, List, [], ◌∷◌, filter, length, Option, Some, None, option_and_then, if◌then◌else◌}
-use Rattle.std.specs.List.{slice_split, list_all}
+use Rattle.std.specs.Prelude.{ℕ, ◌^◌, ℤ, pos, neg_ℤ, Bool, true, false, ◌&&◌, ◌==◌, not, nat_le, nat_lt, List, [], ◌∷◌, filter, length, take, drop, Option, Some, None, option_and_then, if◌then◌else◌}
+use Rattle.std.specs.List.{slice_split, list_all, position_or_len}
 use Rattle.std.specs.Char.{is_ascii_digit}
 use Rattle.std.specs.Str.Parse.{digits_value}
 use Rattle.std.specs.Io.BufRead.{strip_last}
@@ -13,6 +13,18 @@ has_bytes text = not (length text == 0)
 -- the words of a text: its longest runs of bytes other than 32
 abbrev pub words_in : List ℕ → List (List ℕ)
 words_in text = filter has_bytes (slice_split (λ byte. byte == 32) text)
+
+-- a text without the spaces at its beginning
+abbrev pub after_spaces : List ℕ → List ℕ
+after_spaces text = drop (position_or_len (λ byte. not (byte == 32)) text) text
+
+-- the bytes of a text before its first space, and the rest
+abbrev pub split_at_space : List ℕ → List ℕ × List ℕ
+split_at_space text = (take (position_or_len (λ byte. byte == 32) text) text, drop (position_or_len (λ byte. byte == 32) text) text)
+
+-- the first word of a text and the text after it, if it has a word
+abbrev pub first_word : List ℕ → Option (List ℕ × List ℕ)
+first_word text = if has_bytes (after_spaces text) then Some (split_at_space (after_spaces text)) else None
 
 -- the words of a line, without one byte 13 at its end
 abbrev pub words_of : List ℕ → List (List ℕ)

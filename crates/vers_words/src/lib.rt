@@ -5,5 +5,6 @@
 pub mod arguments;
 pub mod loading;
 pub mod names;
+pub mod patterns;
 pub mod reply;
 pub mod text;

@@ -1,7 +1,7 @@
 //! The words and numbers of a line.
-ghost use Rattle.std.specs.Prelude.{◌≡◌, ◌<◌, ◌==◌, ◌∷◌, [], not, length, position, IfSome, MatchOption};
+ghost use Rattle.std.specs.Prelude.{◌≡◌, ◌<◌, ◌==◌, ◌∷◌, [], not, length, position, IfSome, MatchOption, option_map};
 ghost use Rattle.std.specs.Io.BufRead.{strip_last};
-ghost use Rattle.vers_words.specs.Text.{words_in, number_of, signed_number_of};
+ghost use Rattle.vers_words.specs.Text.{first_word, words_in, number_of, signed_number_of};
 
 /// Returns the first position of a byte in a text, or `None` if there is none.
 pub fn place_of(byte: u8, text: &[u8]) -> Option<usize>
@@ -19,6 +19,7 @@ fn first_of_word(text: &[u8]) -> Option<usize>
 
 /// Returns the first word of a text and the text after it, or `None` if the text has no word.
 pub fn split_first_word(text: &[u8]) -> Option<(&[u8], &[u8])>
+    ensures parts { option_map (λ parts. (parts.0.now, parts.1.now)) result ≡ first_word text.now }
     ensures words { MatchOption result (words_in text.now ≡ [])
         (λ parts. words_in text.now ≡ parts.0.now ∷ words_in parts.1.now) }
     ensures shorter { IfSome result (λ parts. length parts.1.now < length text.now) }

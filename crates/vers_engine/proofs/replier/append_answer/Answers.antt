@@ -1,5 +1,5 @@
 use Rattle.vers_engine.proofs.Names.{Result, Ok, Err, OnOk, sym, refl, append-nil}
-use Rattle.vers_engine.specs.Replies.{answer_to_words, holding_after_words}
+use Rattle.vers_engine.specs.Replies.{answer_to_parts, holding_after_parts}
 use Rattle.vers_engine.proofs.replier.append_answer.Goals as goal
 
 -- what holds whatever a call gives
@@ -8,17 +8,17 @@ on_ok (Ok x) P p = p
 on_ok (Err e) P p = tt
 
 pub returns-in_default-clause-answer : goal.returns-in_default-clause-answer
-unfolding answer_to_words
-returns-in_default-clause-answer g c = rw (← c.without_return.ensures, c.in_default.ensures.words) (sym (append-nil _))
+unfolding answer_to_parts
+returns-in_default-clause-answer g c = rw (← c.without_return.ensures, ← c.in_default.ensures.parts) (sym (append-nil _))
 
 pub returns-in_default-clause-holds : goal.returns-in_default-clause-holds
-unfolding holding_after_words
-returns-in_default-clause-holds g c = rw (← c.without_return.ensures, c.in_default.ensures.words) refl
+unfolding holding_after_parts
+returns-in_default-clause-holds g c = rw (← c.without_return.ensures, ← c.in_default.ensures.parts) refl
 
 pub returns-clause-answer : goal.returns-clause-answer
-unfolding answer_to_words
-returns-clause-answer g c = rw (← c.without_return.ensures, c.in-Some.ensures.words, ← c.in_ok-reply.ensures.reply) c.append_line.ensures.text
+unfolding answer_to_parts
+returns-clause-answer g c = rw (← c.without_return.ensures, ← c.in-Some.ensures.parts, ← c.in_ok-reply.ensures.reply) c.append_line.ensures.text
 
 pub returns-clause-holds : goal.returns-clause-holds
-unfolding holding_after_words
-returns-clause-holds g c = rw (← c.without_return.ensures, c.in-Some.ensures.words) (on_ok _ _ c.in_ok-reply.ensures.holds)
+unfolding holding_after_parts
+returns-clause-holds g c = rw (← c.without_return.ensures, ← c.in-Some.ensures.parts) (on_ok _ _ c.in_ok-reply.ensures.holds)

@@ -1,5 +1,5 @@
 use Rattle.vers_words.proofs.Imports.{◌≡◌, ◌+◌, ◌<◌, true, length, drop, get_or, Some, sym, ◌∙◌, arith, position, take_rest, length-drop, get_or-drop, position-Some}
-use Rattle.vers_words.proofs.Words.{is_other, words_in-spaces, words_in-from, words_in-first}
+use Rattle.vers_words.proofs.Words.{is_other, first_word-from, words_in-spaces, words_in-from, words_in-first}
 use Rattle.vers_words.proofs.text.split_first_word.Goals as goal
 
 pub returns-in_err-from_word-clause-words : goal.returns-in_err-from_word-clause-words
@@ -17,3 +17,11 @@ returns-clause-words c =
     let place = sym (rw take_rest at c.place_of.ensures) in
     let len = rw take_rest at c.unwrap_or-len.ensures in
     rw (take_rest, take_rest) (words_in-from t start from ∙ (words_in-first (drop start t) _ _ place len some other).1)
+
+pub returns-clause-parts : goal.returns-clause-parts
+returns-clause-parts c =
+    let t = c.args.text.now in
+    let from : position is_other t ≡ Some c.in_ok-from_word.field-0 = sym c.first_of_word.ensures ∙ c.in_ok-from_word.was in
+    let place = sym (rw take_rest at c.place_of.ensures) in
+    let len = rw take_rest at c.unwrap_or-len.ensures in
+    rw (take_rest, take_rest) (first_word-from t _ _ _ from place len)
