@@ -14,6 +14,8 @@ pub enum Command<'a> {
     Ask(&'a str),
     /// Answers lines about the text in a file.
     Text(&'a str),
+    /// Saves the index of the bytes of a file to another file.
+    Index(&'a str, &'a str),
     /// Describes the structure in a file.
     Show(&'a str),
     /// Prints a text.
@@ -36,6 +38,10 @@ pub fn command_of(words: &[String]) -> Option<Command<'_>> {
             "ask" => Some(Command::Ask(file.as_str())),
             "text" => Some(Command::Text(file.as_str())),
             "show" => Some(Command::Show(file.as_str())),
+            _ => None,
+        },
+        [_, word, verb, file, index] => match (word.as_str(), verb.as_str()) {
+            ("text", "index") => Some(Command::Index(file.as_str(), index.as_str())),
             _ => None,
         },
         _ => None,

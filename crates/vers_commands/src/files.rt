@@ -1,11 +1,12 @@
 //! Structures in files.
 use crate::lines::{fail, say_waiting, status};
+use std::alloc::AllocError;
 use std::fs::{self, File};
 use std::process::ExitCode;
 use vers_cli::Device;
 use vers_files::{
-    FilePlace, SaveFault, Shown, ask, ask_text, fault_line, read, save_to, show, symbols_cut,
-    text_fault_line,
+    FilePlace, SaveFault, Shown, ShownKind, ask, ask_text, fault_line, index_to, read, save_to,
+    show, symbols_cut, text_fault_line,
 };
 use vers_saved::fault::LoadError;
 
@@ -30,7 +31,7 @@ pub fn answer_text(rt: &HostRuntime, path: &str) -> ExitCode {
     let Ok(mut file) = File::open(rt, path) else {
         return fail_about(rt, path, CANNOT_OPEN);
     };
-    say_waiting(rt, "`count 0 1` and `places 0 1`");
+    say_waiting(rt, "`count \"the\"` and `places 0 1`");
     let mut reader = Device::new(rt.stdin());
     let mut writer = Device::new(rt.stdout());
     match ask_text(rt.alloc(), &mut file, &mut reader, &mut writer) {
@@ -57,14 +58,56 @@ fn print_shown(rt: &HostRuntime, list: &Shown) -> ExitCode {
         width,
         bytes,
     } = *list;
-    let name = if kind == "tree" {
+    let name = if kind == ShownKind::Tree {
         "block size"
     } else {
         "width"
     };
+    let kind = kind.name();
     match println!(rt; "kind: {kind}\nlength: {len}\n{name}: {width}\nbytes: {bytes}") {
         Ok(()) => ExitCode::SUCCESS,
         Err(_) => fail(rt, "write failed"),
+    }
+}
+
+// The file that a save replaces, and its temporary file.
+#[derive(Drop)]
+struct Target {
+    file: String,
+    beside: String,
+}
+
+// Returns what a save to a file replaces. A link leads to the file that is replaced.
+fn target_of(rt: &HostRuntime, path: &str) -> Result<Target, AllocError> {
+    let resolved = fs::canonicalize(rt, path);
+    let file = match &resolved {
+        Ok(file) => file.as_path().as_str(),
+        Err(_) => path,
+    };
+    Ok(Target {
+        file: format!(in rt.alloc(); "{file}")?,
+        beside: format!(in rt.alloc(); "{file}.new")?,
+    })
+}
+
+/// Saves the index of the bytes of a file to another file.
+pub fn index(rt: &HostRuntime, path: &str, index: &str) -> ExitCode {
+    let Ok(mut file) = File::open(rt, path) else {
+        return fail_about(rt, path, CANNOT_OPEN);
+    };
+    let Ok(target) = target_of(rt, index) else {
+        return fail(rt, "out of memory");
+    };
+    let mut place = FilePlace {
+        files: rt,
+        path: target.file.as_str(),
+        beside: target.beside.as_str(),
+    };
+    match index_to(rt.alloc(), &mut file, &mut place) {
+        Ok(()) => ExitCode::SUCCESS,
+        Err(SaveFault::Read) => fail_about(rt, path, "the file can't be read"),
+        Err(SaveFault::TooLong) => fail_about(rt, path, "a text has at most 4294967294 bytes"),
+        Err(fault) => fail_about(rt, index, why_not_saved(fault)),
     }
 }
 
@@ -75,13 +118,7 @@ pub fn save(rt: &HostRuntime, path: &str) -> ExitCode {
         Err(LoadError::Memory) => return fail(rt, "out of memory"),
         Err(_) => return fail(rt, "the line can't be read"),
     };
-    // A link leads to the file that is replaced.
-    let resolved = fs::canonicalize(rt, path);
-    let file = match &resolved {
-        Ok(file) => file.as_path().as_str(),
-        Err(_) => path,
-    };
-    let Ok(beside) = format!(in rt.alloc(); "{file}.new") else {
+    let Ok(target) = target_of(rt, path) else {
         return fail(rt, "out of memory");
     };
     let line = match input.as_slice() {
@@ -90,8 +127,8 @@ pub fn save(rt: &HostRuntime, path: &str) -> ExitCode {
     };
     let mut place = FilePlace {
         files: rt,
-        path: file,
-        beside: beside.as_str(),
+        path: target.file.as_str(),
+        beside: target.beside.as_str(),
     };
     match save_to(rt.alloc(), line, &mut place) {
         Ok(()) => {
@@ -116,6 +153,7 @@ fn why_not_saved(fault: SaveFault) -> &'static str {
         SaveFault::NoBits => "symbols of no bits have no saved form",
         SaveFault::TooLong => "the structure has too many elements for a saved form",
         SaveFault::OutOfMemory => "out of memory",
+        SaveFault::Read => "the file can't be read",
         SaveFault::Write => "write failed",
         SaveFault::Begin =>
             "FILE.new can't be created; if it exists, another save has begun or was interrupted",

@@ -41,6 +41,7 @@ Commands:
     vers < LINES              answers lines
     vers text < LINES         answers lines about a text
     vers text FILE < LINES    answers lines about the text in FILE
+    vers text index FILE INDEX    saves the index of the bytes of FILE to INDEX
     vers save FILE < LINE     saves the structure of a load line to FILE
     vers ask FILE < LINES     answers lines about the structure in FILE
     vers show FILE            describes the structure in FILE
@@ -49,23 +50,29 @@ Commands:
 
 /// Printed by `text --help`.
 pub const TEXT_HELP: &str = "Usage: vers text [FILE] < LINES
+       vers text index FILE INDEX
 
-Prints one line for each line of standard input. The text is that of the last line `text`, or the symbols in FILE.
+Prints one line for each line of standard input. The text is that of the last line `text`, or the one saved in FILE.
+`index` saves the index of the bytes of FILE to INDEX, which it replaces completely or not at all.
 
-text K S ..
-    replaces the text by the symbols S, of K bits each, and prints their number
+text K PATTERN
+    replaces the text by the symbols of a pattern, of K bits each, and prints their number
 len
     prints the number of symbols
-count S ..
+count PATTERN
     prints the number of occurrences of a pattern
-places S ..
+places PATTERN
     prints their positions, ascending
+first N PATTERN
+    prints the first N of them in the order of the suffixes there
 extract A B
     prints the symbols from A to before B
 
-Example: the pattern 0 1 occurs at positions 1 and 4.
+A pattern has numbers, bytes as 0x and two hexadecimal digits each, and texts in quotes: \"the end\" 0x0A 49.
 
-    printf 'text 2 2 0 1 2 0 1\\nplaces 0 1\\n' | vers text";
+Example: the pattern be occurs at positions 3 and 16.
+
+    printf 'text 8 \"to be or not to be\"\\nplaces \"be\"\\n' | vers text";
 
 /// Printed by `save --help`.
 pub const SAVE_HELP: &str = "Usage: vers save FILE < LINE
@@ -84,4 +91,4 @@ Prints the kind of the structure in FILE, its length, the bits of an element or 
 FILE.";
 
 /// Printed by `--version`.
-pub const VERSION: &str = "vers 0.17.0";
+pub const VERSION: &str = "vers 0.18.0";

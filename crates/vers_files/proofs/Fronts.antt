@@ -1,6 +1,6 @@
 -- The first bytes of a reader, and the others behind them.
-use Rattle.std.proofs.Common.{◌≡◌, ℕ, suc, ◌/◌, ◌<◌, ◌≤◌, List, ◌++◌, length, take, drop, Option, None, Some, Result, Ok, Err, append-nil, sym, subst, ap, ◌∙◌, inl, inr, arith}
-use Rattle.std.specs.Prelude.{map, slice_index, IfErr}
+use Rattle.std.proofs.Common.{◌≡◌, ℕ, suc, ◌/◌, ◌<◌, ◌≤◌, List, ◌++◌, length, take, drop, Option, None, Some, Result, Ok, Err, append-nil, refl, sym, subst, ap, ◌∙◌, inl, inr, arith}
+use Rattle.std.specs.Prelude.{map, slice_index, IfErr, IfSome}
 use Rattle.std.specs.Simd.{first_chunks}
 use Rattle.std.specs.Io.KnownBytes.{Consumes, IsAtEnd}
 use Rattle.std.proofs.lemmas.Bool.{cases_lt}
@@ -63,3 +63,14 @@ front_form (Some xs) (Some ys) front bytes c few end is =
       | inr long ↦ same_number front ys (omega arith)
     ] in
     (ap number_of_kind all ∙ same, ap Some (sym all))
+
+-- what holds of the bytes in front and those behind holds of all bytes
+pub of_all : (old mid whole : Option (List ℕ)) (front : List ℕ) → whole ≡ option_append (Some front) mid → Consumes old mid front → (P : List ℕ → Type 0) → IfSome whole P → IfSome old P
+of_all None mid whole front is c P holds = tt
+of_all (Some xs) None whole front is c P holds = absurd c
+of_all (Some xs) (Some ys) whole front is c P holds = subst P (sym c) (subst (λ w. IfSome w P) is holds)
+
+-- the number that the bytes in front name is that of all bytes
+pub of_number : (old mid : Option (List ℕ)) (front : List ℕ) → Consumes old mid front → length front ≤ 24 → (length front < 24 → IsAtEnd mid) → IfSome old (λ bytes. number_of_kind bytes ≡ number_of_kind front)
+of_number None mid front c few end = tt
+of_number (Some xs) mid front c few end = (front_form (Some xs) mid front xs c few end refl).0

@@ -4,3 +4,4 @@ pub mod Numbered
 pub mod Boxes
 pub mod Fronts
 pub mod Named
+pub mod TextForms

@@ -6,7 +6,7 @@ use Rattle.vers_bits.specs.Bits.{limbs, pack}
 use Rattle.vers_saved.specs.declared.kind.Kind.{Kind}
 use Rattle.vers_saved.specs.declared.kind.TheConstants.{SORTED, SYMBOLS, SPARSE, VALUES, PARENTHESES, POSTINGS, BIT_LISTS, SORTED_LISTS, SYMBOL_LISTS, SPARSE_LISTS, BLOCK_VALUES, POSTING_LISTS}
 use Rattle.vers_saved.specs.declared.fault.LoadError.{LoadError}
-use Rattle.vers_saved.specs.declared.fault.LoadError.TheVariants.{TooShort, NotOurs, OtherVersion, OtherKind, BadLength, BadSum, BadPadding, NotAscending, Memory, Read}
+use Rattle.vers_saved.specs.declared.fault.LoadError.TheVariants.{TooShort, NotOurs, OtherVersion, OtherKind, BadLength, BadSum, BadPadding, NotAscending, NotAText, Memory, Read}
 use Rattle.vers_saved.specs.Format.{words_of, sparse_words, posting_words, saved_bits, saved_sorted, saved_symbols, saved_sparse, saved_values, saved_parentheses, saved_postings}
 use Rattle.vers_saved.specs.Faults.{fault_of}
 use Rattle.vers_saved.specs.Kinds.{IsWhole, tree_kind}
@@ -77,5 +77,6 @@ fault_text BadLength = codes "BadLength: no list of this kind is as long, or the
 fault_text BadSum = codes "BadSum: the sum is not that of what stands before it"
 fault_text BadPadding = codes "BadPadding: a bit is set past the end of the list"
 fault_text NotAscending = codes "NotAscending: the numbers do not ascend"
+fault_text NotAText = codes "NotAText: no text has the column and the rows of the file"
 fault_text Memory = codes "Memory: out of memory"
 fault_text Read = codes "Read: the file can't be read"

@@ -1,4 +1,5 @@
 pub mod Forms
+pub mod Indexed
 pub mod Asked
 pub mod SavedLines
 pub mod Shown

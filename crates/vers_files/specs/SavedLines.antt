@@ -6,7 +6,7 @@ use Rattle.vers_saved.specs.declared.fault.SaveError.{SaveError}
 use Rattle.vers_saved.specs.declared.fault.SaveError.TheVariants as error
 use Rattle.vers_cli.specs.Holding.{Holding, SymbolsHeld}
 use Rattle.vers_files.specs.declared.saving.SaveFault.{SaveFault}
-use Rattle.vers_files.specs.declared.saving.SaveFault.TheVariants.{BadLine, Refused, NoBits, TooLong, OutOfMemory, Write, Begin, Sync, Put, Settle}
+use Rattle.vers_files.specs.declared.saving.SaveFault.TheVariants.{BadLine, Refused, NoBits, TooLong, OutOfMemory, Read, Write, Begin, Sync, Put, Settle}
 use Rattle.vers_files.specs.Forms.{HasForm}
 
 -- P holds for the list of a load line, if the line is accepted
@@ -41,6 +41,7 @@ line_saved no_bits (Err error.Write) = Err Write
 
 -- an error of a line or of a writer, and not of a file
 abbrev pub IsOfLine : SaveFault → Type 0
+IsOfLine Read = ⊥
 IsOfLine Begin = ⊥
 IsOfLine Sync = ⊥
 IsOfLine Put = ⊥

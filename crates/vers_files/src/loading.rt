@@ -22,9 +22,9 @@ fn word_of(bytes: [u8; 8]) -> u64
     u64::from_le_bytes(bytes)
 }
 
-// Returns the number of the kind that bytes name: their third word, or 0 if they have none.
+/// Returns the number of the kind that bytes name: their third word, or 0 if they have none.
 #[tactic(auto, unfolding(vers_saved::specs::Format::words_of))]
-fn number_of_kind(bytes: &[u8]) -> u64
+pub fn number_of_kind(bytes: &[u8]) -> u64
     ensures { result ≡ number_of_kind bytes.now }
 {
     let (words, _) = bytes.as_chunks::<8>();
@@ -115,8 +115,8 @@ pub fn read<A: Allocator, F: Read>(alloc: A, file: &mut F) -> Result<Vec<u8, A>,
     }
 }
 
-// The number of bytes of a file up to the end of the word that names its kind.
-const NAMED: usize = 24;
+/// The number of bytes of a file up to the end of the word that names its kind.
+pub const NAMED: usize = 24;
 
 /// Loads a list from its saved form, the rest of a reader, as a store. It is read by blocks, and only its words
 /// are kept, with no copy of the bytes.
@@ -154,6 +154,7 @@ pub fn fault_line(fault: &LoadError) -> &'static str
         LoadError::BadSum => "BadSum: the sum is not that of what stands before it",
         LoadError::BadPadding => "BadPadding: a bit is set past the end of the list",
         LoadError::NotAscending => "NotAscending: the numbers do not ascend",
+        LoadError::NotAText => "NotAText: no text has the column and the rows of the file",
         LoadError::Memory => "Memory: out of memory",
         LoadError::Read => "Read: the file can't be read",
     }

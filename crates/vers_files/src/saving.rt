@@ -16,7 +16,7 @@ use vers_saved::fault::SaveError;
 use vers_saved::stream::save as save_list;
 use vers_words::loading::Loading;
 
-/// Why a line was not saved.
+/// Why a line, or the index of a text, was not saved.
 #[derive(Clone, Copy, PartialEq, Eq, Debug, Drop)]
 pub enum SaveFault {
     /// It is no load line, or its arguments are malformed.
@@ -25,10 +25,12 @@ pub enum SaveFault {
     Refused,
     /// The list is one of symbols of no bits, which have no saved form.
     NoBits,
-    /// The list has too many elements for a saved form.
+    /// The list has too many elements for a saved form, or the text for an index.
     TooLong,
     /// The allocator refused a request.
     OutOfMemory,
+    /// What is to be saved can't be read.
+    Read,
     /// The writer returned an error, or took no byte of a nonempty piece.
     Write,
     /// The temporary file could not be created: another save has begun, or one was cut off.

@@ -1,20 +1,24 @@
-//! Lines about the text of a file, which is saved as a list of symbols.
+//! Lines about the text of a file, which is saved as its index or as a list of symbols.
 ghost use Rattle.std.specs.Prelude.{◌≡◌, ◌<◌, ◌≤◌, ◌↔◌, ◌⊎◌, IsTrue, ℕ, List, length, Option, Some, false, IfOk, IfErr, OnErr};
 ghost use Rattle.vers_engine.specs.Device.{FollowsReadFault, FollowsWriteFault};
 ghost use Rattle.vers_wavelet.specs.Symbols.{Symbols};
-ghost use Rattle.text_index.specs.Makers.{IsSymbolWidth};
+ghost use Rattle.text_index.specs.Makers.{IsSymbolWidth, symbols_of};
 ghost use Rattle.vers_cli.specs.Holding.{Holding, SymbolsHeld};
 ghost use Rattle.vers_texts.specs.Answers.{by_the_rules};
 ghost use Rattle.vers_files.specs.Asked.{AnswersFrom};
 ghost use Rattle.vers_files.specs.Forms.{IsFormOf, IsNoForm};
-ghost use Rattle.vers_files.specs.TextFiles.{AreSymbolsOf, HasNoSymbols, IsNoText, text_fault_text};
+ghost use Rattle.vers_files.specs.TextFiles.{AreSymbolsOf, AreTextOf, HasNoSymbols, IsIndexOf, IsNoSymbolText, IsNoText, text_fault_text};
+ghost use Rattle.vers_saved.specs.TextForms.{IsTextRefused};
 
-use crate::loading::{fault_line, load_file};
+use crate::loading::{NAMED, fault_line, load_file, number_of_kind};
 use std::alloc::{AllocError, Allocator};
 use std::io::Read;
 use text_index::{MAX_LEN, TextError, TextIndex};
 use vers_cli::Held;
 use vers_saved::fault::LoadError;
+use vers_saved::kind::TEXTS;
+use vers_saved::stream::fill;
+use vers_saved::texts::load_text as load_saved_text;
 use vers_texts::{Device, RunError, Sink, Source, Store, run_from};
 use vers_wavelet::wavelet::WaveletMatrix;
 
@@ -23,7 +27,7 @@ use vers_wavelet::wavelet::WaveletMatrix;
 pub enum TextFault {
     /// The file was not loaded.
     File(LoadError),
-    /// It is no list of symbols.
+    /// It is neither an index of a text nor a list of symbols.
     NoSymbols,
     /// Its symbols have 0 bits, or more than 16.
     OtherWidth,
@@ -51,9 +55,9 @@ struct PlainSymbols<A: Allocator> {
 }
 
 /// Reads lines to the end of the input and writes the answer of each, with the text loaded from `file`, the
-/// saved form of a list of symbols of 1 to 16 bits. The answers are those of the program over texts, and so are
-/// the errors of reader and writer, which are the inner error. The text is indexed before the first line, and
-/// the loaded list dropped before that.
+/// saved form of the index of a text, or of a list of symbols of 1 to 16 bits. The answers are those of the program
+/// over texts, and so are the errors of reader and writer, which are the inner error. Symbols are indexed before the
+/// first line, and the loaded list is dropped before that.
 ///
 /// # Errors
 ///
@@ -66,7 +70,7 @@ pub fn ask_text<A: Allocator + Copy, F: Read, R: Source, W: Sink>(
 ) -> Result<Result<(), RunError>, TextFault>
     requires reader { reader.old.has_failed ≡ false }
     requires writer { writer.old.has_failed ≡ false }
-    ensures answers { IfOk result (λ ended. (text : Symbols) × AreSymbolsOf (F.remaining file.old) text
+    ensures answers { IfOk result (λ ended. (text : Symbols) × AreTextOf (F.remaining file.old) text
         × AnswersFrom by_the_rules (Some text.items) ended (R.remaining reader.old.inner) (R.remaining reader.new.inner)
         (W.contents writer.old.inner) (W.contents writer.new.inner)) }
     ensures read { IfOk result (λ ended. (ended ≡ Err RunError.Read) ↔ IsTrue reader.new.has_failed) }
@@ -85,14 +89,50 @@ pub fn ask_text<A: Allocator + Copy, F: Read, R: Source, W: Sink>(
     }
 }
 
-// Loads a text from its saved form, the rest of a reader, and returns its index.
+// Loads a text from a saved form, the rest of a reader, and returns its index.
 fn load_text<A: Allocator + Copy, F: Read>(
+    alloc: A,
+    file: &mut F,
+) -> Result<TextIndex<A>, TextFault>
+    ensures loaded { IfOk result (λ text. AreTextOf (F.remaining file.old) (symbols_of text)) }
+    ensures refused { IfErr result (λ e. IsNoText (F.remaining file.old) e) }
+{
+    let mut block = [0; NAMED];
+    let filled = match fill(file, &mut block) {
+        Ok(filled) => filled,
+        Err(fault) => return Err(TextFault::File(fault)),
+    };
+    let front = &block[..filled];
+    if number_of_kind(front) == TEXTS {
+        return load_index(alloc, &mut front.chain(file));
+    }
+    index_symbols(alloc, &mut front.chain(file))
+}
+
+// Loads the index of a text from its saved form, the rest of a reader.
+fn load_index<A: Allocator + Copy, R: Source>(
+    alloc: A,
+    reader: &mut R,
+) -> Result<TextIndex<A>, TextFault>
+    ensures loaded { IfOk result (λ text. IsIndexOf (R.remaining reader.old) text) }
+    ensures refused { IfErr result (λ e. (fault : LoadError) × (e ≡ TextFault.File fault)
+        × IsTextRefused (R.remaining reader.old) fault) }
+{
+    match load_saved_text(alloc, reader) {
+        Ok(text) => Ok(text),
+        Err(fault) => Err(TextFault::File(fault)),
+    }
+}
+
+// Loads the symbols of a text from their saved form, the rest of a reader, and returns their index. The loaded list
+// is dropped before that.
+fn index_symbols<A: Allocator + Copy, F: Read>(
     alloc: A,
     file: &mut F,
 ) -> Result<TextIndex<A>, TextFault>
     ensures loaded { IfOk result (λ text. AreSymbolsOf (F.remaining file.old)
         (record { width = text.width; items = text.items })) }
-    ensures refused { IfErr result (λ e. IsNoText (F.remaining file.old) e) }
+    ensures refused { IfErr result (λ e. IsNoSymbolText (F.remaining file.old) e) }
 {
     let symbols = load_symbols(alloc, file)?;
     indexed(alloc, symbols.items.as_slice(), symbols.width)
@@ -106,7 +146,7 @@ fn load_symbols<A: Allocator + Copy, F: Read>(
     ensures loaded { IfOk result (λ symbols. AreSymbolsOf (F.remaining file.old)
         (record { width = symbols.width; items = symbols.items.items })) }
     ensures width { IfOk result (λ symbols. IsSymbolWidth symbols.width) }
-    ensures refused { IfErr result (λ e. IsNoText (F.remaining file.old) e) }
+    ensures refused { IfErr result (λ e. IsNoSymbolText (F.remaining file.old) e) }
 {
     symbols_of(alloc, load_file(&alloc, file))
 }
@@ -122,7 +162,7 @@ fn symbols_of<A: Allocator + Copy, O: Owner<A>>(
         (record { width = symbols.width; items = symbols.items.items })) }
     ensures width { IfOk result (λ symbols. IsSymbolWidth symbols.width) }
     ensures refused { (left : Option (List ℕ)) → IfOk loaded (λ owner. IsFormOf left (O.holding owner))
-        → IfErr loaded (IsNoForm left) → IfErr result (IsNoText left) }
+        → IfErr loaded (IsNoForm left) → IfErr result (IsNoSymbolText left) }
 {
     match loaded {
         Ok(owner) => owner.symbols(alloc),
@@ -203,7 +243,7 @@ pub fn text_fault_line(fault: &TextFault) -> &'static str
 {
     match fault {
         TextFault::File(fault) => fault_line(fault),
-        TextFault::NoSymbols => "NoSymbols: the list of the file is none of symbols",
+        TextFault::NoSymbols => "NoSymbols: the file has neither a text nor symbols",
         TextFault::OtherWidth => "OtherWidth: the symbols of a text have 1 to 16 bits",
         TextFault::TooLong => "TooLong: a text has at most 4294967294 symbols",
         TextFault::Memory => "Memory: out of memory",

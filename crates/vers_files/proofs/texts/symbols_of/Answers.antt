@@ -7,21 +7,21 @@ use Rattle.vers_cli.specs.Holding.{Holding, SymbolsHeld}
 use Rattle.vers_files.specs.declared.texts.TextFault.{TextFault}
 use Rattle.vers_files.specs.declared.texts.TextFault.TheVariants.{NoSymbols, OtherWidth, Memory}
 use Rattle.vers_files.specs.Forms.{IsFormOf}
-use Rattle.vers_files.specs.TextFiles.{HasNoSymbols, IsNoText}
+use Rattle.vers_files.specs.TextFiles.{HasNoSymbols, IsNoSymbolText}
 use Rattle.vers_files.proofs.texts.symbols_of.Goals as goal
 
 -- why what is held is no text is why a file of its form is none
 told : {T : Type 0} (r : Result T TextFault) (left : Option (List ℕ)) (held : Holding) → IsFormOf left held
     → IfErr r (λ e. (e ≡ Memory) ⊎ ((e ≡ NoSymbols) × HasNoSymbols held)
     ⊎ ((e ≡ OtherWidth) × ((symbols : Symbols) × (held ≡ SymbolsHeld symbols) × (IsSymbolWidth symbols.width → ⊥))))
-    → IfErr r (λ e. IsNoText left e)
+    → IfErr r (λ e. IsNoSymbolText left e)
 told (Ok made) left held form why = tt
 told (Err fault) left held form why =
     elim why [
-      | inl is ↦ subst (λ (e : TextFault). IsNoText left e) (sym is) tt
-      | inr (inl is) ↦ subst (λ (e : TextFault). IsNoText left e) (sym is.0) (held, form, is.1)
+      | inl is ↦ subst (λ (e : TextFault). IsNoSymbolText left e) (sym is) tt
+      | inr (inl is) ↦ subst (λ (e : TextFault). IsNoSymbolText left e) (sym is.0) (held, form, is.1)
       | inr (inr is) ↦
-          subst (λ (e : TextFault). IsNoText left e) (sym is.0) (is.1.0, subst (λ (h : Holding). IsFormOf left h) is.1.1 form, is.1.2)
+          subst (λ (e : TextFault). IsNoSymbolText left e) (sym is.0) (is.1.0, subst (λ (h : Holding). IsFormOf left h) is.1.1 form, is.1.2)
     ]
 
 pub returns-in-Ok-clause-loaded : goal.returns-in-Ok-clause-loaded

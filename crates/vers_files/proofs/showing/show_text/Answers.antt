@@ -1,0 +1,14 @@
+use Rattle.std.proofs.Common.{refl, ◌∙◌}
+use Rattle.vers_files.proofs.TextForms.{size_of_form}
+use Rattle.vers_files.proofs.showing.show_text.Goals as goal
+
+pub returns-in-Ok-clause-shown : goal.returns-in-Ok-clause-shown
+returns-in-Ok-clause-shown g c =
+    let whole = c.in-Ok.ensures.whole in (
+      c.in-Ok.text,
+      (whole.1, c.in-Ok.ensures.loaded),
+      refl,
+      c.len.ensures.value,
+      c.from.ensures ∙ c.bits_per_symbol.ensures,
+      c.unwrap_or-bytes.ensures ∙ size_of_form c.saved_size.result _ _ c.saved_size.ensures.some c.saved_size.ensures.none whole.0.may,
+    )
