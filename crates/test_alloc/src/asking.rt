@@ -53,25 +53,6 @@ pub fn asked_both<T: Drop, U: Drop, R, E: Drop, F: FnOnce(&T, &U) -> R>(
     Ok(ask(&one, &other))
 }
 
-/// Returns the first length, and the number of the wrong row, of values made at each length, or `None` if all
-/// are right.
-pub fn first_wrong_length<
-    T: Drop,
-    E: Drop,
-    M: Fn(usize) -> Result<T, E>,
-    W: Fn(&T) -> Option<usize>,
->(lengths: &[usize], make: M, wrong_row: W) -> Result<Option<(usize, usize)>, E>
-    requires make { M.IsAlwaysCallable make }
-    requires wrong_row { W.IsAlwaysCallable wrong_row }
-{
-    for len in lengths {
-        if let Some(row) = asked(make(*len), &wrong_row)? {
-            return Ok(Some((*len, row)));
-        }
-    }
-    Ok(None)
-}
-
 /// A step of a walk that takes an item, or returns the number left.
 #[derive(Clone, Copy, Drop)]
 pub enum Step {

@@ -2,23 +2,19 @@
 #![tactic(auto)]
 
 mod asking;
+mod rows;
 mod sizes;
 mod trials;
-mod tries;
 
-pub use asking::{
-    Step, asked, asked_both, asked_mut, first_wrong, first_wrong_length, first_wrong_step,
-};
+pub use asking::{Step, asked, asked_both, asked_mut, first_wrong, first_wrong_step};
+pub use rows::{WrongRow, answers_of, lines_of, wrong_row};
 pub use sizes::{SIZES, Size, Sizing, Spare, first_wrong_size, spare_of};
 use std::alloc::{AllocError, Allocator};
 use std::cell::Cell;
 pub use trials::{
-    Check, Conversion, Edit, Making, Trial, Tried, first_wrong_trial, is_made_right, requests,
-    tried_on, try_clone_checked, try_conversion, try_edit, try_making, try_use_checked,
-};
-pub use tries::{
-    Ending, LENGTHS, done_if, each_refused, first_wrong_call, out_of_memory_if, takes_memory,
-    try_change, try_clone, try_convert, try_make, try_use,
+    Check, Conversion, Edit, Ending, LENGTHS, Making, Trial, Tried, done_if, each_refused,
+    first_wrong_trial, is_made_right, out_of_memory_if, requests, tried_on, try_clone_checked,
+    try_conversion, try_edit, try_making, try_use_checked,
 };
 
 /// The requests that are refused, and the requests so far. Requests count from 1.
@@ -202,30 +198,6 @@ unsafe impl<B: Allocator> Allocator for Refusing<B> {
         count_freed(&self.plan, size);
         self.inner.deallocate(ptr, size, align);
     }
-}
-
-/// Runs `fails` with the first request refused, then the second, and so on, until a run ends with none refused.
-/// Returns the number of requests of that run, or `None` if a run with a refusal did not fail, the last one
-/// did, or all `most` runs had one.
-pub fn refused_in_turn<B: Allocator + Copy, F: Fn(&Refusing<B>) -> bool>(
-    inner: B,
-    most: u64,
-    fails: F,
-) -> Option<u64>
-    requires { F.IsAlwaysCallable fails }
-{
-    for n in 1..most {
-        let heap = Refusing::nth(inner, n);
-        let failed = fails(&heap);
-        let was_refused = heap.refused() > 0;
-        if failed != was_refused {
-            return None;
-        }
-        if !was_refused {
-            return Some(heap.asked());
-        }
-    }
-    None
 }
 
 /// Returns true if `works` does what it should with every request refused, and makes none.

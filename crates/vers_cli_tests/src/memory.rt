@@ -1,30 +1,33 @@
 //! Runs that are refused memory, and long inputs.
-use crate::answers::{Case, first_wrong, push_repeated};
+use crate::answers::{assert_answered, push_repeated};
 use crate::devices::{Ended, FailingReader, FailingWriter, run_over};
 use std::alloc::{AllocError, Global};
 use std::test::Fail;
-use test_alloc::Refusing;
+use test_alloc::{Refusing, answers_of, lines_of};
 use vers_cli::RunError;
 
-// An input and its output: load lines, queries with a list as their answer, and load lines that are
-// refused.
-const RUNS: [(&[u8], &[u8]); 4] = [
-    (
-        b"bits 0110\nrank1 3\nsorted 3 1\nsorted 4 4 9\niter\nfoo\nvalues 9 6 10\nrange_min 0 2\nsparse 3 3\nsparse 5 1 3\niter1\nget 9\ntree 1x\ntree 110100\ndfs_iter\nbwd_search 4 -2\nexcess 6\nsize",
-        b"4\n2\nrefused\n3\n4 4 9\nbad line\n3\n1\nrefused\n5\n1 3\nnone\nbad line\n6\n0 1 3\n0\nrefused\n3\n",
-    ),
-    (
-        b"tree 110100\nchildren 0\nparent 3\nrev_children 0\nsubtree_iter 0\nparent 2\nsubtree_post_iter 0\ndfs_post_iter\nchildren 1\ndepth 1",
-        b"6\n1 3\n0\n3 1\n0 1 3\nrefused\n1 3 0\n1 3 0\n\n1\n",
-    ),
-    (
-        b"symbols 65 1\nsymbols 3 1 5 3\niter_u64\niter_sorted_u64\nrank_u64 3 11",
-        b"refused\n3\n1 5 3\n1 3 5\n1\n",
-    ),
-    (
-        b"postings 2 7 5 3 9 3 12 8\nintersect 5 6 12 40\npostings 1\ncheapest 6 12\npostings 3 1 2 1\nintersect 5 5\nintersect\npostings 4 1\nintersect 1 4 5",
-        b"4\n5 12\nbad line\n9\nrefused\nrefused\n\n1\n4\n",
-    ),
+// Load lines, queries with a list as their answer, and load lines that are refused.
+const RUNS: [&[&str]; 4] = [
+    &[
+        "bits 0110 -> 4; rank1 3 -> 2; sorted 3 1 -> refused; sorted 4 4 9 -> 3; iter -> 4 4 9; foo -> bad line",
+        "values 9 6 10 -> 3; range_min 0 2 -> 1; sparse 3 3 -> refused; sparse 5 1 3 -> 5; iter1 -> 1 3",
+        "get 9 -> none; tree 1x -> bad line; tree 110100 -> 6; dfs_iter -> 0 1 3; bwd_search 4 -2 -> 0",
+        "excess 6 -> refused; size -> 3",
+    ],
+    &[
+        "tree 110100 -> 6; children 0 -> 1 3; parent 3 -> 0; rev_children 0 -> 3 1; subtree_iter 0 -> 0 1 3",
+        "parent 2 -> refused; subtree_post_iter 0 -> 1 3 0; dfs_post_iter -> 1 3 0; children 1 -> (empty)",
+        "depth 1 -> 1",
+    ],
+    &[
+        "symbols 65 1 -> refused; symbols 3 1 5 3 -> 3; iter_u64 -> 1 5 3; iter_sorted_u64 -> 1 3 5",
+        "rank_u64 3 11 -> 1",
+    ],
+    &[
+        "postings 2 7 5 3 9 3 12 8 -> 4; intersect 5 6 12 40 -> 5 12; postings 1 -> bad line; cheapest 6 12 -> 9",
+        "postings 3 1 2 1 -> refused; intersect 5 5 -> refused; intersect -> (empty); postings 4 1 -> 1",
+        "intersect 1 4 5 -> 4",
+    ],
 ];
 
 type End<'a> = Ended<FailingReader<'a>, Vec<u8>>;
@@ -97,82 +100,49 @@ fn is_right_at_each_request(alloc: Global, run: (&[u8], &[u8]), piece: usize) ->
     false
 }
 
+// Returns the same for some rows, whose last line has no end.
+fn are_right_at_each_request(
+    alloc: Global,
+    rows: &[&str],
+    piece: usize,
+) -> Result<bool, AllocError> {
+    let mut input = lines_of(alloc, rows)?;
+    input.truncate(input.len().saturating_sub(1));
+    let output = answers_of(alloc, rows)?;
+    Ok(is_right_at_each_request(alloc, (input.as_slice(), output.as_slice()), piece))
+}
+
 #[test]
-fn each_request_is_refused_in_turn(rt: HostRuntime) {
-    for run in RUNS {
+fn each_request_is_refused_in_turn(rt: HostRuntime) -> Result<(), Fail> {
+    for rows in RUNS {
         for piece in [5usize, 100] {
-            assert!(rt; is_right_at_each_request(rt.alloc(), run, piece));
+            assert!(rt; are_right_at_each_request(rt.alloc(), rows, piece)?);
         }
     }
+    Ok(())
 }
 
 // With ample memory a load line that isn't admitted is refused, and the current structure is kept.
-const REFUSED: [Case; 12] = [
-    (
-        "sorted 3 1",
-        b"bits 0110\nsorted 3 1\nrank1 3\n",
-        b"4\nrefused\n2\n",
-    ),
-    (
-        "sorted 1 2 3 2",
-        b"bits 0110\nsorted 1 2 3 2\nrank1 3\n",
-        b"4\nrefused\n2\n",
-    ),
-    (
-        "sorted 18446744073709551615 0",
-        b"bits 0110\nsorted 18446744073709551615 0\nrank1 3\n",
-        b"4\nrefused\n2\n",
-    ),
-    (
-        "sparse 0 0",
-        b"bits 0110\nsparse 0 0\nrank1 3\n",
-        b"4\nrefused\n2\n",
-    ),
-    (
-        "sparse 3 3",
-        b"bits 0110\nsparse 3 3\nrank1 3\n",
-        b"4\nrefused\n2\n",
-    ),
-    (
-        "sparse 5 3 3",
-        b"bits 0110\nsparse 5 3 3\nrank1 3\n",
-        b"4\nrefused\n2\n",
-    ),
-    (
-        "sparse 5 3 1",
-        b"bits 0110\nsparse 5 3 1\nrank1 3\n",
-        b"4\nrefused\n2\n",
-    ),
-    (
-        "sparse 18446744073709551615 18446744073709551615",
-        b"bits 0110\nsparse 18446744073709551615 18446744073709551615\nrank1 3\n",
-        b"4\nrefused\n2\n",
-    ),
-    (
-        "symbols 65 1",
-        b"bits 0110\nsymbols 65 1\nrank1 3\n",
-        b"4\nrefused\n2\n",
-    ),
-    (
-        "symbols 18446744073709551615",
-        b"bits 0110\nsymbols 18446744073709551615\nrank1 3\n",
-        b"4\nrefused\n2\n",
-    ),
-    (
-        "postings 2 1 2 5",
-        b"bits 0110\npostings 2 1 2 5\nrank1 3\n",
-        b"4\nrefused\n2\n",
-    ),
-    (
-        "postings 1 1 3 1 2 1",
-        b"bits 0110\npostings 1 1 3 1 2 1\nrank1 3\n",
-        b"4\nrefused\n2\n",
-    ),
+const REFUSED: [&str; 12] = [
+    "bits 0110 -> 4; sorted 3 1 -> refused; rank1 3 -> 2",
+    "bits 0110 -> 4; sorted 1 2 3 2 -> refused; rank1 3 -> 2",
+    "bits 0110 -> 4; sorted 18446744073709551615 0 -> refused; rank1 3 -> 2",
+    "bits 0110 -> 4; sparse 0 0 -> refused; rank1 3 -> 2",
+    "bits 0110 -> 4; sparse 3 3 -> refused; rank1 3 -> 2",
+    "bits 0110 -> 4; sparse 5 3 3 -> refused; rank1 3 -> 2",
+    "bits 0110 -> 4; sparse 5 3 1 -> refused; rank1 3 -> 2",
+    "bits 0110 -> 4; sparse 18446744073709551615 18446744073709551615 -> refused; rank1 3 -> 2",
+    "bits 0110 -> 4; symbols 65 1 -> refused; rank1 3 -> 2",
+    "bits 0110 -> 4; symbols 18446744073709551615 -> refused; rank1 3 -> 2",
+    "bits 0110 -> 4; postings 2 1 2 5 -> refused; rank1 3 -> 2",
+    "bits 0110 -> 4; postings 1 1 3 1 2 1 -> refused; rank1 3 -> 2",
 ];
 
 #[test]
 fn refused_load_lines(rt: HostRuntime) -> Result<(), Fail> {
-    assert_eq!(rt; first_wrong(rt.alloc(), &REFUSED)?, "");
+    for rows in REFUSED {
+        assert_answered(&rt, rt.alloc(), "a refused load line", &[rows])?;
+    }
     Ok(())
 }
 

@@ -3,62 +3,84 @@ use crate::files::{
     BITS, OTHER_BLOCKS, OTHER_KIND, POSTINGS, SORTED, SPARSE, SYMBOLS, TREE, VALUES,
 };
 use std::alloc::Global;
-use vers_cli::Device;
+use std::process::Abort;
+use std::test::Fail;
+use test_alloc::{lines_of, wrong_row};
+use vers_cli::{Device, RunError};
 use vers_files::{ask, fault_line, read};
 use vers_saved::fault::LoadError;
 
-// Returns true if the answers of lines about the list of a file are these.
-fn are_answers(alloc: Global, file: &[u8], lines: &[u8], answers: &[u8]) -> bool {
+// The result of lines about the list of a file, their output, and what was left of them.
+#[derive(Drop)]
+struct Ended<'a> {
+    result: Result<Result<(), RunError>, LoadError>,
+    written: Vec<u8>,
+    left: &'a [u8],
+}
+
+fn asked<'a>(alloc: Global, file: &[u8], lines: &'a [u8]) -> Ended<'a> {
     let mut rest = file;
     let mut reader = Device::new(lines);
     let mut writer = Device::new(Vec::new(alloc));
     let result = ask(alloc, &mut rest, &mut reader, &mut writer);
-    let written: Vec<u8> = writer.into_inner();
-    result == Ok(Ok(())) && written.as_slice() == answers
+    Ended {
+        result,
+        written: writer.into_inner(),
+        left: reader.into_inner(),
+    }
+}
+
+// Runs lines about the list of a file, and compares their answers.
+fn assert_run(rt: &impl Abort, alloc: Global, file: &[u8], lines: &[u8], rows: &str) {
+    let ended = asked(alloc, file, lines);
+    assert!(*rt; ended.result == Ok(Ok(())));
+    assert_eq!(*rt; wrong_row(&[rows], ended.written.as_slice()), None);
+}
+
+// Runs rows about the list of a file, whose last line ends or not.
+fn assert_answered(rt: &impl Abort, alloc: Global, file: &[u8], rows: &str) -> Result<(), Fail> {
+    let lines = lines_of(alloc, &[rows])?;
+    let whole = lines.as_slice();
+    assert_run(rt, alloc, file, whole, rows);
+    assert_run(
+        rt,
+        alloc,
+        file,
+        &whole[..whole.len().saturating_sub(1)],
+        rows,
+    );
+    Ok(())
 }
 
 #[test]
-fn a_list_is_held_before_the_first_line(rt: HostRuntime) {
-    let alloc = rt.alloc();
-    assert!(rt; are_answers(alloc, &BITS, b"len\nrank1 3\nselect1 1\n", b"4\n2\n2\n"));
-    assert!(rt; are_answers(alloc, &SORTED, b"iter\nrank 5\nget 9", b"4 4 9\n2\nnone\n"));
-    assert!(rt; are_answers(alloc, &SPARSE, b"len\niter1\nrank0 4\n", b"12\n1 3 5\n2\n"));
-    assert!(rt;
-        are_answers(
-            alloc,
-            &VALUES,
-            b"range_min 0 2\nrange_min 2 1\n",
-            b"1\nrefused\n"
-        )
-    );
-    assert!(rt; are_answers(alloc, &SYMBOLS, b"iter_u64\nrank_u64 3 3\n", b"1 5 3\n1\n"));
-    assert!(rt; are_answers(alloc, &TREE, b"size\nclose 0\nchildren 0\n", b"3\n5\n1 3\n"));
-    assert!(rt;
-        are_answers(
-            alloc,
-            &POSTINGS,
-            b"len\nnext 3\ncheapest 2 9\n",
-            b"3\n5\n5\n"
-        )
-    );
+fn a_list_is_held_before_the_first_line(rt: HostRuntime) -> Result<(), Fail> {
+    let cases: [(&[u8], &str); 7] = [
+        (&BITS, "len -> 4; rank1 3 -> 2; select1 1 -> 2"),
+        (&SORTED, "iter -> 4 4 9; rank 5 -> 2; get 9 -> none"),
+        (&SPARSE, "len -> 12; iter1 -> 1 3 5; rank0 4 -> 2"),
+        (&VALUES, "range_min 0 2 -> 1; range_min 2 1 -> refused"),
+        (&SYMBOLS, "iter_u64 -> 1 5 3; rank_u64 3 3 -> 1"),
+        (&TREE, "size -> 3; close 0 -> 5; children 0 -> 1 3"),
+        (&POSTINGS, "len -> 3; next 3 -> 5; cheapest 2 9 -> 5"),
+    ];
+    for (file, rows) in cases {
+        assert_answered(&rt, rt.alloc(), file, rows)?;
+    }
+    Ok(())
 }
 
 #[test]
-fn a_load_line_takes_its_place(rt: HostRuntime) {
-    let lines = b"bits 1x\nlen\nsorted 7\niter\nrank1 3\n";
-    let answers = b"bad line\n4\n1\n7\nwrong structure\n";
-    assert!(rt; are_answers(rt.alloc(), &BITS, lines, answers));
+fn a_load_line_takes_its_place(rt: HostRuntime) -> Result<(), Fail> {
+    let rows =
+        "bits 1x -> bad line; len -> 4; sorted 7 -> 1; iter -> 7; rank1 3 -> wrong structure";
+    assert_answered(&rt, rt.alloc(), &BITS, rows)
 }
 
 // Returns true if a file has this error, and then no line is read and nothing written.
 fn is_fault(alloc: Global, file: &[u8], fault: LoadError) -> bool {
-    let mut rest = file;
     let lines: &[u8] = b"len\n";
-    let mut reader = Device::new(lines);
-    let mut writer = Device::new(Vec::new(alloc));
-    let result = ask(alloc, &mut rest, &mut reader, &mut writer);
-    let written: Vec<u8> = writer.into_inner();
-    result == Err(fault) && written.is_empty() && reader.into_inner() == lines
+    let ended = asked(alloc, file, lines);
+    ended.result == Err(fault) && ended.written.is_empty() && ended.left == lines
 }
 
 // Returns true if a file with one flipped bit is refused.
@@ -69,13 +91,8 @@ fn is_told(alloc: Global, file: &[u8], place: usize, bit: u32) -> bool {
     if let Some(byte) = other.get_mut(place) {
         *byte ^= 1u8.wrapping_shl(bit);
     }
-    let mut rest = other.as_slice();
-    let lines: &[u8] = b"len\n";
-    let mut reader = Device::new(lines);
-    let mut writer = Device::new(Vec::new(alloc));
-    let result = ask(alloc, &mut rest, &mut reader, &mut writer);
-    let written: Vec<u8> = writer.into_inner();
-    result.is_err() && written.is_empty()
+    let ended = asked(alloc, other.as_slice(), b"len\n");
+    ended.result.is_err() && ended.written.is_empty()
 }
 
 fn flips_and_cuts_are_told(alloc: Global, file: &[u8]) -> bool {
@@ -94,14 +111,10 @@ fn flips_and_cuts_are_told(alloc: Global, file: &[u8]) -> bool {
 
 #[test]
 fn each_flip_and_each_cut_is_told(rt: HostRuntime) {
-    let alloc = rt.alloc();
-    assert!(rt; flips_and_cuts_are_told(alloc, &BITS));
-    assert!(rt; flips_and_cuts_are_told(alloc, &SORTED));
-    assert!(rt; flips_and_cuts_are_told(alloc, &SPARSE));
-    assert!(rt; flips_and_cuts_are_told(alloc, &VALUES));
-    assert!(rt; flips_and_cuts_are_told(alloc, &SYMBOLS));
-    assert!(rt; flips_and_cuts_are_told(alloc, &TREE));
-    assert!(rt; flips_and_cuts_are_told(alloc, &POSTINGS));
+    let files: [&[u8]; 7] = [&BITS, &SORTED, &SPARSE, &VALUES, &SYMBOLS, &TREE, &POSTINGS];
+    for file in files {
+        assert!(rt; flips_and_cuts_are_told(rt.alloc(), file));
+    }
 }
 
 #[test]
@@ -114,16 +127,21 @@ fn other_kinds_are_told(rt: HostRuntime) {
 
 #[test]
 fn each_fault_has_its_line(rt: HostRuntime) {
-    assert!(rt; fault_line(&LoadError::TooShort).starts_with("TooShort: "));
-    assert!(rt; fault_line(&LoadError::NotOurs).starts_with("NotOurs: "));
-    assert!(rt; fault_line(&LoadError::OtherVersion).starts_with("OtherVersion: "));
-    assert!(rt; fault_line(&LoadError::OtherKind).starts_with("OtherKind: "));
-    assert!(rt; fault_line(&LoadError::BadLength).starts_with("BadLength: "));
-    assert!(rt; fault_line(&LoadError::BadSum).starts_with("BadSum: "));
-    assert!(rt; fault_line(&LoadError::BadPadding).starts_with("BadPadding: "));
-    assert!(rt; fault_line(&LoadError::NotAscending).starts_with("NotAscending: "));
-    assert!(rt; fault_line(&LoadError::Memory).starts_with("Memory: "));
-    assert!(rt; fault_line(&LoadError::Read).starts_with("Read: "));
+    for (fault, start) in [
+        (LoadError::TooShort, "TooShort: "),
+        (LoadError::NotOurs, "NotOurs: "),
+        (LoadError::OtherVersion, "OtherVersion: "),
+        (LoadError::OtherKind, "OtherKind: "),
+        (LoadError::BadLength, "BadLength: "),
+        (LoadError::BadSum, "BadSum: "),
+        (LoadError::BadPadding, "BadPadding: "),
+        (LoadError::NotAscending, "NotAscending: "),
+        (LoadError::NotAText, "NotAText: "),
+        (LoadError::Memory, "Memory: "),
+        (LoadError::Read, "Read: "),
+    ] {
+        assert!(rt; fault_line(&fault).starts_with(start), "{start}");
+    }
 }
 
 #[test]

@@ -6,6 +6,8 @@ mod asked;
 #[cfg(test)]
 mod files;
 #[cfg(test)]
+mod indexes;
+#[cfg(test)]
 mod memory;
 #[cfg(test)]
 mod places;

@@ -2,7 +2,8 @@
 use crate::files::{BITS, POSTINGS, SORTED, SPARSE, SYMBOLS, TREE, VALUES};
 use crate::places::holding;
 use std::alloc::{AllocError, Global};
-use test_alloc::{Ending, Refusing, done_if, each_refused, out_of_memory_if};
+use std::test::Fail;
+use test_alloc::{Ending, Refusing, answers_of, done_if, each_refused, lines_of, out_of_memory_if};
 use vers_bits::bit_vec::BitVec;
 use vers_cli::{Device, RunError};
 use vers_files::{SaveFault, ask, save_to};
@@ -42,7 +43,7 @@ fn tried_asking(alloc: Global, heap: &Heap, case: Case) -> Ending {
 }
 
 // Returns true if lines about a file end as they must, whichever request is refused, and some are made.
-fn are_asked_well(alloc: Global, file: &[u8], lines: &[u8], answers: &[u8]) -> bool {
+fn is_asked_well(alloc: Global, file: &[u8], lines: &[u8], answers: &[u8]) -> bool {
     let case = Case {
         file,
         lines,
@@ -54,16 +55,29 @@ fn are_asked_well(alloc: Global, file: &[u8], lines: &[u8], answers: &[u8]) -> b
     }
 }
 
+// Returns true if rows about a file end so, whether their last line ends or not.
+fn are_asked_well(alloc: Global, file: &[u8], rows: &str) -> Result<bool, AllocError> {
+    let lines = lines_of(alloc, &[rows])?;
+    let answers = answers_of(alloc, &[rows])?;
+    let whole = lines.as_slice();
+    let cut = &whole[..whole.len().saturating_sub(1)];
+    Ok(
+        is_asked_well(alloc, file, whole, answers.as_slice())
+            && is_asked_well(alloc, file, cut, answers.as_slice()),
+    )
+}
+
 #[test]
-fn each_request_of_lines_refused(rt: HostRuntime) {
+fn each_request_of_lines_refused(rt: HostRuntime) -> Result<(), Fail> {
     let alloc = rt.alloc();
-    assert!(rt; are_asked_well(alloc, &BITS, b"len\nrank1 3\n", b"4\n2\n"));
-    assert!(rt; are_asked_well(alloc, &SORTED, b"iter\nget 9", b"4 4 9\nnone\n"));
-    assert!(rt; are_asked_well(alloc, &SPARSE, b"iter1\nsorted 7\niter", b"1 3 5\n1\n7\n"));
-    assert!(rt; are_asked_well(alloc, &VALUES, b"range_min 0 2\n", b"1\n"));
-    assert!(rt; are_asked_well(alloc, &SYMBOLS, b"iter_u64\n", b"1 5 3\n"));
-    assert!(rt; are_asked_well(alloc, &TREE, b"size\nchildren 0\n", b"3\n1 3\n"));
-    assert!(rt; are_asked_well(alloc, &POSTINGS, b"cheapest 2 9\n", b"5\n"));
+    assert!(rt; are_asked_well(alloc, &BITS, "len -> 4; rank1 3 -> 2")?);
+    assert!(rt; are_asked_well(alloc, &SORTED, "iter -> 4 4 9; get 9 -> none")?);
+    assert!(rt; are_asked_well(alloc, &SPARSE, "iter1 -> 1 3 5; sorted 7 -> 1; iter -> 7")?);
+    assert!(rt; are_asked_well(alloc, &VALUES, "range_min 0 2 -> 1")?);
+    assert!(rt; are_asked_well(alloc, &SYMBOLS, "iter_u64 -> 1 5 3")?);
+    assert!(rt; are_asked_well(alloc, &TREE, "size -> 3; children 0 -> 1 3")?);
+    assert!(rt; are_asked_well(alloc, &POSTINGS, "cheapest 2 9 -> 5")?);
+    Ok(())
 }
 
 // Tests a save of a line with a refused request: the place has its old bytes, with no temporary file, or the

@@ -1,5 +1,5 @@
 //! The descriptions of files.
-use crate::files::{BITS, OTHER_KIND, POSTINGS, SORTED, SPARSE, SYMBOLS, TREE, VALUES};
+use crate::files::{BITS, INDEX, OTHER_KIND, POSTINGS, SORTED, SPARSE, SYMBOLS, TREE, VALUES};
 use std::alloc::Global;
 use vers_files::show;
 use vers_saved::fault::LoadError;
@@ -9,7 +9,7 @@ fn is_shown(alloc: Global, file: &[u8], kind: &str, len: u64, width: u64) -> boo
     let mut reader = file;
     match show(alloc, &mut reader) {
         Ok(list) => {
-            list.kind == kind
+            list.kind.name() == kind
                 && list.len == len
                 && list.width == width
                 && list.bytes == file.len() as u64
@@ -28,6 +28,7 @@ fn files_are_shown(rt: HostRuntime) {
     assert!(rt; is_shown(alloc, &SYMBOLS, "symbols", 3, 3));
     assert!(rt; is_shown(alloc, &TREE, "tree", 6, 512));
     assert!(rt; is_shown(alloc, &POSTINGS, "postings", 3, 128));
+    assert!(rt; is_shown(alloc, &INDEX, "text", 2, 8));
 }
 
 // Returns the error in a file that is described.
@@ -41,5 +42,6 @@ fn other_files_are_not_shown(rt: HostRuntime) {
     let alloc = rt.alloc();
     assert!(rt; fault_of(alloc, &OTHER_KIND) == Some(LoadError::OtherKind));
     assert!(rt; fault_of(alloc, &BITS[..55]) == Some(LoadError::TooShort));
+    assert!(rt; fault_of(alloc, &INDEX[..87]) == Some(LoadError::TooShort));
     assert!(rt; fault_of(alloc, &[0; 48]) == Some(LoadError::NotOurs));
 }

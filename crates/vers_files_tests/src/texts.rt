@@ -1,7 +1,11 @@
 //! Lines about the text of a file, files without a text, and runs that are refused memory.
-use crate::files::{BITS, NARROW_TEXT, OTHER_KIND, POSTINGS, SORTED, SYMBOLS, TREE, WIDE_SYMBOLS};
+use crate::files::{
+    BITS, INDEX, NARROW_TEXT, OTHER_KIND, POSTINGS, SORTED, SYMBOLS, TREE, WIDE_SYMBOLS,
+};
 use std::alloc::{Allocator, Global};
-use test_alloc::Refusing;
+use std::process::Abort;
+use std::test::Fail;
+use test_alloc::{Refusing, answers_of, lines_of, wrong_row};
 use vers_cli::{Device, RunError};
 use vers_files::{TextFault, ask_text, text_fault_line};
 use vers_saved::fault::LoadError;
@@ -31,38 +35,55 @@ fn asked<'a, A: Allocator + Copy>(
     }
 }
 
-// Returns true if the answers of lines about the text of a file are these.
-fn are_answers(alloc: Global, file: &[u8], lines: &[u8], answers: &[u8]) -> bool {
+// Runs lines about the text of a file, and compares their answers.
+fn assert_run(rt: &impl Abort, alloc: Global, file: &[u8], lines: &[u8], rows: &str) {
     let ended = asked(alloc, alloc, file, lines);
-    ended.result == Ok(Ok(())) && ended.written.as_slice() == answers
+    assert!(*rt; ended.result == Ok(Ok(())));
+    assert_eq!(*rt; wrong_row(&[rows], ended.written.as_slice()), None);
+}
+
+// Runs rows about the text of a file, whose last line ends or not.
+fn assert_answered(rt: &impl Abort, alloc: Global, file: &[u8], rows: &str) -> Result<(), Fail> {
+    let lines = lines_of(alloc, &[rows])?;
+    let whole = lines.as_slice();
+    assert_run(rt, alloc, file, whole, rows);
+    assert_run(
+        rt,
+        alloc,
+        file,
+        &whole[..whole.len().saturating_sub(1)],
+        rows,
+    );
+    Ok(())
 }
 
 #[test]
-fn a_text_is_held_before_the_first_line(rt: HostRuntime) {
-    let alloc = rt.alloc();
-    assert!(rt;
-        are_answers(
-            alloc,
+fn a_text_is_held_before_the_first_line(rt: HostRuntime) -> Result<(), Fail> {
+    let cases: [(&[u8], &str); 3] = [
+        (
+            &INDEX,
+            "len -> 2; count \"ba\" -> 1; places 97 -> 1; places -> 0 1 2; extract 0 2 -> 98 97",
+        ),
+        (
             &SYMBOLS,
-            b"len\ncount 5\nplaces 5 3\nextract 0 3\n",
-            b"3\n1\n1\n1 5 3\n"
-        )
-    );
-    assert!(rt;
-        are_answers(
-            alloc,
+            "len -> 3; count 5 -> 1; places 5 3 -> 1; extract 0 3 -> 1 5 3",
+        ),
+        (
             &NARROW_TEXT,
-            b"len\nplaces 1 1\nplaces\ncount 2",
-            b"4\n0 1\n0 1 2 3 4\n0\n"
-        )
-    );
+            "len -> 4; places 1 1 -> 0 1; places -> 0 1 2 3 4; count 2 -> 0",
+        ),
+    ];
+    for (file, rows) in cases {
+        assert_answered(&rt, rt.alloc(), file, rows)?;
+    }
+    Ok(())
 }
 
 #[test]
-fn a_load_line_takes_its_place(rt: HostRuntime) {
-    let lines = b"text 2 4\nlen\ntext 2 1 2 1\nplaces 1\nbits 01\n";
-    let answers = b"refused\n3\n3\n0 2\nbad line\n";
-    assert!(rt; are_answers(rt.alloc(), &SYMBOLS, lines, answers));
+fn a_load_line_takes_its_place(rt: HostRuntime) -> Result<(), Fail> {
+    let rows =
+        "text 2 4 -> refused; len -> 3; text 2 1 2 1 -> 3; places 1 -> 0 2; bits 01 -> bad line";
+    assert_answered(&rt, rt.alloc(), &SYMBOLS, rows)
 }
 
 // Returns true if a file has this error, and then no line is read and nothing written.
@@ -82,6 +103,8 @@ fn files_without_a_text_are_told(rt: HostRuntime) {
     assert!(rt; is_fault(alloc, &WIDE_SYMBOLS, TextFault::OtherWidth));
     assert!(rt; is_fault(alloc, &OTHER_KIND, TextFault::File(LoadError::OtherKind)));
     assert!(rt; is_fault(alloc, &SYMBOLS[..55], TextFault::File(LoadError::TooShort)));
+    assert!(rt; is_fault(alloc, &INDEX[..87], TextFault::File(LoadError::TooShort)));
+    assert!(rt; is_fault(alloc, &INDEX[..23], TextFault::File(LoadError::TooShort)));
     assert!(rt; is_fault(alloc, b"", TextFault::File(LoadError::TooShort)));
     assert!(rt; text_fault_line(&TextFault::NoSymbols).starts_with("NoSymbols: "));
     assert!(rt; text_fault_line(&TextFault::File(LoadError::TooShort)).starts_with("TooShort: "));
@@ -100,20 +123,24 @@ fn is_refused_right(ended: &Ended<'_>, answers: &[u8]) -> bool {
 }
 
 #[test]
-fn each_request_is_refused_in_turn(rt: HostRuntime) {
-    let lines: &[u8] = b"places 1 1\nextract 0 4\n";
-    let answers: &[u8] = b"0 1\n1 1 1 0\n";
+fn each_request_is_refused_in_turn(rt: HostRuntime) -> Result<(), Fail> {
+    let rows = ["places 1 1 -> 0 1; extract 0 4 -> 1 1 1 0"];
+    let lines = lines_of(rt.alloc(), &rows)?;
+    let answers = answers_of(rt.alloc(), &rows)?;
     let mut ended_whole = false;
     for request in 1..200u64 {
         let heap = Refusing::nth(rt.alloc(), request);
-        let ended = asked(&heap, rt.alloc(), &NARROW_TEXT, lines);
+        let ended = asked(&heap, rt.alloc(), &NARROW_TEXT, lines.as_slice());
         assert!(rt; heap.is_empty());
         if heap.refused() == 0 {
-            assert!(rt; ended.result == Ok(Ok(())) && ended.written.as_slice() == answers);
+            assert!(rt;
+                ended.result == Ok(Ok(())) && ended.written.as_slice() == answers.as_slice()
+            );
             ended_whole = request > 20;
             break;
         }
-        assert!(rt; is_refused_right(&ended, answers));
+        assert!(rt; is_refused_right(&ended, answers.as_slice()));
     }
     assert!(rt; ended_whole);
+    Ok(())
 }

@@ -1,10 +1,9 @@
 //! The answers to lines.
 use std::alloc::{Allocator, Global};
+use std::process::Abort;
 use std::test::Fail;
+use test_alloc::{lines_of, wrong_row};
 use vers_texts::{Device, RunError, run};
-
-/// What a case shows, its input and its output.
-type Case = (&'static str, &'static [u8], &'static [u8]);
 
 /// The result of a run over memory, and its output.
 #[derive(Drop)]
@@ -31,87 +30,165 @@ pub fn answers(alloc: Global, input: &[u8]) -> Result<Vec<u8>, RunError> {
     Ok(ended.text)
 }
 
-// Returns what the first wrong case shows, or nothing if all are right.
-fn first_wrong(alloc: Global, cases: &[Case]) -> Result<&'static str, RunError> {
-    for (case, input, output) in cases {
-        if answers(alloc, *input)?.as_slice() != *output {
-            return Ok(*case);
-        }
-    }
-    Ok("")
+// What a case shows, and its rows.
+type Case = (&'static str, &'static [&'static str]);
+
+// Runs lines, and compares their answers.
+fn assert_answered(rt: &impl Abort, alloc: Global, name: &str, rows: &[&str]) -> Result<(), Fail> {
+    let output = answers(alloc, lines_of(alloc, rows)?.as_slice())?;
+    assert_eq!(*rt; wrong_row(rows, output.as_slice()), None, "{name}");
+    Ok(())
 }
 
-const CASES: [Case; 14] = [
+const CASES: [Case; 13] = [
     (
         "a genome, its pieces and their places",
-        b"text 2 0 1 2 3 0 1 2 0 1 2 3 3\ncount 0 1 2\nplaces 0 1 2\nplaces 2 3\nextract 3 8\nlen\n",
-        b"12\n3\n0 4 7\n2 9\n3 0 1 2 0\n12\n",
-    ),
-    ("no input, no answer", b"", b""),
-    (
-        "places overlap",
-        b"text 1 1 1 1 1\ncount 1 1\nplaces 1 1\nplaces 1 1 1 1\nplaces 1 1 1 1 1\ncount 1 1 1 1 1",
-        b"4\n3\n0 1 2\n0\n\n0\n",
+        &[
+            "text 2 0 1 2 3 0 1 2 0 1 2 3 3 -> 12; count 0 1 2 -> 3; places 0 1 2 -> 0 4 7; places 2 3 -> 2 9",
+            "extract 3 8 -> 3 0 1 2 0; len -> 12",
+        ],
     ),
     (
         "the pattern without symbols occurs at each place and at the end",
-        b"text 4 9 9\ncount\nplaces\n",
-        b"2\n3\n0 1 2\n",
+        &["text 4 9 9 -> 2; count -> 3; places -> 0 1 2"],
     ),
     (
         "a text without symbols",
-        b"text 5\nlen\ncount\nplaces\ncount 0\nextract 0 0\nextract 0 1\n",
-        b"0\n0\n1\n0\n0\n\nnone\n",
+        &[
+            "text 5 -> 0; len -> 0; count -> 1; places -> 0; count 0 -> 0; extract 0 0 -> (empty)",
+            "extract 0 1 -> none",
+        ],
     ),
     (
         "a symbol that is too wide stands nowhere",
-        b"text 2 3 3\ncount 4\nplaces 3 18446744073709551615\ncount 18446744073709551616\n",
-        b"2\n0\n\nbad line\n",
+        &[
+            "text 2 3 3 -> 2; count 4 -> 0; places 3 18446744073709551615 -> (empty)",
+            "count 18446744073709551616 -> bad line",
+        ],
     ),
     (
         "pieces: of nothing, of all, one that ends before it starts, and those that pass the end",
-        b"text 3 5 6 7\nextract 1 1\nextract 3 3\nextract 0 3\nextract 2 1\nextract 4 4\nextract 0 18446744073709551615\n",
-        b"3\n\n\n5 6 7\nnone\nnone\nnone\n",
+        &[
+            "text 3 5 6 7 -> 3; extract 1 1 -> (empty); extract 3 3 -> (empty); extract 0 3 -> 5 6 7",
+            "extract 2 1 -> none; extract 4 4 -> none; extract 0 18446744073709551615 -> none",
+        ],
     ),
     (
         "symbols of 1 to 16 bits, the greatest of each",
-        b"text 0 0\ntext 1 1\ntext 1 2\ntext 16 65535 0\nextract 0 2\ntext 16 65536\ntext 17 0\ntext 18446744073709551615\n",
-        b"refused\n1\nrefused\n2\n65535 0\nrefused\nrefused\nrefused\n",
+        &[
+            "text 0 0 -> refused; text 1 1 -> 1; text 1 2 -> refused; text 16 65535 0 -> 2; extract 0 2 -> 65535 0",
+            "text 16 65536 -> refused; text 17 0 -> refused; text 18446744073709551615 -> refused",
+        ],
     ),
     (
         "what was held stays where a load line is refused or malformed",
-        b"text 2 1 2\ntext 2 4\nplaces 2\ntext\nplaces 2\ntext 2 x\nplaces 2\ntext 0\nplaces 2\ntext 2 2\nplaces 2\n",
-        b"2\nrefused\n1\nbad line\n1\nbad line\n1\nrefused\n1\n1\n0\n",
+        &[
+            "text 2 1 2 -> 2; text 2 4 -> refused; places 2 -> 1; text -> bad line; places 2 -> 1",
+            "text 2 x -> bad line; places 2 -> 1; text 0 -> refused; places 2 -> 1; text 2 2 -> 1; places 2 -> 0",
+        ],
     ),
     (
         "the name comes before what is held, and what is held before the arguments",
-        b"find 1\nText 1\nlen\ncount x\nextract\nplaces 1\ntext 1 x\nlen\n",
-        b"bad line\nbad line\nwrong structure\nwrong structure\nwrong structure\nwrong structure\nbad line\nwrong structure\n",
+        &[
+            "find 1 -> bad line; Text 1 -> bad line; len -> wrong structure; count x -> wrong structure",
+            "extract -> wrong structure; places 1 -> wrong structure; text 1 x -> bad line; len -> wrong structure",
+        ],
     ),
     (
         "another number of arguments is malformed, and so is another word",
-        b"text 1 0\nlen 1\nextract\nextract 0\nextract 0 1 1\nextract x 1\ncount 0 x\nplaces -1\n",
-        b"1\nbad line\nbad line\nbad line\nbad line\nbad line\nbad line\nbad line\n",
+        &[
+            "text 1 0 -> 1; len 1 -> bad line; extract -> bad line; extract 0 -> bad line; extract 0 1 1 -> bad line",
+            "extract x 1 -> bad line; count 0 x -> bad line; places -1 -> bad line",
+        ],
+    ),
+    (
+        "patterns of texts in quotes, of bytes, and of numbers",
+        &[
+            "text 8 \"to be or not to be\" -> 18; count \"to be\" -> 2; places \"to be\" -> 0 13; places \"or not\" -> 6",
+            "places \"o\" 0x20 \"b\" -> 1 14; count 0x746f -> 2; count 116 0x6F -> 2; count \"t\" 111 -> 2; count \"\" -> 19",
+            "count \"be\"\" or\" -> 1; first 1 \"to\" -> 13; first 9 \"to\" -> 13 0; first 0 \"to\" -> (empty); first 1 -> 18",
+            "text 8 \"é\" 0xfF00 \"z\" -> 5; extract 0 5 -> 195 169 255 0 122; text 7 \"é\" -> refused; len -> 5",
+        ],
+    ),
+    (
+        "malformed patterns",
+        &[
+            "text 8 \"ab\" -> 2; count \"a -> bad line; count a\" -> bad line; count \"a\"b -> bad line; count x\"a\" -> bad line",
+            "count 0x -> bad line; count 0x6 -> bad line; count 0x6g -> bad line; count 0x616 -> bad line; count 1x61 -> bad line",
+            "first -> bad line; first \"a\" -> bad line; first x 1 -> bad line; text \"ab\" -> bad line; places \" -> bad line",
+        ],
+    ),
+    (
+        "a pattern in quotes of a text of numbers",
+        &[
+            "text 16 97 353 98 -> 3; count \"a\" -> 1; count \"a\" 353 -> 1; places 353 \"b\" -> 1; count \"ab\" -> 0",
+        ],
     ),
     (
         "lines of the other program are none of this one",
-        b"bits 01\nsymbols 1 0\nget 0\niter\n",
-        b"bad line\nbad line\nbad line\nbad line\n",
+        &["bits 01 -> bad line; symbols 1 0 -> bad line; get 0 -> bad line; iter -> bad line"],
+    ),
+];
+
+// What a case shows, and its lines and answers with their ends, if they have one.
+type ExactCase = (&'static str, &'static [(&'static [u8], &'static [u8])]);
+
+// Runs the first line of a case, then the first two, and so on, and compares their answers.
+fn assert_exact(rt: &impl Abort, alloc: Global, case: &ExactCase) -> Result<(), Fail> {
+    let (name, rows) = case;
+    let mut input = Vec::new(alloc);
+    let mut output = Vec::new(alloc);
+    for (line, answer) in *rows {
+        input.extend_from_slice(*line)?;
+        output.extend_from_slice(*answer)?;
+        let found = answers(alloc, input.as_slice())?;
+        assert_eq!(*rt; found.as_slice(), output.as_slice(), "{name}: {line:?}");
+    }
+    Ok(())
+}
+
+const EXACT_CASES: [ExactCase; 4] = [
+    ("no input, no answer", &[(b"", b"")]),
+    (
+        "places overlap",
+        &[
+            (b"text 1 1 1 1 1\n", b"4\n"),
+            (b"count 1 1\n", b"3\n"),
+            (b"places 1 1\n", b"0 1 2\n"),
+            (b"places 1 1 1 1\n", b"0\n"),
+            (b"places 1 1 1 1 1\n", b"\n"),
+            (b"count 1 1 1 1 1", b"0\n"),
+        ],
     ),
     (
         "leading zeros, spaces, and a line without words",
-        b"  text   002 01  \n   \n\r\n count 1 \n\nplaces 0001\r\n",
-        b"1\n1\n0\n",
+        &[
+            (b"  text   002 01  \n", b"1\n"),
+            (b"   \n", b""),
+            (b"\r\n", b""),
+            (b" count 1 \n", b"1\n"),
+            (b"\n", b""),
+            (b"places 0001\r\n", b"0\n"),
+        ],
     ),
     (
         "a byte 13 at the end of a line, none after the last",
-        b"text 1 0 1\r\ncount 1\r\ncount 1\r\r\nlen",
-        b"2\n1\nbad line\n2\n",
+        &[
+            (b"text 1 0 1\r\n", b"2\n"),
+            (b"count 1\r\n", b"1\n"),
+            (b"count 1\r\r\n", b"bad line\n"),
+            (b"len", b"2\n"),
+        ],
     ),
 ];
 
 #[test]
 fn lines_and_their_answers(rt: HostRuntime) -> Result<(), Fail> {
-    assert_eq!(rt; first_wrong(rt.alloc(), &CASES)?, "");
+    for (name, rows) in &CASES {
+        assert_answered(&rt, rt.alloc(), *name, *rows)?;
+    }
+    for case in &EXACT_CASES {
+        assert_exact(&rt, rt.alloc(), case)?;
+    }
     Ok(())
 }

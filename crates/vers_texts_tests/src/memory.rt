@@ -2,23 +2,27 @@
 use crate::answers::{Ended, run_over};
 use std::alloc::{AllocError, Global};
 use std::test::Fail;
-use test_alloc::Refusing;
+use test_alloc::{Refusing, answers_of, lines_of};
 use vers_texts::RunError;
 
-// An input and its output: load lines, each kind of query, and lines that are refused.
-const RUNS: [(&[u8], &[u8]); 3] = [
-    (
-        b"text 2 0 1 2 3 0 1 2 0 1 2 3 3\ncount 0 1 2\nplaces 0 1 2\nextract 3 8\nextract 8 3\ntext 2 4\nlen\nfoo",
-        b"12\n3\n0 4 7\n3 0 1 2 0\nnone\nrefused\n12\nbad line\n",
-    ),
-    (
-        b"count 1\ntext 1\nplaces\nplaces 0\ntext 5 31 7 31\nplaces 31\ntext 1 1 1 1\nplaces 1 1",
-        b"wrong structure\n0\n0\n\n3\n0 2\n3\n0 1\n",
-    ),
-    (
-        b"text 4 1 14 0 14 0 13\ntext 3 8\ntext x\nplaces 14 0\nextract 0 6\ncount\nextract 6 6",
-        b"6\nrefused\nbad line\n1 3\n1 14 0 14 0 13\n7\n\n",
-    ),
+// Load lines, each kind of query, and lines that are refused.
+const RUNS: [&[&str]; 4] = [
+    &[
+        "text 2 0 1 2 3 0 1 2 0 1 2 3 3 -> 12; count 0 1 2 -> 3; places 0 1 2 -> 0 4 7; extract 3 8 -> 3 0 1 2 0",
+        "extract 8 3 -> none; text 2 4 -> refused; len -> 12; foo -> bad line",
+    ],
+    &[
+        "count 1 -> wrong structure; text 1 -> 0; places -> 0; places 0 -> (empty); text 5 31 7 31 -> 3",
+        "places 31 -> 0 2; text 1 1 1 1 -> 3; places 1 1 -> 0 1",
+    ],
+    &[
+        "text 4 1 14 0 14 0 13 -> 6; text 3 8 -> refused; text x -> bad line; places 14 0 -> 1 3",
+        "extract 0 6 -> 1 14 0 14 0 13; count -> 7; extract 6 6 -> (empty)",
+    ],
+    &[
+        "text 8 \"to be or \" 0x6e \"ot\" 32 \"to be\" -> 18; count \"to be\" -> 2; first 1 \"to\" -> 13; places \"o\" 0x20 -> 1 14",
+        "text 7 \"é\" -> refused; count \"to -> bad line; len -> 18",
+    ],
 ];
 
 // The end of a run of which a request may have been refused: whether it is right, and how many bytes of whole
@@ -72,11 +76,20 @@ fn is_right_at_each_request(alloc: Global, run: (&[u8], &[u8])) -> bool {
     false
 }
 
+// Returns the same for some rows, whose last line has no end.
+fn are_right_at_each_request(alloc: Global, rows: &[&str]) -> Result<bool, AllocError> {
+    let mut input = lines_of(alloc, rows)?;
+    input.truncate(input.len().saturating_sub(1));
+    let output = answers_of(alloc, rows)?;
+    Ok(is_right_at_each_request(alloc, (input.as_slice(), output.as_slice())))
+}
+
 #[test]
-fn each_request_is_refused_in_turn(rt: HostRuntime) {
-    for run in RUNS {
-        assert!(rt; is_right_at_each_request(rt.alloc(), run));
+fn each_request_is_refused_in_turn(rt: HostRuntime) -> Result<(), Fail> {
+    for rows in RUNS {
+        assert!(rt; are_right_at_each_request(rt.alloc(), rows)?);
     }
+    Ok(())
 }
 
 // Appends a load line of 10000 symbols of two bits.

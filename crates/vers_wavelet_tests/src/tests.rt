@@ -4,7 +4,6 @@
 mod batches;
 mod compared;
 mod gathered;
-mod iterators;
 mod lists;
 mod makers;
 mod memory;

@@ -1,0 +1,68 @@
+//! Indexes of bytes that are saved to a place, of which each call fails in turn, and each request for memory is
+//! refused.
+use crate::files::INDEX;
+use crate::places::holding;
+use std::alloc::Global;
+use test_alloc::{Ending, Refusing, done_if, each_refused, out_of_memory_if};
+use vers_files::{SaveFault, index_to};
+
+/// An allocator of which requests are refused.
+type Heap = Refusing<Global>;
+
+// Returns true if an index whose call with this number fails, if it gets that far, leaves the place unchanged or
+// replaces it completely, leaves no temporary file, and succeeds only if the place is settled.
+fn is_whole_or_not_at_all(alloc: Global, fails_at: u64) -> bool {
+    let Ok(mut place) = holding(alloc, b"old", fails_at) else {
+        return false;
+    };
+    let mut file: &[u8] = b"ba";
+    let result = index_to(alloc, &mut file, &mut place);
+    let expected = match fails_at {
+        1 => Err(SaveFault::Begin),
+        2 => Err(SaveFault::Sync),
+        3 => Err(SaveFault::Put),
+        4 => Err(SaveFault::Settle),
+        5..=14 => Err(SaveFault::Write),
+        _ => Ok(()),
+    };
+    let is_put = result.is_ok() || result == Err(SaveFault::Settle);
+    let bytes: &[u8] = if is_put { &INDEX } else { b"old" };
+    let settled: &[u8] = if result.is_ok() { &INDEX } else { b"old" };
+    result == expected
+        && place.bytes.as_slice() == bytes
+        && place.settled.as_slice() == settled
+        && !place.is_begun
+}
+
+#[test]
+fn a_place_has_an_index_or_what_it_had(rt: HostRuntime) {
+    for fails_at in 0..17u64 {
+        assert!(rt; is_whole_or_not_at_all(rt.alloc(), fails_at));
+    }
+}
+
+// Tests an index with a refused request: the place has its old bytes, with no temporary file, or the index is put
+// there and settled.
+fn tried_indexing(alloc: Global, heap: &Heap) -> Ending {
+    let Ok(mut place) = holding(alloc, b"old", 0) else {
+        return Ending::Wrong;
+    };
+    let mut file: &[u8] = b"ba";
+    heap.start();
+    let result = index_to(heap, &mut file, &mut place);
+    let holds = |it: &[u8]| place.bytes.as_slice() == it && place.settled.as_slice() == it;
+    match result {
+        Ok(()) => done_if(holds(&INDEX) && !place.is_begun),
+        Err(SaveFault::OutOfMemory) => out_of_memory_if(holds(b"old") && !place.is_begun),
+        Err(_) => Ending::Wrong,
+    }
+}
+
+#[test]
+fn each_request_of_an_index_refused(rt: HostRuntime) {
+    let alloc = rt.alloc();
+    match each_refused(alloc, |heap: &Heap| tried_indexing(alloc, heap)) {
+        Ok(requests) => assert!(rt; requests > 5),
+        Err(_) => assert!(rt; false),
+    }
+}
