@@ -35,10 +35,12 @@ WHOLE = {
     "RsVec::clone", "RsVec::into_bit_vec", "RsVec::eq", "EliasFanoVec::clone", "BinaryRmq::clone",
     "BinaryRmq::as_slice", "FastRmq::clone", "FastRmq::as_slice", "MinMaxTree::copied", "PackedNumbers::clone", "Rows::copied",
 }
-# Functions without a counted form that make a counter, besides the calls whose names end in `_unchecked`.
-FRESH = {"RsVec::has_places_of", "WaveletMatrix::place_from", "BothEnds::last"}
-# Plain lists that types may keep: tables of numbers that are stored for queries, and what is at work while something is
-# made.
+# Functions that make a counter, besides the calls whose names end in `_unchecked`: those without a counted form, and
+# lists that are made of counted numbers.
+FRESH = {"RsVec::has_places_of", "WaveletMatrix::place_from", "BothEnds::last",
+         "intersection", "union", "difference", "intersection_of", "union_of"}
+# Plain lists that types may keep: tables of numbers that are stored for queries, what is at work while something is
+# made, and iterators over counted lists.
 TABLES = {
     "BpBuilder.bits": "BitVec<A>", "BinaryRmq.table": "Vec<u32, A>", "FastRmq.places": "Vec<u8, A>",
     "Met.places": "[u64; 17]",
@@ -49,6 +51,7 @@ TABLES = {
     "ChunkWalk.offsets": "[u8; CHUNK]", "SliceNumbers.rest": "&'a [u64]", "Parts.high": "BitVec<A>",
     "Parts.low": "BitVec<A>",
     "AllOf.others": "Vec<S, A>", "AnyOf.others": "Vec<S, A>",
+    "Documents.numbers": "EliasFanoRefIter<'a, A>",
     "Asked.numbers": "[usize; GROUP]", "Group.slots": "[usize; GROUP]",
 }
 # The calls that bodies have to make: public calls those of their kernels, and kernels those that make them kernels.

@@ -22,6 +22,7 @@ TITLES = {
     "vers_rmq": "Range minima",
     "vers_trees": "Trees of parentheses",
     "sets": "Sets of numbers",
+    "inverted": "Lists of terms",
     "postings": "Documents with costs",
     "vers_saved": "Saved forms",
     "text_index": "Texts",

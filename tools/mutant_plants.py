@@ -41,7 +41,7 @@ RIGHT = (
     ("vers_bits", "extend_by--a-refused-extension-keeps-half-of-a-list", "self.truncate(len);", "let _ = len;"),
     ("vers_sorted", "item_at--a-walk-reads-on-past-members-that-nth-skips", "if i != self.next {",
      "if i > self.next {"),
-    ("vers_sorted", "place_ahead--a-walk-skips-what-it-read", "ahead.len = len;", "ahead.len = 64;"),
+    ("vers_sorted", "place_read--a-walk-skips-what-it-read", "ahead.len = len;", "ahead.len = 64;"),
     ("vers_trees", "second--a-clone-of-a-walk-of-a-subtree-begins-with-the-first-node", "count: self.count,",
      "count: self.count / 2,"),
     ("text_index", "shrink_keys--keys-are-said-to-differ", "passes += 1;", "passes += 2;"),

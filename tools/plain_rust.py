@@ -20,9 +20,10 @@ from sources import read as read_text
 RUST = "rust/src"
 # The crates: each becomes a module of `proved`, and each crate of tests a module of `proved_tests`.
 CRATES = """vers_bits vers_tally vers_rank vers_sorted vers_rmq vers_wavelet vers_trees postings text_index sets
-vers_saved""".split()
+inverted vers_saved""".split()
 TESTS = """test_alloc vers_bits_tests vers_rank_tests vers_sorted_tests vers_rmq_tests vers_wavelet_tests
-vers_trees_tests postings_tests text_index_tests sets_tests vers_saved_tests""".split()
+vers_trees_tests postings_tests text_index_tests sets_tests inverted_tests
+vers_saved_tests""".split()
 # The programs as libraries, the exports to C, and their tests: written only for the build of wrong bodies
 # (tools/mutants.py).
 PROGRAMS = "vers_words vers_engine vers_cli vers_texts vers_files vers_vecs vers_uses vers_c".split()
@@ -60,7 +61,7 @@ USES = {
 # Paths that mean the same in both languages.
 SAME = """std::marker::PhantomData std::ops::Range std::ops::Bound std::mem std::mem::replace std::mem::size_of std::io
 std::io::Read std::io::Write std::fmt std::hash::Hash std::hash::Hasher std::hash::BuildHasher
-std::hash::BuildHasherDefault std::error::Error""".split()
+std::hash::BuildHasherDefault std::error::Error std::str::from_utf8""".split()
 USES.update({it: it for it in SAME})
 # Those of programs besides.
 PROGRAM_USES = {**USES, "std::io::ErrorKind": "std::io::ErrorKind", "std::fs": HERE + "fs",
@@ -69,16 +70,17 @@ PROGRAM_USES = {**USES, "std::io::ErrorKind": "std::io::ErrorKind", "std::fs": H
 
 # Methods that the proved sources call and don't define. Those of Rust's own types are assumed to mean the same in both
 # languages; the support module has the others.
-METHODS = set("""all any as_arrays as_mut_slice at capacity checked_add checked_mul checked_sub clear copy_from_slice
-copy_to_slice div_ceil extend_from_slice is_err is_none is_some is_sorted_by iter_mut leading_zeros map map_err ok
-partition_point push push_reserved read_once reserve_exact resize rev reverse rotate_left saturating_add saturating_mul
-saturating_sub simd_ge simd_ne sort_unstable sort_unstable_by_key split_at_mut split_first to_array to_bitmask
-to_le_bytes trailing_ones trailing_zeros unwrap unwrap_or wrapping_add wrapping_mul wrapping_sub write_once write_str
-write_usize""".split())
+METHODS = set("""all any as_arrays as_bytes as_mut_slice at capacity checked_add checked_mul checked_sub clear
+copy_from_slice copy_to_slice div_ceil extend_from_slice is_err is_none is_some is_sorted_by iter_mut
+leading_zeros map map_err ok partition_point push push_reserved read_once reserve_exact resize rev reverse
+rotate_left saturating_add saturating_mul saturating_sub simd_ge simd_ne sort_unstable sort_unstable_by_key
+split split_at_mut split_first split_once strip_prefix then_some to_array to_bitmask to_le_bytes trailing_ones
+trailing_zeros
+unwrap unwrap_or wrapping_add wrapping_mul wrapping_sub write_once write_str write_usize""".split())
 # Those that programs call besides.
-PROGRAM_METHODS = set("""as_chunks as_str cast_signed cast_unsigned chain checked_add_unsigned checked_sub_unsigned
-copied discard into_box into_owner is_ascii_digit permissions position read_all replace set_permissions shrink_to
-sync_all take then_some unsigned_abs""".split())
+PROGRAM_METHODS = set("""as_chunks as_str cast_signed cast_unsigned chain checked_add_unsigned
+checked_sub_unsigned copied discard into_box into_owner is_ascii_digit permissions position read_all replace
+set_permissions shrink_to sync_all take unsigned_abs""".split())
 # A method that takes a list of Rust's own there, and the one of the support module that takes a list of Rattle's.
 RENAMED = {"read_to_end": "read_all"}
 

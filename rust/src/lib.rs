@@ -38,6 +38,8 @@ pub mod error;
 #[cfg(all(test, target_pointer_width = "64"))]
 mod inside_tests;
 #[cfg(target_pointer_width = "64")]
+pub mod inverted;
+#[cfg(target_pointer_width = "64")]
 mod items;
 #[cfg(target_pointer_width = "64")]
 pub mod postings;

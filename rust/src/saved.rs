@@ -91,6 +91,8 @@ pub enum LoadError {
     BadPadding,
     /// The numbers do not ascend as those of the structure do.
     NotAscending,
+    /// No text has the column and the rows of the saved form.
+    NotAText,
     /// The allocator refused the memory.
     OutOfMemory,
 }
@@ -108,6 +110,7 @@ impl From<fault::LoadError> for LoadError {
             fault::LoadError::BadSum => LoadError::BadSum,
             fault::LoadError::BadPadding => LoadError::BadPadding,
             fault::LoadError::NotAscending => LoadError::NotAscending,
+            fault::LoadError::NotAText => LoadError::NotAText,
             fault::LoadError::Memory => LoadError::OutOfMemory,
         }
     }
@@ -135,6 +138,7 @@ impl fmt::Display for LoadError {
             LoadError::BadSum => "the sum is not that of the bytes before it",
             LoadError::BadPadding => "a bit is set past the end of the list",
             LoadError::NotAscending => "the numbers do not ascend",
+            LoadError::NotAText => "no text has the column and the rows of the saved form",
             LoadError::OutOfMemory => "out of memory",
         })
     }

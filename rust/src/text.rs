@@ -4,8 +4,10 @@ use crate::contracts::contract;
 use crate::error::{granted, BuildError};
 use crate::items::{clones, counted, lengths, shows};
 use crate::proved::text_index as proved;
+use crate::proved::vers_saved::texts::load_text_from_slice;
 use crate::rattle::Global;
 use crate::reads::Tally;
+use crate::saved::{bytes_of, LoadError, SaveError, Saved};
 use std::ops::Range;
 
 /// The distance of two sampled places, if the caller doesn't choose it.
@@ -22,6 +24,17 @@ const DEFAULT_STEP: usize = 32;
 /// assert_eq!(text.count(&pattern), 2);
 /// assert_eq!(text.places(&pattern), [0, 7]);
 /// assert_eq!(text.extract(7..11), Some(pattern));
+/// ```
+///
+/// An index is saved with its column, so that a load sorts nothing:
+///
+/// ```
+/// use vers_vecs::saved::{LoadError, Saved};
+/// use vers_vecs::text::TextIndex;
+///
+/// let bytes = TextIndex::from_bytes(b"abracadabra", 8).unwrap().save().unwrap();
+/// assert_eq!(TextIndex::load(&bytes).unwrap().places(&[98, 114]), [1, 8]);
+/// assert_eq!(TextIndex::load(&bytes[8..]).unwrap_err(), LoadError::NotOurs);
 /// ```
 pub struct TextIndex {
     text: proved::TextIndex<Global>,
@@ -170,6 +183,16 @@ fn made<T: Copy + Into<u64>>(
             Err(BuildError::SymbolTooWide { position: symbols.iter().take_while(is_narrow).count() })
         }
         Err(proved::TextError::Memory) => Err(BuildError::OutOfMemory),
+    }
+}
+
+impl Saved for TextIndex {
+    fn save(&self) -> Result<Vec<u8>, SaveError> {
+        bytes_of(&self.text)
+    }
+
+    fn load(bytes: &[u8]) -> Result<Self, LoadError> {
+        Ok(TextIndex { text: load_text_from_slice(Global, bytes)? })
     }
 }
 

@@ -12,4 +12,5 @@ pub mod vers_trees;
 pub mod postings;
 pub mod text_index;
 pub mod sets;
+pub mod inverted;
 pub mod vers_saved;

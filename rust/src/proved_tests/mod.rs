@@ -12,4 +12,5 @@ pub mod vers_trees_tests;
 pub mod postings_tests;
 pub mod text_index_tests;
 pub mod sets_tests;
+pub mod inverted_tests;
 pub mod vers_saved_tests;

@@ -2,6 +2,7 @@
 mod bits;
 mod counted;
 mod features;
+mod inverted;
 mod makers;
 mod numbers;
 mod panics;

@@ -5,7 +5,7 @@ use crate::rattle::prelude::*;
 use crate::proved::postings::postings::Postings;
 use crate::rattle::AllocError;
 use crate::rattle::Allocator;
-use crate::proved::vers_sorted::elias_fano::EliasFanoVec;
+use crate::proved::vers_sorted::elias_fano::{EliasFanoVec, by_length};
 use crate::proved::vers_tally::tally::Tally;
 
 impl<A: Allocator + Copy> Postings<A> {
@@ -82,19 +82,6 @@ impl<A: Allocator + Copy> Postings<A> {
     ) -> Result<Vec<u64, A>, AllocError> {
         let (shorter, longer) = by_length(&self.documents, &other.documents);
         common_documents(self.costs.allocator(), shorter, longer, tally)
-    }
-}
-
-// Returns two lists, the shorter first.
-#[inline(always)]
-fn by_length<'a, A: Allocator + Copy>(
-    one: &'a EliasFanoVec<A>,
-    other: &'a EliasFanoVec<A>,
-) -> (&'a EliasFanoVec<A>, &'a EliasFanoVec<A>) {
-    if one.len() <= other.len() {
-        (one, other)
-    } else {
-        (other, one)
     }
 }
 

@@ -5,24 +5,29 @@ use crate::rattle::prelude::*;
 use crate::proved::sets::seek::Seek;
 use crate::proved::sets::step::Step;
 use crate::rattle::Allocator;
-use crate::proved::vers_sorted::elias_fano::EliasFanoVec;
+use crate::proved::vers_sorted::elias_fano::{EliasFanoVec, Successors};
 use crate::proved::vers_tally::tally::Tally;
 
-/// The members of an ascending list, as a source. Contracts see it as the list.
+/// The members of an ascending list, as a source. If the numbers that are searched rise, each search begins where the
+/// last one ended. Contracts see it as the list.
 pub struct Cursor<'a, A: Allocator + Copy> {
     list: &'a EliasFanoVec<A>,
+    successors: Successors<'a, A>,
 }
 
 impl<'a, A: Allocator + Copy> Cursor<'a, A> {
     /// Returns a cursor at the first member of a list.
     pub fn new(list: &'a EliasFanoVec<A>) -> Self {
-        Cursor { list }
+        Cursor {
+            list,
+            successors: Successors::new(list),
+        }
     }
 }
 
 impl<'a, A: Allocator + Copy> Seek for Cursor<'a, A> {
     fn seek_counted(&mut self, at: u64, tally: &mut Tally) -> Step {
-        let next = self.list.successor_counted(at, tally);
+        let next = self.successors.successor_counted(at, tally);
         step_to(self.list, next, tally)
     }
 }

@@ -3,12 +3,12 @@
 use crate::rattle::prelude::*;
 
 use crate::proved::sets::cursor::Cursor;
-use crate::proved::sets::gather::{collect, numbers_of_counted};
+use crate::proved::sets::gather::numbers_of_counted;
 use crate::proved::sets::joined::{Both, Either, Without};
 use crate::proved::sets::several::{AllOf, AnyOf};
 use crate::rattle::AllocError;
 use crate::rattle::Allocator;
-use crate::proved::vers_sorted::elias_fano::EliasFanoVec;
+use crate::proved::vers_sorted::elias_fano::{EliasFanoVec, by_length};
 use crate::proved::vers_tally::tally::Tally;
 
 /// Returns the numbers that are in both lists. Errors: `AllocError` only if the allocator refuses a request.
@@ -17,12 +17,9 @@ pub fn intersection<A: Allocator + Copy>(
     one: &EliasFanoVec<A>,
     other: &EliasFanoVec<A>,
 ) -> Result<EliasFanoVec<A>, AllocError> {
-    let (shorter, longer) = by_length(one, other);
-    let both = Both {
-        one: Cursor::new(shorter),
-        other: Cursor::new(longer),
-    };
-    collect(alloc, both)
+    let mut tally = Tally::new();
+    let found = intersection_numbers_counted(alloc, one, other, &mut tally)?;
+    EliasFanoVec::from_slice(alloc, found.as_slice())
 }
 
 /// Returns the members of `intersection(alloc, one, other)`. Takes at most one step more in each list than
@@ -48,11 +45,9 @@ pub fn union<A: Allocator + Copy>(
     one: &EliasFanoVec<A>,
     other: &EliasFanoVec<A>,
 ) -> Result<EliasFanoVec<A>, AllocError> {
-    let either = Either {
-        one: Cursor::new(one),
-        other: Cursor::new(other),
-    };
-    collect(alloc, either)
+    let mut tally = Tally::new();
+    let found = union_numbers_counted(alloc, one, other, &mut tally)?;
+    EliasFanoVec::from_slice(alloc, found.as_slice())
 }
 
 /// Returns the members of `union(alloc, one, other)`. Takes at most one step more in each list than both have
@@ -77,11 +72,9 @@ pub fn difference<A: Allocator + Copy>(
     one: &EliasFanoVec<A>,
     other: &EliasFanoVec<A>,
 ) -> Result<EliasFanoVec<A>, AllocError> {
-    let without = Without {
-        one: Cursor::new(one),
-        other: Cursor::new(other),
-    };
-    collect(alloc, without)
+    let mut tally = Tally::new();
+    let found = difference_numbers_counted(alloc, one, other, &mut tally)?;
+    EliasFanoVec::from_slice(alloc, found.as_slice())
 }
 
 /// Returns the members of `difference(alloc, one, other)`. Takes at most one step more in each list than
@@ -106,12 +99,9 @@ pub fn intersection_of<'a, A: Allocator + Copy>(
     first: &'a EliasFanoVec<A>,
     others: &[&'a EliasFanoVec<A>],
 ) -> Result<EliasFanoVec<A>, AllocError> {
-    let others = cursors_of(alloc, others)?;
-    let all = AllOf {
-        first: Cursor::new(first),
-        others,
-    };
-    collect(alloc, all)
+    let mut tally = Tally::new();
+    let found = intersection_of_numbers_counted(alloc, first, others, &mut tally)?;
+    EliasFanoVec::from_slice(alloc, found.as_slice())
 }
 
 /// Returns the members of `intersection_of(alloc, first, others)`. Takes at most one step more in each list than
@@ -137,12 +127,9 @@ pub fn union_of<'a, A: Allocator + Copy>(
     first: &'a EliasFanoVec<A>,
     others: &[&'a EliasFanoVec<A>],
 ) -> Result<EliasFanoVec<A>, AllocError> {
-    let others = cursors_of(alloc, others)?;
-    let any = AnyOf {
-        first: Cursor::new(first),
-        others,
-    };
-    collect(alloc, any)
+    let mut tally = Tally::new();
+    let found = union_of_numbers_counted(alloc, first, others, &mut tally)?;
+    EliasFanoVec::from_slice(alloc, found.as_slice())
 }
 
 /// Returns the members of `union_of(alloc, first, others)`. Takes at most one step more in each list than
@@ -159,19 +146,6 @@ pub fn union_of_numbers_counted<'a, A: Allocator + Copy>(
         others,
     };
     numbers_of_counted(alloc, any, tally)
-}
-
-// Returns two lists, the shorter first.
-#[inline(always)]
-fn by_length<'a, A: Allocator + Copy>(
-    one: &'a EliasFanoVec<A>,
-    other: &'a EliasFanoVec<A>,
-) -> (&'a EliasFanoVec<A>, &'a EliasFanoVec<A>) {
-    if one.len() <= other.len() {
-        (one, other)
-    } else {
-        (other, one)
-    }
 }
 
 // Returns a cursor at the first member of each list.

@@ -24,3 +24,18 @@ impl From<AllocError> for TextError {
         TextError::Memory
     }
 }
+
+/// Why no index was made from a column.
+#[derive(Clone, Copy, PartialEq, Eq, Debug)]
+pub enum ColumnError {
+    /// No text has this column, row of the whole text, width, step and rows of the sampled positions.
+    NotAText,
+    /// The allocator refused a request.
+    Memory,
+}
+
+impl From<AllocError> for ColumnError {
+    fn from(_: AllocError) -> ColumnError {
+        ColumnError::Memory
+    }
+}

@@ -10,6 +10,7 @@ mod index;
 mod induced;
 pub mod laws;
 mod letters;
+mod loads;
 mod order;
 mod packed;
 mod pieces;
@@ -19,7 +20,8 @@ mod rows;
 mod samples;
 mod sorting;
 mod substrings;
+mod walks;
 
-pub use fault::TextError;
+pub use fault::{ColumnError, TextError};
 pub use index::{DEFAULT_STEP, MAX_LEN, TextIndex};
 pub use places::{PatternPlaces, PlacesIter};

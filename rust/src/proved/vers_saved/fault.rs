@@ -24,6 +24,8 @@ pub enum LoadError {
     BadPadding,
     /// The numbers do not ascend as this kind requires.
     NotAscending,
+    /// No text has the column, the row of the whole text and the rows of the sampled positions that these words say.
+    NotAText,
     /// The allocator refused a request.
     Memory,
     /// The reader returned an error, which may be an interruption.

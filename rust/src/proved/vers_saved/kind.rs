@@ -58,6 +58,9 @@ pub const PARENTHESES: u64 = 6;
 /// The number of lists of documents with costs.
 pub const POSTINGS: u64 = 7;
 
+/// The number of indexes of texts.
+pub const TEXTS: u64 = 9;
+
 impl Kind {
     // Returns true if a list of this kind may have that width.
     pub(crate) fn takes_width(&self, width: u64) -> bool {
@@ -156,5 +159,17 @@ pub const SYMBOL_LISTS: Kind = Kind {
     item_bits: 0,
     least_count: 0,
     greatest_count: MAX_LEN as u64,
+    order: Order::Any,
+};
+
+/// Indexes of texts: three numbers, the column (BWT) and the rows of the sampled positions. Their items are words,
+/// and their width is that of a symbol.
+pub const TEXT_INDEXES: Kind = Kind {
+    number: TEXTS,
+    least_width: 1,
+    greatest_width: 16,
+    item_bits: 64,
+    least_count: 4,
+    greatest_count: GREATEST_WORDS,
     order: Order::Any,
 };

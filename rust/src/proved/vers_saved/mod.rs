@@ -14,6 +14,7 @@ pub mod saved;
 pub mod sparse;
 pub mod stream;
 pub mod symbols;
+pub mod texts;
 pub mod trees;
 pub mod words;
 

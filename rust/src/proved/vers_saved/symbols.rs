@@ -82,7 +82,7 @@ fn limb_of<A: Allocator + Copy>(list: &WaveletMatrix<A>, symbols: &[u64], k: usi
 }
 
 // Copies the limbs of the bits of all symbols from a limb on, as many as the slice has.
-fn copy_limbs<A: Allocator + Copy>(list: &WaveletMatrix<A>, from: usize, out: &mut [u64]) {
+pub(crate) fn copy_limbs<A: Allocator + Copy>(list: &WaveletMatrix<A>, from: usize, out: &mut [u64]) {
     let width = list.bits_per_element();
     let mut symbols = [0; GROUP];
     let mut known = usize::MAX;
@@ -118,13 +118,19 @@ fn unpacked_bytes<A: Allocator + Copy>(
 }
 
 // Returns the symbols in words.
-fn symbols_of<A: Allocator + Copy>(of: Shape, words: Vec<u64, A>) -> Result<Vec<u64, A>, AllocError> {
+pub(crate) fn symbols_of<A: Allocator + Copy>(
+    of: Shape,
+    words: Vec<u64, A>,
+) -> Result<Vec<u64, A>, AllocError> {
     let bits = bits_of(&SYMBOL_LISTS, of, words);
     unpacked(&bits, of.width)
 }
 
 // Returns the symbols of at most 8 bits in words, as bytes.
-fn bytes_of<A: Allocator + Copy>(of: Shape, words: Vec<u64, A>) -> Result<Vec<u8, A>, AllocError> {
+pub(crate) fn bytes_of<A: Allocator + Copy>(
+    of: Shape,
+    words: Vec<u64, A>,
+) -> Result<Vec<u8, A>, AllocError> {
     let bits = bits_of(&SYMBOL_LISTS, of, words);
     unpacked_bytes(&bits, of.width)
 }

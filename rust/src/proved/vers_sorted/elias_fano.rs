@@ -12,11 +12,13 @@ mod narrow;
 mod neighbours;
 mod scan;
 mod search;
+mod successors;
 
 pub use iter::{EliasFanoIter, EliasFanoRefIter};
 pub use make::{MAX_LEN, Numbers};
 use crate::rattle::AllocError;
 use crate::rattle::Allocator;
+pub use successors::Successors;
 use crate::proved::vers_rank::fast_rs_vec::RsVec;
 use crate::proved::vers_tally::tally::{CountedBits, Tally, Uncounted};
 
@@ -150,5 +152,18 @@ impl<A: Allocator + Copy> EliasFanoVec<A> {
     #[inline]
     pub fn successor_unchecked(&self, v: u64) -> u64 {
         self.successor(v).unwrap()
+    }
+}
+
+/// Returns two lists, the shorter first.
+#[inline(always)]
+pub fn by_length<'a, A: Allocator + Copy>(
+    one: &'a EliasFanoVec<A>,
+    other: &'a EliasFanoVec<A>,
+) -> (&'a EliasFanoVec<A>, &'a EliasFanoVec<A>) {
+    if one.len() <= other.len() {
+        (one, other)
+    } else {
+        (other, one)
     }
 }

@@ -112,10 +112,6 @@ impl<A: Allocator + Copy> Making for Shared<'_, A> {
 
     type Fault = AllocError;
 
-    fn out_of_memory(&self) -> AllocError {
-        AllocError
-    }
-
     fn make(&self) -> Result<Vec<u64, A>, AllocError> {
         if matches!(self.call, Call::IntersectCounted) {
             return self.one.intersect_counted(self.other, &mut Tally::new());

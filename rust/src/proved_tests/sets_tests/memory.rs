@@ -61,10 +61,6 @@ impl<A: Allocator + Copy> Making for Combining<'_, A> {
 
     type Fault = AllocError;
 
-    fn out_of_memory(&self) -> AllocError {
-        AllocError
-    }
-
     fn make(&self) -> Result<EliasFanoVec<A>, AllocError> {
         match self.call {
             Call::Plain(operation) => combined(self.alloc, operation, self.one, self.other),

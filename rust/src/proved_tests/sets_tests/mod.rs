@@ -6,6 +6,8 @@ use crate::rattle::prelude::*;
 #[cfg(test)]
 mod combined;
 #[cfg(test)]
+mod cursor;
+#[cfg(test)]
 mod memory;
 #[cfg(test)]
 mod plain;

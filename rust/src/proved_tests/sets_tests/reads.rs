@@ -1,23 +1,13 @@
 //! The reads of operations, which are within their bounds.
 
 use crate::rattle::prelude::*;
-use crate::proved_tests::sets_tests::shared::{Operation, counted, listed};
-use crate::rattle::AllocError;
+use crate::proved_tests::sets_tests::shared::{Operation, counted, multiples};
 use crate::rattle::Global;
 use crate::proved_tests::test_alloc::{asked, asked_both};
 use crate::proved::vers_sorted::elias_fano::EliasFanoVec;
 use crate::proved::vers_tally::tally::Tally;
 
 type List = EliasFanoVec<Global>;
-
-// Returns the multiples of a step, as a list of that many members.
-fn multiples(alloc: Global, count: u64, step: u64) -> Result<List, AllocError> {
-    let mut numbers = Vec::new(alloc);
-    for k in 0..count {
-        numbers.push(k.wrapping_mul(step))?;
-    }
-    listed(alloc, numbers.as_slice())
-}
 
 // Returns the low parts that an operation reads whose result has that many members.
 fn low_parts(

@@ -24,6 +24,19 @@ pub fn listed<A: Allocator + Copy>(
     EliasFanoVec::from_slice(alloc, numbers)
 }
 
+/// Returns the multiples of a step, as a list of that many members.
+pub fn multiples<A: Allocator + Copy>(
+    alloc: A,
+    count: u64,
+    step: u64,
+) -> Result<EliasFanoVec<A>, AllocError> {
+    let mut numbers = Vec::new(alloc);
+    for k in 0..count {
+        numbers.push(k.wrapping_mul(step))?;
+    }
+    listed(alloc, numbers.as_slice())
+}
+
 /// Returns true if a list has these members.
 pub fn has_members<A: Allocator + Copy>(list: &EliasFanoVec<A>, wanted: &[u64]) -> bool {
     for (place, number) in wanted.iter().enumerate() {

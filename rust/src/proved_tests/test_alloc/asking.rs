@@ -47,22 +47,6 @@ pub fn asked_both<T: Sized, U: Sized, R, E: Sized, F: FnOnce(&T, &U) -> R>(
     Ok(ask(&one, &other))
 }
 
-/// Returns the first length, and the number of the wrong row, of values made at each length, or `None` if all
-/// are right.
-pub fn first_wrong_length<
-    T: Sized,
-    E: Sized,
-    M: Fn(usize) -> Result<T, E>,
-    W: Fn(&T) -> Option<usize>,
->(lengths: &[usize], make: M, wrong_row: W) -> Result<Option<(usize, usize)>, E> {
-    for len in lengths {
-        if let Some(row) = asked(make(*len), &wrong_row)? {
-            return Ok(Some((*len, row)));
-        }
-    }
-    Ok(None)
-}
-
 /// A step of a walk that takes an item, or returns the number left.
 #[derive(Clone, Copy)]
 pub enum Step {

@@ -1,14 +1,79 @@
-//! Trials whose parts are the methods of a trait.
+//! Trials: allocating calls, repeated with another of their requests refused.
 //!
-//! A method is one function to the prover, whereas a closure or a function that is passed is four. So a call
-//! that is tested at many lengths implements these traits, and the functions next to them run its trials.
+//! A trial makes what the call needs with ample memory, starts the refusals, calls, and compares the state with
+//! the contract. `each_refused` runs the trials; `try_making` and the functions next to it are their bodies, one
+//! for each way in which a call uses values. Their parts are the methods of a trait: a method is one function to
+//! the prover, whereas a closure or a function that is passed is four.
 
 use crate::rattle::prelude::*;
-
 use crate::proved_tests::test_alloc::Refusing;
-use crate::proved_tests::test_alloc::tries::{Ending, done_if, each_refused, out_of_memory_if};
 use crate::rattle::AllocError;
 use crate::rattle::Allocator;
+
+/// Lengths at and around the ends of limbs, blocks and superblocks, and one at which a list of four more
+/// bits ends a limb.
+pub const LENGTHS: [usize; 14] = [
+    0, 1, 60, 63, 64, 65, 127, 128, 129, 130, 511, 512, 513, 8193,
+];
+
+/// More trials than any call needs.
+const MOST_TRIES: u64 = 1000;
+
+/// The result of a trial.
+#[derive(Clone, Copy, PartialEq, Eq, Debug)]
+pub enum Ending {
+    /// The call succeeded, and what it made or left is right.
+    Done,
+    /// The call returned out of memory, and what it left is right.
+    OutOfMemory,
+    /// The call returned another error, or made or left something wrong; or what it needs was not made.
+    Wrong,
+}
+
+/// Returns the ending of a call that succeeded.
+pub fn done_if(is_right: bool) -> Ending {
+    if is_right {
+        Ending::Done
+    } else {
+        Ending::Wrong
+    }
+}
+
+/// Returns the ending of a call that was refused.
+pub fn out_of_memory_if(is_right: bool) -> Ending {
+    if is_right {
+        Ending::OutOfMemory
+    } else {
+        Ending::Wrong
+    }
+}
+
+/// Tests a call with its first request refused, then with its second, and so on, until a trial ends with none
+/// refused. Returns the number of requests of that trial. A trial with a request refused must end as
+/// `OutOfMemory`, the last one as `Done`, and each frees all memory. Errors: the number of the first trial that
+/// does not.
+pub fn each_refused<B: Allocator + Copy, F: Fn(&Refusing<B>) -> Ending>(
+    inner: B,
+    tried: F,
+) -> Result<u64, u64> {
+    for n in 1..MOST_TRIES {
+        let heap = Refusing::after_start(inner, n);
+        let ending = tried(&heap);
+        let was_refused = heap.refused() > 0;
+        let wanted = if was_refused {
+            Ending::OutOfMemory
+        } else {
+            Ending::Done
+        };
+        if ending != wanted || heap.is_waiting() || !heap.is_empty() {
+            return Err(n);
+        }
+        if !was_refused {
+            return Ok(n - 1);
+        }
+    }
+    Err(MOST_TRIES)
+}
 
 /// A call that is tested on values of many lengths.
 pub trait Trial<B: Allocator>: Copy {
@@ -119,10 +184,7 @@ pub fn tried_on<T: Sized, X: Sized, C: Tried<T>>(made: Result<T, X>, call: &C) -
 pub trait Making {
     type Made: Sized;
 
-    type Fault: PartialEq;
-
-    /// Returns the error for a refused request.
-    fn out_of_memory(&self) -> Self::Fault;
+    type Fault: From<AllocError> + PartialEq;
 
     /// Calls it.
     fn make(&self) -> Result<Self::Made, Self::Fault>;
@@ -138,7 +200,7 @@ pub fn try_making<B: Allocator, C: Making>(heap: &Refusing<B>, making: &C) -> En
         Ok(it) => done_if(making.is_right(&it)),
         Err(fault) => {
             heap.allow_all();
-            out_of_memory_if(fault == making.out_of_memory() && is_made(making))
+            out_of_memory_if(fault == C::Fault::from(AllocError) && is_made(making))
         }
     }
 }
@@ -153,10 +215,7 @@ fn is_made<C: Making>(making: &C) -> bool {
 
 /// A call that changes a value.
 pub trait Edit<T> {
-    type Fault: PartialEq;
-
-    /// Returns the error for a refused request.
-    fn out_of_memory(&self) -> Self::Fault;
+    type Fault: From<AllocError> + PartialEq;
 
     /// Calls it.
     fn edit(&self, it: &mut T) -> Result<(), Self::Fault>;
@@ -183,7 +242,7 @@ pub fn try_edit<B: Allocator, T: Sized, X: Sized, C: Edit<T>>(
         Ok(()) => done_if(edit.is_edited(&it)),
         Err(fault) => {
             heap.allow_all();
-            let is_kept = fault == edit.out_of_memory() && edit.is_as_before(&it);
+            let is_kept = fault == C::Fault::from(AllocError) && edit.is_as_before(&it);
             out_of_memory_if(is_kept && edit.edit(&mut it).is_ok() && edit.is_edited(&it))
         }
     }

@@ -14,14 +14,14 @@ const LENGTHS: [usize; 6] = [0, 1, 63, 64, 65, 300];
 
 // The symbols of a text.
 #[derive(Clone, Copy)]
-enum Kind {
+pub(crate) enum Kind {
     Scattered,
     Periodic(u64),
     Descending,
     Fibonacci,
 }
 
-const KINDS: [Kind; 6] = [
+pub(crate) const KINDS: [Kind; 6] = [
     Kind::Scattered,
     Kind::Periodic(1),
     Kind::Periodic(3),
@@ -50,7 +50,7 @@ fn descending<A: Allocator + Copy>(alloc: A, n: usize) -> Result<Vec<u64, A>, Al
 }
 
 // Returns `n` symbols of a kind, with that many bits.
-fn symbols_of<A: Allocator + Copy>(
+pub(crate) fn symbols_of<A: Allocator + Copy>(
     alloc: A,
     kind: Kind,
     n: usize,

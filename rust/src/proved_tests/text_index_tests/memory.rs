@@ -28,10 +28,6 @@ impl<A: Allocator + Copy> Making for Indexing<'_, A> {
 
     type Fault = TextError;
 
-    fn out_of_memory(&self) -> TextError {
-        TextError::Memory
-    }
-
     fn make(&self) -> Result<TextIndex<A>, TextError> {
         TextIndex::with_step(self.alloc, self.symbols, 2, 4)
     }
@@ -87,10 +83,6 @@ impl<A: Allocator + Copy> Making for Extracting<'_, A> {
 
     type Fault = AllocError;
 
-    fn out_of_memory(&self) -> AllocError {
-        AllocError
-    }
-
     fn make(&self) -> Result<Option<Vec<u64, A>>, AllocError> {
         self.text.extract(0..self.symbols.len())
     }
@@ -114,10 +106,6 @@ impl<A: Allocator + Copy> Making for Listing<'_, A> {
     type Made = Vec<usize, A>;
 
     type Fault = AllocError;
-
-    fn out_of_memory(&self) -> AllocError {
-        AllocError
-    }
 
     fn make(&self) -> Result<Vec<usize, A>, AllocError> {
         if matches!(self.call, Call::First) {

@@ -6,6 +6,8 @@ use crate::rattle::prelude::*;
 #[cfg(test)]
 mod built;
 #[cfg(test)]
+mod loads;
+#[cfg(test)]
 mod memory;
 #[cfg(test)]
 mod pieces;

@@ -15,4 +15,6 @@ mod stored;
 #[cfg(test)]
 mod streams;
 #[cfg(test)]
+mod texts;
+#[cfg(test)]
 mod trees;

@@ -34,8 +34,8 @@ fn read_fault<S: Loaded<A>, A: Allocator + Copy>(
     }
 }
 
-// Returns true if a list is written in pieces, and a prefix of it if a write fails.
-fn is_written<S: Saved>(alloc: Global, list: &S, bytes: &[u8], piece: usize) -> bool {
+/// Returns true if a list is written in pieces, and a prefix of it if a write fails.
+pub fn is_written<S: Saved>(alloc: Global, list: &S, bytes: &[u8], piece: usize) -> bool {
     let mut whole = Held::of(alloc, piece, 0);
     if save(alloc, list, &mut whole).is_err() || whole.bytes.as_slice() != bytes {
         return false;

@@ -10,4 +10,5 @@ mod iterators;
 mod lists;
 mod memory;
 mod sparse;
+mod successors;
 mod walks;

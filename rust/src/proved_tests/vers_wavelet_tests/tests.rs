@@ -6,7 +6,6 @@ use crate::rattle::prelude::*;
 mod batches;
 mod compared;
 mod gathered;
-mod iterators;
 mod lists;
 mod makers;
 mod memory;

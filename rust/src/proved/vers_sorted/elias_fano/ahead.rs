@@ -32,11 +32,7 @@ impl<A: Allocator + Copy> EliasFanoVec<A> {
     pub(super) fn place_ahead(&self, i: usize, ahead: &mut Ahead, tally: &mut Tally) -> usize {
         let bits = self.high.len();
         if ahead.word != 0 {
-            let skip = ahead.word.trailing_zeros() as usize;
-            ahead.word = (ahead.word >> skip) >> 1;
-            ahead.place += skip + 1;
-            ahead.len -= skip + 1;
-            return ahead.place - 1;
+            return self.place_read(i, ahead);
         }
         let place = self.high.select1_counted(i, tally);
         let len = (bits - place - 1).min(64);
@@ -47,6 +43,17 @@ impl<A: Allocator + Copy> EliasFanoVec<A> {
             .get_bits_counted(place + 1, len, tally)
             .unwrap_or(0);
         place
+    }
+
+    // Returns the position of the one of a member, which was read ahead.
+    #[inline(always)]
+    pub(super) fn place_read(&self, i: usize, ahead: &mut Ahead) -> usize {
+        let _ = self.high.len();
+        let skip = ahead.word.trailing_zeros() as usize;
+        ahead.word = (ahead.word >> skip) >> 1;
+        ahead.place += skip + 1;
+        ahead.len -= skip + 1;
+        ahead.place - 1
     }
 
     // Returns a member, by the position of its one.

@@ -261,26 +261,17 @@ fn the_unchecked_forms() {
 fn back_by_law<A: Allocator + Copy>(
     copy: Result<BitVec<A>, AllocError>,
 ) -> Result<BitVec<A>, AllocError> {
-    match copy {
-        Ok(bits) => bits_come_back(bits),
-        Err(fault) => Err(fault),
-    }
+    bits_come_back(copy?)
 }
 
 fn back_by_from<A: Allocator + Copy>(
     copy: Result<BitVec<A>, AllocError>,
 ) -> Result<BitVec<A>, AllocError> {
-    match copy {
-        Ok(bits) => converted(bits),
-        Err(fault) => Err(fault),
-    }
+    converted(copy?)
 }
 
 fn converted<A: Allocator + Copy>(bits: BitVec<A>) -> Result<BitVec<A>, AllocError> {
-    match RsVec::from_bit_vec(bits) {
-        Ok(list) => Ok(BitVec::from(list)),
-        Err(fault) => Err(fault),
-    }
+    Ok(BitVec::from(RsVec::from_bit_vec(bits)?))
 }
 
 fn is_back<A: Allocator + Copy>(back: Result<BitVec<A>, AllocError>, bits: &BitVec<A>) -> bool {

@@ -22,10 +22,7 @@ fn plain_of<A: Allocator + Copy>(
     look: Look,
     len: usize,
 ) -> Result<PlainList<A>, GrowError> {
-    match bits_of(alloc, look, len) {
-        Ok(bits) => Ok(PlainList::new(bits)),
-        Err(fault) => Err(fault),
-    }
+    Ok(PlainList::new(bits_of(alloc, look, len)?))
 }
 
 // Returns the answer of the plain list.

@@ -30,10 +30,7 @@ impl Numbered for usize {
 }
 
 fn number_of<I: Numbered>(item: Option<I>) -> Option<u64> {
-    match item {
-        Some(item) => Some(item.number()),
-        None => None,
-    }
+    Some(item?.number())
 }
 
 /// An iterator that can take each step, in the plain form and in the counted one, and be taken to its end.
@@ -206,74 +203,6 @@ pub fn wrong_walk(
         Over::Zeros => wrong_zeros(list, is_counted, rows),
         Over::Ones => wrong_ones(list, is_counted, rows),
     }
-}
-
-// Walks over 10110: the items, and the result of each step.
-const WALKS: [(Over, &[(Step, Option<u64>)]); 6] = [
-    (
-        Over::Ones,
-        &[
-            (Step::Len, Some(3)),
-            (Step::NextBack, Some(3)),
-            (Step::NthBack(5), None),
-            (Step::Next, None),
-            (Step::Len, Some(0)),
-        ],
-    ),
-    (
-        Over::Ones,
-        &[
-            (Step::Next, Some(0)),
-            (Step::Nth(1), Some(3)),
-            (Step::NextBack, None),
-            (Step::Next, None),
-        ],
-    ),
-    (
-        Over::Zeros,
-        &[(Step::NthBack(1), Some(1)), (Step::Next, None)],
-    ),
-    (
-        Over::Zeros,
-        &[
-            (Step::Nth(2), None),
-            (Step::NextBack, None),
-            (Step::Len, Some(0)),
-        ],
-    ),
-    (
-        Over::Bits,
-        &[(Step::Nth(usize::MAX), None), (Step::Next, None)],
-    ),
-    (
-        Over::Bits,
-        &[
-            (Step::NextBack, Some(0)),
-            (Step::Next, Some(1)),
-            (Step::Len, Some(3)),
-            (Step::NthBack(1), Some(1)),
-            (Step::Nth(0), Some(0)),
-            (Step::NextBack, None),
-        ],
-    ),
-];
-
-// Returns the first walk over 10110 that is wrong, and its step.
-fn first_wrong_walk(list: &RsVec<Global>) -> Option<(usize, usize)> {
-    for (number, (over, rows)) in WALKS.iter().enumerate() {
-        let plain = wrong_walk(list, *over, false, rows);
-        if let Some(step) = plain.or(wrong_walk(list, *over, true, rows)) {
-            return Some((number, step));
-        }
-    }
-    None
-}
-
-#[test]
-fn walks_from_both_ends() {
-    let rt = HostRuntime;
-    let wrong = asked(list_10110(rt.alloc()), first_wrong_walk);
-    assert_eq!(wrong, Ok(None), "a walk and a step");
 }
 
 // Returns the last item of a walk that was made, and how many it has.
@@ -490,10 +419,7 @@ fn borrowed_numbers<A: Allocator + Copy>(list: &mut RsVec<A>) -> (u64, u64) {
 }
 
 fn owned_number<A: Allocator + Copy>(made: Result<RsVec<A>, GrowError>) -> Result<u64, GrowError> {
-    match made {
-        Ok(list) => Ok(number_by_value(list)),
-        Err(fault) => Err(fault),
-    }
+    Ok(number_by_value(made?))
 }
 
 #[test]

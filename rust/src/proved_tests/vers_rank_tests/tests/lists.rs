@@ -83,10 +83,7 @@ pub fn list_of<A: Allocator + Copy>(
     look: Look,
     len: usize,
 ) -> Result<RsVec<A>, GrowError> {
-    match bits_of(alloc, look, len) {
-        Ok(bits) => indexed(bits),
-        Err(fault) => Err(fault),
-    }
+    indexed(bits_of(alloc, look, len)?)
 }
 
 /// Returns the same bits, indexed, with another one at one position.

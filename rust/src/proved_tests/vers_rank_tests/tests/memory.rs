@@ -91,28 +91,19 @@ impl<A: Allocator + Copy> Check<RsVec<A>> for ListOf {
 fn bits_walk<A: Allocator + Copy>(
     list: Result<RsVec<A>, GrowError>,
 ) -> Result<RsVecIter<A>, GrowError> {
-    match list {
-        Ok(list) => Ok(list.into_iter()),
-        Err(fault) => Err(fault),
-    }
+    Ok(list?.into_iter())
 }
 
 fn zeros_walk<A: Allocator + Copy>(
     list: Result<RsVec<A>, GrowError>,
 ) -> Result<SelectIntoIter<true, A>, GrowError> {
-    match list {
-        Ok(list) => Ok(list.into_iter0()),
-        Err(fault) => Err(fault),
-    }
+    Ok(list?.into_iter0())
 }
 
 fn ones_walk<A: Allocator + Copy>(
     list: Result<RsVec<A>, GrowError>,
 ) -> Result<SelectIntoIter<false, A>, GrowError> {
-    match list {
-        Ok(list) => Ok(list.into_iter1()),
-        Err(fault) => Err(fault),
-    }
+    Ok(list?.into_iter1())
 }
 
 // A call that allocates.

@@ -1,4 +1,4 @@
-//! Mixtures of steps from both ends, over lists longer than a limb, a block and a superblock.
+//! Mixtures of steps from both ends, over short lists and over lists longer than a limb, a block and a superblock.
 
 use crate::rattle::prelude::*;
 use crate::proved_tests::vers_rank_tests::tests::iterators::wrong_walk;
@@ -103,10 +103,7 @@ impl Walked {
 
     // Returns the item that a step returns, of those that are left.
     fn taken(self, left: &mut Left, step: Step) -> Option<u64> {
-        match left.take(step) {
-            Some(number) => self.item(number),
-            None => None,
-        }
+        self.item(left.take(step)?)
     }
 }
 
@@ -125,6 +122,8 @@ fn rows_of<A: Allocator + Copy>(
         rows.push((step, walked.taken(&mut left, step)))?;
         rows.push((Step::Len, Some(left.count() as u64)))?;
     }
+    rows.push((Step::Nth(usize::MAX), None))?;
+    rows.push((Step::NthBack(usize::MAX), None))?;
     Ok(rows)
 }
 
@@ -149,7 +148,7 @@ fn is_right(alloc: Global, walked: Walked) -> bool {
     }
 }
 
-const LENGTHS: [usize; 5] = [65, 130, 513, 1100, 8300];
+const LENGTHS: [usize; 9] = [0, 1, 2, 5, 65, 130, 513, 1100, 8300];
 
 const LOOKS: [Look; 3] = [Look::Mixed, Look::Ones, Look::Sparse];
 

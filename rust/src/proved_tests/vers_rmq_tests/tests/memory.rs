@@ -71,10 +71,6 @@ impl<A: Allocator + Copy, R: MadeOf<A>> Making for OfItems<'_, A, R> {
 
     type Fault = GrowError;
 
-    fn out_of_memory(&self) -> GrowError {
-        GrowError::Memory
-    }
-
     fn make(&self) -> Result<R, GrowError> {
         R::of_iter(self.alloc, self.items)
     }

@@ -242,8 +242,5 @@ impl<A: Allocator + Copy> RangeMinima for FastRmq<A> {
 
 /// Returns the range minima of numbers.
 pub fn made<A, R: MadeOf<A>>(alloc: A, numbers: &[u64]) -> Result<R, AllocError> {
-    match R::vec_of(alloc, numbers) {
-        Ok(items) => R::of_vec(items),
-        Err(fault) => Err(fault),
-    }
+    R::of_vec(R::vec_of(alloc, numbers)?)
 }

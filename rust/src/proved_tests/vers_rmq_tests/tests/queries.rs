@@ -16,13 +16,13 @@ enum Query {
     Len,
     IsEmpty,
     Least(usize, usize),
-    LeastIn(Bound<usize>, Bound<usize>),
+    In(Bound<usize>, Bound<usize>),
 }
 
 // A query, and its answer.
 type Row = (Query, Option<usize>);
 
-const GREATEST: usize = usize::MAX;
+const MAX: usize = usize::MAX;
 
 // The items, queries and their answers.
 const CASES: [(&[u64], &[Row]); 5] = [
@@ -32,7 +32,7 @@ const CASES: [(&[u64], &[Row]); 5] = [
             (Query::Len, Some(0)),
             (Query::IsEmpty, Some(1)),
             (Query::Least(0, 0), None),
-            (Query::LeastIn(Bound::Unbounded, Bound::Unbounded), None),
+            (Query::In(Bound::Unbounded, Bound::Unbounded), None),
         ],
     ),
     (
@@ -52,57 +52,24 @@ const CASES: [(&[u64], &[Row]); 5] = [
             (Query::Least(0, 4), Some(1)),
             (Query::Least(2, 4), Some(3)),
             (Query::Least(4, 4), Some(4)),
-            (Query::LeastIn(Bound::Unbounded, Bound::Unbounded), Some(1)),
-            (
-                Query::LeastIn(Bound::Excluded(1), Bound::Unbounded),
-                Some(3),
-            ),
+            (Query::In(Bound::Unbounded, Bound::Unbounded), Some(1)),
+            (Query::In(Bound::Excluded(1), Bound::Unbounded), Some(3)),
         ],
     ),
     // The answer for each range is its last position.
     (
         &[5, 4, 3, 2, 1],
         &[
-            (
-                Query::LeastIn(Bound::Included(0), Bound::Excluded(3)),
-                Some(2),
-            ),
-            (
-                Query::LeastIn(Bound::Included(0), Bound::Included(3)),
-                Some(3),
-            ),
-            (
-                Query::LeastIn(Bound::Excluded(0), Bound::Included(3)),
-                Some(3),
-            ),
-            (
-                Query::LeastIn(Bound::Included(0), Bound::Included(0)),
-                Some(0),
-            ),
-            (
-                Query::LeastIn(Bound::Included(0), Bound::Excluded(1)),
-                Some(0),
-            ),
-            (
-                Query::LeastIn(Bound::Unbounded, Bound::Included(0)),
-                Some(0),
-            ),
-            (
-                Query::LeastIn(Bound::Unbounded, Bound::Excluded(1)),
-                Some(0),
-            ),
-            (
-                Query::LeastIn(Bound::Unbounded, Bound::Included(GREATEST)),
-                Some(4),
-            ),
-            (
-                Query::LeastIn(Bound::Unbounded, Bound::Excluded(GREATEST)),
-                Some(4),
-            ),
-            (
-                Query::LeastIn(Bound::Included(9), Bound::Unbounded),
-                Some(4),
-            ),
+            (Query::In(Bound::Included(0), Bound::Excluded(3)), Some(2)),
+            (Query::In(Bound::Included(0), Bound::Included(3)), Some(3)),
+            (Query::In(Bound::Excluded(0), Bound::Included(3)), Some(3)),
+            (Query::In(Bound::Included(0), Bound::Included(0)), Some(0)),
+            (Query::In(Bound::Included(0), Bound::Excluded(1)), Some(0)),
+            (Query::In(Bound::Unbounded, Bound::Included(0)), Some(0)),
+            (Query::In(Bound::Unbounded, Bound::Excluded(1)), Some(0)),
+            (Query::In(Bound::Unbounded, Bound::Included(MAX)), Some(4)),
+            (Query::In(Bound::Unbounded, Bound::Excluded(MAX)), Some(4)),
+            (Query::In(Bound::Included(9), Bound::Unbounded), Some(4)),
         ],
     ),
     // The answer for each range is its first position. The last four start past the last position, and two of
@@ -110,43 +77,19 @@ const CASES: [(&[u64], &[Row]); 5] = [
     (
         &[1, 2, 3, 4, 5],
         &[
-            (Query::LeastIn(Bound::Unbounded, Bound::Unbounded), Some(0)),
+            (Query::In(Bound::Unbounded, Bound::Unbounded), Some(0)),
+            (Query::In(Bound::Included(0), Bound::Unbounded), Some(0)),
+            (Query::In(Bound::Excluded(0), Bound::Unbounded), Some(1)),
+            (Query::In(Bound::Excluded(0), Bound::Excluded(2)), Some(1)),
+            (Query::In(Bound::Included(2), Bound::Included(MAX)), Some(2)),
+            (Query::In(Bound::Excluded(1), Bound::Excluded(MAX)), Some(2)),
+            (Query::In(Bound::Included(MAX), Bound::Unbounded), Some(4)),
             (
-                Query::LeastIn(Bound::Included(0), Bound::Unbounded),
-                Some(0),
-            ),
-            (
-                Query::LeastIn(Bound::Excluded(0), Bound::Unbounded),
-                Some(1),
-            ),
-            (
-                Query::LeastIn(Bound::Excluded(0), Bound::Excluded(2)),
-                Some(1),
-            ),
-            (
-                Query::LeastIn(Bound::Included(2), Bound::Included(GREATEST)),
-                Some(2),
-            ),
-            (
-                Query::LeastIn(Bound::Excluded(1), Bound::Excluded(GREATEST)),
-                Some(2),
-            ),
-            (
-                Query::LeastIn(Bound::Included(GREATEST), Bound::Unbounded),
+                Query::In(Bound::Excluded(MAX - 1), Bound::Included(MAX)),
                 Some(4),
             ),
-            (
-                Query::LeastIn(Bound::Excluded(GREATEST - 1), Bound::Included(GREATEST)),
-                Some(4),
-            ),
-            (
-                Query::LeastIn(Bound::Included(9), Bound::Included(7)),
-                Some(4),
-            ),
-            (
-                Query::LeastIn(Bound::Excluded(9), Bound::Excluded(6)),
-                Some(4),
-            ),
+            (Query::In(Bound::Included(9), Bound::Included(7)), Some(4)),
+            (Query::In(Bound::Excluded(9), Bound::Excluded(6)), Some(4)),
         ],
     ),
 ];
@@ -157,7 +100,7 @@ fn answer<R: RangeMinima>(minima: &R, query: Query) -> Option<usize> {
         Query::Len => Some(minima.count()),
         Query::IsEmpty => Some(usize::from(minima.has_none())),
         Query::Least(i, j) => least(minima, i, j),
-        Query::LeastIn(start, end) => least_in(minima, start, end),
+        Query::In(start, end) => least_in(minima, start, end),
     }
 }
 
@@ -223,13 +166,10 @@ const FAST_SIZES: [(usize, usize); 4] = [(0, 0), (11, 165), (128, 1101), (300, 2
 // The queries of 300 items.
 const OF_SEVENS: [Row; 4] = [
     (Query::Least(5, 290), Some(5)),
+    (Query::In(Bound::Excluded(4), Bound::Excluded(291)), Some(5)),
+    (Query::In(Bound::Unbounded, Bound::Unbounded), Some(0)),
     (
-        Query::LeastIn(Bound::Excluded(4), Bound::Excluded(291)),
-        Some(5),
-    ),
-    (Query::LeastIn(Bound::Unbounded, Bound::Unbounded), Some(0)),
-    (
-        Query::LeastIn(Bound::Excluded(298), Bound::Included(GREATEST)),
+        Query::In(Bound::Excluded(298), Bound::Included(MAX)),
         Some(299),
     ),
 ];
@@ -239,17 +179,11 @@ fn bytes_of_sevens<A: Allocator + Copy, R: MadeOf<A>>(
     alloc: A,
     n: usize,
 ) -> Result<usize, AllocError> {
-    match sevens(alloc, n) {
-        Ok(numbers) => bytes_of(made::<A, R>(alloc, numbers.as_slice())),
-        Err(fault) => Err(fault),
-    }
+    bytes_of(made::<A, R>(alloc, sevens(alloc, n)?.as_slice()))
 }
 
 fn bytes_of<R: RangeMinima>(made: Result<R, AllocError>) -> Result<usize, AllocError> {
-    match made {
-        Ok(minima) => Ok(minima.bytes()),
-        Err(fault) => Err(fault),
-    }
+    Ok(made?.bytes())
 }
 
 // Returns the first number of sevens of which a list has another size.

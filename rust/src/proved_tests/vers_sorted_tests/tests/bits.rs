@@ -47,10 +47,7 @@ pub enum Query {
 
 // Returns a boolean as a number.
 fn as_number(bit: Option<bool>) -> Option<u64> {
-    match bit {
-        Some(bit) => Some(u64::from(bit)),
-        None => None,
-    }
+    Some(u64::from(bit?))
 }
 
 /// Returns the answer of one query, a boolean as 1 or 0. An unchecked one is called only if its precondition

@@ -3,104 +3,13 @@
 use crate::rattle::prelude::*;
 use crate::proved_tests::vers_sorted_tests::tests::bits::bits_of;
 use crate::proved_tests::vers_sorted_tests::tests::lists::list_of;
-use crate::proved_tests::vers_sorted_tests::tests::walks::{
-    Step, first_wrong_step, follows, sum_by_mut, sum_by_reference, sum_by_value, walk_over,
-    wrong_step,
-};
+use crate::proved_tests::vers_sorted_tests::tests::walks::{Step, follows, sum_by_mut, sum_by_reference, sum_by_value, walk_over};
 use crate::rattle::AllocError;
 use crate::rattle::Allocator;
 use crate::rattle::Global;
 use crate::proved_tests::test_alloc::{asked, asked_mut};
 use crate::proved::vers_sorted::elias_fano::{EliasFanoIter, EliasFanoVec};
 use crate::proved::vers_sorted::sparse::SparseRSVec;
-
-// The members, the steps of one iterator, and their answers.
-type Walk<'a> = (&'a [u64], &'a [(Step, Option<u64>)]);
-
-const WALKS: [Walk; 5] = [
-    (
-        &[0, 1, 2, 3, 4, 5, 6, 7, 8],
-        &[
-            (Step::Len, Some(9)),
-            (Step::Nth(2), Some(2)),
-            (Step::NthBack(4), Some(4)),
-            (Step::Next, Some(3)),
-            (Step::Next, None),
-            (Step::NextBack, None),
-        ],
-    ),
-    (
-        &[0, 1, 2, 3, 4, 5, 6, 7, 8],
-        &[
-            (Step::Nth(10), None),
-            (Step::Next, None),
-            (Step::Len, Some(0)),
-        ],
-    ),
-    (
-        &[100, 101, 102, 103],
-        &[
-            (Step::Last, Some(103)),
-            (Step::Max, Some(103)),
-            (Step::Min, Some(100)),
-            (Step::Count, Some(4)),
-            (Step::SizeHint, Some(4)),
-            (Step::NextBack, Some(103)),
-            (Step::Max, Some(102)),
-            (Step::Next, Some(100)),
-            (Step::Min, Some(101)),
-            (Step::Count, Some(2)),
-        ],
-    ),
-    (
-        &[2, 4, 4, 9],
-        &[
-            (Step::NextCounted, Some(2)),
-            (Step::NextBackCounted, Some(9)),
-            (Step::NthCounted(1), Some(4)),
-            (Step::NthBackCounted(0), None),
-            (Step::Last, None),
-            (Step::Min, None),
-        ],
-    ),
-    (
-        &[2, 4, 4, 9],
-        &[
-            (Step::Max, Some(9)),
-            (Step::NthBack(0), Some(9)),
-            (Step::Len, Some(3)),
-        ],
-    ),
-];
-
-// Returns the first walk with a wrong answer, over a list or one that owns it, and its step.
-fn first_wrong_walk<A: Allocator + Copy>(
-    alloc: A,
-    walks: &[Walk],
-) -> Result<Option<(usize, usize)>, AllocError> {
-    for (walk, (numbers, rows)) in walks.iter().enumerate() {
-        let wrong = asked(list_of(alloc, numbers), |list| wrong_step(list, rows))?;
-        let wrong_owned = asked_mut(
-            walk_over(alloc, numbers),
-            |members| first_wrong_step(members, rows),
-        )?;
-        if let Some(step) = wrong.or(wrong_owned) {
-            return Ok(Some((walk, step)));
-        }
-    }
-    Ok(None)
-}
-
-// The table is in a function of its own, which is faster to prove than in a test.
-fn first_wrong_of_all<A: Allocator + Copy>(alloc: A) -> Result<Option<(usize, usize)>, AllocError> {
-    first_wrong_walk(alloc, &WALKS)
-}
-
-#[test]
-fn steps_and_their_answers() {
-    let rt = HostRuntime;
-    assert!(matches!(first_wrong_of_all(rt.alloc()), Ok(None)));
-}
 
 // Returns the sums by loops over a reference to a list, over a `&mut` to it, and over the list itself.
 fn sums<A: Allocator + Copy>(alloc: A, numbers: &[u64]) -> [Result<u64, AllocError>; 3] {
@@ -157,10 +66,10 @@ const MIXTURES: [&[Step]; 5] = [
     ],
 ];
 
-// Numbers of members: more than a word has bits, than two words, than a block, and than two.
-const LONG: [usize; 4] = [65, 130, 513, 1100];
+// Numbers of members: none and few, more than a word has bits, than two words, than a block, and than two.
+const LENGTHS: [usize; 8] = [0, 1, 4, 9, 65, 130, 513, 1100];
 
-// The gaps between the members of a long list.
+// The gaps between the members of a list.
 #[derive(Clone, Copy)]
 enum Lie {
     Twice,
@@ -219,10 +128,8 @@ fn made_gives<T: Walked>(
     numbers: &[u64],
     steps: &[Step],
 ) -> Result<bool, AllocError> {
-    match made {
-        Ok(mut it) => Ok(it.gives(numbers, steps)),
-        Err(fault) => Err(fault),
-    }
+    let mut it = made?;
+    Ok(it.gives(numbers, steps))
 }
 
 // Returns true if the iterators over a list, that own one, and over the ones of a sparse list return the numbers.
@@ -257,8 +164,8 @@ fn first_wrong_mixture<A: Allocator + Copy>(
 }
 
 // Returns the first length with such a mixture.
-fn first_wrong_of_long(alloc: Global) -> Result<Option<(usize, usize)>, AllocError> {
-    for len in LONG {
+fn first_wrong_of_all(alloc: Global) -> Result<Option<(usize, usize)>, AllocError> {
+    for len in LENGTHS {
         if let Some(row) = first_wrong_mixture(alloc, len)? {
             return Ok(Some((len, row)));
         }
@@ -267,7 +174,7 @@ fn first_wrong_of_long(alloc: Global) -> Result<Option<(usize, usize)>, AllocErr
 }
 
 #[test]
-fn mixtures_of_both_ends_over_long_lists() {
+fn steps_and_their_answers() {
     let rt = HostRuntime;
-    assert!(matches!(first_wrong_of_long(rt.alloc()), Ok(None)));
+    assert!(matches!(first_wrong_of_all(rt.alloc()), Ok(None)));
 }

@@ -9,7 +9,7 @@ use crate::rattle::AllocError;
 use crate::rattle::Allocator;
 use crate::rattle::Global;
 use crate::proved_tests::test_alloc::{
-    Check, Ending, LENGTHS, Making, Refusing, Trial, first_wrong_trial, try_clone_checked,
+    Check, Ending, LENGTHS, Making, Refusing, Trial, done_if, first_wrong_trial, try_clone_checked,
     try_making, try_use_checked,
 };
 use crate::proved::vers_bits::bit_vec::{BitVec, GrowError};
@@ -204,10 +204,6 @@ impl<'a> Making for Members<'a, '_> {
 
     type Fault = AllocError;
 
-    fn out_of_memory(&self) -> AllocError {
-        AllocError
-    }
-
     fn make(&self) -> Result<EliasFanoVec<&'a Heap>, AllocError> {
         if self.in_turn {
             return list_in_turn(self.heap, self.numbers);
@@ -284,7 +280,7 @@ where
     }
     heap.start();
     let mut walk = it.into_iter();
-    ending_if(check.is_right(&mut walk))
+    done_if(check.is_right(&mut walk))
 }
 
 fn tried_end<B: Allocator, T: Walked, X: Sized>(
@@ -297,15 +293,7 @@ fn tried_end<B: Allocator, T: Walked, X: Sized>(
         return Ending::Wrong;
     } };
     heap.start();
-    ending_if(it.end_of_walk(asked) == wanted)
-}
-
-fn ending_if(is_right: bool) -> Ending {
-    if is_right {
-        Ending::Done
-    } else {
-        Ending::Wrong
-    }
+    done_if(it.end_of_walk(asked) == wanted)
 }
 
 // Tests a call of an ascending list, of a generic type, since a list itself is slower to prove.
@@ -431,10 +419,6 @@ impl<'a> Making for SparseMaker<'a, '_> {
     type Made = SparseRSVec<&'a Heap>;
 
     type Fault = AllocError;
-
-    fn out_of_memory(&self) -> AllocError {
-        AllocError
-    }
 
     fn make(&self) -> Result<SparseRSVec<&'a Heap>, AllocError> {
         match self.call {

@@ -77,10 +77,7 @@ fn answer_of_step<S: Ascending>(members: &mut BothEnds<S>, asked: Step) -> Optio
 
 // Returns a count as a number.
 fn as_number(count: Option<usize>) -> Option<u64> {
-    match count {
-        Some(count) => Some(count as u64),
-        None => None,
-    }
+    Some(count? as u64)
 }
 
 // Returns the answer of one step of a walk that borrows a list.
@@ -187,33 +184,12 @@ pub fn follows<W: Walk>(walk: &mut W, numbers: &[u64], steps: &[Step]) -> bool {
     false
 }
 
-/// Returns the number of the first step that has a wrong answer.
-pub fn first_wrong_step<W: Walk>(walk: &mut W, rows: &[(Step, Option<u64>)]) -> Option<usize> {
-    for (row, (step, wanted)) in rows.iter().enumerate() {
-        if walk.answer(*step) != *wanted {
-            return Some(row);
-        }
-    }
-    None
-}
-
-/// Does the same for a walk over a list.
-pub fn wrong_step<A: Allocator + Copy>(
-    list: &EliasFanoVec<A>,
-    rows: &[(Step, Option<u64>)],
-) -> Option<usize> {
-    first_wrong_step(&mut list.iter(), rows)
-}
-
 /// Returns a walk that owns the list of the numbers.
 pub fn walk_over<A: Allocator + Copy>(
     alloc: A,
     numbers: &[u64],
 ) -> Result<EliasFanoIter<A>, AllocError> {
-    match list_of(alloc, numbers) {
-        Ok(list) => Ok(list.into_iter()),
-        Err(fault) => Err(fault),
-    }
+    Ok(list_of(alloc, numbers)?.into_iter())
 }
 
 // Returns the sum of the members by a loop.
@@ -239,8 +215,5 @@ pub fn sum_by_mut<A: Allocator + Copy>(list: &mut EliasFanoVec<A>) -> u64 {
 pub fn sum_by_value<A: Allocator + Copy>(
     list: Result<EliasFanoVec<A>, AllocError>,
 ) -> Result<u64, AllocError> {
-    match list {
-        Ok(list) => Ok(sum_of(list.into_iter())),
-        Err(fault) => Err(fault),
-    }
+    Ok(sum_of(list?.into_iter()))
 }

@@ -330,10 +330,6 @@ impl<'a> Making for Builder<'a, '_> {
 
     type Fault = GrowError;
 
-    fn out_of_memory(&self) -> GrowError {
-        GrowError::Memory
-    }
-
     fn make(&self) -> Result<BpTree<8, &'a Heap>, GrowError> {
         made_of(self.heap, self.call, self.forest.bits)
     }

@@ -1,4 +1,4 @@
-//! Many queries at once, compared with worked values, with a plain list and with single queries.
+//! Many queries at once, compared with a plain list and with single queries. Each overwrites an answer.
 
 use crate::rattle::prelude::*;
 use crate::proved_tests::vers_wavelet_tests::tests::compared::{LISTS, count, found, kth};
@@ -12,14 +12,15 @@ use crate::proved::vers_wavelet::wavelet::{GetQuery, QuantileQuery, RankQuery, S
 // More positions than a list has, so that a batch also queries past the end.
 const PLACES: usize = 16;
 
-// Symbols to be searched. Of 3 digits they are all eight, and the first of them again.
-const SYMBOLS: [u64; 9] = [0, 1, 2, 3, 4, 5, 6, 7, 8];
+// Symbols to be searched. Of 3 digits they are all eight, and two of them again.
+const SYMBOLS: [u64; 10] = [0, 1, 2, 3, 4, 5, 6, 7, 8, 12];
 
 // Returns true if the symbols at all positions, past the end too, are those of a plain list.
 fn gets_are_right<A: Allocator + Copy>(list: &WaveletMatrix<A>, numbers: &[u64]) -> bool {
     let mut queries = [GetQuery::new(0); PLACES];
     for (place, query) in queries.iter_mut().enumerate() {
         *query = GetQuery::new(place);
+        query.answer = Some(9);
     }
     list.get_u64_each(&mut queries);
     for (place, query) in queries.iter().enumerate() {
@@ -40,14 +41,14 @@ fn ranks_are_right<A: Allocator + Copy>(
     let mut queries = [RankQuery::new(end, 0); SYMBOLS.len()];
     for (query, symbol) in queries.iter_mut().zip(&SYMBOLS) {
         *query = RankQuery::new(end, *symbol);
+        query.answer = Some(9);
     }
     list.rank_u64_each(&mut queries);
     for (query, symbol) in queries.iter().zip(&SYMBOLS) {
         let digits = *symbol % 8;
-        let wanted = match numbers.get(0..end) {
-            Some(part) => Some(count(part, digits, digits + 1)),
-            None => None,
-        };
+        let wanted = numbers
+            .get(0..end)
+            .map(|part| count(part, digits, digits + 1));
         if query.answer != wanted || list.rank_u64(end, *symbol) != wanted {
             return false;
         }
@@ -64,6 +65,7 @@ fn selects_are_right<A: Allocator + Copy>(
     let mut queries = [SelectQuery::new(rank, 0); SYMBOLS.len()];
     for (query, symbol) in queries.iter_mut().zip(&SYMBOLS) {
         *query = SelectQuery::new(rank, *symbol);
+        query.answer = Some(9);
     }
     list.select_u64_each(&mut queries);
     for (query, symbol) in queries.iter().zip(&SYMBOLS) {
@@ -87,6 +89,7 @@ fn quantiles_are_right<A: Allocator + Copy>(
     let mut queries = [QuantileQuery::new(start, 0, i); PLACES];
     for (end, query) in queries.iter_mut().enumerate() {
         *query = QuantileQuery::new(start, end, i);
+        query.answer = Some(9);
     }
     list.quantile_u64_each(&mut queries);
     for (end, query) in queries.iter().enumerate() {
@@ -123,7 +126,10 @@ impl<A: Allocator + Copy> Check<WaveletMatrix<A>> for Plain<'_> {
                 return false;
             }
         }
-        gets_are_right(list, self.0) && all_quantiles_are_right(list, self.0)
+        ranks_are_right(list, self.0, usize::MAX)
+            && selects_are_right(list, self.0, usize::MAX)
+            && gets_are_right(list, self.0)
+            && all_quantiles_are_right(list, self.0)
     }
 }
 
@@ -133,69 +139,6 @@ fn batches_as_a_plain_list() {
     for numbers in LISTS {
         assert!(is_made_right(symbols_of(rt.alloc(), numbers, 3), &Plain(numbers)));
     }
-}
-
-// Batches with answers that were worked out by hand for the first of the lists. The old answers are overwritten.
-struct Worked;
-
-impl<A: Allocator + Copy> Check<WaveletMatrix<A>> for Worked {
-    fn is_right(&self, list: &mut WaveletMatrix<A>) -> bool {
-        let mut gets = [
-            GetQuery {
-                place: 4,
-                answer: Some(9),
-            },
-            GetQuery {
-                place: usize::MAX,
-                answer: Some(9),
-            },
-            GetQuery::new(9),
-        ];
-        list.get_u64_each(&mut gets);
-        let mut ranks = [
-            RankQuery::new(10, 4),
-            RankQuery::new(2, 12),
-            RankQuery {
-                end: 11,
-                symbol: 4,
-                answer: Some(9),
-            },
-        ];
-        list.rank_u64_each(&mut ranks);
-        let mut selects = [
-            SelectQuery::new(2, 4),
-            SelectQuery::new(0, 8),
-            SelectQuery {
-                rank: 3,
-                symbol: 4,
-                answer: Some(9),
-            },
-            SelectQuery::new(usize::MAX, 1),
-        ];
-        list.select_u64_each(&mut selects);
-        let mut quantiles = [
-            QuantileQuery::new(1, 5, 1),
-            QuantileQuery::new(5, 1, 0),
-            QuantileQuery {
-                start: 0,
-                end: 11,
-                i: 0,
-                answer: Some(9),
-            },
-            QuantileQuery::new(0, 10, 9),
-        ];
-        list.quantile_u64_each(&mut quantiles);
-        gets.map(|it| it.answer) == [Some(3), None, Some(0)]
-            && ranks.map(|it| it.answer) == [Some(3), Some(1), None]
-            && selects.map(|it| it.answer) == [Some(6), Some(9), None, None]
-            && quantiles.map(|it| it.answer) == [Some(3), None, None, Some(4)]
-    }
-}
-
-#[test]
-fn batches_with_worked_answers() {
-    let rt = HostRuntime;
-    assert!(is_made_right(symbols_of(rt.alloc(), LISTS[0], 3), &Worked));
 }
 
 // Falling numbers from 64 on, each of them twice.

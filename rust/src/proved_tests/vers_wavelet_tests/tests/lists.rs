@@ -55,19 +55,15 @@ fn number_by<A: Allocator + Copy>(coding: Coding, symbol: &BitVec<A>) -> u64 {
 
 // Returns the number in an answer, or `None`.
 fn told<A: Allocator + Copy>(coding: Coding, found: Result<Option<BitVec<A>>, AllocError>) -> Told {
-    match found {
-        Ok(Some(symbol)) => Ok(Some(number_by(coding, &symbol))),
-        Ok(None) => Ok(None),
-        Err(fault) => Err(fault),
-    }
+    Ok(match found? {
+        Some(symbol) => Some(number_by(coding, &symbol)),
+        None => None,
+    })
 }
 
 // Returns the number in an answer.
 fn told_one<A: Allocator + Copy>(coding: Coding, found: Result<BitVec<A>, AllocError>) -> Told {
-    match found {
-        Ok(symbol) => Ok(Some(number_by(coding, &symbol))),
-        Err(fault) => Err(fault),
-    }
+    Ok(Some(number_by(coding, &found?)))
 }
 
 // Returns the answer of a query for a symbol that is a list of bits.
@@ -130,7 +126,7 @@ fn unchecked_for<A: Allocator + Copy>(
             Ok(Some(list.rank_offset_unchecked(a, b, symbol) as u64))
         }
         Query::Rank(i, _) if i <= len => Ok(Some(list.rank_unchecked(i, symbol) as u64)),
-        Query::SelectOffset(o, r, _) if o < len => {
+        Query::SelectOffset(o, r, _) if o <= len => {
             Ok(place_below(list.select_offset_unchecked(o, r, symbol), len))
         }
         Query::Select(r, _) => Ok(place_below(list.select_unchecked(r, symbol), len)),

@@ -71,20 +71,15 @@ pub fn has_numbers<A: Allocator + Copy>(
 }
 
 // Numbers, a width, and the symbols that their low bits are.
-#[derive(Clone, Copy)]
-struct Row<'a> {
-    numbers: &'a [u64],
-    width: u16,
-    symbols: &'a [u64],
-}
+type Row<'a> = (&'a [u64], u16, &'a [u64]);
 
 const HIGHEST: u64 = 1 << 63;
 
 // Returns the number of the first row of which a constructor makes other symbols.
 fn first_wrong_numbers(alloc: Global, method: Method, rows: &[Row]) -> Option<usize> {
-    for (at, row) in rows.iter().enumerate() {
-        let made = of_numbers(alloc, method, row.numbers, row.width);
-        let is_right = asked(made, |it| has_numbers(it, row.width, row.symbols));
+    for (at, (numbers, width, symbols)) in rows.iter().enumerate() {
+        let made = of_numbers(alloc, method, numbers, *width);
+        let is_right = asked(made, |it| has_numbers(it, *width, symbols));
         if is_right != Ok(true) {
             return Some(at);
         }
@@ -94,31 +89,11 @@ fn first_wrong_numbers(alloc: Global, method: Method, rows: &[Row]) -> Option<us
 
 // Numbers of which only the low bits count.
 const LOW_BITS: [Row; 5] = [
-    Row {
-        numbers: &[9, 5, 3],
-        width: 3,
-        symbols: &[1, 5, 3],
-    },
-    Row {
-        numbers: &[2, 3, 4, 5],
-        width: 1,
-        symbols: &[0, 1, 0, 1],
-    },
-    Row {
-        numbers: &[7, 7, 6, 0, 7, 1],
-        width: 3,
-        symbols: &[7, 7, 6, 0, 7, 1],
-    },
-    Row {
-        numbers: &[],
-        width: 8,
-        symbols: &[],
-    },
-    Row {
-        numbers: &[u64::MAX, 0, 256],
-        width: 8,
-        symbols: &[255, 0, 0],
-    },
+    (&[9, 5, 3], 3, &[1, 5, 3]),
+    (&[2, 3, 4, 5], 1, &[0, 1, 0, 1]),
+    (&[7, 7, 6, 0, 7, 1], 3, &[7, 7, 6, 0, 7, 1]),
+    (&[], 8, &[]),
+    (&[u64::MAX, 0, 256], 8, &[255, 0, 0]),
 ];
 
 #[test]
@@ -132,31 +107,11 @@ fn numbers_count_by_their_low_bits() {
 
 // Numbers of 0 bits, and of all 64.
 const ENDS: [Row; 5] = [
-    Row {
-        numbers: &[7, 7],
-        width: 0,
-        symbols: &[],
-    },
-    Row {
-        numbers: &[],
-        width: 0,
-        symbols: &[],
-    },
-    Row {
-        numbers: &[],
-        width: 64,
-        symbols: &[],
-    },
-    Row {
-        numbers: &[u64::MAX, 0, HIGHEST, 5],
-        width: 64,
-        symbols: &[u64::MAX, 0, HIGHEST, 5],
-    },
-    Row {
-        numbers: &[HIGHEST, 5],
-        width: 63,
-        symbols: &[0, 5],
-    },
+    (&[7, 7], 0, &[]),
+    (&[], 0, &[]),
+    (&[], 64, &[]),
+    (&[u64::MAX, 0, HIGHEST, 5], 64, &[u64::MAX, 0, HIGHEST, 5]),
+    (&[HIGHEST, 5], 63, &[0, 5]),
 ];
 
 #[test]
@@ -299,12 +254,7 @@ fn makes_numbers(alloc: Global, method: Method, count: usize, width: u16) -> boo
     let numbers = match numbers(alloc, count, width) { Ok(numbers) => numbers, _ => {
         return false;
     } };
-    let row = Row {
-        numbers: &numbers,
-        width,
-        symbols: &numbers,
-    };
-    first_wrong_numbers(alloc, method, &[row]).is_none()
+    first_wrong_numbers(alloc, method, &[(&numbers, width, &numbers)]).is_none()
 }
 
 // Returns the first number of symbols of 9 bits that a constructor does not make of their numbers.

@@ -32,10 +32,7 @@ pub fn walk_over<A: Allocator + Copy>(
     alloc: A,
     numbers: &[u64],
 ) -> Result<WaveletIter<A>, AllocError> {
-    match symbols_of(alloc, numbers, WIDTH) {
-        Ok(symbols) => Ok(symbols.into_iter()),
-        Err(fault) => Err(fault),
-    }
+    Ok(symbols_of(alloc, numbers, WIDTH)?.into_iter())
 }
 
 /// Returns the same walk, ascending.
@@ -43,10 +40,7 @@ pub fn sorted_walk_over<A: Allocator + Copy>(
     alloc: A,
     numbers: &[u64],
 ) -> Result<WaveletSortedIter<A>, AllocError> {
-    match symbols_of(alloc, numbers, WIDTH) {
-        Ok(symbols) => Ok(symbols.into_iter_sorted()),
-        Err(fault) => Err(fault),
-    }
+    Ok(symbols_of(alloc, numbers, WIDTH)?.into_iter_sorted())
 }
 
 /// Returns a walk over the symbols of numbers, as numbers. There is always one.
@@ -54,10 +48,9 @@ pub fn number_walk_over<A: Allocator + Copy>(
     alloc: A,
     numbers: &[u64],
 ) -> Result<WaveletNumIter<A>, AllocError> {
-    match symbols_of(alloc, numbers, WIDTH) {
-        Ok(symbols) => symbols.into_iter_u64().ok_or(AllocError),
-        Err(fault) => Err(fault),
-    }
+    symbols_of(alloc, numbers, WIDTH)?
+        .into_iter_u64()
+        .ok_or(AllocError)
 }
 
 /// Returns the same walk, ascending.
@@ -65,10 +58,9 @@ pub fn sorted_number_walk_over<A: Allocator + Copy>(
     alloc: A,
     numbers: &[u64],
 ) -> Result<WaveletSortedNumIter<A>, AllocError> {
-    match symbols_of(alloc, numbers, WIDTH) {
-        Ok(symbols) => symbols.into_iter_sorted_u64().ok_or(AllocError),
-        Err(fault) => Err(fault),
-    }
+    symbols_of(alloc, numbers, WIDTH)?
+        .into_iter_sorted_u64()
+        .ok_or(AllocError)
 }
 
 // A constructor of the symbols of numbers, or of their bits.
@@ -82,10 +74,6 @@ impl<'a> Making for OfNumbers<'a, '_> {
     type Made = WaveletMatrix<&'a Heap>;
 
     type Fault = AllocError;
-
-    fn out_of_memory(&self) -> AllocError {
-        AllocError
-    }
 
     fn make(&self) -> Result<WaveletMatrix<&'a Heap>, AllocError> {
         of_numbers(self.heap, self.method, self.numbers, WIDTH)
@@ -106,10 +94,6 @@ impl<'a> Making for OfBits<'a, '_, '_> {
     type Made = WaveletMatrix<&'a Heap>;
 
     type Fault = AllocError;
-
-    fn out_of_memory(&self) -> AllocError {
-        AllocError
-    }
 
     fn make(&self) -> Result<WaveletMatrix<&'a Heap>, AllocError> {
         of_bits(self.method, self.bits, WIDTH)
@@ -177,10 +161,6 @@ impl<'a> Making for OfWideBits<'a, '_> {
     type Made = WaveletMatrix<&'a Heap>;
 
     type Fault = AllocError;
-
-    fn out_of_memory(&self) -> AllocError {
-        AllocError
-    }
 
     fn make(&self) -> Result<WaveletMatrix<&'a Heap>, AllocError> {
         of_bits(Method::Sorting, self.bits, WIDE)

@@ -131,10 +131,7 @@ pub enum Query {
 
 /// Returns a position or a count as a number.
 pub fn as_number(n: Option<usize>) -> Option<u64> {
-    match n {
-        Some(n) => Some(n as u64),
-        None => None,
-    }
+    Some(n? as u64)
 }
 
 // Returns the answer of a query of a range of symbols, for numbers.
@@ -206,7 +203,7 @@ pub fn counted_answer<A: Allocator + Copy>(
 
 /// Returns the position that an unchecked select returns, or `None` if it is the length.
 pub fn place_below(place: usize, len: usize) -> Option<u64> {
-    (place < len).then_some(place as u64)
+    (place != len).then_some(place as u64)
 }
 
 // Returns the answer of the unchecked form of a query by size, or of its plain form if the precondition doesn't
@@ -244,7 +241,7 @@ pub fn unchecked_answer<A: Allocator + Copy>(list: &WaveletMatrix<A>, query: Que
             Some(list.rank_offset_u64_unchecked(a, b, s) as u64)
         }
         Query::Rank(i, s) if i <= len => Some(list.rank_u64_unchecked(i, s) as u64),
-        Query::SelectOffset(o, r, s) if o < len => {
+        Query::SelectOffset(o, r, s) if o <= len => {
             place_below(list.select_offset_u64_unchecked(o, r, s), len)
         }
         Query::Select(r, s) => place_below(list.select_u64_unchecked(r, s), len),

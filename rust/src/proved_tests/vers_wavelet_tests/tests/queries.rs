@@ -1,12 +1,10 @@
 //! The queries for symbols that are numbers.
 
 use crate::rattle::prelude::*;
-use crate::proved_tests::vers_wavelet_tests::tests::lists::{Asked, Coding, is_answered_for, is_answered_in_lists, symbol_of};
+use crate::proved_tests::vers_wavelet_tests::tests::lists::is_answered_in_lists;
 use crate::proved_tests::vers_wavelet_tests::tests::numbers::{Query, is_answered, symbols_of};
 use crate::rattle::Allocator;
-use crate::rattle::Global;
 use crate::proved_tests::test_alloc::{Check, is_made_right};
-use crate::proved::vers_bits::bit_vec::BitVec;
 use crate::proved::vers_wavelet::wavelet::WaveletMatrix;
 
 // The symbols, their width, queries and their answers.
@@ -29,6 +27,7 @@ const CASES: [Case; 5] = [
             (Query::Successor(0, 3, 4), Some(5)),
             (Query::Select(1, 1), None),
             (Query::Select(1, 3), None),
+            (Query::Select(usize::MAX, 1), None),
             (Query::Select(0, 3), Some(2)),
             (Query::Rank(3, 11), Some(1)),
             (Query::RankRange(3, 3, 1), None),
@@ -39,6 +38,11 @@ const CASES: [Case; 5] = [
             (Query::Max(3, 2), None),
             (Query::Min(1, 1), None),
             (Query::Successor(0, 4, 0), None),
+            (Query::SelectOffset(0, 0, 3), Some(2)),
+            (Query::SelectOffset(0, 1, 3), None),
+            (Query::SelectOffset(1, 0, 5), Some(1)),
+            (Query::SelectOffset(2, 0, 5), None),
+            (Query::SelectOffset(3, 0, 3), None),
             (Query::SelectOffset(0, usize::MAX, 1), None),
             (Query::Quantile(0, 3, usize::MAX), None),
             (Query::Sorted(0), Some(1)),
@@ -139,103 +143,4 @@ fn first_wrong_of_all<A: Allocator + Copy>(alloc: A) -> Option<usize> {
 fn answers() {
     let rt = HostRuntime;
     assert!(first_wrong_of_all(rt.alloc()).is_none());
-}
-
-// Unchecked selects of `[1, 5, 3]`: the first position, the occurrence, the symbol and the returned position,
-// which is the length if there is no such occurrence.
-const PLACES: [(usize, usize, u64, usize); 6] = [
-    (0, 1, 3, 3),
-    (0, 0, 3, 2),
-    (1, 0, 5, 1),
-    (2, 0, 5, 3),
-    (3, 0, 3, 3),
-    (0, usize::MAX, 1, 3),
-];
-
-// Returns true if unchecked selects for numbers find them.
-fn finds_places<A: Allocator + Copy>(list: &WaveletMatrix<A>) -> bool {
-    if list.len() != 3 || list.bits_per_element() > 64 {
-        return false;
-    }
-    for (offset, rank, symbol, place) in PLACES.iter() {
-        if *offset > 3 || list.select_offset_u64_unchecked(*offset, *rank, *symbol) != *place {
-            return false;
-        }
-        if *offset == 0 && list.select_u64_unchecked(*rank, *symbol) != *place {
-            return false;
-        }
-    }
-    true
-}
-
-// Occurrence `rank` of a symbol from a position on, and its position.
-struct Found<'a, A: Allocator + Copy> {
-    list: &'a WaveletMatrix<A>,
-    offset: usize,
-    rank: usize,
-    place: usize,
-}
-
-// Checks whether unchecked selects for a list of bits find it.
-impl<A: Allocator + Copy> Check<BitVec<A>> for Found<'_, A> {
-    fn is_right(&self, symbol: &mut BitVec<A>) -> bool {
-        if symbol.len() != self.list.bits_per_element() || self.offset > self.list.len() {
-            return false;
-        }
-        let found = self
-            .list
-            .select_offset_unchecked(self.offset, self.rank, symbol);
-        found == self.place
-            && (self.offset > 0 || self.list.select_unchecked(self.rank, symbol) == self.place)
-    }
-}
-
-// The positions that unchecked selects find.
-struct Places(Global);
-
-impl Check<WaveletMatrix<Global>> for Places {
-    fn is_right(&self, list: &mut WaveletMatrix<Global>) -> bool {
-        for (offset, rank, symbol, place) in PLACES.iter() {
-            let found = Found {
-                list,
-                offset: *offset,
-                rank: *rank,
-                place: *place,
-            };
-            if !is_made_right(symbol_of(self.0, *symbol, 3), &found) {
-                return false;
-            }
-        }
-        finds_places(list)
-    }
-}
-
-#[test]
-fn unchecked_selects_answer_the_length_for_none() {
-    let rt = HostRuntime;
-    let alloc = rt.alloc();
-    assert!(is_made_right(symbols_of(alloc, &[1, 5, 3], 3), &Places(alloc)));
-}
-
-// A symbol of two bits.
-struct TwoBits(Global);
-
-// Checks whether no form of a query finds a predecessor of it.
-impl Check<WaveletMatrix<Global>> for TwoBits {
-    fn is_right(&self, list: &mut WaveletMatrix<Global>) -> bool {
-        let asked = Asked {
-            list,
-            query: Query::Predecessor(0, 3, 3),
-            coding: Coding::Bits,
-            wanted: None,
-        };
-        is_answered_for(&asked, symbol_of(self.0, 3, 2))
-    }
-}
-
-#[test]
-fn a_symbol_of_two_bits_has_no_predecessor_among_those_of_three() {
-    let rt = HostRuntime;
-    let alloc = rt.alloc();
-    assert!(is_made_right(symbols_of(alloc, &[1, 5, 3], 3), &TwoBits(alloc)));
 }

@@ -104,10 +104,6 @@ impl Making for Answer<'_, '_, '_> {
 
     type Fault = AllocError;
 
-    fn out_of_memory(&self) -> AllocError {
-        AllocError
-    }
-
     fn make(&self) -> Told {
         let query = self.asking.topic.query(self.list.len());
         answer_in(self.list, query, self.asking.form, self.symbol)
@@ -165,23 +161,11 @@ impl Trial<Global> for Asking {
 // Returns the first length at which a form of a query is wrong.
 fn first_wrong_answer(alloc: Global) -> Option<(usize, usize)> {
     for topic in TOPICS {
-        let forms = [
-            Asking {
-                topic,
-                form: Form::Plain,
-            },
-            Asking {
-                topic,
-                form: Form::Counted,
-            },
-            Asking {
-                topic,
-                form: Form::Unchecked,
-            },
-        ];
-        let wrong = first_wrong_trial(alloc, &LENGTHS, &forms);
-        if wrong.is_some() {
-            return wrong;
+        for form in [Form::Plain, Form::Counted, Form::Unchecked] {
+            let wrong = first_wrong_trial(alloc, &LENGTHS, &[Asking { topic, form }]);
+            if wrong.is_some() {
+                return wrong;
+            }
         }
     }
     None
@@ -217,11 +201,12 @@ enum How {
     Last,
 }
 
-const HOWS: [How; 9] = [
+const HOWS: [How; 10] = [
     How::Plain(Step::Next),
     How::Plain(Step::NextBack),
     How::Plain(Step::Nth(1)),
     How::Plain(Step::NthBack(2)),
+    How::Plain(Step::Nth(usize::MAX)),
     How::Counted(Step::Next),
     How::Counted(Step::NextBack),
     How::Counted(Step::Nth(1)),

@@ -49,10 +49,6 @@ impl<A: Allocator + Copy> Making for Masking<'_, A> {
 
     type Fault = Option<AllocError>;
 
-    fn out_of_memory(&self) -> Option<AllocError> {
-        Some(AllocError)
-    }
-
     fn make(&self) -> Result<BitVec<A>, Option<AllocError>> {
         masked(self.mask, self.left, self.right)
     }

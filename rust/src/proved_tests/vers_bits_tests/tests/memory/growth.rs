@@ -88,10 +88,6 @@ struct Growing<'a, A: Allocator + Copy> {
 impl<A: Allocator + Copy> Edit<BitVec<A>> for Growing<'_, A> {
     type Fault = GrowError;
 
-    fn out_of_memory(&self) -> GrowError {
-        GrowError::Memory
-    }
-
     fn edit(&self, list: &mut BitVec<A>) -> Result<(), GrowError> {
         grow(list, self.growth, self.next)
     }

@@ -92,10 +92,6 @@ impl<A: Allocator + Copy> Making for OfItems<'_, A> {
 
     type Fault = GrowError;
 
-    fn out_of_memory(&self) -> GrowError {
-        GrowError::Memory
-    }
-
     fn make(&self) -> Result<BitVec<A>, GrowError> {
         make(self.items.allocator(), self.maker, self.items)
     }

@@ -1,0 +1,16 @@
+//! An inverted index: many ascending lists of documents, one for each term, stored as one list of numbers.
+
+use crate::rattle::prelude::*;
+
+mod documents;
+mod fault;
+mod inverted_index;
+mod list;
+mod make;
+mod operations;
+mod queries;
+
+pub use documents::Documents;
+pub use fault::InvertedError;
+pub use inverted_index::InvertedIndex;
+pub use list::ListOf;

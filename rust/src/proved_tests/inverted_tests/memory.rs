@@ -1,0 +1,277 @@
+//! The calls that allocate, each of their requests refused in turn.
+
+use crate::rattle::prelude::*;
+use crate::proved_tests::inverted_tests::shared::{Answers, OPERATIONS, Operation, combined, has_list, has_members, is_answered};
+use crate::proved::inverted::{InvertedError, InvertedIndex, ListOf};
+use crate::proved::sets::Walk;
+use crate::rattle::AllocError;
+use crate::rattle::Allocator;
+use crate::rattle::Global;
+use crate::proved_tests::test_alloc::{
+    Check, Ending, LENGTHS, Making, Refusing, Trial, first_wrong_trial, try_clone_checked,
+    try_making, try_use_checked,
+};
+use crate::proved::vers_sorted::elias_fano::EliasFanoVec;
+
+type Heap = Refusing<Global>;
+
+// Returns pairs of terms 0 and 2: the first `n` even documents, and the second half of these.
+fn evens<A: Allocator + Copy>(alloc: A, n: usize) -> Result<Vec<(u64, u64), A>, AllocError> {
+    let mut pairs = Vec::new(alloc);
+    for k in 0..n as u64 {
+        pairs.push((0, k.wrapping_mul(2)))?;
+    }
+    for k in n as u64 / 2..n as u64 {
+        pairs.push((2, k.wrapping_mul(2)))?;
+    }
+    Ok(pairs)
+}
+
+// Returns the documents of term 0.
+fn documents<A: Allocator + Copy>(alloc: A, n: usize) -> Result<Vec<u64, A>, AllocError> {
+    let mut found = Vec::new(alloc);
+    for k in 0..n as u64 {
+        found.push(k.wrapping_mul(2))?;
+    }
+    Ok(found)
+}
+
+// The limit of documents.
+const UNIVERSE: u64 = 1 << 40;
+
+// The index of pairs.
+struct Indexing<'a, A: Allocator + Copy> {
+    alloc: A,
+    pairs: &'a [(u64, u64)],
+    documents: &'a [u64],
+}
+
+// The documents of terms 0 and 2 that an index must have.
+#[derive(Clone, Copy)]
+struct Wanted<'a> {
+    documents: &'a [u64],
+}
+
+// Returns true if an index has the documents, which queries and a walk find.
+fn is_index<A: Allocator + Copy>(index: &InvertedIndex<A>, documents: &[u64]) -> bool {
+    let half = documents.len() / 2;
+    let mut walk = Walk::new(ListOf::new(index, 2));
+    let mut left = index.documents(2);
+    for document in &documents[half..] {
+        if walk.next() != Some(*document) || left.next() != Some(*document) {
+            return false;
+        }
+    }
+    let none = Answers {
+        contains: false,
+        rank: 0,
+        next: None,
+    };
+    walk.next().is_none()
+        && left.next().is_none()
+        && has_list(index, 0, documents)
+        && has_list(index, 2, &documents[half..])
+        && is_answered(index, 1, 0, none)
+}
+
+impl<'a, A: Allocator + Copy> Check<InvertedIndex<A>> for Wanted<'a> {
+    fn is_right(&self, it: &mut InvertedIndex<A>) -> bool {
+        is_index(it, self.documents)
+    }
+}
+
+impl<'a, A: Allocator + Copy> Making for Indexing<'a, A> {
+    type Made = InvertedIndex<A>;
+
+    type Fault = InvertedError;
+
+    fn make(&self) -> Result<InvertedIndex<A>, InvertedError> {
+        InvertedIndex::from_pairs(self.alloc, 3, UNIVERSE, self.pairs)
+    }
+
+    fn is_right(&self, index: &InvertedIndex<A>) -> bool {
+        is_index(index, self.documents)
+    }
+}
+
+// An operation on terms 0 and 2, and its result.
+struct Combining<'a, A: Allocator + Copy> {
+    alloc: A,
+    operation: Operation,
+    index: &'a InvertedIndex<A>,
+    wanted: &'a [u64],
+}
+
+impl<'a, A: Allocator + Copy> Making for Combining<'a, A> {
+    type Made = EliasFanoVec<A>;
+
+    type Fault = AllocError;
+
+    fn make(&self) -> Result<EliasFanoVec<A>, AllocError> {
+        combined(self.alloc, self.operation, self.index, 0, 2)
+    }
+
+    fn is_right(&self, found: &EliasFanoVec<A>) -> bool {
+        has_members(found, self.wanted)
+    }
+}
+
+// A call that is tried.
+#[derive(Clone, Copy)]
+enum Call {
+    Make,
+    Clone,
+    Query,
+    Combine(Operation),
+}
+
+// Returns the result of an operation on terms 0 and 2.
+fn wanted_of<'a>(operation: Operation, documents: &'a [u64]) -> &'a [u64] {
+    let half = documents.len() / 2;
+    match operation {
+        Operation::Union | Operation::UnionOf => documents,
+        Operation::Difference => &documents[..half],
+        Operation::Intersection | Operation::IntersectionOf => &documents[half..],
+    }
+}
+
+// Tries an operation on an index that is made. The memory of the index is refused throughout.
+fn tried_operation<'a>(
+    heap: &'a Heap,
+    others: &'a Heap,
+    operation: Operation,
+    index: &InvertedIndex<&'a Heap>,
+    documents: &[u64],
+) -> Ending {
+    others.refuse_all();
+    let combining = Combining {
+        alloc: heap,
+        operation,
+        index,
+        wanted: wanted_of(operation, documents),
+    };
+    try_making(heap, &combining)
+}
+
+// Tries an operation on an index.
+fn tried_on<'a>(
+    heap: &'a Heap,
+    others: &'a Heap,
+    operation: Operation,
+    pairs: &[(u64, u64)],
+    documents: &[u64],
+) -> Ending {
+    match InvertedIndex::from_pairs(others, 3, UNIVERSE, pairs) {
+        Ok(index) => tried_operation(heap, others, operation, &index, documents),
+        Err(_) => Ending::Wrong,
+    }
+}
+
+// Tries a call on pairs and the documents of term 0.
+fn tried(
+    heap: &Heap,
+    alloc: Global,
+    call: Call,
+    pairs: &[(u64, u64)],
+    documents: &[u64],
+) -> Ending {
+    let wanted = Wanted { documents };
+    match call {
+        Call::Make => {
+            let indexing = Indexing {
+                alloc: heap,
+                pairs,
+                documents,
+            };
+            try_making(heap, &indexing)
+        }
+        Call::Clone => {
+            try_clone_checked(
+                heap,
+                InvertedIndex::from_pairs(heap, 3, UNIVERSE, pairs),
+                &wanted,
+            )
+        }
+        Call::Query => {
+            try_use_checked(
+                heap,
+                InvertedIndex::from_pairs(heap, 3, UNIVERSE, pairs),
+                &wanted,
+            )
+        }
+        Call::Combine(operation) => {
+            tried_on(heap, &Refusing::none(alloc), operation, pairs, documents)
+        }
+    }
+}
+
+// Tries a call on the first `len` even documents.
+fn tried_at(heap: &Heap, alloc: Global, call: Call, len: usize) -> Result<Ending, AllocError> {
+    let pairs = evens(alloc, len)?;
+    let documents = documents(alloc, len)?;
+    Ok(tried(heap, alloc, call, pairs.as_slice(), documents.as_slice()))
+}
+
+// A call, and the memory of what it needs.
+#[derive(Clone, Copy)]
+struct CallIn {
+    call: Call,
+    alloc: Global,
+}
+
+impl Trial<Global> for CallIn {
+    fn run(self, heap: &Heap, len: usize) -> Ending {
+        tried_at(heap, self.alloc, self.call, len).unwrap_or(Ending::Wrong)
+    }
+
+    fn takes_memory(self, _: usize) -> bool {
+        !matches!(self.call, Call::Query)
+    }
+}
+
+// Returns the first length at which making, cloning or querying is wrong, and the number of the call.
+fn first_wrong(alloc: Global) -> Option<(usize, usize)> {
+    let calls = [
+        CallIn {
+            call: Call::Make,
+            alloc,
+        },
+        CallIn {
+            call: Call::Clone,
+            alloc,
+        },
+        CallIn {
+            call: Call::Query,
+            alloc,
+        },
+    ];
+    first_wrong_trial(alloc, &LENGTHS, &calls)
+}
+
+#[test]
+fn indexes_take_memory() {
+    let rt = HostRuntime;
+    assert!(InvertedError::from(AllocError) == InvertedError::Memory);
+    assert!(first_wrong(rt.alloc()).is_none());
+}
+
+// Returns the first length at which an operation is wrong.
+fn first_wrong_operation(alloc: Global) -> Option<usize> {
+    for operation in OPERATIONS {
+        let calls = [CallIn {
+            call: Call::Combine(operation),
+            alloc,
+        }];
+        let wrong = first_wrong_trial(alloc, &LENGTHS, &calls);
+        if let Some((len, _)) = wrong {
+            return Some(len);
+        }
+    }
+    None
+}
+
+#[test]
+fn operations_take_memory() {
+    let rt = HostRuntime;
+    assert!(first_wrong_operation(rt.alloc()).is_none());
+}

@@ -1,0 +1,17 @@
+//! Tests of the inverted index. An `assert!` of an `==` is faster to prove than an `assert_eq!`, which prints both
+//! sides.
+
+use crate::rattle::prelude::*;
+
+#[cfg(test)]
+mod combined;
+#[cfg(test)]
+mod engine;
+#[cfg(test)]
+mod memory;
+#[cfg(test)]
+mod plain;
+#[cfg(test)]
+mod rows;
+#[cfg(test)]
+mod shared;
