@@ -1,0 +1,2 @@
+-- What only proofs and private functions need: no contract of a public function cites a word of it.
+pub mod Counts
