@@ -1,0 +1,10 @@
+pub mod Names
+pub mod Lists
+pub mod Splits
+pub mod Lesser
+pub mod Standing
+pub mod Walking
+pub mod Parts
+pub mod Beginning
+pub mod Growing
+pub mod PublicLaws

@@ -1,0 +1,31 @@
+-- What the queries of a wavelet tree return and read, and what the tree takes.
+use Rattle.std.specs.Prelude.{ℕ, ◌+◌, ◌*◌, ◌^◌, ◌==◌, List, take, count_by}
+use Rattle.std.specs.List.{sum_by}
+use Rattle.vers_tally.specs.Reads.{Reads, only_items, only_nodes, plus, times}
+use Rattle.vers_wavelet.specs.Symbols.{Symbols}
+use Rattle.word_rank.specs.Ranks.{word_rank_reads, word_rank_size}
+use Rattle.wavelet_tree.specs.Trees.{lesser, tree_of, depth, forks}
+
+-- how many of the first elements are a symbol
+abbrev pub occurring : List ℕ → ℕ → ℕ → ℕ
+occurring items place s = count_by (λ y. y == s) (take place items)
+
+-- the sorted position of the first occurrence of a symbol from a position on: its index when all elements are sorted, and equal ones keep their order
+abbrev pub sorted_place : List ℕ → ℕ → ℕ → ℕ
+sorted_place items place s = lesser items s + occurring items place s
+
+-- bound on one fork of a walk: its node, and two ranks
+abbrev pub fork_reads : Reads
+fork_reads = plus (only_nodes 1) (times 2 word_rank_reads)
+
+-- bound on a walk to a symbol: the forks that lead to it, and two numbers of lesser elements
+abbrev pub walk_reads : Symbols → ℕ → Reads
+walk_reads symbols s = plus (only_items 2) (times (depth (tree_of symbols) s) fork_reads)
+
+-- the bits of the forks: one for each element and each fork above it, and one at the end
+abbrev pub bit_count : Symbols → ℕ
+bit_count symbols = sum_by (depth (tree_of symbols)) symbols.items + 1
+
+-- the bytes of a tree: its bits with their counts, 32 for each fork, and 8 for each symbol that there may be and one more
+abbrev pub tree_size : Symbols → ℕ
+tree_size symbols = word_rank_size (bit_count symbols) + 32 * forks (tree_of symbols) + 8 * (2 ^ symbols.width + 1)

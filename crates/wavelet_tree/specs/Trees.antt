@@ -1,0 +1,57 @@
+-- The weight-balanced tree over the symbols of a list. A range of symbols is divided where half of its elements are below, as nearly as symbols allow, until only one symbol of it occurs.
+use Rattle.std.specs.Prelude.{ℕ, zero, suc, ◌+◌, ◌-◌, ◌*◌, ◌^◌, ◌==◌, max, List, map, slice_index, count_by, nat_lt, nat_le, if◌then◌else◌}
+use Rattle.std.specs.List.{range_with_len}
+use Rattle.vers_wavelet.specs.Symbols.{Symbols}
+
+-- a tree over symbols: a leaf has one symbol, and a fork has the symbols below its split on the left, the others on the right
+pub data Tree : Type 0 where
+  leaf : ℕ → Tree
+  fork : ℕ → Tree → Tree → Tree
+
+-- how many elements of a list are below a symbol
+abbrev pub lesser : List ℕ → ℕ → ℕ
+lesser items s = count_by (λ y. nat_lt y s) items
+
+-- for each symbol, and for the number after the last, how many elements are below it
+abbrev pub starts_of : Symbols → List ℕ
+starts_of symbols = map (lesser symbols.items) (range_with_len 0 (2 ^ symbols.width + 1))
+
+-- the first of n symbols from low that has at least half of a number of elements below it, or the symbol after these
+unfoldable pub half_from : List ℕ → ℕ → ℕ → ℕ → ℕ
+half_from starts elements low zero = low
+half_from starts elements low (suc n) = if nat_le elements (2 * slice_index starts low) then low else half_from starts elements (suc low) n
+
+-- of that symbol and the one before it, the one that is nearer to half
+abbrev pub nearer : List ℕ → ℕ → ℕ → ℕ
+nearer starts elements s = if nat_lt elements (slice_index starts (s - 1) + slice_index starts s) then s - 1 else s
+
+-- where the symbols from low to before end are divided
+unfoldable pub split : List ℕ → ℕ → ℕ → ℕ
+split starts low end =
+    nearer starts (slice_index starts low + slice_index starts end) (half_from starts (slice_index starts low + slice_index starts end) (low + 1) (end - (low + 1)))
+
+-- the tree of the symbols from low to before end, of which there are at most n
+unfoldable pub balanced : List ℕ → ℕ → ℕ → ℕ → Tree
+balanced starts zero low end = leaf low
+balanced starts (suc n) low end =
+    if slice_index starts (split starts low end) == slice_index starts end then leaf (split starts low end - 1)
+    else fork (split starts low end) (balanced starts n low (split starts low end)) (balanced starts n (split starts low end) end)
+
+-- the tree of a list of symbols
+abbrev pub tree_of : Symbols → Tree
+tree_of symbols = balanced (starts_of symbols) (2 ^ symbols.width) 0 (2 ^ symbols.width)
+
+-- the depth of a symbol: how many forks lead to its leaf
+unfoldable pub depth : Tree → ℕ → ℕ
+depth (leaf c) s = 0
+depth (fork m l r) s = 1 + (if nat_lt s m then depth l s else depth r s)
+
+-- the number of forks of a tree
+unfoldable pub forks : Tree → ℕ
+forks (leaf c) = 0
+forks (fork m l r) = forks l + forks r + 1
+
+-- the depth of the deepest leaf
+unfoldable pub height : Tree → ℕ
+height (leaf c) = 0
+height (fork m l r) = 1 + max (height l) (height r)
