@@ -15,7 +15,7 @@ pub use Rattle.std.proofs.lemmas.List.Sums.{count_by-le-length, count_by_more_no
 pub use Rattle.std.proofs.lemmas.Map.Keys.{IsDistinct-IsPermutation}
 pub use Rattle.std.proofs.lemmas.Map.Made.{AllPairs-from_IsDistinct, IsDistinct-from_AllPairs}
 pub use Rattle.std.proofs.lemmas.Nat.{div-add-mod', leading_length, mod-mul-add, mod_below, one_shl, pow_below}
-pub use Rattle.std.proofs.lemmas.Option.{cond_some, get_or_from_slice_get, slice_get_within}
+pub use Rattle.std.proofs.lemmas.Option.{cond_some, get_or_from_slice_get, slice_get-get_or, slice_get_within}
 pub use Rattle.std.specs.Int.{div_ceil}
 pub use Rattle.std.proofs.lemmas.List.Edits.{length-remove}
 pub use Rattle.std.specs.List.{AllPairs, count_by, insert, position_or_len, prefix_len, range_with_len, remove}
@@ -31,17 +31,19 @@ pub use Rattle.text_index.specs.inside.Checking.{CheckedUpTo, HeadsAt, HeadsUpTo
 pub use Rattle.text_index.specs.inside.Paths.{AreLinked, HasCome, HaveCome, IsKeptPath, IsNext, IsOnePath, IsWalk, NextUpTo, SteppedUpTo, led_by}
 unfoldable pub use Rattle.text_index.specs.inside.Paths.{walked, walked_on}
 pub use Rattle.text_index.specs.inside.Samples.{AreNumbers, AreSamplesOf, HoldRows, IsPacked, PutRows, Walked, between, unpacked}
-pub use Rattle.text_index.specs.inside.Suffixes.{AreStarts, Found, IsIndexOf, StepsBack, back, column_place, is_not_after, lesser, passing, preceding, seen, text_in}
+pub use Rattle.text_index.specs.inside.Suffixes.{Found, IsIndexOf, StepsBack, back, column_place, is_not_after, lesser, passing, preceding, seen, text_in}
 unfoldable pub use Rattle.text_index.specs.inside.Suffixes.{not_above, spelled, text_of}
 pub use Rattle.vers_bits.proofs.PublicLaws.{length-packed, passes_first}
 pub use Rattle.vers_bits.specs.Bits.{is_bit, limb_count, low_bits, number, pack, part}
 unfoldable pub use Rattle.vers_bits.specs.Bits.{count, part_number}
 pub use Rattle.vers_bits.specs.Laws.{PackedElementsAreItems}
 pub use Rattle.vers_rank.specs.Queries.{get_reads, index_size}
-pub use Rattle.vers_tally.proofs.PublicLaws.{adds_then, adds_weaker, digits-le, digits_is, digits_pow, digits_up, pow_next, within_itself}
-pub use Rattle.vers_tally.specs.Reads.{AddsAtMost, Reads, digits, plus, times}
-pub use Rattle.vers_wavelet.proofs.PublicLaws.{occurrences_are_counted, quantiles_ascend, small_numbers_stay, whole_range}
-unfoldable pub use Rattle.vers_wavelet.specs.Makers.{low_symbols, packed_symbols}
-pub use Rattle.vers_wavelet.specs.Numbers.{low_bits_of}
-pub use Rattle.vers_wavelet.specs.Symbols.{IsKth, Symbols, gathered, gathered_before, matrix_size, occurrences, turned}
+pub use Rattle.vers_tally.proofs.PublicLaws.{adds_nothing, adds_then, adds_weaker, digits-le, digits_is, digits_pow, digits_up, pow_next, within_itself}
+pub use Rattle.vers_tally.specs.Reads.{AddsAtMost, IsWithin, Reads, digits, only_items, plus, times}
+pub use Rattle.vers_wavelet.proofs.PublicLaws.{quantiles_ascend}
+pub use Rattle.vers_wavelet.specs.Symbols.{IsKth, Symbols}
+pub use Rattle.wavelet_tree.proofs.PublicLaws.{depth-le-height}
+pub use Rattle.wavelet_tree.specs.Queries.{fork_reads, occurring, sorted_place, tree_size, walk_reads}
+unfoldable pub use Rattle.wavelet_tree.specs.Trees.{balanced, depth, height}
+pub use Rattle.wavelet_tree.specs.Trees.{starts_of, tree_of}
 pub use lib.Count.{count_leading_zeros}
