@@ -1,5 +1,5 @@
 -- Words in an order.
-use Rattle.vers_saved.proofs.Names.{◌≡◌, ℕ, zero, suc, ◌+◌, ◌-◌, ◌/◌, ◌<◌, ◌&&◌, Bool, true, List, [], ◌∷◌, ◌++◌, length, get_or, take, drop, refl, sym, ap, ◌∙◌, arith, take_more, get_or-take, get_or-drop, length-take, length-drop, take_all, limb_count, each_next, words_among, stands, in_order, ordered_words}
+use Rattle.vers_saved.proofs.Names.{◌≡◌, ℕ, zero, suc, ◌+◌, ◌-◌, ◌/◌, ◌<◌, ◌&&◌, Bool, true, List, [], ◌∷◌, ◌++◌, length, get_or, take, drop, refl, sym, ap, ◌∙◌, arith, take_more, get_or-take, get_or-drop, length-take, length-drop, take_all, each_next, words_among, stands, in_order, ordered_words}
 use Rattle.std.proofs.Math.Bool.{and_assoc, and_comm}
 use Rattle.vers_saved.specs.declared.kind.Order.{Order}
 
@@ -17,21 +17,21 @@ pub each_next-one : (o : ℕ → ℕ → Bool) (xs : List ℕ) → each_next o (
 each_next-one o [] = refl
 each_next-one o (x ∷ xs) = refl
 
-pub length-words_among : (n : ℕ) (words : List ℕ) → length words ≡ limb_count n + 6 → length (words_among n words) ≡ limb_count n
-length-words_among n words e = length-take (limb_count n) (drop 5 words) ∙ omega (arith, length-drop 5 words)
+pub length-words_among : (n : ℕ) (words : List ℕ) → length words ≡ n + 6 → length (words_among n words) ≡ n
+length-words_among n words e = length-take n (drop 5 words) ∙ omega (arith, length-drop 5 words)
 
-pub get_or-words_among : (n : ℕ) (words : List ℕ) (k : ℕ) → k < limb_count n → get_or (words_among n words) k 0 ≡ get_or words (k + 5) 0
+pub get_or-words_among : (n : ℕ) (words : List ℕ) (k : ℕ) → k < n → get_or (words_among n words) k 0 ≡ get_or words (k + 5) 0
 get_or-words_among n words k h =
     let place : 5 + k ≡ k + 5 = omega arith in
-    get_or-take (limb_count n) (drop 5 words) k 0 h ∙ get_or-drop 5 words k 0 ∙ ap (λ p. get_or words p 0) place
+    get_or-take n (drop 5 words) k 0 h ∙ get_or-drop 5 words k 0 ∙ ap (λ p. get_or words p 0) place
 
 -- one word more
-pub copied_more : (n : ℕ) (words : List ℕ) (k : ℕ) (kept : List ℕ) (word : ℕ) → length words ≡ limb_count n + 6 → k < limb_count n → kept ≡ take k (words_among n words)
+pub copied_more : (n : ℕ) (words : List ℕ) (k : ℕ) (kept : List ℕ) (word : ℕ) → length words ≡ n + 6 → k < n → kept ≡ take k (words_among n words)
     → word ≡ get_or words (k + 5) 0 → kept ++ word ∷ [] ≡ take (k + 1) (words_among n words)
 copied_more n words k kept word long h is is_word = grind (arith, get_or-words_among, take_more, length-words_among)
 
 -- the next word of a form
-pub ordered_more : (o : ℕ → ℕ → Bool) (n : ℕ) (words : List ℕ) (k : ℕ) (holds : Bool) (before next : ℕ) → length words ≡ limb_count n + 6 → suc k < limb_count n
+pub ordered_more : (o : ℕ → ℕ → Bool) (n : ℕ) (words : List ℕ) (k : ℕ) (holds : Bool) (before next : ℕ) → length words ≡ n + 6 → suc k < n
     → holds ≡ each_next o (take (suc k) (words_among n words)) → before ≡ get_or words (k + 5) 0 → next ≡ get_or words (k + 6) 0
     → (holds && o before next) ≡ each_next o (take (suc (k + 1)) (words_among n words))
 ordered_more o n words k holds before next long h so_far is_before is_next =

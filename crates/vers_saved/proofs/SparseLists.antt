@@ -42,13 +42,13 @@ sparse_fit bits small k = elim (cases_lt k (length (sparse_words bits))) [
 pub whole_sparse : (bits : List Bool) → length bits < 2 ^ 64 → count true bits (length bits) < 288230376151711743 → IsWhole SPARSE_LISTS (length (sparse_words bits)) 64 (sparse_words bits)
 whole_sparse bits small few =
     let long = length-sparse bits in
-    whole_numbers SPARSE_LISTS (sparse_words bits) refl (within_bounds SPARSE_LISTS (length (sparse_words bits)) 64 (omega (arith, long)))
+    whole_numbers SPARSE_LISTS (sparse_words bits) refl refl (within_bounds SPARSE_LISTS (length (sparse_words bits)) 64 refl (omega (arith, long)))
     (sparse_fit bits small) ((each_next-rising (sparse_words bits)).1 (sparse_rises bits))
 
 pub sparse_shape : (c w : ℕ) (words : List ℕ) → IsWhole SPARSE_LISTS c w words → (c ≡ length words) × (1 ≤ length words) × (64 ≡ w) × (c ≤ 288230376151711743)
 sparse_shape c w words whole =
-    let b = bounds_are SPARSE_LISTS c w words whole in
-    let same : c ≡ length words = as_many SPARSE_LISTS c w words refl whole in
+    let b = bounds_are SPARSE_LISTS c w words refl whole in
+    let same : c ≡ length words = as_many SPARSE_LISTS c w words refl refl whole in
     (same, omega (arith, b.2), omega (arith, b.0, b.1), b.3)
 
 pub first_rise : (c w : ℕ) (words ones : List ℕ) → IsWhole SPARSE_LISTS c w words → ones ≡ take (length words - 1) words → IsStrictlyIncreasing ones

@@ -1,5 +1,5 @@
 -- The sum of words.
-use Rattle.vers_saved.proofs.Names.{◌≡◌, ℕ, ◌+◌, ◌*◌, ◌/◌, ◌%◌, ◌^◌, ◌<◌, ◌≤◌, drop, List, [], ◌∷◌, ◌++◌, length, get_or, take, refl, sym, ap, ◌∙◌, arith, fold, map, bit_xor, mod_below, pow_pos, fold-append, append_assoc, append-nil, take_more, take_all, take-add, START, MAGIC, VERSION, FACTOR, first_chunks, mix, check_sum, words_of, bytes_word, word_bytes, bytes_of, head, saved, with_sum, or_lt, shr_le, flat_map-append, take-map, drop-map, flat_map_more}
+use Rattle.vers_saved.proofs.Names.{◌≡◌, ℕ, ◌+◌, ◌*◌, ◌/◌, ◌%◌, ◌^◌, ◌<◌, ◌≤◌, drop, List, [], ◌∷◌, ◌++◌, length, get_or, take, refl, sym, ap, ◌∙◌, arith, fold, map, bit_xor, mod_below, pow_pos, fold-append, append_assoc, append-nil, take_more, take_all, take-add, START, MAGIC, FACTOR, first_chunks, mix, check_sum, words_of, bytes_word, word_bytes, bytes_of, head, saved, with_sum, or_lt, shr_le, flat_map-append, take-map, drop-map, flat_map_more}
 use Rattle.std.proofs.lemmas.List.Sums.{fold_more}
 
 pub check_sum-none : check_sum [] ≡ START
@@ -14,13 +14,13 @@ check_sum-more words i h = fold_more mix START words i 0 h
 pub ruleset sums = (check_sum-none, check_sum-more)
 
 -- the head, word by word
-pub check_sum-head : (kind count width : ℕ) → mix (mix (mix (mix (mix START MAGIC) VERSION) kind) width) count ≡ check_sum (head kind count width)
+pub check_sum-head : (version kind count width : ℕ) → mix (mix (mix (mix (mix START MAGIC) version) kind) width) count ≡ check_sum (head version kind count width)
 unfolding check_sum
-check_sum-head kind count width = refl
+check_sum-head version kind count width = refl
 
-pub bytes_of-head : (out : List ℕ) (kind count width : ℕ)
-    → (((((out ++ word_bytes MAGIC) ++ word_bytes VERSION) ++ word_bytes kind) ++ word_bytes width) ++ word_bytes count) ≡ out ++ bytes_of (head kind count width)
-bytes_of-head out kind count width = simp (append_assoc, append-nil)
+pub bytes_of-head : (out : List ℕ) (version kind count width : ℕ)
+    → (((((out ++ word_bytes MAGIC) ++ word_bytes version) ++ word_bytes kind) ++ word_bytes width) ++ word_bytes count) ≡ out ++ bytes_of (head version kind count width)
+bytes_of-head out version kind count width = simp (append_assoc, append-nil)
 
 pub ruleset heads = (check_sum-head, bytes_of-head)
 
@@ -62,15 +62,15 @@ unfolding check_sum
 summed_more front ls k n = sym (fold-append mix START (front ++ take k ls) (take n (drop k ls))) ∙ ap (fold mix START) (more front ls k n)
 
 -- all words, and the sum
-pub written_all : (out : List ℕ) (kind count width k sum : ℕ) (words : List ℕ) → length words ≤ k
-    → sum ≡ check_sum (head kind count width ++ take k words)
-    → (out ++ bytes_of (head kind count width ++ take k words)) ++ word_bytes sum ≡ out ++ saved kind count width words
+pub written_all : (out : List ℕ) (version kind count width k sum : ℕ) (words : List ℕ) → length words ≤ k
+    → sum ≡ check_sum (head version kind count width ++ take k words)
+    → (out ++ bytes_of (head version kind count width ++ take k words)) ++ word_bytes sum ≡ out ++ saved version kind count width words
 unfolding saved with_sum
-written_all out kind count width k sum words h e =
+written_all out version kind count width k sum words h e =
     let all : take k words ≡ words = take_all k words h in
-    flat_map_more word_bytes out (head kind count width ++ take k words) sum
-    ∙ ap (λ s. out ++ bytes_of ((head kind count width ++ take k words) ++ s ∷ [])) e
-    ∙ ap (λ l. out ++ bytes_of ((head kind count width ++ l) ++ check_sum (head kind count width ++ l) ∷ [])) all
+    flat_map_more word_bytes out (head version kind count width ++ take k words) sum
+    ∙ ap (λ s. out ++ bytes_of ((head version kind count width ++ take k words) ++ s ∷ [])) e
+    ∙ ap (λ l. out ++ bytes_of ((head version kind count width ++ l) ++ check_sum (head version kind count width ++ l) ∷ [])) all
 
 -- a sum is a word
 pub mix-lt : (sum word : ℕ) → mix sum word < 2 ^ 64

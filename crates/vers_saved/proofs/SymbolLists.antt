@@ -1,11 +1,13 @@
 -- Saved forms of lists of symbols.
-use Rattle.vers_saved.proofs.Names.{number_below, ◌≡◌, ℕ, zero, suc, ◌+◌, ◌-◌, ◌*◌, ◌/◌, ◌%◌, ◌^◌, ◌<◌, ◌≤◌, Bool, List, [], ◌∷◌, ◌++◌, length, get_or, take, drop, refl, sym, ap, ◌∙◌, inl, inr, arith, map, All, Option, None, Result, Ok, Err, nat_le, slice_get, unwrap_or, take-add, mod-eq_of_lt, pow-le-pow_right, set, cases_lt, le-leb, drop-drop, take_all, take_at, drop_at, take-take, drop-take, length-take, length-map, get_or_past, slice_get-get_or, slice_get_past, mod_below, number, low_bits, part, limbs, limb_count, pack, length-low_bits, number-low_bits, number-take, length-packed, SYMBOL_LISTS, IsWhole, pow-add, below_more, get_or-set_same, get_or-set_other, ◌≢◌, IfOk, if◌then◌else◌, pow-le-pow_right, mul-le-mul_left, mul-le-mul_right, mul-div_cancel, mul-mod_left, le-mul_of_pos_right, lt_of_mul-lt-mul_right, mod-eq-sub-div-mul, div-mul-le_self, map-set, get_or-map, All-map, element, low_bits-add, number-drop, low_bits_of_part, low_symbols, packed_symbols}
+use Rattle.vers_saved.proofs.Names.{number_below, ◌≡◌, ℕ, zero, suc, ◌+◌, ◌-◌, ◌*◌, ◌/◌, ◌%◌, ◌^◌, ◌<◌, ◌≤◌, Bool, List, [], ◌∷◌, ◌++◌, length, get_or, take, drop, refl, sym, ap, ◌∙◌, inl, inr, arith, map, All, Option, None, Result, Ok, Err, nat_le, slice_get, unwrap_or, take-add, mod-eq_of_lt, pow-le-pow_right, set, cases_lt, le-leb, drop-drop, take_all, take_at, drop_at, take-take, drop-take, length-take, length-map, get_or_past, slice_get-get_or, slice_get_past, mod_below, number, low_bits, part, limbs, limb_count, pack, length-low_bits, number-low_bits, number-take, length-packed, PACKED_SYMBOLS, IsWhole, may_be_saved, AreWords, EndsPadded, ◌⊎◌, false, pow-add, below_more, get_or-set_same, get_or-set_other, ◌≢◌, IfOk, if◌then◌else◌, pow-le-pow_right, mul-le-mul_left, mul-le-mul_right, mul-div_cancel, mul-mod_left, le-mul_of_pos_right, lt_of_mul-lt-mul_right, mod-eq-sub-div-mul, div-mul-le_self, map-set, get_or-map, All-map, element, low_bits-add, number-drop, low_bits_of_part, low_symbols, packed_symbols}
 use Rattle.std.specs.List.{range_with_len}
 use Rattle.std.proofs.lemmas.List.FromFn.{length-map-range_with_len, map-range_with_len_more}
 use Rattle.vers_wavelet.specs.Symbols.{Symbols}
 use Rattle.vers_wavelet.specs.declared.wavelet.batch.get.GetQuery.{GetQuery}
 use Rattle.vers_wavelet.proofs.PublicLaws.{small_numbers_stay}
-use Rattle.vers_saved.proofs.Shapes.{bounds_are, within_bounds}
+use Rattle.vers_saved.proofs.Rows.{one_padded}
+use Rattle.std.proofs.Math.Nat.{lt-div-mul-add}
+use Rattle.vers_saved.proofs.Shapes.{refuted, too_many, shape_bounds, bounds_are, flat_words, within_bounds}
 use Rattle.vers_saved.proofs.BitLists.{whole_bits}
 
 pub length-packed_items : (items : List ℕ) (k : ℕ) → length (pack items k) ≡ length items * k
@@ -108,15 +110,16 @@ symbols_fit bits k =
 
 -- ---- whole symbols
 
-pub whole_symbols : (k : ℕ) (items : List ℕ) → 1 ≤ k → k ≤ 64 → length items * k ≤ 18446744073709551552 → IsWhole SYMBOL_LISTS (length items) k (limbs (pack items k))
+pub whole_symbols : (k : ℕ) (items : List ℕ) → 1 ≤ k → k ≤ 64 → length items * k ≤ 18446744073709551552 → IsWhole PACKED_SYMBOLS (length items) k (limbs (pack items k))
 whole_symbols k items some few small =
-    whole_bits SYMBOL_LISTS (length items) k (pack items k)
-    (within_bounds SYMBOL_LISTS (length items) k (omega (arith, some, few, le-mul_of_pos_right (length items) some, small)))
+    whole_bits PACKED_SYMBOLS (length items) k (pack items k) refl
+    (within_bounds PACKED_SYMBOLS (length items) k refl (omega (arith, some, few, le-mul_of_pos_right (length items) some, small)))
     (length-packed_items items k) refl
 
-pub symbols_shape : (count k : ℕ) (words : List ℕ) → IsWhole SYMBOL_LISTS count k words
+pub symbols_shape : (count k : ℕ) (words : List ℕ) → IsWhole PACKED_SYMBOLS count k words
     → (1 ≤ k) × (k ≤ 64) × (count * k ≤ 18446744073709551552) × (length words ≡ limb_count (count * k))
-symbols_shape count k words whole = grind (arith, bounds_are)
+symbols_shape count k words whole =
+    let b = bounds_are PACKED_SYMBOLS count k words refl whole in (b.0, b.1, b.4, whole.counted ∙ flat_words PACKED_SYMBOLS count k refl)
 
 pub whole_number : (count k : ℕ) (bits : List Bool) → 1 ≤ k → length bits ≡ count * k → length bits % k ≡ 0
 whole_number count k bits some e = ap (λ m. m % k) e ∙ mul-mod_left count k
@@ -154,8 +157,8 @@ pub loaded_matrix : (count k w : ℕ) (symbols words : List ℕ) (v : Symbols) �
     → v.width ≡ w → v.items ≡ low_symbols symbols w → (length v.items ≡ count) × (v.width ≡ k) × (limbs (pack v.items v.width) ≡ words) × All (λ y. y < 2 ^ v.width) v.items
 loaded_matrix count k w symbols words v some is_width long same fit wide low = grind (arith, small_numbers_stay)
 
-pub count_small : (count k a b : ℕ) (words : List ℕ) → IsWhole SYMBOL_LISTS count k words → a ≡ count → b ≡ k → a * b ≤ 18446744073709551552
-count_small count k a b words whole is_count is_width = rw (is_count, is_width) (bounds_are SYMBOL_LISTS count k words whole).4
+pub count_small : (count k a b : ℕ) (words : List ℕ) → IsWhole PACKED_SYMBOLS count k words → a ≡ count → b ≡ k → a * b ≤ 18446744073709551552
+count_small count k a b words whole is_count is_width = rw (is_count, is_width) (bounds_are PACKED_SYMBOLS count k words refl whole).4
 
 pub all_bits : (items : List ℕ) (k a b : ℕ) → a ≡ length items → b ≡ k → a * b ≡ length (pack items k)
 all_bits items k a b is_count is_width = rw (is_count, is_width) (sym (length-packed_items items k))
@@ -222,5 +225,26 @@ pub symbol_next : (symbols items : List ℕ) (j n symbol : ℕ) → j < length s
     → (i : ℕ) → i < j + 1 → get_or (set symbols j symbol) i 0 ≡ get_or items (n + i) 0
 symbol_next symbols items j n symbol h so_far is =
     below_more _ _ (λ k less. let ne : k ≢ j = omega arith in rw get_or-set_other (so_far k less)) (rw get_or-set_same is)
+
+-- symbols of no bits, of more than 64, or too many, have no form
+pub no_packed : (width count : ℕ) → (width ≡ 0) ⊎ (64 < width) → may_be_saved PACKED_SYMBOLS count width ≡ false
+no_packed width count wrong = refuted _ (λ may. let b = shape_bounds PACKED_SYMBOLS count width may in elim wrong [ inl none ↦ omega (arith, b.0) | inr wide ↦ omega (arith, b.1) ])
+
+pub many_packed : (n a b w : ℕ) → a ≡ n → b ≡ w → 0 < w → 18446744073709551552 / b < a → may_be_saved PACKED_SYMBOLS n w ≡ false
+many_packed n a b w is_count is_width some many =
+    let size : 18446744073709551552 < 18446744073709551552 / w * w + w = lt-div-mul-add some in
+    let more : (18446744073709551552 / w + 1) * w ≤ n * w = mul-le-mul_right w (let h = rw (is_count, is_width) at many in omega (arith, h)) in
+    too_many PACKED_SYMBOLS n w (omega (arith, flat_words PACKED_SYMBOLS n w refl, size, more))
+
+-- numbers in words that end padded
+pub whole_part : (count k : ℕ) (words : List ℕ) → 1 ≤ k → k ≤ 32 → count ≤ 4294967295 → length words ≡ limb_count (count * k) → AreWords words → EndsPadded (count * k) words
+    → IsWhole PACKED_SYMBOLS count k words
+whole_part count k words some narrow few long fit padded = record {
+  may = within_bounds PACKED_SYMBOLS count k refl (omega (arith, some, narrow, few, mul-le-mul_right k few));
+  counted = long ∙ sym (flat_words PACKED_SYMBOLS count k refl);
+  fit = fit;
+  padded = one_padded (count * k) words padded;
+  ordered = refl;
+}
 
 pub ruleset symbols = (symbols_shape, whole_number)

@@ -1,10 +1,10 @@
 -- Why bytes are no saved form: the first test of some that fails.
-use Rattle.std.specs.Prelude.{ℕ, ◌+◌, ◌*◌, ◌/◌, ◌%◌, ◌^◌, ◌==◌, ◌&&◌, ◌||◌, Bool, true, List, [], ◌∷◌, ◌++◌, length, take, drop, slice_index, nat_lt, nat_le, Option, None, Some, if◌then◌else◌}
+use Rattle.std.specs.Prelude.{ℕ, zero, suc, ◌+◌, ◌*◌, ◌/◌, ◌%◌, ◌^◌, ◌==◌, ◌&&◌, ◌||◌, Bool, true, false, List, [], ◌∷◌, ◌++◌, length, take, drop, slice_index, nat_lt, nat_le, Option, None, Some, if◌then◌else◌}
 use Rattle.vers_bits.specs.Bits.{limb_count}
-use Rattle.vers_bits.specs.declared.bit_vec.TheConstants.{MAX_LEN}
 use Rattle.vers_sorted.specs.Sorted.{each_next}
 use Rattle.vers_saved.specs.declared.TheConstants.{MAGIC, VERSION}
 use Rattle.vers_saved.specs.declared.kind.Kind.{Kind}
+use Rattle.vers_saved.specs.declared.kind.TheConstants.{GREATEST_WORDS}
 use Rattle.vers_saved.specs.declared.kind.Order.{Order}
 use Rattle.vers_saved.specs.declared.kind.Order.TheVariants.{Any, Ascending, Rising, HalfRising}
 use Rattle.vers_saved.specs.declared.fault.LoadError.{LoadError}
@@ -28,17 +28,38 @@ takes_count kind count = nat_le kind.least_count count && nat_le count kind.grea
 abbrev pub item_bits : Kind → ℕ → ℕ
 item_bits kind width = if kind.item_bits == 0 then width else kind.item_bits
 
--- the words of n bits, of all words of a saved form
+-- how many rows of bits the content is, each from a whole word on: one, or one for each binary digit
+abbrev pub rows_of : Kind → ℕ → ℕ
+rows_of kind width = if kind.by_levels then width else 1
+
+-- how many bits a row has
+abbrev pub row_bits : Kind → (count width : ℕ) → ℕ
+row_bits kind count width = if kind.by_levels then count else count * item_bits kind width
+
+-- how many words rows of n bits fill
+unfoldable pub row_words : (rows bits : ℕ) → ℕ
+row_words rows bits = rows * limb_count bits
+
+-- how many words the content has
+abbrev pub words_for : Kind → (count width : ℕ) → ℕ
+words_for kind count width = row_words (rows_of kind width) (row_bits kind count width)
+
+-- the n words of the content, of all words of a saved form
 abbrev pub words_among : ℕ → List ℕ → List ℕ
-words_among n words = take (limb_count n) (drop 5 words)
+words_among n words = take n (drop 5 words)
 
--- whether the word of the last of n bits has no one past it
-unfoldable pub is_padded : ℕ → List ℕ → Bool
-is_padded n words = (n % 64 == 0) || nat_lt (slice_index words (limb_count n + 4)) (2 ^ (n % 64))
+-- whether the last word of row k has no one past the bits of the row
+abbrev pub row_padded : (bits k : ℕ) → List ℕ → Bool
+row_padded bits k words = (bits % 64 == 0) || nat_lt (slice_index words (k * limb_count bits + limb_count bits + 4)) (2 ^ (bits % 64))
 
--- whether the word after those of n bits is the sum of the words before it
+-- whether that is so of each row
+unfoldable pub is_padded : (rows bits : ℕ) → List ℕ → Bool
+is_padded zero bits words = true
+is_padded (suc k) bits words = is_padded k bits words && row_padded bits k words
+
+-- whether the word after n words of content is the sum of the words before it
 unfoldable pub is_summed : ℕ → List ℕ → Bool
-is_summed n words = slice_index words (limb_count n + 5) == check_sum (take (limb_count n + 5) words)
+is_summed n words = slice_index words (n + 5) == check_sum (take (n + 5) words)
 
 -- whether a word is in an order with the next one
 abbrev pub stands : Order → (ℕ → ℕ → Bool)
@@ -58,38 +79,72 @@ ordered_words HalfRising words = take (length words / 2) words
 abbrev pub in_order : Order → List ℕ → Bool
 in_order order words = each_next (stands order) (ordered_words order words)
 
--- how many bits the items have, as the head of these words says
-abbrev pub bits_said : Kind → List ℕ → ℕ
-bits_said kind words = slice_index words 4 * item_bits kind (slice_index words 3)
+-- how many words the content has, as the head of these words says
+abbrev pub words_said : Kind → List ℕ → ℕ
+words_said kind words = words_for kind (slice_index words 4) (slice_index words 3)
 
 -- the tests of a head
 abbrev pub head_tests : Kind → List ℕ → List (Bool × LoadError)
 head_tests kind words =
     (slice_index words 0 == MAGIC, NotOurs)
-    ∷ (slice_index words 1 == VERSION, OtherVersion)
     ∷ (slice_index words 2 == kind.number, OtherKind)
+    ∷ (slice_index words 1 == kind.version, OtherVersion)
     ∷ (takes_width kind (slice_index words 3), OtherKind)
     ∷ (takes_count kind (slice_index words 4), BadLength)
-    ∷ (nat_le (bits_said kind words) MAX_LEN, BadLength)
+    ∷ (nat_le (words_said kind words) GREATEST_WORDS, BadLength)
     ∷ []
 
--- the tests of what comes after a head, where n bits are said
-abbrev pub body_tests : Order → ℕ → List ℕ → List (Bool × LoadError)
-body_tests order n words =
-    (is_summed n words, BadSum)
-    ∷ (is_padded n words, BadPadding)
-    ∷ (in_order order (words_among n words), NotAscending)
+-- the tests of what comes after a head that says r rows of n bits
+abbrev pub body_tests : Order → (rows bits : ℕ) → List ℕ → List (Bool × LoadError)
+body_tests order rows bits words =
+    (is_summed (row_words rows bits) words, BadSum)
+    ∷ (is_padded rows bits words, BadPadding)
+    ∷ (in_order order (words_among (row_words rows bits) words), NotAscending)
     ∷ []
+
+-- the tests of what comes after the head of these words
+abbrev pub said_tests : Kind → List ℕ → List (Bool × LoadError)
+said_tests kind words = body_tests kind.order (rows_of kind (slice_index words 3)) (row_bits kind (slice_index words 4) (slice_index words 3)) words
 
 -- the tests of a number of bytes with these words, in order, each with the error if it fails
 abbrev pub tests_of : Kind → ℕ → List ℕ → List (Bool × LoadError)
 tests_of kind size words =
     (nat_le 48 size, TooShort)
     ∷ head_tests kind words
-    ++ (nat_le (saved_size (bits_said kind words)) size, TooShort)
-    ∷ (nat_le size (saved_size (bits_said kind words)), BadLength)
-    ∷ body_tests kind.order (bits_said kind words) words
+    ++ (nat_le (saved_size (words_said kind words)) size, TooShort)
+    ∷ (nat_le size (saved_size (words_said kind words)), BadLength)
+    ∷ said_tests kind words
 
--- the error in bytes as the saved form of a list of that kind, or `None` if they are one
-unfoldable pub fault_of : Kind → List ℕ → Option LoadError
-fault_of kind bytes = first_failing (tests_of kind (length bytes) (words_of bytes))
+-- the error in bytes as the saved form of a list of that kind and its version, or `None` if they are one
+unfoldable pub version_fault : Kind → List ℕ → Option LoadError
+version_fault kind bytes = first_failing (tests_of kind (length bytes) (words_of bytes))
+
+-- the version that bytes name: their second word
+abbrev pub version_said : List ℕ → ℕ
+version_said bytes = slice_index (words_of bytes) 1
+
+-- lists of this kind whose items are one after another, as in the first version
+abbrev pub packed_kind : Kind → Kind
+packed_kind kind = record {
+  number = kind.number;
+  version = VERSION;
+  least_width = kind.least_width;
+  greatest_width = kind.greatest_width;
+  item_bits = kind.item_bits;
+  by_levels = false;
+  least_count = kind.least_count;
+  greatest_count = kind.greatest_count;
+  order = kind.order;
+}
+
+-- the kind in a version: that of lists by levels has a first version
+abbrev pub at_version : Kind → ℕ → Kind
+at_version kind version = if kind.by_levels && (version == VERSION) then packed_kind kind else kind
+
+-- the words in a version: the first has others if the kind has lists by levels
+abbrev pub words_in : Kind → ℕ → (words packed : List ℕ) → List ℕ
+words_in kind version words packed = if kind.by_levels && (version == VERSION) then packed else words
+
+-- the error in bytes as the saved form of a list of that kind, in the version that they name, or `None` if they are one
+abbrev pub fault_of : Kind → List ℕ → Option LoadError
+fault_of kind bytes = version_fault (at_version kind (version_said bytes)) bytes

@@ -3,12 +3,13 @@
 use Rattle.std.specs.Prelude.{ℕ, ◌+◌, ◌*◌, ◌/◌, ◌%◌, ◌^◌, Bool, true, List, [], ◌∷◌, ◌++◌, length, map, fold, flat_map, bit_xor}
 use Rattle.std.specs.Int.{w64, to_le_bytes, from_le_bytes, rotate_left}
 use Rattle.std.specs.Simd.{first_chunks}
-use Rattle.vers_bits.specs.Bits.{limbs, limb_count, pack, places}
+use Rattle.vers_bits.specs.Bits.{limbs, pack, places}
+use Rattle.vers_wavelet.specs.Makers.{symbol_levels}
 use Rattle.vers_saved.specs.declared.kind.TheConstants.{BITS, SORTED, SYMBOLS, SPARSE, VALUES, PARENTHESES, POSTINGS, TEXTS}
 use Rattle.postings.specs.Posted.{Posted}
 use Rattle.text_index.specs.Texts.{Text, row_of}
 use Rattle.text_index.specs.Sizes.{column_of, kept_rows}
-use Rattle.vers_saved.specs.declared.TheConstants.{MAGIC, VERSION, START, FACTOR, TURN}
+use Rattle.vers_saved.specs.declared.TheConstants.{MAGIC, VERSION, LEVELS_VERSION, START, FACTOR, TURN}
 
 -- the eight bytes of a word, the lowest first
 unfoldable pub word_bytes : ℕ → List ℕ
@@ -35,32 +36,40 @@ unfoldable pub check_sum : List ℕ → ℕ
 check_sum words = fold mix START words
 
 -- the head: whose it is, of which version, what kind of list, the width of its items (or the size of a tree's blocks), and how many they are
-abbrev pub head : ℕ → ℕ → ℕ → List ℕ
-head kind count width = MAGIC ∷ VERSION ∷ kind ∷ width ∷ count ∷ []
+abbrev pub head : (version kind count width : ℕ) → List ℕ
+head version kind count width = MAGIC ∷ version ∷ kind ∷ width ∷ count ∷ []
 
 -- words, and then their sum
 unfoldable pub with_sum : List ℕ → List ℕ
 with_sum words = words ++ check_sum words ∷ []
 
--- the saved form of `count` elements of a width, whose content is these words
-unfoldable pub saved : ℕ → ℕ → ℕ → List ℕ → List ℕ
-saved kind count width words = bytes_of (with_sum (head kind count width ++ words))
+-- the saved form of a version of `count` elements of a width, whose content is these words
+unfoldable pub saved : (version kind count width : ℕ) → List ℕ → List ℕ
+saved version kind count width words = bytes_of (with_sum (head version kind count width ++ words))
 
--- how many bytes the saved form of n bits has
+-- how many bytes a saved form has, of which n words are the content
 abbrev pub saved_size : ℕ → ℕ
-saved_size n = 8 * (limb_count n + 6)
+saved_size n = 8 * (n + 6)
 
 -- the saved form of a list of bits: its limbs
 abbrev pub saved_bits : List Bool → List ℕ
-saved_bits bits = saved BITS (length bits) 1 (limbs bits)
+saved_bits bits = saved VERSION BITS (length bits) 1 (limbs bits)
 
 -- the saved form of an ascending list: each element as a word
 abbrev pub saved_sorted : List ℕ → List ℕ
-saved_sorted members = saved SORTED (length members) 64 members
+saved_sorted members = saved VERSION SORTED (length members) 64 members
 
--- the saved form of symbols of a width: the limbs of their bits, one symbol after another
+-- the words of symbols of a width: the limbs of each level
+abbrev pub level_words : ℕ → List ℕ → List ℕ
+level_words width items = flat_map limbs (symbol_levels (record { width = width; items = items }))
+
+-- the saved form of symbols of a width: their levels
 abbrev pub saved_symbols : ℕ → List ℕ → List ℕ
-saved_symbols width items = saved SYMBOLS (length items) width (limbs (pack items width))
+saved_symbols width items = saved LEVELS_VERSION SYMBOLS (length items) width (level_words width items)
+
+-- the first version of that form: the limbs of their bits, one symbol after another
+abbrev pub packed_form : ℕ → List ℕ → List ℕ
+packed_form width items = saved VERSION SYMBOLS (length items) width (limbs (pack items width))
 
 -- the words of a sparse list of bits: the positions of the ones, and the length
 abbrev pub sparse_words : List Bool → List ℕ
@@ -68,15 +77,15 @@ sparse_words bits = places true bits ++ length bits ∷ []
 
 -- the saved form of a list of bits with few ones
 abbrev pub saved_sparse : List Bool → List ℕ
-saved_sparse bits = saved SPARSE (length (sparse_words bits)) 64 (sparse_words bits)
+saved_sparse bits = saved VERSION SPARSE (length (sparse_words bits)) 64 (sparse_words bits)
 
 -- the saved form of numbers in any order: each as a word
 abbrev pub saved_values : List ℕ → List ℕ
-saved_values items = saved VALUES (length items) 64 items
+saved_values items = saved VERSION VALUES (length items) 64 items
 
 -- the saved form of parentheses for a tree with blocks of `size` bits: their limbs
 abbrev pub saved_parentheses : ℕ → List Bool → List ℕ
-saved_parentheses size bits = saved PARENTHESES (length bits) size (limbs bits)
+saved_parentheses size bits = saved VERSION PARENTHESES (length bits) size (limbs bits)
 
 -- the words of documents with costs: the documents, and then the cost of each
 abbrev pub posting_words : Posted → List ℕ
@@ -84,7 +93,7 @@ posting_words posted = posted.documents ++ posted.costs
 
 -- the saved form of documents with costs
 abbrev pub saved_postings : Posted → List ℕ
-saved_postings posted = saved POSTINGS (length posted.documents) 128 (posting_words posted)
+saved_postings posted = saved VERSION POSTINGS (length posted.documents) 128 (posting_words posted)
 
 -- three numbers of a text: its length, the step of the samples, and the row of the whole text
 abbrev pub text_numbers : Text → List ℕ
@@ -104,4 +113,4 @@ text_words text = text_numbers text ++ column_limbs text ++ row_limbs text
 
 -- the saved form of the index of a text
 abbrev pub saved_text : Text → List ℕ
-saved_text text = saved TEXTS (length (text_words text)) text.width (text_words text)
+saved_text text = saved VERSION TEXTS (length (text_words text)) text.width (text_words text)

@@ -1,13 +1,13 @@
 -- The laws of sums of words and of saved forms.
 use Rattle.std.specs.Prelude.{◌≡◌, ℕ, ◌*◌, ◌^◌, ◌<◌, ◌≤◌, ◌++◌, ◌∷◌, true, All, List, length, None}
 use Rattle.std.specs.List.Sorted.{IsNonDecreasing}
-use Rattle.vers_bits.specs.Bits.{count}
+use Rattle.vers_bits.specs.Bits.{count, limb_count}
 use Rattle.vers_bits.specs.declared.bit_vec.TheConstants.{MAX_LEN}
 use Rattle.vers_trees.specs.declared.trees.bp.TheConstants.{MAX_BLOCK_SIZE}
 use Rattle.postings.specs.Posted.{ArePaired}
 use Rattle.vers_saved.specs.declared.kind.Kind.{Kind}
-use Rattle.vers_saved.specs.declared.kind.TheConstants.{GREATEST_WORDS, BIT_LISTS, SORTED_LISTS, SYMBOL_LISTS, SPARSE_LISTS, TABLE_VALUES, BLOCK_VALUES, POSTING_LISTS}
-use Rattle.vers_saved.specs.Format.{check_sum, saved_bits, saved_sorted, saved_symbols, saved_sparse, saved_values, saved_parentheses, saved_postings}
+use Rattle.vers_saved.specs.declared.kind.TheConstants.{GREATEST_WORDS, BIT_LISTS, SORTED_LISTS, SYMBOL_LISTS, PACKED_SYMBOLS, SPARSE_LISTS, TABLE_VALUES, BLOCK_VALUES, POSTING_LISTS}
+use Rattle.vers_saved.specs.Format.{check_sum, saved_bits, saved_sorted, saved_symbols, packed_form, saved_sparse, saved_values, saved_parentheses, saved_postings}
 use Rattle.vers_saved.specs.Faults.{fault_of}
 use Rattle.vers_saved.specs.Kinds.{AreWords, tree_kind}
 
@@ -32,7 +32,13 @@ SortedGoRound = GoesRound SORTED_LISTS (λ members. (length members ≤ SORTED_L
 abbrev pub SymbolsGoRound : Type 0
 SymbolsGoRound =
     (width : ℕ) → 1 ≤ width → width ≤ 64
-    → GoesRound SYMBOL_LISTS (λ items. (length items * width ≤ MAX_LEN) × All (λ y. y < 2 ^ width) items) (saved_symbols width)
+    → GoesRound SYMBOL_LISTS (λ items. (width * limb_count (length items) ≤ GREATEST_WORDS) × All (λ y. y < 2 ^ width) items) (saved_symbols width)
+
+-- and so does one that was saved in the first version
+abbrev pub PackedSymbolsGoRound : Type 0
+PackedSymbolsGoRound =
+    (width : ℕ) → 1 ≤ width → width ≤ 64
+    → GoesRound PACKED_SYMBOLS (λ items. (length items * width ≤ MAX_LEN) × All (λ y. y < 2 ^ width) items) (packed_form width)
 
 -- a saved sparse list of bits loads as the same list
 abbrev pub SparseGoRound : Type 0

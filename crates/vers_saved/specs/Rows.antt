@@ -5,7 +5,7 @@ use Rattle.vers_saved.specs.declared.kind.Order.TheVariants.{Ascending, Rising, 
 use Rattle.vers_saved.specs.declared.kind.TheConstants.{BIT_LISTS, SORTED_LISTS}
 use Rattle.vers_saved.specs.declared.fault.LoadError.TheVariants.{TooShort, OtherKind, BadLength}
 use Rattle.vers_saved.specs.Format.{word_bytes, bytes_word, words_of, mix, check_sum, head, with_sum, saved, saved_bits, sparse_words, posting_words}
-use Rattle.vers_saved.specs.Faults.{in_order, is_padded, is_summed, fault_of}
+use Rattle.vers_saved.specs.Faults.{in_order, is_padded, is_summed, row_words, fault_of, version_fault}
 
 pub word_bytes-258 : word_bytes 258 ≡ 2 ∷ 1 ∷ 0 ∷ 0 ∷ 0 ∷ 0 ∷ 0 ∷ 0 ∷ []
 unfolding word_bytes
@@ -16,7 +16,7 @@ unfolding bytes_word
 bytes_word-258 = refl
 
 -- the sum of the head and the word of the bits 0110
-pub check_sum-0110 : check_sum (head 1 4 1 ++ 6 ∷ []) ≡ 17659836652705875429
+pub check_sum-0110 : check_sum (head 1 1 4 1 ++ 6 ∷ []) ≡ 17659836652705875429
 unfolding check_sum mix
 check_sum-0110 = refl
 
@@ -30,19 +30,19 @@ unfolding saved with_sum check_sum mix word_bytes limbs limb
 saved-0110 = refl
 
 pub fault_of-0110 : fault_of BIT_LISTS four_bits ≡ None
-unfolding fault_of words_of bytes_word is_summed is_padded check_sum mix
+unfolding version_fault words_of bytes_word row_words is_summed is_padded check_sum mix
 fault_of-0110 = refl
 
 pub fault_of-none : fault_of BIT_LISTS [] ≡ Some TooShort
-unfolding fault_of words_of
+unfolding version_fault words_of
 fault_of-none = refl
 
 pub fault_of-other : fault_of SORTED_LISTS four_bits ≡ Some OtherKind
-unfolding fault_of words_of bytes_word
+unfolding version_fault words_of bytes_word
 fault_of-other = refl
 
 pub fault_of-more : fault_of BIT_LISTS (four_bits ++ 0 ∷ []) ≡ Some BadLength
-unfolding fault_of words_of bytes_word
+unfolding version_fault words_of bytes_word row_words
 fault_of-more = refl
 
 -- twelve bits with ones at 1 and 3

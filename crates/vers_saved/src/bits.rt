@@ -1,10 +1,10 @@
 //! Lists of bits, saved by their limbs.
-ghost use Rattle.std.specs.Prelude.{◌≡◌, ◌<◌, ⊤, length, slice_index};
+ghost use Rattle.std.specs.Prelude.{[], ◌≡◌, ◌<◌, ⊤, length, slice_index};
 ghost use Rattle.vers_bits.specs.Bits.{limbs};
 ghost use Rattle.vers_saved.specs.declared.kind.TheConstants.{BIT_LISTS};
 
 use crate::form::{Shape, bits_of, taken};
-use crate::kind::{BIT_LISTS, BITS, Kind};
+use crate::kind::{BIT_LISTS, Kind};
 use crate::saved::{Loaded, Saved};
 use std::alloc::{AllocError, Allocator};
 use vers_bits::bit_vec::BitVec;
@@ -12,15 +12,10 @@ use vers_rank::fast_rs_vec::RsVec;
 
 // Returns the shape of a list of `count` bits.
 fn shape_of(count: usize) -> Shape
-    ensures kind { result.kind ≡ BITS }
     ensures count { result.count ≡ count }
     ensures width { result.width ≡ 1 }
 {
-    Shape {
-        kind: BITS,
-        count,
-        width: 1,
-    }
+    Shape { count, width: 1 }
 }
 
 // Returns limb `k`.
@@ -69,11 +64,15 @@ impl<A: Allocator + Copy> Saved for BitVec<A> {
 
 #[tactic(auto, using(crate::proofs::BitLists::bits, crate::proofs::Sources::bits))]
 impl<A: Allocator + Copy> Loaded<A> for BitVec<A> {
-    ghost use Rattle.vers_saved.specs.inside.Telling.{bits_tell};
+    ghost use Rattle.vers_saved.specs.inside.Telling.{no_levels, bits_tell};
 
     fn make(of: Shape, held: &mut Vec<u64, A>) -> Result<Self, AllocError> {
         Ok(bits_of(&BIT_LISTS, of, taken(held)))
     }
+
+    ghost packed = { λ _. [] };
+
+    ghost by_levels = { no_levels };
 
     ghost tells = { bits_tell 1 };
 }
@@ -106,11 +105,15 @@ impl<A: Allocator + Copy> Saved for RsVec<A> {
 
 #[tactic(auto, using(crate::proofs::BitLists::bits, crate::proofs::Sources::bits))]
 impl<A: Allocator + Copy> Loaded<A> for RsVec<A> {
-    ghost use Rattle.vers_saved.specs.inside.Telling.{bits_tell};
+    ghost use Rattle.vers_saved.specs.inside.Telling.{no_levels, bits_tell};
 
     fn make(of: Shape, held: &mut Vec<u64, A>) -> Result<Self, AllocError> {
         RsVec::from_bit_vec(bits_of(&BIT_LISTS, of, taken(held)))
     }
+
+    ghost packed = { λ _. [] };
+
+    ghost by_levels = { no_levels };
 
     ghost tells = { bits_tell 1 };
 }

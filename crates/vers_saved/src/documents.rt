@@ -1,11 +1,11 @@
 //! Documents with costs, saved by the documents and then their costs, each as a word.
-ghost use Rattle.std.specs.Prelude.{◌≡◌, ◌<◌, ◌≤◌, ◌^◌, ℕ, length, slice_index};
+ghost use Rattle.std.specs.Prelude.{[], ◌≡◌, ◌<◌, ◌≤◌, ◌^◌, ℕ, length, slice_index};
 ghost use Rattle.postings.specs.Posted.{ArePaired};
 ghost use Rattle.vers_saved.specs.Format.{posting_words};
 ghost use Rattle.vers_saved.specs.declared.kind.TheConstants.{POSTING_LISTS};
 
 use crate::form::Shape;
-use crate::kind::{Kind, POSTING_LISTS, POSTINGS};
+use crate::kind::{Kind, POSTING_LISTS};
 use crate::numbers::{are_words, copy_members};
 use crate::saved::{Loaded, Saved};
 use postings::Postings;
@@ -34,11 +34,7 @@ impl<A: Allocator + Copy> Saved for Postings<A> {
             return None;
         }
         are_words(self.costs());
-        Some(Shape {
-            kind: POSTINGS,
-            count,
-            width: 128,
-        })
+        Some(Shape { count, width: 128 })
     }
 
     #[inline]
@@ -58,7 +54,7 @@ impl<A: Allocator + Copy> Saved for Postings<A> {
 
 #[tactic(auto, using(crate::proofs::PostingLists::postings))]
 impl<A: Allocator + Copy> Loaded<A> for Postings<A> {
-    ghost use Rattle.vers_saved.specs.inside.Telling.{postings_tell};
+    ghost use Rattle.vers_saved.specs.inside.Telling.{no_levels, postings_tell};
 
     fn make(of: Shape, held: &mut Vec<u64, A>) -> Result<Self, AllocError> {
         let alloc = *held.allocator();
@@ -69,6 +65,10 @@ impl<A: Allocator + Copy> Loaded<A> for Postings<A> {
             Err(_) => Err(AllocError),
         }
     }
+
+    ghost packed = { λ _. [] };
+
+    ghost by_levels = { no_levels };
 
     ghost tells = { postings_tell };
 }

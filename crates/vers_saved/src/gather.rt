@@ -1,21 +1,19 @@
 //! Words of a saved form, gathered from any reader a block at a time.
 ghost use Rattle.std.specs.Prelude.{◌≡◌, ℕ, ◌+◌, ◌-◌, ◌*◌, ◌%◌, ◌<◌, ◌≤◌, ◌++◌, ◌⊎◌, [], List, length, map, take, drop, slice_index, OnOk, OnErr, IfOk, IfErr, IfSome, MatchResult, Some, None};
 ghost use Rattle.std.specs.Io.KnownBytes.{Consumes, IsAtEnd, prepend_known};
-ghost use Rattle.vers_bits.specs.Bits.{limb_count};
 ghost use Rattle.vers_saved.specs.Format.{bytes_of, bytes_word, saved};
-ghost use Rattle.vers_saved.specs.Faults.{first_failing, fault_of, head_tests, bits_said, item_bits, words_among};
+ghost use Rattle.vers_saved.specs.Faults.{at_version, first_failing, version_fault, head_tests, row_bits, row_words, rows_of, words_among, words_for, words_said};
 ghost use Rattle.vers_saved.specs.Kinds.{AreWords, IsWhole};
 ghost use Rattle.vers_engine.specs.Device.{FollowsReadFault};
-ghost use Rattle.vers_saved.specs.Streams.{IsRefused};
+ghost use Rattle.vers_saved.specs.Streams.{IsRefused, IsRefusedAs};
 
 use crate::fault::LoadError;
-use crate::form::{Form, HEAD, Head, Shape, head_of, test_body};
-use crate::kind::Kind;
+use crate::form::{Form, HEAD, Head, head_of, test_body};
+use crate::kind::{Kind, Rows};
 use crate::numbers::are_words;
 use crate::words::{FRAME, TwoParts, word_of};
 use std::alloc::{AllocError, Allocator};
 use std::io;
-use vers_bits::bit_vec::MAX_LEN;
 use vers_engine::Source;
 
 /// The greatest number of bytes read or written at once.
@@ -172,11 +170,15 @@ fn gather_head<R: Source, A: Allocator>(
     ensures gathered { OnOk result (Consumes (R.remaining reader.old) (R.remaining reader.new)
         (bytes_of words.new.items) × (length words.new.items ≡ 6)) }
     ensures fit { OnOk result (AreWords words.new.items) }
-    ensures none { OnOk result (first_failing (head_tests kind.now words.new.items) ≡ None) }
-    ensures said { IfOk result (λ h. (h.shape.kind ≡ kind.now.number)
-        × (h.shape.count ≡ slice_index words.new.items 4)
+    ensures version { IfOk result (λ h. h.version ≡ (at_version kind.now h.version).version) }
+    ensures none { IfOk result (λ h.
+        first_failing (head_tests (at_version kind.now h.version) words.new.items) ≡ None) }
+    ensures said { IfOk result (λ h. (h.shape.count ≡ slice_index words.new.items 4)
         × (h.shape.width ≡ slice_index words.new.items 3)
-        × (h.bits ≡ h.shape.count * item_bits kind.now h.shape.width) × (h.bits ≤ MAX_LEN)) }
+        × (h.rows.count ≡ rows_of (at_version kind.now h.version) h.shape.width)
+        × (h.rows.bits ≡ row_bits (at_version kind.now h.version) h.shape.count h.shape.width)
+        × (row_words h.rows.count h.rows.bits ≤ 288230376151711743)
+        × (h.version ≡ slice_index words.new.items 1)) }
     ensures refused { IfErr result (IsRefused kind.now (R.remaining reader.old)) }
     ensures cause { IfErr result (λ e. e ≡ LoadError.Read → FollowsReadFault R.read_gives reader.new) }
 {
@@ -184,7 +186,7 @@ fn gather_head<R: Source, A: Allocator>(
         return Err(fault);
     }
     are_words(words.as_slice());
-    head_of(kind, words)
+    head_of(&kind.at_version(words[1]), words)
 }
 
 // Removes a head from the words that begin with it, and returns it. One more word is left.
@@ -204,7 +206,7 @@ fn cut_head<A: Allocator>(words: &mut Vec<u64, A>) -> [u64; HEAD]
 // after it was gathered.
 fn gather_body<R: Source, A: Allocator>(
     kind: &Kind,
-    n: usize,
+    rows: Rows,
     head: &[u64],
     reader: &mut R,
     block: &mut [u8],
@@ -215,18 +217,19 @@ fn gather_body<R: Source, A: Allocator>(
     requires begun { length words.old.items ≡ 1 }
     requires fit { AreWords (head.now ++ words.old.items) }
     requires head { first_failing (head_tests kind.now (head.now ++ words.old.items)) ≡ None }
-    requires said { n ≡ bits_said kind.now (head.now ++ words.old.items) }
-    requires small { n ≤ MAX_LEN }
+    requires count { rows.count ≡ rows_of kind.now (slice_index head.now 3) }
+    requires bits { rows.bits ≡ row_bits kind.now (slice_index head.now 4) (slice_index head.now 3) }
+    requires small { row_words rows.count rows.bits ≤ 288230376151711743 }
     ensures gathered { OnOk result ((more : List ℕ)
         × Consumes (R.remaining reader.old) (R.remaining reader.new) (bytes_of more)
         × (words.new.items ≡ words.old.items ++ more) × IsAtEnd (R.remaining reader.new)) }
     ensures fit { OnOk result (AreWords (head.now ++ words.new.items)) }
-    ensures none { OnOk result (fault_of kind.now (bytes_of (head.now ++ words.new.items)) ≡ None) }
-    ensures refused { IfErr result (IsRefused kind.now
+    ensures none { OnOk result (version_fault kind.now (bytes_of (head.now ++ words.new.items)) ≡ None) }
+    ensures refused { IfErr result (IsRefusedAs kind.now
         (prepend_known (bytes_of (head.now ++ words.old.items)) (R.remaining reader.old))) }
     ensures cause { IfErr result (λ e. e ≡ LoadError.Read → FollowsReadFault R.read_gives reader.new) }
 {
-    if let Err(fault) = gather(reader, block, words, n.div_ceil(64) + 1) {
+    if let Err(fault) = gather(reader, block, words, rows.words() + 1) {
         return Err(fault);
     }
     if let Err(fault) = test_end(reader, block) {
@@ -234,58 +237,74 @@ fn gather_body<R: Source, A: Allocator>(
     }
     let rest = words.as_slice();
     are_words(rest);
-    test_body(kind.order, n, &TwoParts { front: head, rest })
+    test_body(kind.order, rows, &TwoParts { front: head, rest })
 }
 
-// Returns the shape in the saved form that is the rest of a reader, for a list of that kind, and gathers its
-// words; none was gathered before.
+// Returns the head of the saved form that is the rest of a reader, for a list of that kind, and gathers its words;
+// none was gathered before.
 fn gather_form<R: Source, A: Allocator>(
     kind: &Kind,
     reader: &mut R,
     block: &mut [u8],
     words: &mut Vec<u64, A>,
-) -> Result<Shape, LoadError>
+) -> Result<Head, LoadError>
     requires block { length block.old ≡ 65536 }
     requires none { words.old.items ≡ [] }
-    ensures ok { IfOk result (λ s. IfSome (R.remaining reader.old) (λ bytes.
-        bytes ≡ saved kind.now.number s.count s.width words.new.items)) }
-    ensures whole { IfOk result (λ s. IsWhole kind.now s.count s.width words.new.items
-        × (s.kind ≡ kind.now.number)) }
+    ensures version { IfOk result (λ h. h.version ≡ (at_version kind.now h.version).version) }
+    ensures ok { IfOk result (λ h. IfSome (R.remaining reader.old) (λ bytes.
+        bytes ≡ saved (at_version kind.now h.version).version kind.now.number
+        h.shape.count h.shape.width words.new.items)) }
+    ensures whole { IfOk result (λ h.
+        IsWhole (at_version kind.now h.version) h.shape.count h.shape.width words.new.items) }
     ensures end { OnOk result (IsAtEnd (R.remaining reader.new)) }
     ensures refused { IfErr result (IsRefused kind.now (R.remaining reader.old)) }
     ensures cause { IfErr result (λ e. e ≡ LoadError.Read → FollowsReadFault R.read_gives reader.new) }
 {
     let said = gather_head(kind, reader, block, words)?;
+    let used = kind.at_version(said.version);
     let head = cut_head(words);
-    if let Err(fault) = gather_body(kind, said.bits, &head, reader, block, words) {
+    if let Err(fault) = gather_body(&used, said.rows, &head, reader, block, words) {
         return Err(fault);
     }
-    words.truncate(said.bits.div_ceil(64));
-    Ok(said.shape)
+    words.truncate(said.rows.words());
+    Ok(said)
 }
 
-// Returns the shape and the words of the saved form that is the rest of a reader, for a list of that kind.
+// Returns the shape and the words of the saved form that is the rest of a reader, for a list of that kind in the
+// version that it names.
 pub(crate) fn form_from<R: Source, A: Allocator + Copy>(
     alloc: A,
     kind: Kind,
     reader: &mut R,
 ) -> Result<Form<A>, LoadError>
+    ensures version { IfOk result (λ r. r.version ≡ (at_version kind r.version).version) }
     ensures ok { IfOk result (λ r. IfSome (R.remaining reader.old) (λ bytes.
-        bytes ≡ saved kind.number r.shape.count r.shape.width r.words.items)) }
-    ensures whole { IfOk result (λ r. IsWhole kind r.shape.count r.shape.width r.words.items
-        × (r.shape.kind ≡ kind.number)) }
+        bytes ≡ saved (at_version kind r.version).version kind.number r.shape.count r.shape.width r.words.items)) }
+    ensures whole { IfOk result (λ r. IsWhole (at_version kind r.version) r.shape.count r.shape.width r.words.items) }
     ensures end { OnOk result (IsAtEnd (R.remaining reader.new)) }
     ensures refused { IfErr result (IsRefused kind (R.remaining reader.old)) }
     ensures cause { IfErr result (λ e. e ≡ LoadError.Read → FollowsReadFault R.read_gives reader.new) }
-    ensures back { (count width : ℕ) → (words : List ℕ) → IsWhole kind count width words
-        → R.remaining reader.old ≡ Some (saved kind.number count width words)
-        → MatchResult result (λ r. (r.shape.count ≡ count) × (r.shape.width ≡ width) × (r.words.items ≡ words))
+    ensures back { (version count width : ℕ) → (words : List ℕ) → version ≡ (at_version kind version).version
+        → IsWhole (at_version kind version) count width words
+        → R.remaining reader.old ≡ Some (saved (at_version kind version).version kind.number count width words)
+        → MatchResult result (λ r. (r.version ≡ version) × (r.shape.count ≡ count)
+        × (r.shape.width ≡ width) × (r.words.items ≡ words))
         (λ e. (e ≡ LoadError.Read) ⊎ (e ≡ LoadError.Memory)) }
 {
     let mut block = Vec::from_elem(alloc, 0u8, BLOCK)?;
     let mut words = Vec::new(alloc);
     match gather_form(&kind, reader, block.as_mut_slice(), &mut words) {
-        Ok(shape) => Ok(Form { shape, words }),
+        Ok(
+            Head {
+                version,
+                shape,
+                rows: _,
+            },
+        ) => Ok(Form {
+            version,
+            shape,
+            words,
+        }),
         Err(fault) => Err(fault),
     }
 }

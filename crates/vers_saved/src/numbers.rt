@@ -1,26 +1,21 @@
 //! Lists of numbers, saved unchanged, each as a word.
-ghost use Rattle.std.specs.Prelude.{◌≡◌, ◌<◌, ◌≤◌, ◌+◌, ◌-◌, ◌++◌, ◌^◌, ⊤, ℕ, None, drop, length, slice_index, unwrap_or};
+ghost use Rattle.std.specs.Prelude.{[], ◌≡◌, ◌<◌, ◌≤◌, ◌+◌, ◌-◌, ◌++◌, ◌^◌, ⊤, ℕ, None, drop, length, slice_index, unwrap_or};
 ghost use Rattle.vers_saved.specs.declared.kind.TheConstants.{SORTED_LISTS, TABLE_VALUES, BLOCK_VALUES};
 
 use crate::form::{Shape, taken};
-use crate::kind::{BLOCK_VALUES, GREATEST_WORDS, Kind, SORTED, SORTED_LISTS, TABLE_VALUES, VALUES};
+use crate::kind::{BLOCK_VALUES, GREATEST_WORDS, Kind, SORTED_LISTS, TABLE_VALUES};
 use crate::saved::{Loaded, Saved};
 use std::alloc::{AllocError, Allocator};
 use vers_rmq::rmq::binary_rmq::BinaryRmq;
 use vers_rmq::rmq::fast_rmq::FastRmq;
 use vers_sorted::elias_fano::{EliasFanoRefIter, EliasFanoVec};
 
-// Returns the shape of `count` words of a kind, one for each item.
-pub(crate) fn words_shape(kind: u64, count: usize) -> Shape
-    ensures kind { result.kind ≡ kind }
+// Returns the shape of `count` words, one for each item.
+pub(crate) fn words_shape(count: usize) -> Shape
     ensures count { result.count ≡ count }
     ensures width { result.width ≡ 64 }
 {
-    Shape {
-        kind,
-        count,
-        width: 64,
-    }
+    Shape { count, width: 64 }
 }
 
 // Shows that all items of a slice are words.
@@ -105,7 +100,7 @@ impl<A: Allocator + Copy> Saved for EliasFanoVec<A> {
             return None;
         }
         read_last(self);
-        Some(words_shape(SORTED, count))
+        Some(words_shape(count))
     }
 
     #[inline]
@@ -120,12 +115,16 @@ impl<A: Allocator + Copy> Saved for EliasFanoVec<A> {
 
 #[tactic(auto, using(crate::proofs::WordLists::numbers))]
 impl<A: Allocator + Copy> Loaded<A> for EliasFanoVec<A> {
-    ghost use Rattle.vers_saved.specs.inside.Telling.{numbers_tell};
+    ghost use Rattle.vers_saved.specs.inside.Telling.{no_levels, numbers_tell};
 
     fn make(of: Shape, held: &mut Vec<u64, A>) -> Result<Self, AllocError> {
         let alloc = *held.allocator();
         EliasFanoVec::from_slice(alloc, held.as_slice())
     }
+
+    ghost packed = { λ _. [] };
+
+    ghost by_levels = { no_levels };
 
     ghost tells = { numbers_tell 64 };
 }
@@ -148,7 +147,7 @@ impl<A: Allocator + Copy> Saved for BinaryRmq<A> {
 
     fn shape(&self) -> Option<Shape> {
         are_words(self.as_slice());
-        Some(words_shape(VALUES, self.len()))
+        Some(words_shape(self.len()))
     }
 
     #[inline]
@@ -159,11 +158,15 @@ impl<A: Allocator + Copy> Saved for BinaryRmq<A> {
 
 #[tactic(auto, using(crate::proofs::WordLists::numbers))]
 impl<A: Allocator + Copy> Loaded<A> for BinaryRmq<A> {
-    ghost use Rattle.vers_saved.specs.inside.Telling.{numbers_tell};
+    ghost use Rattle.vers_saved.specs.inside.Telling.{no_levels, numbers_tell};
 
     fn make(of: Shape, held: &mut Vec<u64, A>) -> Result<Self, AllocError> {
         BinaryRmq::from_vec(taken(held))
     }
+
+    ghost packed = { λ _. [] };
+
+    ghost by_levels = { no_levels };
 
     ghost tells = { numbers_tell 64 };
 }
@@ -186,7 +189,7 @@ impl<A: Allocator + Copy> Saved for FastRmq<A> {
 
     fn shape(&self) -> Option<Shape> {
         are_words(self.as_slice());
-        Some(words_shape(VALUES, self.len()))
+        Some(words_shape(self.len()))
     }
 
     #[inline]
@@ -197,11 +200,15 @@ impl<A: Allocator + Copy> Saved for FastRmq<A> {
 
 #[tactic(auto, using(crate::proofs::WordLists::numbers))]
 impl<A: Allocator + Copy> Loaded<A> for FastRmq<A> {
-    ghost use Rattle.vers_saved.specs.inside.Telling.{numbers_tell};
+    ghost use Rattle.vers_saved.specs.inside.Telling.{no_levels, numbers_tell};
 
     fn make(of: Shape, held: &mut Vec<u64, A>) -> Result<Self, AllocError> {
         FastRmq::from_vec(taken(held))
     }
+
+    ghost packed = { λ _. [] };
+
+    ghost by_levels = { no_levels };
 
     ghost tells = { numbers_tell 64 };
 }

@@ -1,10 +1,11 @@
 //! `Saved`: lists that are saved to bytes and loaded from them.
-ghost use Rattle.std.specs.Prelude.{◌≡◌, ◌<◌, ◌≤◌, ◌+◌, ◌*◌, ℕ, List, ◌++◌, ◌⊎◌, length, take, drop, fold, slice_index, vec_len, vec_capacity, OnOk, OnErr, IfOk, IfErr, IfSome, MatchResult, Some, None, false};
+ghost use Rattle.std.specs.Prelude.{◌≡◌, ◌<◌, ◌≤◌, ◌+◌, ◌*◌, ℕ, List, ◌++◌, ◌⊎◌, length, take, drop, fold, slice_index, vec_len, vec_capacity, OnOk, OnErr, IfOk, IfErr, IfSome, MatchResult, Some, None, false, true, ◌≢◌};
 ghost use Rattle.vers_saved.specs.declared.kind.Kind.{Kind};
 ghost use Rattle.vers_saved.specs.Format.{bytes_of, mix, saved};
-ghost use Rattle.vers_saved.specs.Faults.{fault_of};
-ghost use Rattle.vers_saved.specs.Kinds.{IsWhole, may_be_saved};
+ghost use Rattle.vers_saved.specs.Faults.{at_version, fault_of, packed_kind, words_in};
+ghost use Rattle.vers_saved.specs.Kinds.{IsForm, IsLoadedWhole, IsWhole, may_be_saved};
 
+use crate::VERSION;
 use crate::fault::{LoadError, SaveError};
 use crate::form::{Form, Shape, form_of, put_head, put_words};
 use crate::kind::Kind;
@@ -34,7 +35,6 @@ pub trait Saved {
 
     /// Returns the shape of the list, or `None` if a list of this kind may not have it.
     fn shape(&self) -> Option<Shape>
-        ensures kind { IfSome result (λ s. s.kind ≡ kind.number) }
         ensures count { IfSome result (λ s. s.count ≡ count self.now) }
         ensures width { IfSome result (λ s. s.width ≡ width self.now) }
         ensures whole { IfSome result (λ _.
@@ -71,6 +71,24 @@ pub trait Loaded<A: Allocator>: Saved + Sized {
         ensures { IfOk result (λ v. (Self.count v ≡ of.count) × (Self.width v ≡ of.width)
             × (Self.words v ≡ held.old.items) × Self.Fits v) };
 
+    // The words of the items in the first version of the form, for a kind of lists by levels.
+    ghost packed: { Self → List ℕ };
+
+    /// Returns the list of the items in these words, which are those of the first version of the form.
+    /// Precondition: the words are those of a list of that shape, one item after another. Errors: `AllocError` if
+    /// the allocator refuses a request, or if lists of this kind are not saved by levels.
+    fn make_packed(_of: Shape, _held: &mut Vec<u64, A>) -> Result<Self, AllocError>
+        requires whole { IsWhole (packed_kind Self.kind) _of.count _of.width _held.old.items }
+        ensures { IfOk result (λ v. (Self.count v ≡ _of.count) × (Self.width v ≡ _of.width)
+            × (Self.packed v ≡ _held.old.items) × Self.Fits v) }
+    {
+        Err(AllocError)
+    }
+
+    // Lists by levels have a later version, and two with the same shape and the same words of the first are equal.
+    ghost by_levels: { Self.kind.by_levels ≡ true → (Self.kind.version ≢ 1) × ((x y : Self) → Self.Fits x → Self.Fits y
+        → Self.count x ≡ Self.count y → Self.width x ≡ Self.width y → Self.packed x ≡ Self.packed y → x ≡ y) };
+
     // Two lists with the same shape and the same words are equal.
     ghost tells: { (x y : Self) → Self.Fits x → Self.Fits y → Self.count x ≡ Self.count y
         → Self.width x ≡ Self.width y → Self.words x ≡ Self.words y → x ≡ y };
@@ -85,14 +103,17 @@ pub(crate) fn count_words<S: Saved>(list: &S, shape: Shape) -> usize
     ensures count { result ≡ length (S.words list.now) }
     ensures small { result ≤ 288230376151711743 }
 {
-    (shape.count * S::kind().bits_of_item(shape.width)).div_ceil(64)
+    match S::kind().rows_of_items(shape.count, shape.width) {
+        Some(rows) => rows.words(),
+        None => 0,
+    }
 }
 
 /// Returns the number of bytes of the saved form of a list, or `None` if it has none.
 #[tactic(auto, using(crate::proofs::RoundTrips::sizes))]
 pub fn saved_size<S: Saved>(list: &S) -> Option<usize>
     ensures some { IfSome result (λ size. size
-        ≡ length (saved S.kind.number (S.count list.now) (S.width list.now) (S.words list.now))) }
+        ≡ length (saved S.kind.version S.kind.number (S.count list.now) (S.width list.now) (S.words list.now))) }
     ensures whole { IfSome result (λ _. IsWhole S.kind (S.count list.now) (S.width list.now) (S.words list.now)) }
     ensures none { result ≡ None → may_be_saved S.kind (S.count list.now) (S.width list.now) ≡ false }
 {
@@ -136,12 +157,12 @@ fn append_saved<S: Saved, B: Allocator>(
     requires width { shape.width ≡ S.width list.now }
     requires whole { IsWhole S.kind (S.count list.now) (S.width list.now) (S.words list.now) }
     ensures saved { OnOk result (out.new.items
-        ≡ out.old.items ++ saved shape.kind shape.count shape.width (S.words list.now)) }
+        ≡ out.old.items ++ saved S.kind.version S.kind.number shape.count shape.width (S.words list.now)) }
     ensures kept { OnErr result (out.new.items ≡ out.old.items) }
 {
     let count = count_words(list, shape);
     out.reserve(8 * (count + FRAME))?;
-    let mut sum = put_head(out, shape);
+    let mut sum = put_head(out, &S::kind(), shape);
     let mut done = 0;
     while done < count {
         let n = GROUP.min(count - done);
@@ -159,7 +180,7 @@ fn append_saved<S: Saved, B: Allocator>(
 /// `NoForm` if the list has no saved form; `Memory` if the allocator refuses a request.
 pub fn save_to_vec<S: Saved, B: Allocator>(list: &S, out: &mut Vec<u8, B>) -> Result<(), SaveError>
     ensures saved { OnOk result (out.new.items ≡ out.old.items
-        ++ saved S.kind.number (S.count list.now) (S.width list.now) (S.words list.now)) }
+        ++ saved S.kind.version S.kind.number (S.count list.now) (S.width list.now) (S.words list.now)) }
     ensures whole { OnOk result
         (IsWhole S.kind (S.count list.now) (S.width list.now) (S.words list.now) × S.Fits list.now) }
     ensures kept { OnErr result (out.new.items ≡ out.old.items) }
@@ -173,21 +194,47 @@ pub fn save_to_vec<S: Saved, B: Allocator>(list: &S, out: &mut Vec<u8, B>) -> Re
     Ok(())
 }
 
-/// Loads a list from its saved form.
+// Returns the list of the items in the words of a version of its form, which are taken out of the vector.
+#[tactic(auto, using(crate::proofs::Versions::versions))]
+pub(crate) fn list_of<S: Loaded<A>, A: Allocator>(
+    version: u64,
+    of: Shape,
+    held: &mut Vec<u64, A>,
+) -> Result<S, AllocError>
+    requires { IsWhole (at_version S.kind version) of.count of.width held.old.items }
+    ensures { IfOk result (λ v. (S.count v ≡ of.count) × (S.width v ≡ of.width)
+        × (words_in S.kind version (S.words v) (S.packed v) ≡ held.old.items) × S.Fits v) }
+{
+    if S::kind().by_levels && version == VERSION {
+        return S::make_packed(of, held);
+    }
+    S::make(of, held)
+}
+
+/// Loads a list from its saved form, in any version.
 ///
 /// # Errors
 ///
 /// That of the first test that fails; `Memory` only if the bytes pass all tests.
 pub fn load_from_slice<S: Loaded<A>, A: Allocator>(alloc: A, bytes: &[u8]) -> Result<S, LoadError>
-    ensures loaded { IfOk result (λ v. bytes.now ≡ saved S.kind.number (S.count v) (S.width v) (S.words v)) }
-    ensures whole { IfOk result (λ v. IsWhole S.kind (S.count v) (S.width v) (S.words v) × S.Fits v) }
+    ensures loaded { IfOk result (λ v. IsForm S.kind (S.count v) (S.width v) (S.words v) (S.packed v) bytes.now) }
+    ensures whole { IfOk result (λ v.
+        IsLoadedWhole S.kind (S.count v) (S.width v) (S.words v) (S.packed v) × S.Fits v) }
     ensures none { OnOk result (fault_of S.kind bytes.now ≡ None) }
     ensures refused { IfErr result (λ e. (fault_of S.kind bytes.now ≡ Some e)
         ⊎ ((e ≡ LoadError.Memory) × (fault_of S.kind bytes.now ≡ None))) }
     ensures back { (x : S) → IsWhole S.kind (S.count x) (S.width x) (S.words x) → S.Fits x
-        → bytes.now ≡ saved S.kind.number (S.count x) (S.width x) (S.words x)
+        → bytes.now ≡ saved S.kind.version S.kind.number (S.count x) (S.width x) (S.words x)
+        → MatchResult result (λ v. v ≡ x) (λ e. e ≡ LoadError.Memory) }
+    ensures first { (x : S) → S.kind.by_levels ≡ true
+        → IsWhole (packed_kind S.kind) (S.count x) (S.width x) (S.packed x) → S.Fits x
+        → bytes.now ≡ saved 1 S.kind.number (S.count x) (S.width x) (S.packed x)
         → MatchResult result (λ v. v ≡ x) (λ e. e ≡ LoadError.Memory) }
 {
-    let Form { shape, mut words } = form_of(alloc, S::kind(), bytes)?;
-    Ok(S::make(shape, &mut words)?)
+    let Form {
+        version,
+        shape,
+        mut words,
+    } = form_of(alloc, S::kind(), bytes)?;
+    Ok(list_of(version, shape, &mut words)?)
 }

@@ -1,10 +1,10 @@
 //! Lists of bits with few ones, saved by the positions of the ones and the length.
-ghost use Rattle.std.specs.Prelude.{◌≡◌, ◌<◌, ◌≤◌, ◌^◌, ⊤, length, slice_index};
+ghost use Rattle.std.specs.Prelude.{[], ◌≡◌, ◌<◌, ◌≤◌, ◌^◌, ⊤, length, slice_index};
 ghost use Rattle.vers_saved.specs.Format.{sparse_words};
 ghost use Rattle.vers_saved.specs.declared.kind.TheConstants.{SPARSE_LISTS};
 
 use crate::form::Shape;
-use crate::kind::{GREATEST_WORDS, Kind, SPARSE, SPARSE_LISTS};
+use crate::kind::{GREATEST_WORDS, Kind, SPARSE_LISTS};
 use crate::numbers::{copy_members, words_shape};
 use crate::saved::{Loaded, Saved};
 use std::alloc::{AllocError, Allocator};
@@ -31,7 +31,7 @@ impl<A: Allocator + Copy> Saved for SparseRSVec<A> {
         if ones >= GREATEST_WORDS {
             return None;
         }
-        Some(words_shape(SPARSE, ones as usize + 1))
+        Some(words_shape(ones as usize + 1))
     }
 
     #[inline]
@@ -46,7 +46,7 @@ impl<A: Allocator + Copy> Saved for SparseRSVec<A> {
 
 #[tactic(auto, using(crate::proofs::SparseLists::sparse))]
 impl<A: Allocator + Copy> Loaded<A> for SparseRSVec<A> {
-    ghost use Rattle.vers_saved.specs.inside.Telling.{sparse_tell};
+    ghost use Rattle.vers_saved.specs.inside.Telling.{no_levels, sparse_tell};
 
     fn make(of: Shape, held: &mut Vec<u64, A>) -> Result<Self, AllocError> {
         let alloc = *held.allocator();
@@ -54,6 +54,10 @@ impl<A: Allocator + Copy> Loaded<A> for SparseRSVec<A> {
         let last = words.len() - 1;
         SparseRSVec::new(alloc, &words[..last], words[last])
     }
+
+    ghost packed = { λ _. [] };
+
+    ghost by_levels = { no_levels };
 
     ghost tells = { sparse_tell };
 }

@@ -1,8 +1,9 @@
 //! Saved forms, written to any writer and read from any reader.
-ghost use Rattle.std.specs.Prelude.{◌≡◌, ◌≢◌, ℕ, ◌+◌, ◌≤◌, ◌++◌, List, vec_len, vec_capacity, OnOk, IfOk, IfErr, IfSome, Some, Err, OnErr, MatchResult, ◌⊎◌, false};
+ghost use Rattle.std.specs.Prelude.{◌≡◌, ◌≢◌, ℕ, ◌+◌, ◌≤◌, ◌++◌, List, vec_len, vec_capacity, OnOk, IfOk, IfErr, IfSome, Some, Err, OnErr, MatchResult, ◌⊎◌, false, true};
 ghost use Rattle.std.specs.Io.KnownBytes.{Appends, IsAtEnd, Keeps};
 ghost use Rattle.vers_saved.specs.Format.{saved};
-ghost use Rattle.vers_saved.specs.Kinds.{IsWhole, may_be_saved};
+ghost use Rattle.vers_saved.specs.Faults.{packed_kind};
+ghost use Rattle.vers_saved.specs.Kinds.{IsForm, IsLoadedWhole, IsWhole, may_be_saved};
 ghost use Rattle.vers_engine.specs.Device.{FollowsReadFault, FollowsWriteFault};
 ghost use Rattle.vers_saved.specs.Streams.{Writes, IsRefused};
 
@@ -10,7 +11,7 @@ use crate::fault::{LoadError, SaveError};
 use crate::form::{Form, Shape, put_head};
 pub use crate::gather::fill;
 use crate::gather::{BLOCK, form_from};
-use crate::saved::{GROUP, Loaded, Saved, count_words, put_group};
+use crate::saved::{GROUP, Loaded, Saved, count_words, list_of, put_group};
 use crate::words::put_word;
 use std::alloc::Allocator;
 use vers_engine::{Sink, Source};
@@ -67,12 +68,12 @@ fn write_words<S: Saved, W: Sink, A: Allocator>(
     requires room { 65536 ≤ vec_capacity buffer }
     requires empty { vec_len buffer ≡ 0 }
     ensures written { Writes result (W.contents writer.old) (W.contents writer.new)
-        (saved shape.kind shape.count shape.width (S.words list.now)) }
+        (saved S.kind.version S.kind.number shape.count shape.width (S.words list.now)) }
     ensures kind { IfErr result (λ e. e ≡ SaveError.Write) }
     ensures cause { OnErr result (FollowsWriteFault W.write_gives writer.new) }
 {
     let count = count_words(list, shape);
-    let mut sum = put_head(&mut buffer, shape);
+    let mut sum = put_head(&mut buffer, &S::kind(), shape);
     let mut done = 0;
     while done < count {
         if let Err(error) = make_room(writer, &mut buffer) {
@@ -99,7 +100,7 @@ pub fn save<S: Saved, A: Allocator, W: Sink>(
 ) -> Result<(), SaveError>
     ensures written { result ≢ Err SaveError.NoForm
         → Writes result (W.contents writer.old) (W.contents writer.new)
-        (saved S.kind.number (S.count list.now) (S.width list.now) (S.words list.now)) }
+        (saved S.kind.version S.kind.number (S.count list.now) (S.width list.now) (S.words list.now)) }
     ensures kept { IfErr result (λ e. (e ≡ SaveError.Write)
         ⊎ Keeps (W.contents writer.old) (W.contents writer.new)) }
     ensures whole { OnOk result
@@ -117,8 +118,8 @@ pub fn save<S: Saved, A: Allocator, W: Sink>(
     write_words(writer, buffer, shape, list)
 }
 
-/// Loads a list from its saved form, the rest of a reader. Reads blocks of 64 KiB, and keeps the words. Memory
-/// is allocated as bytes come, however great a length the head says.
+/// Loads a list from its saved form, in any version, the rest of a reader. Reads blocks of 64 KiB, and keeps the
+/// words. Memory is allocated as bytes come, however great a length the head says.
 ///
 /// # Errors
 ///
@@ -128,16 +129,25 @@ pub fn load<S: Loaded<A>, A: Allocator + Copy, R: Source>(
     alloc: A,
     reader: &mut R,
 ) -> Result<S, LoadError>
-    ensures loaded { IfOk result (λ v. IfSome (R.remaining reader.old) (λ bytes.
-        bytes ≡ saved S.kind.number (S.count v) (S.width v) (S.words v))) }
-    ensures whole { IfOk result (λ v. IsWhole S.kind (S.count v) (S.width v) (S.words v) × S.Fits v) }
+    ensures loaded { IfOk result (λ v. IfSome (R.remaining reader.old)
+        (IsForm S.kind (S.count v) (S.width v) (S.words v) (S.packed v))) }
+    ensures whole { IfOk result (λ v.
+        IsLoadedWhole S.kind (S.count v) (S.width v) (S.words v) (S.packed v) × S.Fits v) }
     ensures end { OnOk result (IsAtEnd (R.remaining reader.new)) }
     ensures refused { IfErr result (IsRefused S.kind (R.remaining reader.old)) }
     ensures cause { result ≡ Err LoadError.Read → FollowsReadFault R.read_gives reader.new }
     ensures back { (x : S) → IsWhole S.kind (S.count x) (S.width x) (S.words x) → S.Fits x
-        → R.remaining reader.old ≡ Some (saved S.kind.number (S.count x) (S.width x) (S.words x))
+        → R.remaining reader.old ≡ Some (saved S.kind.version S.kind.number (S.count x) (S.width x) (S.words x))
+        → MatchResult result (λ v. v ≡ x) (λ e. (e ≡ LoadError.Read) ⊎ (e ≡ LoadError.Memory)) }
+    ensures first { (x : S) → S.kind.by_levels ≡ true
+        → IsWhole (packed_kind S.kind) (S.count x) (S.width x) (S.packed x) → S.Fits x
+        → R.remaining reader.old ≡ Some (saved 1 S.kind.number (S.count x) (S.width x) (S.packed x))
         → MatchResult result (λ v. v ≡ x) (λ e. (e ≡ LoadError.Read) ⊎ (e ≡ LoadError.Memory)) }
 {
-    let Form { shape, mut words } = form_from(alloc, S::kind(), reader)?;
-    Ok(S::make(shape, &mut words)?)
+    let Form {
+        version,
+        shape,
+        mut words,
+    } = form_from(alloc, S::kind(), reader)?;
+    Ok(list_of(version, shape, &mut words)?)
 }

@@ -1,237 +1,133 @@
-//! Lists of symbols, saved by the limbs of their bits, one symbol after another.
-ghost use Rattle.std.specs.Prelude.{◌≡◌, ℕ, ◌+◌, ◌-◌, ◌*◌, ◌/◌, ◌%◌, ◌<◌, ◌≤◌, ◌^◌, All, IfOk, None, length, map, slice_get, slice_index, slice_index_or, unwrap_or};
-ghost use Rattle.vers_bits.specs.Bits.{limbs, pack};
-ghost use Rattle.vers_wavelet.specs.Makers.{packed_symbols};
+//! Lists of symbols, saved by the limbs of the levels of their wavelet matrix.
+ghost use Rattle.std.specs.Prelude.{◌≡◌, ℕ, ◌+◌, ◌-◌, ◌*◌, ◌/◌, ◌%◌, ◌<◌, ◌≤◌, ◌^◌, All, IfOk, flat_map, length, slice_index};
+ghost use Rattle.vers_bits.specs.Bits.{limb_count, limbs, pack};
+ghost use Rattle.vers_wavelet.specs.Makers.{symbol_levels};
+ghost use Rattle.vers_saved.specs.Format.{level_words};
 ghost use Rattle.vers_saved.specs.declared.kind.TheConstants.{SYMBOL_LISTS};
-ghost use Rattle.vers_saved.specs.Kinds.{IsWhole};
-ghost use Rattle.vers_saved.specs.inside.Groups.{IsGroup};
+ghost use Rattle.vers_saved.specs.Kinds.{AreWords, EndsPadded, IsWhole};
 
-use crate::form::{Shape, bits_of, taken};
-use crate::kind::{Kind, SYMBOL_LISTS, SYMBOLS};
+use crate::bits::limb_of;
+use crate::form::{Shape, first_bits, taken};
+use crate::kind::{Kind, SYMBOL_LISTS};
+use crate::packed::packed_list;
 use crate::saved::{Loaded, Saved};
 use std::alloc::{AllocError, Allocator};
-use vers_bits::bit_vec::{BitVec, MAX_LEN};
-use vers_wavelet::wavelet::{GetQuery, WaveletMatrix};
+use vers_bits::bit_vec::MAX_LEN;
+use vers_rank::fast_rs_vec::RsVec;
+use vers_wavelet::wavelet::WaveletMatrix;
 
-/// The number of symbols read at once. Their bits fill as many words as a symbol has bits.
-const GROUP: usize = 64;
-
-// Answers queries for the symbols of a group.
-fn ask_group<A: Allocator + Copy>(list: &WaveletMatrix<A>, group: usize, queries: &mut [GetQuery])
-    requires few { list.now.width ≤ 64 }
-    requires long { length queries.old ≡ 64 }
-    requires small { 64 * group + 64 ≤ 18446744073709551615 }
-    ensures { (j : ℕ) → j < 64 → slice_index_or (map (λ q. q.answer) queries.new) j None
-        ≡ slice_get list.now.items (64 * group + j) }
-{
-    for j in 0..GROUP {
-        queries[j] = GetQuery::new(GROUP * group + j);
-    }
-    list.get_u64_each(queries);
+// A limb of a level.
+#[derive(Clone, Copy, Drop)]
+struct Place {
+    level: usize,
+    limb: usize,
 }
 
-// Returns the symbol in an answered query, or 0 if there is none.
+// Returns the place of the next limb, where each level has as many limbs.
 #[inline(always)]
-#[tactic(auto, using(crate::proofs::SymbolLists::answer_at))]
-fn answer_of(queries: &[GetQuery], j: usize) -> u64
-    requires { j < length queries.now }
-    ensures { result ≡ unwrap_or (slice_index_or (map (λ q. q.answer) queries.now) j None) 0 }
+fn place_after(place: Place, limbs: usize) -> Place
+    requires within { place.limb < limbs }
+    requires small { place.level < 65535 }
+    ensures next { result.level * limbs + result.limb ≡ place.level * limbs + place.limb + 1 }
+    ensures within { result.limb < limbs }
 {
-    queries[j].answer.unwrap_or(0)
+    let limb = place.limb + 1;
+    if limb == limbs {
+        return Place {
+            level: place.level + 1,
+            limb: 0,
+        };
+    }
+    Place {
+        level: place.level,
+        limb,
+    }
 }
 
-// Reads the symbols of a group, unless they have been read.
-fn read_group<A: Allocator + Copy>(
-    list: &WaveletMatrix<A>,
-    known: usize,
-    group: usize,
-    symbols: &mut [u64],
-)
-    requires few { list.now.width ≤ 64 }
-    requires long { length symbols.old ≡ 64 }
-    requires small { 64 * group + 64 ≤ 18446744073709551615 }
-    requires known { known ≡ group → IsGroup list.now.items group symbols.old }
-    ensures { IsGroup list.now.items group symbols.new }
+// Copies the limbs of a level from limb `from` on, as many as the slice has.
+fn copy_level<A: Allocator + Copy>(level: &RsVec<A>, from: usize, out: &mut [u64])
+    requires within { from + length out.old ≤ length (limbs level.now) }
+    requires small { from + length out.old ≤ 288230376151711743 }
+    ensures { (j : ℕ) → j < length out.old
+        → slice_index out.new j ≡ slice_index (limbs level.now) (from + j) }
 {
-    if known == group {
+    for j in 0..out.len() {
+        out[j] = limb_of(level, from + j);
+    }
+}
+
+// Copies the limbs of the levels from limb `from` on, as many as the slice has, which may be of several levels.
+fn copy_across<A: Allocator + Copy>(list: &WaveletMatrix<A>, from: usize, out: &mut [u64])
+    requires few { list.now.width ≤ 64 }
+    requires within { from + length out.old ≤ length (level_words list.now.width list.now.items) }
+    ensures { (j : ℕ) → j < length out.old
+        → slice_index out.new j ≡ slice_index (level_words list.now.width list.now.items) (from + j) }
+{
+    let limbs = list.len().div_ceil(64).max(1);
+    let mut place = Place {
+        level: from / limbs,
+        limb: from % limbs,
+    };
+    for j in 0..out.len() {
+        out[j] = limb_of(list.level(place.level), place.limb);
+        place = place_after(place, limbs);
+    }
+}
+
+// Copies the limbs of the levels from limb `from` on, as many as the slice has. Mostly they are of one level.
+fn copy_levels<A: Allocator + Copy>(list: &WaveletMatrix<A>, from: usize, out: &mut [u64])
+    requires few { list.now.width ≤ 64 }
+    requires within { from + length out.old ≤ length (level_words list.now.width list.now.items) }
+    ensures { (j : ℕ) → j < length out.old
+        → slice_index out.new j ≡ slice_index (level_words list.now.width list.now.items) (from + j) }
+{
+    let limbs = list.len().div_ceil(64).max(1);
+    let limb = from % limbs;
+    if out.is_empty() || out.len() > limbs - limb {
+        copy_across(list, from, out);
         return;
     }
-    let mut queries = [GetQuery::new(0); GROUP];
-    ask_group(list, group, &mut queries);
-    for j in 0..GROUP {
-        symbols[j] = answer_of(&queries, j);
-    }
+    copy_level(list.level(from / limbs), limb, out);
 }
 
-// Returns the number of bits of all symbols.
-#[tactic(auto, using(crate::proofs::SymbolLists::counting))]
-fn count_bits<A: Allocator + Copy>(list: &WaveletMatrix<A>) -> usize
-    requires { IsWhole SYMBOL_LISTS (length list.now.items) list.now.width
-        (limbs (pack list.now.items list.now.width)) }
-    ensures value { result ≡ length (pack list.now.items list.now.width) }
-    ensures small { result ≤ MAX_LEN }
+// Returns the first `len` bits of words, of which there are as many as these bits need, with their index.
+fn level_of<A: Allocator + Copy>(
+    alloc: A,
+    len: usize,
+    words: &[u64],
+) -> Result<RsVec<A>, AllocError>
+    requires small { len ≤ MAX_LEN }
+    requires counted { length words.now ≡ limb_count len }
+    requires padded { EndsPadded len words.now }
+    ensures len { IfOk result (λ v. length v ≡ len) }
+    ensures limbs { IfOk result (λ v. limbs v ≡ words.now) }
 {
-    let width = list.bits_per_element();
-    list.len() * width
+    RsVec::from_bit_vec(first_bits(len, Vec::from_slice(alloc, words)?))
 }
 
-// Returns a number whose low digits are `n` of a symbol, and whose others are those of a word.
-#[inline(always)]
-#[tactic(auto, using(crate::proofs::SymbolLists::joining))]
-fn joined(symbol: u64, n: usize, word: u64) -> u64
-    requires some { 1 ≤ n }
-    requires few { n ≤ 64 }
-    requires room { word < 2 ^ (64 - n) }
-    ensures { result ≡ symbol % 2 ^ n + 2 ^ n * word }
-{
-    if n == 64 {
-        return symbol;
-    }
-    symbol % (1 << n) + (1 << n) * word
-}
-
-// Returns the bits of all symbols from position `64 * k` on, 64 of them or as many as there are, as a number.
-// The symbols of its group were read.
-fn limb_of<A: Allocator + Copy>(list: &WaveletMatrix<A>, symbols: &[u64], k: usize) -> u64
-    requires whole { IsWhole SYMBOL_LISTS (length list.now.items) list.now.width
-        (limbs (pack list.now.items list.now.width)) }
-    requires within { k < length (limbs (pack list.now.items list.now.width)) }
-    requires long { length symbols.now ≡ 64 }
-    requires group { IsGroup list.now.items (k / list.now.width) symbols.now }
-    ensures { result ≡ slice_index (limbs (pack list.now.items list.now.width)) k }
-{
-    let width = list.bits_per_element();
-    let from = 64 * k;
-    let mut place = count_bits(list).min(from + 64);
-    let mut item = (place - 1) / width;
-    let mut word = 0;
-    while place > from {
-        let first = item * width;
-        let start = first.max(from);
-        word = joined(
-            symbols[item % GROUP] >> (start - first),
-            place - start,
-            word,
-        );
-        place = start;
-        item = item.saturating_sub(1);
-    }
-    word
-}
-
-// Copies the limbs of the bits of all symbols from a limb on, as many as the slice has.
-pub(crate) fn copy_limbs<A: Allocator + Copy>(list: &WaveletMatrix<A>, from: usize, out: &mut [u64])
-    requires whole { IsWhole SYMBOL_LISTS (length list.now.items) list.now.width
-        (limbs (pack list.now.items list.now.width)) }
-    requires within { from + length out.old ≤ length (limbs (pack list.now.items list.now.width)) }
-    ensures { (j : ℕ) → j < length out.old
-        → slice_index out.new j ≡ slice_index (limbs (pack list.now.items list.now.width)) (from + j) }
-{
-    let width = list.bits_per_element();
-    let mut symbols = [0; GROUP];
-    let mut known = usize::MAX;
-    for k in 0..out.len() {
-        let group = (from + k) / width;
-        read_group(list, known, group, &mut symbols);
-        known = group;
-        out[k] = limb_of(list, &symbols, from + k);
-    }
-}
-
-// Returns the numbers of `width` bits each in a list of bits, one after another.
-#[tactic(auto, using(crate::proofs::SymbolLists::unpacking))]
-fn unpacked<A: Allocator + Copy>(bits: &BitVec<A>, width: usize) -> Result<Vec<u64, A>, AllocError>
-    requires some { 1 ≤ width }
-    requires few { width ≤ 64 }
-    ensures { IfOk result (λ v. v.items ≡ packed_symbols bits.now width) }
-{
-    let count = bits.len() / width;
-    let mut numbers = Vec::with_capacity(bits.allocator(), count)?;
-    for e in 0..count {
-        numbers.push(bits.unpack_element_unchecked(e, width))?;
-    }
-    Ok(numbers)
-}
-
-// Returns the numbers of at most 8 bits each in a list of bits, one after another.
-#[tactic(auto, using(crate::proofs::SymbolLists::unpacking))]
-fn unpacked_bytes<A: Allocator + Copy>(
-    bits: &BitVec<A>,
-    width: usize,
-) -> Result<Vec<u8, A>, AllocError>
-    requires some { 1 ≤ width }
-    requires few { width ≤ 8 }
-    ensures { IfOk result (λ v. v.items ≡ packed_symbols bits.now width) }
-{
-    let count = bits.len() / width;
-    let mut numbers = Vec::with_capacity(bits.allocator(), count)?;
-    for e in 0..count {
-        numbers.push(bits.unpack_element_unchecked(e, width) as u8)?;
-    }
-    Ok(numbers)
-}
-
-// Returns the symbols in words.
-#[tactic(auto, using(crate::proofs::SymbolLists::symbols))]
-pub(crate) fn symbols_of<A: Allocator + Copy>(
-    of: Shape,
-    words: Vec<u64, A>,
-) -> Result<Vec<u64, A>, AllocError>
-    requires { IsWhole SYMBOL_LISTS of.count of.width words.items }
-    ensures count { IfOk result (λ v. length v.items ≡ of.count) }
-    ensures limbs { IfOk result (λ v. limbs (pack v.items of.width) ≡ words.items) }
-    ensures fit { IfOk result (λ v. All (λ y. y < 2 ^ of.width) v.items) }
-{
-    let bits = bits_of(&SYMBOL_LISTS, of, words);
-    unpacked(&bits, of.width)
-}
-
-// Returns the symbols of at most 8 bits in words, as bytes.
-#[tactic(auto, using(crate::proofs::SymbolLists::symbols))]
-pub(crate) fn bytes_of<A: Allocator + Copy>(
-    of: Shape,
-    words: Vec<u64, A>,
-) -> Result<Vec<u8, A>, AllocError>
-    requires whole { IsWhole SYMBOL_LISTS of.count of.width words.items }
-    requires few { of.width ≤ 8 }
-    ensures count { IfOk result (λ v. length v.items ≡ of.count) }
-    ensures limbs { IfOk result (λ v. limbs (pack v.items of.width) ≡ words.items) }
-    ensures fit { IfOk result (λ v. All (λ y. y < 2 ^ of.width) v.items) }
-{
-    let bits = bits_of(&SYMBOL_LISTS, of, words);
-    unpacked_bytes(&bits, of.width)
-}
-
-// Returns the matrix of the symbols in words.
-fn matrix_of<A: Allocator + Copy>(
+// Returns the levels in words.
+fn levels_of<A: Allocator + Copy>(
     alloc: A,
     of: Shape,
-    words: Vec<u64, A>,
-) -> Result<WaveletMatrix<A>, AllocError>
-    requires { IsWhole SYMBOL_LISTS of.count of.width words.items }
-    ensures { IfOk result (λ v. (length v.items ≡ of.count) × (v.width ≡ of.width)
-        × (limbs (pack v.items v.width) ≡ words.items) × All (λ y. y < 2 ^ v.width) v.items) }
+    words: &[u64],
+) -> Result<Vec<RsVec<A>, A>, AllocError>
+    requires { IsWhole SYMBOL_LISTS of.count of.width words.now }
+    ensures count { IfOk result (λ v. length v.items ≡ of.width) }
+    ensures even { IfOk result (λ v. All (λ l. length l ≡ of.count) v.items) }
+    ensures words { IfOk result (λ v. flat_map limbs v.items ≡ words.now) }
 {
-    let symbols = symbols_of(of, words)?;
-    WaveletMatrix::from_slice(alloc, symbols.as_slice(), of.width as u16)
+    let limbs = of.count.div_ceil(64);
+    let mut levels = Vec::with_capacity(alloc, of.width)?;
+    let mut rest = words;
+    for _ in 0..of.width {
+        let (level, others) = rest.split_at(limbs);
+        levels.push(level_of(alloc, of.count, level)?)?;
+        rest = others;
+    }
+    Ok(levels)
 }
 
-// Returns the matrix of the symbols of at most 8 bits in words.
-fn matrix_of_bytes<A: Allocator + Copy>(
-    alloc: A,
-    of: Shape,
-    words: Vec<u64, A>,
-) -> Result<WaveletMatrix<A>, AllocError>
-    requires whole { IsWhole SYMBOL_LISTS of.count of.width words.items }
-    requires few { of.width ≤ 8 }
-    ensures { IfOk result (λ v. (length v.items ≡ of.count) × (v.width ≡ of.width)
-        × (limbs (pack v.items v.width) ≡ words.items) × All (λ y. y < 2 ^ v.width) v.items) }
-{
-    let bytes = bytes_of(of, words)?;
-    WaveletMatrix::from_integers(alloc, bytes.as_slice(), of.width as u16)
-}
-
-#[tactic(auto, using(crate::proofs::SymbolLists::symbols))]
+#[tactic(auto, using(crate::proofs::SymbolLevels::symbols))]
 impl<A: Allocator + Copy> Saved for WaveletMatrix<A> {
     ghost kind = { SYMBOL_LISTS };
 
@@ -239,7 +135,7 @@ impl<A: Allocator + Copy> Saved for WaveletMatrix<A> {
 
     ghost width = { λ symbols. symbols.width };
 
-    ghost words = { λ symbols. limbs (pack symbols.items symbols.width) };
+    ghost words = { λ symbols. level_words symbols.width symbols.items };
 
     ghost Fits = { λ symbols. All (λ y. y < 2 ^ symbols.width) symbols.items };
 
@@ -253,40 +149,39 @@ impl<A: Allocator + Copy> Saved for WaveletMatrix<A> {
         if width == 0 || width > 64 {
             return None;
         }
-        if count > MAX_LEN / width {
-            return None;
-        }
-        Some(Shape {
-            kind: SYMBOLS,
-            count,
-            width,
-        })
+        SYMBOL_LISTS.rows_of_items(count, width)?;
+        Some(Shape { count, width })
     }
 
     fn word(&self, k: usize) -> u64 {
         let mut word = [0];
-        copy_limbs(self, k, &mut word);
+        copy_levels(self, k, &mut word);
         word[0]
     }
 
     fn copy_words(&self, from: usize, out: &mut [u64]) {
-        copy_limbs(self, from, out)
+        copy_levels(self, from, out)
     }
 }
 
-#[tactic(auto, using(crate::proofs::SymbolLists::symbols))]
+#[tactic(auto, using(crate::proofs::SymbolLevels::symbols))]
 impl<A: Allocator + Copy> Loaded<A> for WaveletMatrix<A> {
-    ghost use Rattle.vers_saved.specs.inside.Telling.{symbols_tell};
+    ghost use Rattle.vers_saved.specs.inside.Telling.{levels_tell, symbols_by_levels};
 
     fn make(of: Shape, held: &mut Vec<u64, A>) -> Result<Self, AllocError> {
         let alloc = *held.allocator();
-        let words = taken(held);
-        if of.width <= 8 {
-            matrix_of_bytes(alloc, of, words)
-        } else {
-            matrix_of(alloc, of, words)
-        }
+        let levels = levels_of(alloc, of, held.as_slice())?;
+        Ok(WaveletMatrix::from_levels(levels).unwrap())
     }
 
-    ghost tells = { symbols_tell };
+    ghost packed = { λ symbols. limbs (pack symbols.items symbols.width) };
+
+    fn make_packed(of: Shape, held: &mut Vec<u64, A>) -> Result<Self, AllocError> {
+        let alloc = *held.allocator();
+        packed_list(alloc, of, taken(held))
+    }
+
+    ghost by_levels = { symbols_by_levels };
+
+    ghost tells = { levels_tell };
 }

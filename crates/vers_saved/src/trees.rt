@@ -1,5 +1,5 @@
 //! Lists of parentheses, saved by their limbs.
-ghost use Rattle.std.specs.Prelude.{◌≡◌, ◌⊎◌, ⊤, length, Bool, List, OnOk, IfOk, IfErr, IfSome, MatchResult, Some, None};
+ghost use Rattle.std.specs.Prelude.{[], ◌≡◌, ◌⊎◌, ⊤, length, Bool, List, OnOk, IfOk, IfErr, IfSome, MatchResult, Some, None};
 ghost use Rattle.std.specs.Io.KnownBytes.{IsAtEnd};
 ghost use Rattle.vers_bits.specs.Bits.{limbs};
 ghost use Rattle.vers_saved.specs.Faults.{fault_of};
@@ -8,6 +8,7 @@ ghost use Rattle.vers_saved.specs.Kinds.{IsWhole, tree_kind};
 ghost use Rattle.vers_engine.specs.Device.{FollowsReadFault};
 ghost use Rattle.vers_saved.specs.Streams.{IsRefused};
 
+use crate::VERSION;
 use crate::bits::limb_of;
 use crate::fault::LoadError;
 use crate::form::{Form, Shape, bits_of, form_of, taken};
@@ -25,9 +26,11 @@ pub fn tree_kind(size: usize) -> Kind
 {
     Kind {
         number: PARENTHESES,
+        version: VERSION,
         least_width: size.max(1) as u64,
         greatest_width: size.min(MAX_BLOCK_SIZE) as u64,
         item_bits: 1,
+        by_levels: false,
         least_count: 0,
         greatest_count: MAX_LEN as u64,
         order: Order::Any,
@@ -55,7 +58,6 @@ impl<const BLOCK_SIZE: usize, A: Allocator + Copy> Saved for BpTree<BLOCK_SIZE, 
             return None;
         }
         Some(Shape {
-            kind: PARENTHESES,
             count: self.len(),
             width: BLOCK_SIZE,
         })
@@ -96,11 +98,19 @@ fn tree_of<'a, const BLOCK_SIZE: usize, A: Allocator>(
 
 // The size of a tree with any allocator isn't known, but that of one with a reference to it is.
 impl<'a, const BLOCK_SIZE: usize, A: Allocator> Loaded<&'a A> for BpTree<BLOCK_SIZE, &'a A> {
-    ghost use Rattle.vers_saved.specs.inside.Telling.{bits_tell};
+    ghost use Rattle.vers_saved.specs.inside.Telling.{no_levels, bits_tell};
 
     fn make(of: Shape, held: &mut Vec<u64, &'a A>) -> Result<Self, AllocError> {
         tree_of(of, held)
     }
+
+    ghost packed = { λ _. [] };
+
+    fn make_packed(_of: Shape, _held: &mut Vec<u64, &'a A>) -> Result<Self, AllocError> {
+        Err(AllocError)
+    }
+
+    ghost by_levels = { no_levels };
 
     ghost tells = { bits_tell BLOCK_SIZE };
 }
@@ -124,7 +134,7 @@ pub fn load_parentheses_from_slice<A: Allocator + Copy>(
         → bytes.now ≡ saved_parentheses size x
         → MatchResult result (λ v. v ≡ x) (λ e. e ≡ LoadError.Memory) }
 {
-    let Form { shape, words } = form_of(alloc, tree_kind(size), bytes)?;
+    let Form { shape, words, .. } = form_of(alloc, tree_kind(size), bytes)?;
     Ok(parentheses_of(size, shape, words))
 }
 
@@ -169,6 +179,10 @@ pub fn load_tree<'a, const BLOCK_SIZE: usize, A: Allocator, R: Source>(
         → R.remaining reader.old ≡ Some (saved_parentheses BLOCK_SIZE x)
         → MatchResult result (λ v. v ≡ x) (λ e. (e ≡ LoadError.Read) ⊎ (e ≡ LoadError.Memory)) }
 {
-    let Form { shape, mut words } = form_from(alloc, tree_kind(BLOCK_SIZE), reader)?;
+    let Form {
+        shape,
+        mut words,
+        ..
+    } = form_from(alloc, tree_kind(BLOCK_SIZE), reader)?;
     Ok(tree_of(shape, &mut words)?)
 }

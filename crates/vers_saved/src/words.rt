@@ -1,10 +1,10 @@
 //! Words of 64 bits, as bytes, and their sum.
 ghost use Rattle.std.specs.Prelude.{◌≡◌, ℕ, List, ◌+◌, ◌*◌, ◌<◌, ◌≤◌, ◌++◌, [], length, map, take, slice_index, vec_len, vec_capacity};
 ghost use Rattle.vers_saved.specs.Format.{word_bytes, bytes_word, mix, check_sum};
-ghost use Rattle.vers_saved.specs.Faults.{is_padded, in_order, ordered_words, stands, words_among};
+ghost use Rattle.vers_saved.specs.Faults.{is_padded, row_padded, row_words, in_order, ordered_words, stands, words_among};
 ghost use Rattle.vers_bits.specs.Bits.{limb_count};
 
-use crate::kind::Order;
+use crate::kind::{Order, Rows};
 use crate::{FACTOR, START, TURN};
 use std::alloc::Allocator;
 
@@ -111,21 +111,22 @@ pub(crate) fn sum_before<W: Words>(end: usize, words: &W) -> u64
     sum
 }
 
-// Copies the words of `n` bits, for which there is room. Returns the sum of the words before that of the form.
+// Copies the `n` words of the content, for which there is room. Returns the sum of the words before that of the
+// form.
 pub(crate) fn copy_summed<W: Words, A: Allocator>(
     n: usize,
     words: &W,
     kept: &mut Vec<u64, A>,
 ) -> u64
-    requires long { length (W.words words.now) ≡ limb_count n + FRAME }
+    requires long { length (W.words words.now) ≡ n + FRAME }
     requires none { kept.old.items ≡ [] }
     requires empty { vec_len kept.old ≡ 0 }
-    requires room { limb_count n ≤ vec_capacity kept.old }
+    requires room { n ≤ vec_capacity kept.old }
     ensures items { kept.new.items ≡ words_among n (W.words words.now) }
-    ensures sum { result ≡ check_sum (take (limb_count n + 5) (W.words words.now)) }
+    ensures sum { result ≡ check_sum (take (n + 5) (W.words words.now)) }
 {
     let mut sum = sum_before(5, words);
-    for k in 0..n.div_ceil(64) {
+    for k in 0..n {
         let word = words.word(k + 5);
         kept.push_reserved(word);
         sum = mixed(sum, word);
@@ -133,13 +134,28 @@ pub(crate) fn copy_summed<W: Words, A: Allocator>(
     sum
 }
 
-// Returns true if the word of the last of `n` bits has only zeros past them.
-#[tactic(auto, unfolding(crate::specs::Faults::is_padded))]
-pub(crate) fn is_padded<W: Words>(n: usize, words: &W) -> bool
-    requires { length (W.words words.now) ≡ limb_count n + FRAME }
-    ensures { result ≡ is_padded n (W.words words.now) }
+// Returns true if the last word of row `k` has only zeros past the bits of the row.
+fn row_is_padded<W: Words>(bits: usize, k: usize, words: &W) -> bool
+    requires within { k * limb_count bits + limb_count bits + FRAME ≤ length (W.words words.now) }
+    requires small { k * limb_count bits + limb_count bits ≤ 288230376151711743 }
+    ensures { result ≡ row_padded bits k (W.words words.now) }
 {
-    n % 64 == 0 || words.word(n.div_ceil(64) + FRAME - 2) < 1 << (n % 64)
+    let limbs = bits.div_ceil(64);
+    bits % 64 == 0 || words.word(k * limbs + limbs + FRAME - 2) < 1 << (bits % 64)
+}
+
+// Returns true if the last word of each row has only zeros past the bits of the row.
+#[tactic(auto, using(crate::proofs::Rows::padding))]
+pub(crate) fn is_padded<W: Words>(rows: Rows, words: &W) -> bool
+    requires long { length (W.words words.now) ≡ row_words rows.count rows.bits + FRAME }
+    requires small { row_words rows.count rows.bits ≤ 288230376151711743 }
+    ensures { result ≡ is_padded rows.count rows.bits (W.words words.now) }
+{
+    let mut holds = true;
+    for k in 0..rows.count {
+        holds = holds & row_is_padded(rows.bits, k, words);
+    }
+    holds
 }
 
 // Returns true if a word and the next one are in order.
@@ -168,12 +184,13 @@ fn count_ordered(order: Order, count: usize) -> usize
     }
 }
 
-// Returns true if the words of `n` bits are in order.
+// Returns true if the `n` words of the content are in order.
 pub(crate) fn is_in_order<W: Words>(order: Order, n: usize, words: &W) -> bool
-    requires { length (W.words words.now) ≡ limb_count n + FRAME }
+    requires long { length (W.words words.now) ≡ n + FRAME }
+    requires small { n ≤ 288230376151711743 }
     ensures { result ≡ in_order order (words_among n (W.words words.now)) }
 {
-    let end = count_ordered(order, n.div_ceil(64));
+    let end = count_ordered(order, n);
     let mut holds = true;
     for k in 0..end.saturating_sub(1) {
         holds = holds & stands(order, words.word(k + 5), words.word(k + 6));

@@ -4,7 +4,11 @@
 #[cfg(test)]
 mod devices;
 #[cfg(test)]
+mod levels;
+#[cfg(test)]
 mod memory;
+#[cfg(test)]
+mod proportion;
 #[cfg(test)]
 mod rows;
 #[cfg(test)]

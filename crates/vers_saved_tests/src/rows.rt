@@ -1,8 +1,7 @@
 //! Stored forms, loaded and saved again, with each byte flipped and each cut.
 use crate::stored::{
-    BITS, BYTE_SYMBOLS, DESCENDING, EQUAL_DOCUMENTS, HOSTILE, NINE_BIT_SYMBOLS, NO_BITS, NO_LENGTH,
-    NOT_OURS, OTHER_VERSION, PADDING, POSTINGS, SORTED, SPARSE, SYMBOLS, TOO_LONG, VALUES,
-    WIDE_SYMBOLS,
+    BITS, DESCENDING, EQUAL_DOCUMENTS, HOSTILE, NO_BITS, NO_LENGTH, NOT_OURS, OTHER_VERSION,
+    PADDING, POSTINGS, SORTED, SPARSE, TOO_LONG, VALUES,
 };
 use postings::Postings;
 use std::alloc::{AllocError, Allocator, Global};
@@ -15,7 +14,6 @@ use vers_saved::saved::{Loaded, Saved, load_from_slice, save_to_vec, saved_size}
 use vers_saved::stream::load;
 use vers_sorted::elias_fano::EliasFanoVec;
 use vers_sorted::sparse::SparseRSVec;
-use vers_wavelet::wavelet::WaveletMatrix;
 
 /// Returns true if a list is saved as these bytes, after those that are there.
 pub fn is_saved_as<S: Saved, A: Allocator>(alloc: A, list: &S, bytes: &[u8]) -> bool {
@@ -26,11 +24,15 @@ pub fn is_saved_as<S: Saved, A: Allocator>(alloc: A, list: &S, bytes: &[u8]) -> 
     saved_size(list) == Some(bytes.len()) && out.len() > 0 && out[0] == 7 && &out[1..] == bytes
 }
 
-// Returns true if bytes are loaded, and the loaded list is saved as the same bytes.
-fn is_loaded<S: Loaded<A> + Drop, A: Allocator + Copy>(alloc: A, bytes: &[u8]) -> bool {
+/// Returns true if bytes are loaded, and the loaded list is saved as other bytes, which may be the same.
+pub fn is_loaded<S: Loaded<A> + Drop, A: Allocator + Copy>(
+    alloc: A,
+    bytes: &[u8],
+    again: &[u8],
+) -> bool {
     let loaded: Result<S, LoadError> = load_from_slice(alloc, bytes);
     match loaded {
-        Ok(list) => is_saved_as(alloc, &list, bytes),
+        Ok(list) => is_saved_as(alloc, &list, again),
         Err(_) => false,
     }
 }
@@ -54,9 +56,12 @@ fn reader_fault<S: Loaded<A> + Drop, A: Allocator + Copy>(
     loaded.err()
 }
 
-// Returns the error of bytes, from a slice and from a reader, or `None` if both load them. `Read` if these
-// differ.
-fn fault_of<S: Loaded<A> + Drop, A: Allocator + Copy>(alloc: A, bytes: &[u8]) -> Option<LoadError> {
+/// Returns the error of bytes, from a slice and from a reader, or `None` if both load them. `Read` if these
+/// differ.
+pub fn fault_of<S: Loaded<A> + Drop, A: Allocator + Copy>(
+    alloc: A,
+    bytes: &[u8],
+) -> Option<LoadError> {
     let fault = slice_fault::<S, A>(alloc, bytes);
     if reader_fault::<S, A>(alloc, bytes) == fault {
         fault
@@ -133,9 +138,9 @@ pub fn changes_are_told<F: Fn(&[u8]) -> Option<LoadError>>(
         && more_is_told(alloc, bytes, &fault)
 }
 
-// Returns true if a form is that of the list that it is loaded as, and each change of it has an error.
-fn is_kept<S: Loaded<Global> + Drop>(alloc: Global, bytes: &[u8]) -> bool {
-    is_loaded::<S, Global>(alloc, bytes)
+/// Returns true if a form is that of the list that it is loaded as, and each change of it has an error.
+pub fn is_kept<S: Loaded<Global> + Drop>(alloc: Global, bytes: &[u8]) -> bool {
+    is_loaded::<S, Global>(alloc, bytes, bytes)
         && changes_are_told(
             alloc,
             bytes,
@@ -165,14 +170,6 @@ fn sparse_bits(rt: HostRuntime) {
 #[test]
 fn documents(rt: HostRuntime) {
     assert!(rt; is_kept::<Postings<Global>>(rt.alloc(), &POSTINGS));
-}
-
-#[test]
-fn symbols(rt: HostRuntime) {
-    assert!(rt; is_kept::<WaveletMatrix<Global>>(rt.alloc(), &SYMBOLS));
-    assert!(rt; is_kept::<WaveletMatrix<Global>>(rt.alloc(), &BYTE_SYMBOLS));
-    assert!(rt; is_kept::<WaveletMatrix<Global>>(rt.alloc(), &NINE_BIT_SYMBOLS));
-    assert!(rt; is_kept::<WaveletMatrix<Global>>(rt.alloc(), &WIDE_SYMBOLS));
 }
 
 #[test]

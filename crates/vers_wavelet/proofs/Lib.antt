@@ -22,4 +22,5 @@ pub mod Batches
 pub mod Groups
 pub mod Answering
 pub mod Quantiles
+pub mod Inverses
 pub mod PublicLaws

@@ -7,7 +7,7 @@ pub use Rattle.std.proofs.lemmas.Bool.{both_ways, cases_Bool, cases_eq, cases_lt
 pub use Rattle.std.proofs.lemmas.Bool.Decides.{nat_tests}
 pub use Rattle.std.proofs.lemmas.Grind.{get_or-set_at}
 pub use Rattle.std.proofs.lemmas.Simd.{map-map}
-pub use Rattle.std.proofs.lemmas.List.{append-nil, append_assoc, drop-drop, drop-take, drop_all, drop_more, get_or-append_right, get_or-drop, get_or-map, get_or-replicate, get_or-set_other, get_or-set_same, get_or-take, get_or_append_left, get_or_at, get_or_default, length-append, length-drop, length-map, length-replicate, length-set, length-take, map-id, nil_from_length, same_lists, take-append-drop, take-map, take_all, take_more}
+pub use Rattle.std.proofs.lemmas.List.{append-nil, append_assoc, drop-drop, drop-take, drop_all, drop_more, get_or-append_right, get_or-drop, get_or-map, get_or-replicate, get_or-set_other, get_or-set_same, get_or-take, get_or_append_left, get_or_at, get_or_default, length-append, length-drop, length-map, length-replicate, length-set, length-take, map-append, map-id, nil_from_length, same_lists, take-append-drop, take-map, take_all, take_more}
 pub use Rattle.std.proofs.lemmas.List.Elements.{All-append, All-cons, All-drop, All-filter, All-push, All-same, All-take, filter-append}
 pub use Rattle.std.proofs.lemmas.List.FromFn.{get_or-map-range_with_len, get_or-range_with_len, length-map-range_with_len, length-range_with_len, sum_by-map-range_with_len_more, take-map-range_with_len}
 pub use Rattle.std.proofs.lemmas.List.Sorted.{IsNonDecreasingBy-insert, IsPermutation-cons, IsPermutation-filter_both, IsPermutation-insert, IsPermutation-refl, IsPermutation-trans, length_permutation, sum_by-IsPermutation}
@@ -32,7 +32,7 @@ unfoldable pub use Rattle.vers_wavelet.specs.Batches.{member}
 pub use Rattle.vers_wavelet.specs.Levels.{AreLevels, Even, HasRoom, KthOf, Narrowed, Rises, Searched, digit, hits, start}
 unfoldable pub use Rattle.vers_wavelet.specs.Levels.{equal, next, under, value, values, way}
 pub use Rattle.vers_wavelet.specs.Makers.{GoesOn, Placed, Splits, Stands}
-unfoldable pub use Rattle.vers_wavelet.specs.Makers.{earlier, levels_of, low_symbols, order, packed_symbols, prefix, sorted_by, stand}
+unfoldable pub use Rattle.vers_wavelet.specs.Makers.{earlier, levels_of, low_symbols, order, packed_symbols, prefix, sorted_by, stand, symbol_levels}
 pub use Rattle.vers_wavelet.specs.Nearest.{Follows, Leaves}
 pub use Rattle.vers_wavelet.specs.Numbers.{low_bits_of, place_from, places_of}
 pub use Rattle.vers_wavelet.specs.Symbols.{IsKth, IsPredecessor, IsSuccessor, Symbols, by_size, digit_list, gathered, in_bits, nearest, ordered, placed}

@@ -1,7 +1,8 @@
 -- The laws that proofs of other crates may cite. A crate above imports this file and no other of this folder.
-use Rattle.vers_wavelet.proofs.Names.{◌≡◌, ℕ, ◌-◌, ◌^◌, ◌<◌, ◌≤◌, ◌+◌, Bool, eqb, List, [], length, get_or, slice_get, Option, Some, None, slice_range, All, Any, IsSome, IfSome, ◌↔◌, count_by, IsNonDecreasing, Symbols, by_size, in_bits, occurrences, range_members, kth_by_size, greatest_up_to, least_from, as_word, IsKth, IsPredecessor, IsSuccessor, low_symbols, place_from, places_of}
+use Rattle.vers_wavelet.proofs.Names.{◌≡◌, ℕ, ◌-◌, ◌^◌, ◌<◌, ◌≤◌, ◌+◌, Bool, eqb, List, [], length, get_or, slice_get, Option, Some, None, slice_range, All, Any, IsSome, IfSome, ◌↔◌, count_by, IsNonDecreasing, Symbols, by_size, in_bits, occurrences, range_members, kth_by_size, greatest_up_to, least_from, as_word, IsKth, IsPredecessor, IsSuccessor, low_symbols, place_from, places_of, symbol_levels}
 use Rattle.vers_wavelet.proofs.Answered as Answered
 use Rattle.vers_wavelet.proofs.BySize as BySize
+use Rattle.vers_wavelet.proofs.Inverses as Inverses
 use Rattle.vers_wavelet.proofs.Items as Items
 use Rattle.vers_wavelet.proofs.Lists as Lists
 use Rattle.vers_wavelet.proofs.Makes as Makes
@@ -110,3 +111,13 @@ offset_place = Offsets.offset_place
 -- there are as many lists of bits as numbers
 pub length-in_bits : (k : ℕ) (xs : List ℕ) → length (in_bits k xs) ≡ length xs
 length-in_bits = Items.length-in_bits
+
+-- ---- levels
+
+-- a list of symbols has a level for each digit, and each level has a bit for each symbol
+pub levels_even : (symbols : Symbols) → (length (symbol_levels symbols) ≡ symbols.width) × All (λ l. length l ≡ length symbols.items) (symbol_levels symbols)
+levels_even = Inverses.levels_even
+
+-- as many symbols are told by their levels
+pub levels_tell : (xs ys : Symbols) → All (λ y. y < 2 ^ xs.width) xs.items → All (λ y. y < 2 ^ ys.width) ys.items → length xs.items ≡ length ys.items → symbol_levels xs ≡ symbol_levels ys → xs ≡ ys
+levels_tell = Inverses.levels_tell

@@ -1,8 +1,8 @@
 -- The laws of lists of symbols, as statements.
 use Rattle.std.specs.Prelude.{◌≡◌, ℕ, ◌^◌, ◌<◌, ◌≤◌, ◌==◌, Bool, List, length, slice_index, slice_range, count_by, All, Any, Option, Some, None, IsSome, IfSome, ◌↔◌, ◌+◌}
 use Rattle.std.specs.List.Sorted.{IsNonDecreasing}
-use Rattle.vers_wavelet.specs.Symbols.{by_size, occurrences, range_members, kth_by_size, greatest_up_to, least_from, as_word, IsKth, IsPredecessor, IsSuccessor}
-use Rattle.vers_wavelet.specs.Makers.{low_symbols}
+use Rattle.vers_wavelet.specs.Symbols.{Symbols, by_size, occurrences, range_members, kth_by_size, greatest_up_to, least_from, as_word, IsKth, IsPredecessor, IsSuccessor}
+use Rattle.vers_wavelet.specs.Makers.{low_symbols, symbol_levels}
 
 -- `by_size` ascends
 abbrev pub SortedMembersAscend : Type 0
@@ -75,6 +75,20 @@ QuantilesListMembersBySize = (numbers quantiles : List ℕ) → length quantiles
 -- numbers of at most k digits are their own k low digits
 abbrev pub SmallNumbersStay : Type 0
 SmallNumbersStay = (numbers : List ℕ) (k : ℕ) → 0 < k → All (λ y. y < 2 ^ k) numbers → low_symbols numbers k ≡ numbers
+
+-- a list of symbols has a level for each binary digit, and each level has a bit for each symbol
+abbrev pub LevelsAreEven : Type 0
+LevelsAreEven = (symbols : Symbols) → (length (symbol_levels symbols) ≡ symbols.width) × All (λ l. length l ≡ length symbols.items) (symbol_levels symbols)
+
+-- any lists of n bits are the levels of a list of n symbols
+abbrev pub EveryLevelsAreSome : Type 0
+EveryLevelsAreSome = (ls : List (List Bool)) (n : ℕ) → All (λ l. length l ≡ n) ls
+    → (symbols : Symbols) × (length symbols.items ≡ n) × All (λ y. y < 2 ^ symbols.width) symbols.items × (symbol_levels symbols ≡ ls)
+
+-- two lists of as many symbols are equal if they have the same levels
+abbrev pub LevelsDetermineSymbols : Type 0
+LevelsDetermineSymbols = (xs ys : Symbols) → All (λ y. y < 2 ^ xs.width) xs.items → All (λ y. y < 2 ^ ys.width) ys.items
+    → length xs.items ≡ length ys.items → symbol_levels xs ≡ symbol_levels ys → xs ≡ ys
 
 -- a symbol has as many `occurrences` in a range as the range has equal elements
 abbrev pub OccurrencesAreCounted : Type 0

@@ -1,6 +1,6 @@
 //! Laws of lists of symbols. Each function does nothing: its contract is the law, and its proof is
 //! checked with the crate.
-ghost use Rattle.vers_wavelet.specs.Laws.{SortedMembersAscend, SortingKeepsMembers, KthBySizeIsKth, KthBySizeIsItem, RangesHaveMembers, RangesHavePredecessors, RangesHaveSuccessors, GreatestUpToIsPredecessor, SomeMembersAreUpTo, LeastFromIsSuccessor, SomeMembersAreFrom, RangesInsideStay, NarrowSymbolsAreWords, WideSymbolsAreNoWords, OneMemberOfANumber, QuantilesListMembersBySize, SmallNumbersStay, OccurrencesAreCounted};
+ghost use Rattle.vers_wavelet.specs.Laws.{SortedMembersAscend, SortingKeepsMembers, KthBySizeIsKth, KthBySizeIsItem, RangesHaveMembers, RangesHavePredecessors, RangesHaveSuccessors, GreatestUpToIsPredecessor, SomeMembersAreUpTo, LeastFromIsSuccessor, SomeMembersAreFrom, RangesInsideStay, NarrowSymbolsAreWords, WideSymbolsAreNoWords, OneMemberOfANumber, QuantilesListMembersBySize, SmallNumbersStay, LevelsAreEven, EveryLevelsAreSome, LevelsDetermineSymbols, OccurrencesAreCounted};
 
 /// Sorted members ascend.
 #[tactic(auto, using(crate::proofs::BySize::by_size_ascends))]
@@ -101,6 +101,24 @@ pub fn quantiles_list_members_by_size()
 #[tactic(auto, using(crate::proofs::Makes::small_numbers_stay))]
 pub fn small_numbers_stay()
     ensures { SmallNumbersStay }
+{}
+
+/// A list of symbols has a level for each digit, and each level has a bit for each symbol.
+#[tactic(auto, using(crate::proofs::Inverses::levels_even))]
+pub fn levels_are_even()
+    ensures { LevelsAreEven }
+{}
+
+/// Any lists of bits of one length are the levels of a list of symbols.
+#[tactic(auto, using(crate::proofs::Inverses::some_symbols))]
+pub fn every_levels_are_some()
+    ensures { EveryLevelsAreSome }
+{}
+
+/// Two lists of as many symbols are equal if they have the same levels.
+#[tactic(auto, using(crate::proofs::Inverses::levels_tell))]
+pub fn levels_determine_symbols()
+    ensures { LevelsDetermineSymbols }
 {}
 
 /// A symbol occurs in a range as often as it is among the range's members.

@@ -4,6 +4,7 @@ ghost use Rattle.vers_wavelet.specs.Levels.{values, AreLevels};
 ghost use Rattle.vers_wavelet.specs.Symbols.{Symbols};
 
 mod batch;
+mod by_levels;
 mod count;
 pub(crate) mod digits;
 mod find;

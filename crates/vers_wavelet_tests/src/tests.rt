@@ -4,6 +4,7 @@
 mod batches;
 mod compared;
 mod gathered;
+mod levels;
 mod lists;
 mod makers;
 mod memory;

@@ -1,40 +1,17 @@
-use Rattle.vers_saved.proofs.Names.{◌≡◌, ◌∙◌, ap, sym, arith, rules, map, length-map, None, bytes_word, words_of, words_among, first_failing, body_tests, fault_of}
-use Rattle.vers_saved.proofs.Forms.{loaded_is}
-use Rattle.vers_saved.proofs.RoundTrips.{no_fault_back, one_form}
-use Rattle.vers_saved.proofs.Tests.{words_are, told_of, memory_alone}
+use Rattle.vers_saved.proofs.Names.{◌≡◌, ◌∙◌, ap, sym, arith, IfOk-weaker, at_version, saved}
+use Rattle.vers_saved.proofs.Versions.{form_named, none_named, number_at}
 use Rattle.vers_saved.proofs.form.form_of.Goals as goal
 
-pub returns-in_err-head-clause-back : goal.returns-in_err-head-clause-back
-returns-in_err-head-clause-back g c = λ count width words whole e.
-    let none = no_fault_back c.args.kind c.args.bytes.now count width words (omega arith) whole e in
-    cc (c.in_err-head.ensures.fault)
+pub returns-clause-ok : goal.returns-clause-ok
+returns-clause-ok g c =
+    let is = c.at_version.ensures ∙ ap (at_version c.args.kind) c.version_said.ensures in
+    IfOk-weaker c.exact_form.result _ _
+    (λ r h. form_named c.args.kind c.at_version.result r.version r.shape.count r.shape.width r.words.items c.args.bytes.now (omega arith) is h.0 h.1 h.2) c.exact_form.ensures.ok
 
-pub tested_words-requires : goal.tested_words-requires
-tested_words-requires g c = grind (arith, length-map)
-
-pub returns-in_err-words-clause-err : goal.returns-in_err-words-clause-err
-returns-in_err-words-clause-err g c =
-    search (rules, told_of c.args.kind c.args.bytes.now c.in_ok-head.head.bits _ _ c.as_chunks.ensures.front c.in_ok-head.ensures.body c.in_err-words.ensures.refused)
-
-pub returns-in_err-words-clause-back : goal.returns-in_err-words-clause-back
-returns-in_err-words-clause-back g c = λ count width words whole e.
-    let refused = told_of c.args.kind c.args.bytes.now c.in_ok-head.head.bits _ _ c.as_chunks.ensures.front c.in_ok-head.ensures.body c.in_err-words.ensures.refused in
-    let memory = memory_alone (fault_of c.args.kind c.args.bytes.now) c.in_err-words.field-0.0 refused
-    (no_fault_back c.args.kind c.args.bytes.now count width words (omega arith) whole e) in
-    search (rules, memory)
-
-pub returns : goal.returns
-returns g c =
-    let said = c.in_ok-head.ensures.said in
-    let all : map bytes_word c.as_chunks.result.0.now ≡ words_of c.args.bytes.now = ap (map bytes_word) c.as_chunks.ensures.front ∙ words_are c.args.bytes.now in
-    let none : fault_of c.args.kind c.args.bytes.now ≡ None =
-    c.in_ok-head.ensures.body ∙ ap (λ l. first_failing (body_tests c.args.kind.order c.in_ok-head.head.bits l)) (sym all) ∙ c.in_ok-words.ensures.none in
-    let p = loaded_is c.args.kind _ _ c.in_ok-head.head.bits c.args.bytes.now _ (λ i. omega (arith, c.type_inv.bytes i))
-    none said.1 said.2 said.3 (c.in_ok-words.ensures.words ∙ ap (words_among c.in_ok-head.head.bits) all) in
-    record {
-      ok = (p.0, p.1, said.0);
-      none = none;
-      err = tt;
-      back = λ count width words whole e.
-          one_form c.args.kind c.args.bytes.now _ _ count width _ words (omega arith) p.1 whole p.0 e;
-    }
+pub returns-clause-back : goal.returns-clause-back
+returns-clause-back g c = λ version count width words named whole form.
+    let said = (none_named c.args.kind version count width words c.args.bytes.now (omega arith) named whole form).0 in
+    let same : at_version c.args.kind version ≡ c.at_version.result = sym (c.at_version.ensures ∙ ap (at_version c.args.kind) (c.version_said.ensures ∙ said)) in
+    let number = number_at c.args.kind version in
+    let back = rw (← same) at c.exact_form.ensures.back in
+    rw (← named) at (back count width words whole (form ∙ ap (λ n. saved (at_version c.args.kind version).version n count width words) (sym number)))

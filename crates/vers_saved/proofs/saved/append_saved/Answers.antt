@@ -5,9 +5,9 @@ use Rattle.vers_saved.proofs.saved.append_saved.Goals as goal
 pub loop-done-preserved : goal.loop-done-preserved
 loop-done-preserved g c = record {
   written = rw (c.put_group-sum.ensures.items, c.loop-done.invariant.written)
-      (written_more c.args.out.now.items (head c.args.shape.kind c.args.shape.count c.args.shape.width) (g.S.Saved.words c.args.list.now) c.loop-done.done c.min-n.result);
+      (written_more c.args.out.now.items (head g.S.Saved.kind.version g.S.Saved.kind.number c.args.shape.count c.args.shape.width) (g.S.Saved.words c.args.list.now) c.loop-done.done c.min-n.result);
   summed = rw (c.put_group-sum.ensures.sum, c.loop-done.invariant.summed)
-      (summed_more (head c.args.shape.kind c.args.shape.count c.args.shape.width) (g.S.Saved.words c.args.list.now) c.loop-done.done c.min-n.result);
+      (summed_more (head g.S.Saved.kind.version g.S.Saved.kind.number c.args.shape.count c.args.shape.width) (g.S.Saved.words c.args.list.now) c.loop-done.done c.min-n.result);
   room = omega arith;
   within = omega arith;
 }

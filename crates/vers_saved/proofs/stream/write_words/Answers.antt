@@ -8,9 +8,9 @@ returns-in-Err-clause-written g c =
     let i = c.loop-done.invariant.written in
     let m = c.in-Err.ensures.written in (
       i.0 ++ m.0,
-      m.1 ++ left_of c.args.shape.kind c.args.shape.count c.args.shape.width c.loop-done.done (g.S.Saved.words c.args.list.now),
+      m.1 ++ left_of g.S.Saved.kind.version g.S.Saved.kind.number c.args.shape.count c.args.shape.width c.loop-done.done (g.S.Saved.words c.args.list.now),
       Appends-trans _ _ _ _ _ i.1 m.2,
-      stopped c.args.shape.kind c.args.shape.count c.args.shape.width c.loop-done.done (g.S.Saved.words c.args.list.now) i.0 c.loop-done.buffer.items m.0 m.1 i.2 m.3,
+      stopped g.S.Saved.kind.version g.S.Saved.kind.number c.args.shape.count c.args.shape.width c.loop-done.done (g.S.Saved.words c.args.list.now) i.0 c.loop-done.buffer.items m.0 m.1 i.2 m.3,
       tt,
     )
 
@@ -22,11 +22,11 @@ loop-done-preserved g c =
       written = (
         i.0 ++ m.0,
         Appends-trans _ _ _ _ _ i.1 m.2,
-        went_on (head c.args.shape.kind c.args.shape.count c.args.shape.width) (g.S.Saved.words c.args.list.now) i.0 c.loop-done.buffer.items m.0 m.1 c.make_room.new.buffer.items
+        went_on (head g.S.Saved.kind.version g.S.Saved.kind.number c.args.shape.count c.args.shape.width) (g.S.Saved.words c.args.list.now) i.0 c.loop-done.buffer.items m.0 m.1 c.make_room.new.buffer.items
             c.put_group-sum.new.out.items c.loop-done.done c.min-n.result i.2 m.3 m.4 c.put_group-sum.ensures.items,
       );
       summed = rw (c.put_group-sum.ensures.sum, c.loop-done.invariant.summed)
-          (summed_more (head c.args.shape.kind c.args.shape.count c.args.shape.width) (g.S.Saved.words c.args.list.now) c.loop-done.done c.min-n.result);
+          (summed_more (head g.S.Saved.kind.version g.S.Saved.kind.number c.args.shape.count c.args.shape.width) (g.S.Saved.words c.args.list.now) c.loop-done.done c.min-n.result);
       capacity = omega arith;
       room = omega (arith, c.in_default.ensures.room);
       within = omega arith;
@@ -39,7 +39,7 @@ returns-clause-written g c =
       i.0 ++ p.0,
       p.1,
       Appends-trans _ _ _ _ _ i.1 p.2,
-      ended c.args.shape.kind c.args.shape.count c.args.shape.width c.loop-done.done c.loop-done.sum (g.S.Saved.words c.args.list.now) i.0 c.loop-done.buffer.items c.put_word.new.out.items p.0 p.1
+      ended g.S.Saved.kind.version g.S.Saved.kind.number c.args.shape.count c.args.shape.width c.loop-done.done c.loop-done.sum (g.S.Saved.words c.args.list.now) i.0 c.loop-done.buffer.items c.put_word.new.out.items p.0 p.1
           i.2 c.put_word.ensures.items (sym c.as_slice.ensures.value ∙ p.3) (omega arith) c.loop-done.invariant.summed,
       p.4,
     )

@@ -5,8 +5,8 @@ use Rattle.vers_saved.proofs.stream.write_words.Given as goal
 abbrev pub invariant-loop-done : goal.invariant-loop-done
 invariant-loop-done g l = record {
   written : (text : List ℕ) × Appends (g.W.Write.contents l.initial.writer) (g.W.Write.contents l.writer) text
-      × (text ++ l.buffer.items ≡ bytes_of (head l.fn.shape.kind l.fn.shape.count l.fn.shape.width ++ take l.done (g.S.Saved.words l.list)));
-  summed : l.sum ≡ check_sum (head l.fn.shape.kind l.fn.shape.count l.fn.shape.width ++ take l.done (g.S.Saved.words l.list));
+      × (text ++ l.buffer.items ≡ bytes_of (head g.S.Saved.kind.version g.S.Saved.kind.number l.fn.shape.count l.fn.shape.width ++ take l.done (g.S.Saved.words l.list)));
+  summed : l.sum ≡ check_sum (head g.S.Saved.kind.version g.S.Saved.kind.number l.fn.shape.count l.fn.shape.width ++ take l.done (g.S.Saved.words l.list));
   capacity : 65536 ≤ vec_capacity l.buffer;
   room : vec_len l.buffer + 8 ≤ vec_capacity l.buffer;
   within : l.done ≤ l.count;
