@@ -2,11 +2,13 @@
 use Rattle.std.specs.Prelude.{◌≡◌, ℕ, ◌++◌, List, [], ◌∷◌, codes, Option, Some, None, refl}
 use Rattle.std.specs.Fmt.{digits}
 use Rattle.text_index.specs.Texts.{begins_with, below, by_suffix, comes_before, stands_at, places_in_order, places_of}
+use Rattle.vers_words.specs.Patterns.{gone_on, pattern_of, pattern_text}
 use Rattle.vers_words.specs.Text.{number_of}
 use Rattle.vers_engine.specs.Lines.{lines_of}
 use Rattle.vers_engine.specs.Replies.{answer_to_parts, holding_after_parts}
 use Rattle.vers_texts.specs.declared.name.Name.TheVariants.{Query}
 use Rattle.vers_texts.specs.declared.name.Query.TheVariants.{Count}
+use Rattle.vers_texts.specs.Fasta.{fasta_fault, fasta_text, text_of_lines, wrong_line}
 use Rattle.vers_texts.specs.Name.{name_of}
 use Rattle.vers_texts.specs.Answers.{by_the_rules, answers_to}
 
@@ -150,3 +152,63 @@ pub answers-input : answers_to None (lines_of input)
     ≡ ended (codes "5") ++ ended (codes "2") ++ ended (codes "refused") ++ ended (codes "5")
 unfolding answer_to_parts holding_after_parts number_of places_of stands_at begins_with digits
 answers-input = refl
+
+-- ---- FASTA files
+
+-- a file of two sequences, whose first header goes on after the name, and whose last line has no end
+abbrev two_sequences : List ℕ
+two_sequences = ended (codes ">ch one") ++ ended (codes "AC") ++ ended (codes "GTA") ++ ended (codes ">d") ++ codes "GTAC"
+
+-- its text: each name between line feeds, c, h and d with the highest bit set
+abbrev text_of_two : List ℕ
+text_of_two = 10 ∷ 227 ∷ 232 ∷ 10 ∷ codes "ACGTA" ++ 10 ∷ 228 ∷ 10 ∷ codes "GTAC"
+
+pub fasta_text-two : fasta_text two_sequences ≡ text_of_two
+unfolding text_of_lines
+fasta_text-two = refl
+
+pub fasta_fault-two : fasta_fault two_sequences ≡ None
+unfolding wrong_line
+fasta_fault-two = refl
+
+-- residues before the first header, and a space among residues
+pub fasta_fault-no_header : fasta_fault (ended (codes "AC") ++ codes ">d") ≡ Some 1
+unfolding wrong_line
+fasta_fault-no_header = refl
+
+pub fasta_fault-space : fasta_fault (ended (codes ">d") ++ ended (codes "AC") ++ codes "A C") ≡ Some 3
+unfolding wrong_line
+fasta_fault-space = refl
+
+-- a header without a name
+pub fasta_fault-no_name : fasta_fault (codes "> d") ≡ Some 1
+unfolding wrong_line
+fasta_fault-no_name = refl
+
+-- occurrences by the names of their sequences
+pub answer-sites_TA : answer_to (Some text_of_two) (codes "sites \"TA\"") ≡ ended (codes "ch 3 d 1")
+unfolding answer_to_parts places_of stands_at begins_with digits
+answer-sites_TA = refl
+
+-- a pattern doesn't occur across two sequences, and one with another byte is refused
+pub answer-sites_AG : answer_to (Some text_of_two) (codes "sites \"AG\"") ≡ ended []
+unfolding answer_to_parts places_of stands_at begins_with
+answer-sites_AG = refl
+
+pub answer-sites_10 : answer_to (Some text_of_two) (codes "sites 10") ≡ ended (codes "refused")
+unfolding answer_to_parts number_of
+answer-sites_10 = refl
+
+-- a text without names
+pub answer-sites_of_none : answer_to (Some (codes "GATTA")) (codes "sites \"T\"") ≡ ended (codes "refused")
+unfolding answer_to_parts places_of stands_at begins_with
+answer-sites_of_none = refl
+
+-- a piece as a pattern, which reads back
+pub answer-piece : answer_to (Some text_of_two) (codes "piece 8 13") ≡ ended (codes "\"A\" 0x0A 0xE4 0x0A \"G\"")
+unfolding answer_to_parts number_of pattern_text gone_on
+answer-piece = refl
+
+pub pattern-piece : pattern_of (pattern_text (97 ∷ 32 ∷ 98 ∷ 34 ∷ 10 ∷ 255 ∷ 353 ∷ 99 ∷ [])) ≡ Some (97 ∷ 32 ∷ 98 ∷ 34 ∷ 10 ∷ 255 ∷ 353 ∷ 99 ∷ [])
+unfolding number_of pattern_text gone_on digits
+pattern-piece = refl

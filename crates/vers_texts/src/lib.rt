@@ -5,11 +5,14 @@
 //! answers; this crate replies to them. `run_from` does the same with a text before the first line.
 #![tactic(auto)]
 
+mod fasta;
 mod name;
 mod program;
 mod queries;
+mod sites;
 mod store;
 
+pub use fasta::{FastaError, fasta_text};
 pub use program::{run, run_from};
 pub use store::Store;
 pub use vers_engine::{Device, RunError, Sink, Source, fault_line};

@@ -11,6 +11,8 @@ pub enum Query {
     Places,
     First,
     Extract,
+    Piece,
+    Sites,
 }
 
 /// The first word of a line.
@@ -21,13 +23,15 @@ pub enum Name {
 }
 
 /// All names, with their text. It is the only table of names: the contract of `Name::of` reads it too.
-pub const NAMES: [(&[u8], Name); 6] = [
+pub const NAMES: [(&[u8], Name); 8] = [
     (b"text", Name::Text),
     (b"len", Name::Query(Query::Len)),
     (b"count", Name::Query(Query::Count)),
     (b"places", Name::Query(Query::Places)),
     (b"first", Name::Query(Query::First)),
     (b"extract", Name::Query(Query::Extract)),
+    (b"piece", Name::Query(Query::Piece)),
+    (b"sites", Name::Query(Query::Sites)),
 ];
 
 impl Name {

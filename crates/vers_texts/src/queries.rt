@@ -2,13 +2,14 @@
 ghost use Rattle.std.specs.Prelude.{◌≡◌, IfOk, take};
 ghost use Rattle.vers_words.specs.Reply.{plain_reply, Numbers};
 ghost use Rattle.text_index.specs.Texts.{places_in_order, places_of};
-ghost use Rattle.vers_texts.specs.TextLines.{query_reply, piece_reply as reply_of_piece};
+ghost use Rattle.vers_texts.specs.TextLines.{query_reply, pattern_reply as reply_of_pattern, piece_reply as reply_of_piece};
 
 use crate::name::Query;
+use crate::sites::sites_reply;
 use std::alloc::{AllocError, Allocator};
 use text_index::TextIndex;
 use vers_words::arguments::{no_arguments, two_numbers};
-use vers_words::patterns::{number_and_pattern, pattern};
+use vers_words::patterns::{append_pattern, number_and_pattern, pattern};
 use vers_words::reply::Reply;
 
 /// Returns the reply to a query of this text. Errors: `AllocError` if the allocator refuses a request.
@@ -41,6 +42,14 @@ pub fn reply<A: Allocator + Copy>(
         Query::Extract => match two_numbers(arguments) {
             None => Ok(Reply::BadLine),
             Some((from, to)) => piece_reply(text, from as usize, to as usize),
+        },
+        Query::Piece => match two_numbers(arguments) {
+            None => Ok(Reply::BadLine),
+            Some((from, to)) => pattern_reply(alloc, text, from as usize, to as usize),
+        },
+        Query::Sites => match pattern(alloc, arguments)? {
+            None => Ok(Reply::BadLine),
+            Some(pattern) => sites_reply(alloc, text, pattern.as_slice()),
         },
     }
 }
@@ -95,4 +104,22 @@ fn piece_reply<A: Allocator + Copy>(
         None => Ok(Reply::Absent),
         Some(symbols) => Ok(Reply::Numbers(symbols)),
     }
+}
+
+// Returns the reply with the symbols from one position on, before another, as a pattern.
+fn pattern_reply<A: Allocator + Copy>(
+    alloc: A,
+    text: &TextIndex<A>,
+    start: usize,
+    end: usize,
+) -> Result<Reply<A>, AllocError>
+    ensures { IfOk result (λ reply.
+        plain_reply reply ≡ reply_of_pattern text.now.items start end) }
+{
+    let Some(symbols) = text.extract(start..end)? else {
+        return Ok(Reply::Absent);
+    };
+    let mut line = Vec::new(alloc);
+    append_pattern(symbols.as_slice(), &mut line)?;
+    Ok(Reply::Text(line))
 }

@@ -40,7 +40,7 @@ fn assert_answered(rt: &impl Abort, alloc: Global, name: &str, rows: &[&str]) ->
     Ok(())
 }
 
-const CASES: [Case; 13] = [
+const CASES: [Case; 16] = [
     (
         "a genome, its pieces and their places",
         &[
@@ -122,6 +122,31 @@ const CASES: [Case; 13] = [
         "a pattern in quotes of a text of numbers",
         &[
             "text 16 97 353 98 -> 3; count \"a\" -> 1; count \"a\" 353 -> 1; places 353 \"b\" -> 1; count \"ab\" -> 0",
+        ],
+    ),
+    (
+        "pieces as patterns",
+        &[
+            "text 16 97 353 34 32 98 10 255 256 -> 8; piece 0 8 -> \"a\" 353 0x22 \" b\" 0x0A 0xFF 256; piece 1 2 -> 353",
+            "piece 3 5 -> \" b\"; piece 4 4 -> (empty); piece 5 4 -> none; piece 0 9 -> none; piece 1 -> bad line; piece x 1 -> bad line",
+            "text 8 \" ~!\" 127 31 -> 5; piece 0 5 -> \" ~!\" 0x7F 0x1F; piece 2 4 -> \"!\" 0x7F; piece 3 4 -> 0x7F",
+        ],
+    ),
+    (
+        "sites in sequences, whose names have their highest bits set",
+        &[
+            "text 8 0x0AE3E80A \"ACGTA\" 0x0AE40A \"GTAC\" -> 16; sites \"TA\" -> ch 3 d 1; sites \"G\" -> ch 2 d 0",
+            "sites \"ACGTA\" -> ch 0; sites \"GTAC\" -> d 0; sites \"AG\" -> (empty); sites \"TG\" -> (empty); sites 67 -> ch 1 d 3",
+            "sites -> refused; sites 10 -> refused; sites \"A \" -> refused; sites 0x41E3 -> refused; sites \"A@\" -> refused",
+            "sites \"AZaz*-\" -> (empty); sites \"[\" -> refused; sites \"`\" -> refused; sites \"{\" -> refused; sites x -> bad line",
+            "count \"A\" -> 3; places \"TA\" -> 7 13; count 10 -> 4; piece 4 9 -> \"ACGTA\"; piece 8 13 -> \"A\" 0x0A 0xE4 0x0A \"G\"",
+        ],
+    ),
+    (
+        "sites in a text without names, and in one of lines",
+        &[
+            "text 8 \"GATTA\" -> 5; sites \"T\" -> refused; sites \"C\" -> (empty); text 8 0x0A \"GAT\" -> 4; sites \"T\" -> refused",
+            "text 8 \"AC\" 0x0A \"GT\" 0x0A \"CA\" -> 8; sites \"A\" -> refused; sites \"CA\" -> GT 0; text 8 0x0A0A \"A\" -> 3; sites \"A\" ->  0",
         ],
     ),
     (

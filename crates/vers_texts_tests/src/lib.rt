@@ -1,8 +1,10 @@
-//! Tests of the line program over texts: its answers, and runs that are refused memory.
+//! Tests of the line program over texts: its answers, FASTA files, and runs that are refused memory.
 #![tactic(auto)]
 
 #[cfg(test)]
 mod answers;
+#[cfg(test)]
+mod fasta;
 #[cfg(test)]
 mod memory;
 #[cfg(test)]

@@ -6,7 +6,7 @@ use test_alloc::{Refusing, answers_of, lines_of};
 use vers_texts::RunError;
 
 // Load lines, each kind of query, and lines that are refused.
-const RUNS: [&[&str]; 4] = [
+const RUNS: [&[&str]; 5] = [
     &[
         "text 2 0 1 2 3 0 1 2 0 1 2 3 3 -> 12; count 0 1 2 -> 3; places 0 1 2 -> 0 4 7; extract 3 8 -> 3 0 1 2 0",
         "extract 8 3 -> none; text 2 4 -> refused; len -> 12; foo -> bad line",
@@ -22,6 +22,10 @@ const RUNS: [&[&str]; 4] = [
     &[
         "text 8 \"to be or \" 0x6e \"ot\" 32 \"to be\" -> 18; count \"to be\" -> 2; first 1 \"to\" -> 13; places \"o\" 0x20 -> 1 14",
         "text 7 \"é\" -> refused; count \"to -> bad line; len -> 18",
+    ],
+    &[
+        "text 8 0x0AE3E80A \"ACGTA\" 0x0AE40A \"GTAC\" -> 16; sites \"TA\" -> ch 3 d 1; sites 10 -> refused",
+        "piece 8 13 -> \"A\" 0x0A 0xE4 0x0A \"G\"; piece 3 2 -> none; sites \"AG\" -> (empty)",
     ],
 ];
 

@@ -6,3 +6,5 @@ pub mod Numbers
 pub mod Quotes
 pub mod Signed
 pub mod PublicLaws
+pub mod Written
+pub mod ReadBack

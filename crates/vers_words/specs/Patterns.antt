@@ -1,5 +1,5 @@
--- The symbols of a pattern: numbers, bytes after `0x`, and texts in quotes.
-use Rattle.std.specs.Prelude.{ℕ, ◌&&◌, ◌-◌, ◌*◌, ◌+◌, ◌==◌, ◌++◌, nat_le, List, [], ◌∷◌, Option, Some, None, option_map, option_and_then, if◌then◌else◌}
+-- The symbols of a pattern: numbers, bytes after `0x`, and texts in quotes; and a pattern of symbols.
+use Rattle.std.specs.Prelude.{ℕ, Bool, ◌&&◌, not, ◌-◌, ◌*◌, ◌+◌, ◌/◌, ◌%◌, ◌==◌, ◌++◌, nat_le, nat_lt, decimal, List, [], ◌∷◌, Option, Some, None, option_map, option_and_then, if◌then◌else◌}
 use Rattle.std.specs.List.{slice_split}
 use Rattle.vers_words.specs.Text.{first_word, has_bytes, number_of, words_in}
 
@@ -58,3 +58,39 @@ pattern_of pattern = from_words (slice_split (λ byte. byte == 34) pattern)
 abbrev pub number_and_pattern : List ℕ → Option (ℕ × List ℕ)
 number_and_pattern text =
     option_and_then (λ parts. option_and_then (λ n. option_map (λ symbols. (n, symbols)) (pattern_of parts.1)) (number_of parts.0)) (first_word text)
+
+-- ---- symbols as a pattern
+
+-- whether a symbol is a byte that a text in quotes has as it is: a printable byte of ASCII other than the quote
+abbrev pub is_plain : ℕ → Bool
+is_plain symbol = nat_le 32 symbol && (nat_le symbol 126 && not (symbol == 34))
+
+-- the hexadecimal digit of a value
+abbrev pub digit_of : ℕ → ℕ
+digit_of value = if nat_lt value 10 then 48 + value else 55 + value
+
+-- a symbol as a word: a byte as `0x` and two digits, a greater symbol as a number
+abbrev pub symbol_word : ℕ → List ℕ
+symbol_word symbol = if nat_lt symbol 256 then 48 ∷ 120 ∷ digit_of (symbol / 16) ∷ digit_of (symbol % 16) ∷ [] else decimal symbol
+
+-- a first symbol: a text that begins with it, or its word
+abbrev pub begun_with : ℕ → List ℕ
+begun_with symbol = if is_plain symbol then 34 ∷ symbol ∷ [] else symbol_word symbol
+
+-- the end of a text, if one is open
+abbrev pub end_of_text : Bool → List ℕ
+end_of_text quoted = if quoted then 34 ∷ [] else []
+
+-- another symbol, in an open text or behind a word
+abbrev pub gone_on_with : Bool → ℕ → List ℕ
+gone_on_with quoted symbol = if quoted && is_plain symbol then symbol ∷ [] else end_of_text quoted ++ 32 ∷ begun_with symbol
+
+-- more symbols, and the end of the last text
+unfoldable pub gone_on : Bool → List ℕ → List ℕ
+gone_on quoted [] = end_of_text quoted
+gone_on quoted (symbol ∷ symbols) = gone_on_with quoted symbol ++ gone_on (is_plain symbol) symbols
+
+-- symbols as a pattern: the longest runs of plain bytes in quotes, the others as words, with spaces between them
+unfoldable pub pattern_text : List ℕ → List ℕ
+pattern_text [] = []
+pattern_text (symbol ∷ symbols) = begun_with symbol ++ gone_on (is_plain symbol) symbols

@@ -13,6 +13,7 @@ pub data PlainReply : Type 0 where
   Signed : ℤ → PlainReply
   Absent : PlainReply
   Numbers : List ℕ → PlainReply
+  Text : List ℕ → PlainReply
 
 -- the plain form of a reply
 abbrev pub plain_reply : {A : Type 0} → Reply A → PlainReply
@@ -23,6 +24,7 @@ plain_reply (reply.Number n) = Number n
 plain_reply (reply.Signed n) = Signed n
 plain_reply reply.Absent = Absent
 plain_reply (reply.Numbers numbers) = Numbers numbers.items
+plain_reply (reply.Text text) = Text text.items
 
 -- numbers, with one space between them
 abbrev pub numbers_text : List ℕ → List ℕ
@@ -38,16 +40,7 @@ reply_text (Number n) = decimal n
 reply_text (Signed n) = signed_decimal n
 reply_text Absent = codes "none"
 reply_text (Numbers numbers) = numbers_text numbers
-
--- the reply to a query that finds a number or nothing
-abbrev pub number_or_absent : Option ℕ → PlainReply
-number_or_absent None = Absent
-number_or_absent (Some n) = Number n
-
--- the reply to a query that finds a number, unless its precondition fails
-abbrev pub number_or_refused : Option ℕ → PlainReply
-number_or_refused None = Refused
-number_or_refused (Some n) = Number n
+reply_text (Text text) = text
 
 -- the reply to a query with these arguments, `BadLine` if they are malformed
 abbrev pub if_well_formed : {X : Type 0} → Option X → (X → PlainReply) → PlainReply

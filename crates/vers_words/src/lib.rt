@@ -3,6 +3,7 @@
 #![tactic(auto)]
 
 pub mod arguments;
+pub mod laws;
 pub mod loading;
 pub mod names;
 pub mod patterns;

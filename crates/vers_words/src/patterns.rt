@@ -1,8 +1,9 @@
 //! Patterns: numbers, bytes after `0x`, and texts in quotes, such as `"chapter " 0x0A 49`.
-ghost use Rattle.std.specs.Prelude.{◌≡◌, ◌++◌, ◌<◌, IfOk, IfSome, MatchOption, Some, None, option_map};
+ghost use Rattle.std.specs.Prelude.{◌≡◌, ◌++◌, ◌<◌, IfOk, OnOk, IfSome, MatchOption, Some, None, option_map};
 ghost use Rattle.vers_words.specs.Text.{words_in};
-ghost use Rattle.vers_words.specs.Patterns.{hex_byte as byte_of_digits, hex_bytes, hex_digit as value_of_digit, joined, number_and_pattern as number_then_pattern, pattern_of, word_symbols, words_symbols};
+ghost use Rattle.vers_words.specs.Patterns.{hex_byte as byte_of_digits, hex_bytes, hex_digit as value_of_digit, begun_with, digit_of, end_of_text, gone_on_with, is_plain as are_plain, joined, number_and_pattern as number_then_pattern, pattern_of, pattern_text, symbol_word, word_symbols, words_symbols};
 
+use crate::reply::append_number;
 use crate::text::{number, place_of, split_first_word};
 use std::alloc::{AllocError, Allocator};
 
@@ -165,5 +166,95 @@ fn hex_digit(byte: u8) -> Option<u64>
         b'a'..=b'f' => Some(u64::from(byte - b'a' + 10)),
         b'A'..=b'F' => Some(u64::from(byte - b'A' + 10)),
         _ => None,
+    }
+}
+
+/// Appends the pattern of symbols: the longest runs of printable bytes of ASCII in quotes, another byte and the quote
+/// as `0x` and two digits, a greater symbol as a number, with one space between them.
+///
+/// # Errors
+///
+/// `AllocError` if the allocator refuses a request. A part may have been appended.
+pub fn append_pattern<A: Allocator>(
+    symbols: &[u64],
+    text: &mut Vec<u8, A>,
+) -> Result<(), AllocError>
+    ensures { OnOk result (text.new.items ≡ text.old.items ++ pattern_text symbols.now) }
+{
+    let Some((first, others)) = symbols.split_first() else {
+        return Ok(());
+    };
+    append_first(*first, text)?;
+    let mut is_open = is_plain(*first);
+    for symbol in others {
+        append_next(is_open, *symbol, text)?;
+        is_open = is_plain(*symbol);
+    }
+    append_end(is_open, text)
+}
+
+// Returns true if a text in quotes has a symbol as it is.
+fn is_plain(symbol: u64) -> bool
+    ensures { result ≡ are_plain symbol }
+{
+    symbol >= 32 && symbol <= 126 && symbol != 34
+}
+
+// Appends a first symbol: a text that begins with it, or its word.
+fn append_first<A: Allocator>(symbol: u64, text: &mut Vec<u8, A>) -> Result<(), AllocError>
+    ensures { OnOk result (text.new.items ≡ text.old.items ++ begun_with symbol) }
+{
+    if is_plain(symbol) {
+        return text.extend_from_slice(&[b'"', symbol as u8]);
+    }
+    append_symbol(symbol, text)
+}
+
+// Appends another symbol, in an open text or after a word.
+fn append_next<A: Allocator>(
+    is_open: bool,
+    symbol: u64,
+    text: &mut Vec<u8, A>,
+) -> Result<(), AllocError>
+    ensures { OnOk result (text.new.items ≡ text.old.items ++ gone_on_with is_open symbol) }
+{
+    if is_open && is_plain(symbol) {
+        text.push(symbol as u8)?;
+        return Ok(());
+    }
+    append_end(is_open, text)?;
+    text.push(b' ')?;
+    append_first(symbol, text)
+}
+
+// Appends the quote at the end of a text, if one is open.
+fn append_end<A: Allocator>(is_open: bool, text: &mut Vec<u8, A>) -> Result<(), AllocError>
+    ensures { OnOk result (text.new.items ≡ text.old.items ++ end_of_text is_open) }
+{
+    if is_open {
+        text.push(b'"')?;
+    }
+    Ok(())
+}
+
+// Appends a symbol as a word.
+fn append_symbol<A: Allocator>(symbol: u64, text: &mut Vec<u8, A>) -> Result<(), AllocError>
+    ensures { OnOk result (text.new.items ≡ text.old.items ++ symbol_word symbol) }
+{
+    if symbol > 255 {
+        return append_number(symbol, text);
+    }
+    text.extend_from_slice(&[b'0', b'x', digit_from(symbol / 16), digit_from(symbol % 16)])
+}
+
+// Returns the hexadecimal digit of a value.
+fn digit_from(value: u64) -> u8
+    requires { value < 16 }
+    ensures { result ≡ digit_of value }
+{
+    if value < 10 {
+        b'0' + value as u8
+    } else {
+        b'A' - 10 + value as u8
     }
 }

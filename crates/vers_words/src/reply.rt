@@ -22,40 +22,12 @@ pub enum Reply<A: Allocator + Copy> {
     Absent,
     /// Any number of numbers.
     Numbers(Vec<u64, A>),
+    /// A text.
+    Text(Vec<u8, A>),
 }
 
 impl<A: Allocator + Copy> Reply<A> {
-    ghost use Rattle.vers_words.specs.Reply.{plain_reply, reply_text, number_or_absent as reply_of, number_or_refused as admitted_reply_of};
-
-    /// Returns the reply with a number, or that there is none.
-    pub fn number_or_absent(number: Option<u64>) -> Reply<A>
-        ensures { plain_reply result ≡ reply_of number }
-    {
-        match number {
-            Some(n) => Reply::Number(n),
-            None => Reply::Absent,
-        }
-    }
-
-    /// Returns the reply with a position, or that there is none.
-    pub fn place_or_absent(place: Option<usize>) -> Reply<A>
-        ensures { plain_reply result ≡ reply_of place }
-    {
-        let Some(p) = place else {
-            return Reply::Absent;
-        };
-        Reply::Number(p as u64)
-    }
-
-    /// Returns the reply with a number, or that the query is refused.
-    pub fn number_or_refused(number: Option<u64>) -> Reply<A>
-        ensures { plain_reply result ≡ admitted_reply_of number }
-    {
-        match number {
-            Some(n) => Reply::Number(n),
-            None => Reply::Refused,
-        }
-    }
+    ghost use Rattle.vers_words.specs.Reply.{plain_reply, reply_text};
 
     /// Appends the text of the reply. On error a part of it may have been appended.
     pub fn append_to(self, line: &mut Vec<u8, A>) -> Result<(), AllocError>
@@ -71,6 +43,7 @@ impl<A: Allocator + Copy> Reply<A> {
             Reply::Signed(n) => append_signed_number(n, line),
             Reply::Absent => line.extend_from_slice(b"none"),
             Reply::Numbers(numbers) => append_numbers(numbers.as_slice(), line),
+            Reply::Text(text) => line.extend_from_slice(text.as_slice()),
         }
     }
 }
@@ -78,8 +51,8 @@ impl<A: Allocator + Copy> Reply<A> {
 // The greatest number of digits of a number.
 const MAX_DIGITS: usize = 20;
 
-// Appends a number in decimal. On error nothing is appended.
-fn append_number<A: Allocator>(number: u64, line: &mut Vec<u8, A>) -> Result<(), AllocError>
+/// Appends a number in decimal. On error nothing is appended.
+pub fn append_number<A: Allocator>(number: u64, line: &mut Vec<u8, A>) -> Result<(), AllocError>
     ensures text { OnOk result (line.new.items ≡ line.old.items ++ decimal number) }
     ensures kept { OnErr result (line.new.items ≡ line.old.items) }
 {

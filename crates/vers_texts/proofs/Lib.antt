@@ -1,0 +1,2 @@
+pub mod FastaLines
+pub mod Feeds

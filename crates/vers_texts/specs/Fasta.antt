@@ -1,0 +1,60 @@
+-- FASTA files, by their lines: a header begins with `>` and names a sequence, and the lines up to the next header have its residues.
+use Rattle.std.specs.Prelude.{◌≡◌, ℕ, Bool, false, not, ◌&&◌, ◌||◌, ◌==◌, ◌+◌, ◌%◌, nat_le, List, [], ◌∷◌, ◌++◌, map, flat_map, Option, Some, None, is_some, if◌then◌else◌}
+use Rattle.std.specs.List.{slice_split, list_all, before_first}
+use Rattle.std.specs.Io.BufRead.{strip_last}
+use Rattle.vers_words.specs.Text.{has_bytes}
+use Rattle.vers_texts.specs.declared.fasta.FastaError.{FastaError}
+use Rattle.vers_texts.specs.declared.fasta.FastaError.TheVariants.{Line, Memory}
+
+-- the lines of a file, each without one byte 13 at its end
+abbrev pub lines_in : List ℕ → List (List ℕ)
+lines_in file = map (strip_last 13) (slice_split (λ byte. byte == 10) file)
+
+-- whether a byte is a residue: a letter, `*` or `-`
+abbrev pub is_residue : ℕ → Bool
+is_residue byte = (nat_le 65 byte && nat_le byte 90) || ((nat_le 97 byte && nat_le byte 122) || ((byte == 42) || (byte == 45)))
+
+-- whether a byte is a visible character of ASCII
+abbrev pub is_visible : ℕ → Bool
+is_visible byte = nat_le 33 byte && nat_le byte 126
+
+-- the name in a header, if a line is one: the bytes between `>` and the first space or tab
+abbrev pub name_in : List ℕ → Option (List ℕ)
+name_in [] = None
+name_in (byte ∷ bytes) = if byte == 62 then Some (before_first (λ b. (b == 32) || (b == 9)) bytes) else None
+
+-- whether a name has characters, all of them visible
+abbrev pub is_name : List ℕ → Bool
+is_name name = has_bytes name && list_all is_visible name
+
+-- whether a line is one of a FASTA file, by its name if it is a header, and by whether a header came before
+abbrev pub is_line : Bool → Option (List ℕ) → List ℕ → Bool
+is_line begun (Some name) line = is_name name
+is_line begun None line = not (has_bytes line) || (begun && list_all is_residue line)
+
+-- the symbols of a line: its residues, or the name of a header between two line feeds, each byte with its highest bit set
+abbrev pub symbols_of : Option (List ℕ) → List ℕ → List ℕ
+symbols_of (Some name) line = 10 ∷ (map (λ b. 128 + b % 128) name ++ 10 ∷ [])
+symbols_of None line = line
+
+-- the symbols of lines
+unfoldable pub text_of_lines : List (List ℕ) → List ℕ
+text_of_lines lines = flat_map (λ line. symbols_of (name_in line) line) lines
+
+-- the number of the first line, from n, that is none of a FASTA file, if there is one
+unfoldable pub wrong_line : Bool → ℕ → List (List ℕ) → Option ℕ
+wrong_line begun n [] = None
+wrong_line begun n (line ∷ lines) = if is_line begun (name_in line) line then wrong_line (begun || is_some (name_in line)) (n + 1) lines else Some n
+
+-- the text of a FASTA file
+abbrev pub fasta_text : List ℕ → List ℕ
+fasta_text file = text_of_lines (lines_in file)
+
+-- the number of its first wrong line, from 1
+abbrev pub fasta_fault : List ℕ → Option ℕ
+fasta_fault file = wrong_line false 1 (lines_in file)
+
+-- why a file has no text
+abbrev pub IsNoFasta : List ℕ → FastaError → Type 0
+IsNoFasta file (Line n) = fasta_fault file ≡ Some n
+IsNoFasta file Memory = Unit {0}
