@@ -1,44 +1,36 @@
--- The answer to a query: a status, and a number if it found something.
-use Rattle.std.specs.Prelude.{◌≡◌, ◌⊎◌, ℕ, Bool, Option, Some, None, ◌==◌, if◌then◌else◌}
-use Rattle.vers_bits.specs.Bits.{bit_value}
-use Rattle.vers_c.specs.declared.answer.Answer.{Answer}
+-- The answer of an export: a status, and a number if it found something.
+use Rattle.std.specs.Prelude.{◌≡◌, ◌⊎◌, ℕ, ◌==◌, Option, Some, None, if◌then◌else◌}
+use Rattle.catalogue.specs.declared.answer.Answer.{Answer}
+use Rattle.catalogue.specs.declared.answer.Answer.TheVariants.{Found, Absent, Unknown, Refused}
+use Rattle.vers_c.specs.declared.answer.VersAnswer.{VersAnswer}
 
 -- a number
-abbrev pub found : ℕ → Answer
+abbrev pub found : ℕ → VersAnswer
 found n = record { status = 0; value = n }
 
 -- there is no such thing
-abbrev pub absent : Answer
+abbrev pub absent : VersAnswer
 absent = record { status = 1; value = 0 }
 
--- the structure has no query of this code
-abbrev pub unknown : Answer
-unknown = record { status = 2; value = 0 }
-
--- the handle is empty
-abbrev pub vacant : Answer
-vacant = record { status = 3; value = 0 }
-
--- the arguments are not those of a known query
-abbrev pub refused : Answer
-refused = record { status = 4; value = 0 }
-
 -- a number, or that there is none
-abbrev pub found_or_absent : Option ℕ → Answer
+abbrev pub found_or_absent : Option ℕ → VersAnswer
 found_or_absent (Some n) = found n
 found_or_absent None = absent
 
--- a truth value, as 1 or 0
-abbrev pub decided : Bool → Answer
-decided b = found (bit_value b)
+-- the handle is empty
+abbrev pub vacant : VersAnswer
+vacant = record { status = 3; value = 0 }
 
--- an answer with a precondition, refused if it fails
-abbrev pub answer_if : Bool → Answer → Answer
-answer_if condition answer = if condition then answer else refused
+-- the answer of a structure
+abbrev pub as_vers_answer : Answer → VersAnswer
+as_vers_answer (Found n) = found n
+as_vers_answer Absent = absent
+as_vers_answer Unknown = record { status = 2; value = 0 }
+as_vers_answer Refused = record { status = 4; value = 0 }
 
 -- the number of an answer, or another one if the query found nothing
-abbrev pub value_or : ℕ → Answer → ℕ
-value_or other answer = if answer.status == 0 then answer.value else other
+abbrev pub number_or : ℕ → VersAnswer → ℕ
+number_or other answer = if answer.status == 0 then answer.value else other
 
 -- the status of a call is this one, or there is no memory for what would be done
 abbrev pub IsToldAs : ℕ → ℕ → Type 0

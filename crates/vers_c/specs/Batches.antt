@@ -1,8 +1,8 @@
 -- The queries of many numbers.
 use Rattle.std.specs.Prelude.{ℕ}
-use Rattle.vers_c.specs.declared.answer.Answer.{Answer}
+use Rattle.catalogue.specs.declared.answer.Answer.{Answer}
 use Rattle.vers_c.specs.declared.asked.Ask.{Ask}
-use Rattle.vers_c.specs.Answers.{value_or}
+use Rattle.catalogue.specs.Answers.{value_or}
 
 -- the answer to a number and two more; `other` if there is none
 abbrev pub answered : (ℕ → ℕ → ℕ → Answer) → ℕ → ℕ → ℕ → ℕ → ℕ

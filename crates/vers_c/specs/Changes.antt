@@ -4,7 +4,7 @@ use Rattle.vers_bits.specs.Bits.{low_bits}
 use Rattle.vers_c.specs.declared.change.Change.{Change}
 use Rattle.vers_c.specs.declared.change.Change.TheVariants.{Push, Append, Set, DropLast}
 use Rattle.vers_c.specs.declared.change.TheConstants.{CHANGES}
-use Rattle.vers_c.specs.Structures.{Structure, GrowingBits}
+use Rattle.catalogue.specs.Contents.{Content, GrowingBits}
 
 -- the list after a change with two numbers, unless these are refused
 abbrev pub bits_changed : List Bool → Change → ℕ → ℕ → Option (List Bool)
@@ -14,21 +14,21 @@ bits_changed bits Set a b = if nat_lt a (length bits) then Some (slice_set bits 
 bits_changed bits DropLast a b = Some (take (length bits - a) bits)
 
 -- the same of a structure
-abbrev pub structure_changed : Structure → Change → ℕ → ℕ → Option Structure
+abbrev pub structure_changed : Content → Change → ℕ → ℕ → Option Content
 structure_changed (GrowingBits bits) change a b = option_map GrowingBits (bits_changed bits change a b)
 structure_changed held change a b = None
 
 -- a change, if there is one
-abbrev pub changed_if : Structure → Option Change → ℕ → ℕ → Option Structure
+abbrev pub changed_if : Content → Option Change → ℕ → ℕ → Option Content
 changed_if held None a b = None
 changed_if held (Some change) a b = structure_changed held change a b
 
 -- the change of a code, which is its index in the table
-abbrev pub changed_by_code : Structure → ℕ → ℕ → ℕ → Option Structure
+abbrev pub changed_by_code : Content → ℕ → ℕ → ℕ → Option Content
 changed_by_code held code a b = changed_if held (slice_get CHANGES code) a b
 
 -- the same for a handle, which may be empty
-abbrev pub contents_changed : Option Structure → ℕ → ℕ → ℕ → Option (Option Structure)
+abbrev pub contents_changed : Option Content → ℕ → ℕ → ℕ → Option (Option Content)
 contents_changed None code a b = None
 contents_changed (Some held) code a b = option_map Some (changed_by_code held code a b)
 
@@ -38,16 +38,16 @@ numbers_status None = 4
 numbers_status (Some bits) = 0
 
 -- the status of a change, if there is one: only lists of bits that can change have some
-abbrev pub change_status : Structure → Option Change → ℕ → ℕ → ℕ
+abbrev pub change_status : Content → Option Change → ℕ → ℕ → ℕ
 change_status (GrowingBits bits) (Some change) a b = numbers_status (bits_changed bits change a b)
 change_status held change a b = 2
 
 -- the status of the change of a code
-abbrev pub coded_status : Structure → ℕ → ℕ → ℕ → ℕ
+abbrev pub coded_status : Content → ℕ → ℕ → ℕ → ℕ
 coded_status held code a b = change_status held (slice_get CHANGES code) a b
 
 -- the same for a handle, which may be empty
-abbrev pub changed_status : Option Structure → ℕ → ℕ → ℕ → ℕ
+abbrev pub changed_status : Option Content → ℕ → ℕ → ℕ → ℕ
 changed_status None code a b = 3
 changed_status (Some held) code a b = coded_status held code a b
 

@@ -5,48 +5,48 @@ use Rattle.vers_sorted.specs.Ones.{ones_at}
 use Rattle.vers_sorted.specs.Sorted.{each_next}
 use Rattle.vers_wavelet.specs.Makers.{low_symbols}
 use Rattle.vers_c.specs.Answers.{IsToldAs}
-use Rattle.vers_c.specs.Structures.{Structure, SparseBits, SortedMembers, SymbolList, Documents}
+use Rattle.catalogue.specs.Contents.{Content, SparseBits, SortedMembers, SymbolList, Documents}
 
 -- of numbers, which have to ascend
-abbrev pub sorted_made : List ℕ → Option Structure
+abbrev pub sorted_made : List ℕ → Option Content
 sorted_made numbers = if each_next nat_le numbers then Some (SortedMembers numbers) else None
 
 -- from the positions of ones, which have to ascend strictly and to be less than the length
-abbrev pub sparse_made : List ℕ → ℕ → Option Structure
+abbrev pub sparse_made : List ℕ → ℕ → Option Content
 sparse_made ones len =
     if each_next nat_lt ones && list_all (λ place. nat_lt place len) ones then Some (SparseBits (ones_at ones len)) else None
 
 -- of numbers, of which `width` low bits count; that is at most 64
-abbrev pub symbols_made : List ℕ → ℕ → Option Structure
+abbrev pub symbols_made : List ℕ → ℕ → Option Content
 symbols_made numbers width = if nat_le width 64 then Some (SymbolList (record { width = width; items = low_symbols numbers width })) else None
 
 -- of documents, which have to ascend strictly, with as many costs
-abbrev pub posted_made : List ℕ → List ℕ → Option Structure
+abbrev pub posted_made : List ℕ → List ℕ → Option Content
 posted_made documents costs =
     if (length documents == length costs) && each_next nat_lt documents
     then Some (Documents (record { documents = documents; costs = costs }))
     else None
 
 -- the status of a build: for a handle that is not empty, and for what can't be made
-abbrev pub made_status : Option Structure → Option Structure → ℕ
+abbrev pub made_status : Option Content → Option Content → ℕ
 made_status (Some held) wanted = 5
 made_status None None = 4
 made_status None (Some made) = 0
 
 -- the handle has the new structure if the status is 0, otherwise it is unchanged
-pub record IsMade (wanted before after : Option Structure) (status : ℕ) : Type 0 where
+pub record IsMade (wanted before after : Option Content) (status : ℕ) : Type 0 where
   pub made : status ≡ 0 → after ≡ wanted
   pub left : status ≢ 0 → after ≡ before
   pub told : IsToldAs (made_status before wanted) status
 
 -- the status of sharing the structure of a handle with another handle
-abbrev pub shared_status : Option Structure → Option Structure → ℕ
+abbrev pub shared_status : Option Content → Option Content → ℕ
 shared_status None before = 3
 shared_status (Some held) (Some other) = 5
 shared_status (Some held) None = 0
 
 -- the other handle has the same structure if the status is 0, otherwise it is unchanged
-pub record IsShared (held before after : Option Structure) (status : ℕ) : Type 0 where
+pub record IsShared (held before after : Option Content) (status : ℕ) : Type 0 where
   pub made : status ≡ 0 → after ≡ held
   pub left : status ≢ 0 → after ≡ before
   pub told : IsToldAs (shared_status held before) status

@@ -1,22 +1,11 @@
-//! Structures that can be queried, once or many times.
+//! Many queries of one structure.
 ghost use Rattle.std.specs.Prelude.{◌≡◌, ℕ, map};
+ghost use Rattle.catalogue.specs.Queries.{answer as answer_of};
 ghost use Rattle.vers_c.specs.Batches.{told_row};
+ghost use Rattle.vers_c.specs.Structures.{content};
 
-use crate::answer::Answer;
-use crate::query::Query;
-
-/// A structure that can be queried.
-pub trait Asked {
-    ghost use Rattle.vers_c.specs.declared.answer.Answer.{Answer};
-    ghost use Rattle.vers_c.specs.declared.query.Query.{Query};
-
-    // The answer to a query with three numbers.
-    ghost answers: { Self → Query → ℕ → ℕ → ℕ → Answer };
-
-    /// Returns the answer to a query with three numbers.
-    fn answer(&self, query: Query, a: u64, b: u64, c: u64) -> Answer
-        ensures { result ≡ answers self.now query a b c };
-}
+use catalogue::query::Query;
+use catalogue::queryable::Queryable;
 
 /// The three numbers of a query. The first is replaced by the answer.
 #[repr(C)]
@@ -89,18 +78,9 @@ impl Row for Ask {
     }
 }
 
-/// Returns the answer of a structure. It is a function of its own, so that it saves no registers that only
-/// other paths need.
-#[inline(never)]
-pub fn answer_once<S: Asked>(structure: &S, query: Query, a: u64, b: u64, c: u64) -> Answer
-    ensures { result ≡ S.answers structure.now query a b c }
-{
-    structure.answer(query, a, b, c)
-}
-
 /// Replaces each row by the answer to its numbers, or by `other` if there is none.
 #[inline(always)]
-pub fn answer_each<S: Asked, R: Row>(
+pub fn answer_each<S: Queryable, R: Row>(
     structure: &S,
     query: Query,
     rows: &mut [R],
@@ -108,7 +88,7 @@ pub fn answer_each<S: Asked, R: Row>(
     c: u64,
     other: u64,
 )
-    ensures { rows.new ≡ map (told_row R.ask R.told (S.answers structure.now query) other b c) rows.old }
+    ensures { rows.new ≡ map (told_row R.ask R.told (answer_of (S.content structure.now) query) other b c) rows.old }
 {
     for i in 0..rows.len() {
         let row = rows[i];

@@ -1,14 +1,15 @@
 //! Exports that query and change the structure of a handle.
 ghost use Rattle.std.specs.Prelude.{◌≡◌, ◌≢◌, ◌⊎◌, ◌-◌, ◌^◌, IsSome, map};
-ghost use Rattle.vers_c.specs.Answers.{IsToldAs, value_or};
+ghost use Rattle.vers_c.specs.Answers.{IsToldAs, number_or};
 ghost use Rattle.vers_c.specs.Batches.{answered, row_answered};
 ghost use Rattle.vers_c.specs.Changes.{IsChanged, changed_status, contents_changed};
-ghost use Rattle.vers_c.specs.Queries.{contents_answer, contents_status};
+ghost use Rattle.vers_c.specs.Codes.{batch_answer, contents_answer, contents_status};
 ghost use Rattle.vers_c.specs.Structures.{contents};
 
-use crate::answer::Answer;
+use crate::answer::VersAnswer;
 use crate::asked::Ask;
 use crate::handle::VersHandle;
+use crate::kept::{answer_coded, each_answer_coded};
 use crate::owners::{changed, put, taken};
 use crate::status::{DONE, SHARED, VACANT};
 use std::alloc::Global;
@@ -22,26 +23,26 @@ pub extern "C" fn vers_ask(
     a: u64,
     b: u64,
     c: u64,
-) -> Answer
+) -> VersAnswer
     ensures value { result ≡ contents_answer (contents handle.old) code a b c }
     ensures kept { contents handle.new ≡ contents handle.old }
 {
     if !handle.is_built {
-        return Answer::vacant();
+        return VersAnswer::vacant();
     }
     let owner = taken(alloc, handle);
-    let answer = owner.answer_coded(code, a, b, c);
+    let answer = answer_coded(&owner, code, a, b, c);
     put(handle, owner);
-    answer
+    VersAnswer::of(answer)
 }
 
 /// Returns the number that a query of one number finds, or `u64::MAX` if it finds none.
 #[unsafe(no_mangle)]
 pub extern "C" fn vers_value(alloc: Global, handle: &mut VersHandle, code: u32, a: u64) -> u64
-    ensures value { result ≡ value_or (2 ^ 64 - 1) (contents_answer (contents handle.old) code a 0 0) }
+    ensures value { result ≡ number_or (2 ^ 64 - 1) (contents_answer (contents handle.old) code a 0 0) }
     ensures kept { contents handle.new ≡ contents handle.old }
 {
-    vers_ask(alloc, handle, code, a, 0, 0).value_or(u64::MAX)
+    vers_ask(alloc, handle, code, a, 0, 0).number_or(u64::MAX)
 }
 
 /// Replaces each number by the answer to it and two more numbers, or by `other` if there is none.
@@ -57,7 +58,7 @@ pub extern "C" fn vers_ask_each(
 ) -> u32
     ensures status { result ≡ contents_status (contents handle.old) code }
     ensures done { result ≡ DONE → numbers.new
-        ≡ map (answered (contents_answer (contents handle.old) code) other b c) numbers.old }
+        ≡ map (answered (batch_answer (contents handle.old) code) other b c) numbers.old }
     ensures left { result ≢ DONE → numbers.new ≡ numbers.old }
     ensures kept { contents handle.new ≡ contents handle.old }
 {
@@ -65,7 +66,7 @@ pub extern "C" fn vers_ask_each(
         return VACANT;
     }
     let owner = taken(alloc, handle);
-    let status = owner.answer_each_coded(alloc, code, numbers, b, c, other as u64);
+    let status = each_answer_coded(&owner, alloc, code, numbers, b, c, other as u64);
     put(handle, owner);
     status
 }
@@ -81,7 +82,7 @@ pub extern "C" fn vers_ask_rows(
 ) -> u32
     ensures status { result ≡ contents_status (contents handle.old) code }
     ensures done { result ≡ DONE → asks.new
-        ≡ map (row_answered (contents_answer (contents handle.old) code) other) asks.old }
+        ≡ map (row_answered (batch_answer (contents handle.old) code) other) asks.old }
     ensures left { result ≢ DONE → asks.new ≡ asks.old }
     ensures kept { contents handle.new ≡ contents handle.old }
 {
@@ -89,7 +90,7 @@ pub extern "C" fn vers_ask_rows(
         return VACANT;
     }
     let owner = taken(alloc, handle);
-    let status = owner.answer_each_coded(alloc, code, asks, 0, 0, other);
+    let status = each_answer_coded(&owner, alloc, code, asks, 0, 0, other);
     put(handle, owner);
     status
 }

@@ -1,19 +1,21 @@
 //! Many queries at once, by the library's batch functions.
 ghost use Rattle.std.specs.Prelude.{◌≡◌, ℕ, ◌<◌, length, map};
-ghost use Rattle.vers_c.specs.Answers.{value_or};
+ghost use Rattle.catalogue.specs.Answers.{value_or};
 ghost use Rattle.vers_c.specs.Batches.{asked, told_row};
-ghost use Rattle.vers_c.specs.declared.answer.Answer.{Answer};
+ghost use Rattle.catalogue.specs.declared.answer.Answer.{Answer};
 
 mod bits;
 mod members;
 mod symbols;
+mod values;
 
-use crate::answer::Answer;
 use crate::asked::{Ask, Row};
 pub use bits::each_of_bits;
+use catalogue::answer::Answer;
 pub use members::each_of_members;
 use std::alloc::Global;
 pub use symbols::each_of_symbols;
+pub use values::each_of_values;
 
 /// The number of queries passed to the library together.
 const GROUP: usize = 64;
@@ -23,7 +25,7 @@ const MOST: usize = 65_536;
 
 /// A query of a structure `S` that the library answers in batches, each in a `Q` of its own.
 trait Batch<S, Q: Copy>: Copy {
-    ghost use Rattle.vers_c.specs.declared.answer.Answer.{Answer};
+    ghost use Rattle.catalogue.specs.declared.answer.Answer.{Answer};
 
     // The structure's answer to three numbers.
     ghost answers: { Self → S → ℕ → ℕ → ℕ → Answer };

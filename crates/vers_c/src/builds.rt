@@ -2,15 +2,15 @@
 ghost use Rattle.std.specs.Prelude.{◌≡◌, map, Some, take};
 ghost use Rattle.vers_bits.specs.Bits.{pack};
 ghost use Rattle.vers_c.specs.Makes.{IsMade, posted_made, sorted_made, sparse_made, symbols_made};
-ghost use Rattle.vers_c.specs.Structures.{contents, BlockValues, GrowingBits, IndexedBits, Parentheses, TableValues};
+ghost use Rattle.catalogue.specs.Contents.{BlockValues, GrowingBits, IndexedBits, Parentheses, TableValues};
+ghost use Rattle.vers_c.specs.Structures.{contents};
 
 use crate::handle::VersHandle;
 use crate::kept::Kept;
+use crate::makes::{binary, bits, fast, growing, posted, sparse, tree};
 use crate::owners::{fill, fill_made};
-use crate::posted::posted;
-use crate::sparse::sparse;
 use crate::status::{NO_MEMORY, OCCUPIED, REFUSED};
-use crate::{bits, minima, tree};
+use catalogue::structure::Structure;
 use std::alloc::Global;
 use vers_sorted::elias_fano::EliasFanoVec;
 use vers_sorted::order::{are_below, is_ascending, is_strictly_ascending};
@@ -30,8 +30,8 @@ pub extern "C" fn vers_growing_build(
     if handle.is_built {
         return OCCUPIED;
     }
-    match bits::growing(alloc, words, len) {
-        Ok(bits) => fill(alloc, handle, Kept::Growing(bits)),
+    match growing(alloc, words, len) {
+        Ok(bits) => fill(alloc, handle, Kept::Other(Structure::Growing(bits))),
         Err(_) => NO_MEMORY,
     }
 }
@@ -50,8 +50,8 @@ pub extern "C" fn vers_bits_build(
     if handle.is_built {
         return OCCUPIED;
     }
-    match bits::bits(alloc, words, len) {
-        Ok(bits) => fill(alloc, handle, Kept::Bits(bits)),
+    match bits(alloc, words, len) {
+        Ok(bits) => fill(alloc, handle, Kept::Other(Structure::Bits(bits))),
         Err(_) => NO_MEMORY,
     }
 }
@@ -74,7 +74,7 @@ pub extern "C" fn vers_sparse_build(
         return REFUSED;
     }
     match sparse(alloc, ones, len) {
-        Ok(bits) => fill(alloc, handle, Kept::Sparse(bits)),
+        Ok(bits) => fill(alloc, handle, Kept::Other(Structure::Sparse(bits))),
         Err(_) => NO_MEMORY,
     }
 }
@@ -91,7 +91,7 @@ pub extern "C" fn vers_sorted_build(alloc: Global, numbers: &[u64], handle: &mut
         return REFUSED;
     }
     match EliasFanoVec::from_slice(alloc, numbers) {
-        Ok(members) => fill(alloc, handle, Kept::Sorted(members)),
+        Ok(members) => fill(alloc, handle, Kept::Other(Structure::Sorted(members))),
         Err(_) => NO_MEMORY,
     }
 }
@@ -113,7 +113,7 @@ fn build_symbols<N: Integer>(
         return REFUSED;
     }
     match WaveletMatrix::from_integers(alloc, numbers, width as u16) {
-        Ok(symbols) => fill(alloc, handle, Kept::Symbols(symbols)),
+        Ok(symbols) => fill(alloc, handle, Kept::Other(Structure::Symbols(symbols))),
         Err(_) => NO_MEMORY,
     }
 }
@@ -184,7 +184,7 @@ pub extern "C" fn vers_tree_build(
     if handle.is_built {
         return OCCUPIED;
     }
-    match tree::tree(alloc, words, len) {
+    match tree(alloc, words, len) {
         Ok(made) => fill(alloc, handle, Kept::Tree(made)),
         Err(_) => NO_MEMORY,
     }
@@ -198,8 +198,8 @@ pub extern "C" fn vers_fast_rmq_build(alloc: Global, values: &[u64], handle: &mu
     if handle.is_built {
         return OCCUPIED;
     }
-    match minima::fast(alloc, values) {
-        Ok(made) => fill(alloc, handle, Kept::Fast(made)),
+    match fast(alloc, values) {
+        Ok(made) => fill(alloc, handle, Kept::Other(Structure::Fast(made))),
         Err(_) => NO_MEMORY,
     }
 }
@@ -216,8 +216,8 @@ pub extern "C" fn vers_binary_rmq_build(
     if handle.is_built {
         return OCCUPIED;
     }
-    match minima::binary(alloc, values) {
-        Ok(made) => fill(alloc, handle, Kept::Binary(made)),
+    match binary(alloc, values) {
+        Ok(made) => fill(alloc, handle, Kept::Other(Structure::Binary(made))),
         Err(_) => NO_MEMORY,
     }
 }

@@ -3,11 +3,11 @@ ghost use Rattle.std.specs.Prelude.{◌≡◌, ◌⊎◌, Some, None, IfOk, IsEr
 ghost use Rattle.vers_c.specs.Answers.{IsToldAs};
 ghost use Rattle.vers_c.specs.Changes.{IsChanged, changed_by_code, coded_status};
 ghost use Rattle.vers_c.specs.Makes.{IsMade};
-ghost use Rattle.vers_c.specs.Structures.{contents, structure_of};
+ghost use Rattle.vers_c.specs.Structures.{content, contents};
 
 use crate::handle::VersHandle;
 use crate::held::Held;
-use crate::kept::{Kept, Owner};
+use crate::kept::{Kept, Owner, change};
 use crate::loose::Loose;
 use crate::status::{DONE, NO_MEMORY, REFUSED, SHARED};
 use std::alloc::{AllocError, Global};
@@ -18,7 +18,7 @@ use std::sync::Arc;
 #[inline(always)]
 pub fn taken(alloc: Global, handle: &mut VersHandle) -> Box<Owner, Global>
     requires { handle.old.is_built ≡ true }
-    ensures value { contents handle.old ≡ Some (structure_of result.value.value) }
+    ensures value { contents handle.old ≡ Some (content result.value.value) }
     ensures left { handle.new.is_built ≡ false }
 {
     handle.is_built = false;
@@ -31,7 +31,7 @@ pub fn taken(alloc: Global, handle: &mut VersHandle) -> Box<Owner, Global>
 #[inline(always)]
 pub fn put(handle: &mut VersHandle, owner: Box<Owner, Global>)
     requires { handle.old.is_built ≡ false }
-    ensures { contents handle.new ≡ Some (structure_of owner.value.value) }
+    ensures { contents handle.new ≡ Some (content owner.value.value) }
 {
     handle.is_built = true;
     mem::replace(&mut handle.held, Held::of(Loose::of(owner))).discard();
@@ -55,13 +55,13 @@ pub fn other_owner(alloc: Global, owner: &Owner) -> Result<Box<Owner, Global>, A
 
 /// Changes a structure if it has no other owner. Returns a status.
 pub fn changed(owner: &mut Owner, code: u32, a: u64, b: u64) -> u32
-    ensures changed { IsChanged (changed_by_code (structure_of owner.old.value) code a b)
-        (structure_of owner.old.value) (structure_of owner.new.value) result }
+    ensures changed { IsChanged (changed_by_code (content owner.old.value) code a b)
+        (content owner.old.value) (content owner.new.value) result }
     ensures told { (result ≡ SHARED)
-        ⊎ IsToldAs (coded_status (structure_of owner.old.value) code a b) result }
+        ⊎ IsToldAs (coded_status (content owner.old.value) code a b) result }
 {
     match Arc::get_mut(owner) {
-        Some(kept) => kept.change(code, a, b),
+        Some(kept) => change(kept, code, a, b),
         None => SHARED,
     }
 }
@@ -69,7 +69,7 @@ pub fn changed(owner: &mut Owner, code: u32, a: u64, b: u64) -> u32
 /// Puts a structure into a handle, and returns a status. Precondition: the handle is empty.
 pub fn fill(alloc: Global, handle: &mut VersHandle, kept: Kept) -> u32
     requires { handle.old.is_built ≡ false }
-    ensures { IsMade (Some (structure_of kept)) (contents handle.old) (contents handle.new) result }
+    ensures { IsMade (Some (content kept)) (contents handle.old) (contents handle.new) result }
 {
     match owner_of(alloc, kept) {
         Ok(owner) => {
@@ -88,7 +88,7 @@ pub fn fill_made(
     made: Result<Option<Kept>, AllocError>,
 ) -> u32
     requires { handle.old.is_built ≡ false }
-    ensures ok { IfOk made (λ kept. IsMade (option_map structure_of kept) (contents handle.old)
+    ensures ok { IfOk made (λ kept. IsMade (option_map content kept) (contents handle.old)
         (contents handle.new) result) }
     ensures err { IsErr made → (result ≡ NO_MEMORY) × (contents handle.new ≡ contents handle.old) }
 {

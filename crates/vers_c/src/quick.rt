@@ -1,18 +1,19 @@
 //! Exports of one query each: they return what `vers_ask` does for any structure, fastest for one kind.
 ghost use Rattle.std.specs.Prelude.{◌≡◌};
-ghost use Rattle.vers_c.specs.Queries.{contents_asked};
+ghost use Rattle.vers_c.specs.Codes.{contents_asked};
 ghost use Rattle.vers_c.specs.Structures.{contents};
-ghost use Rattle.vers_c.specs.declared.query.Query.TheVariants as query;
-ghost use Rattle.vers_c.specs.declared.query.SymbolsQuery.TheVariants as of_symbols;
-ghost use Rattle.vers_c.specs.declared.query.TreeQuery.TheVariants as of_tree;
+ghost use Rattle.catalogue.specs.declared.query.Query.TheVariants as query;
+ghost use Rattle.catalogue.specs.declared.query.SymbolsQuery.TheVariants as of_symbols;
+ghost use Rattle.catalogue.specs.declared.query.TreeQuery.TheVariants as of_tree;
 ghost use Rattle.vers_trees.specs.declared.trees.bp.relatives.Relative.TheVariants as of_node;
 ghost use Rattle.vers_trees.specs.declared.trees.bp.relatives.Measure.TheVariants as of_measure;
 
-use crate::answer::Answer;
+use crate::answer::VersAnswer;
 use crate::handle::VersHandle;
-use crate::kind::Kind;
+use crate::kept::answer_as;
 use crate::owners::{put, taken};
-use crate::query::{Query, SymbolsQuery, TreeQuery};
+use catalogue::kind::Kind;
+use catalogue::query::{Query, SymbolsQuery, TreeQuery};
 use std::alloc::Global;
 use vers_trees::trees::bp::{Measure, Relative};
 
@@ -26,22 +27,26 @@ fn ask_as(
     a: u64,
     b: u64,
     c: u64,
-) -> Answer
+) -> VersAnswer
     ensures value { result ≡ contents_asked (contents handle.old) query a b c }
     ensures kept { contents handle.new ≡ contents handle.old }
 {
     if !handle.is_built {
-        return Answer::vacant();
+        return VersAnswer::vacant();
     }
     let owner = taken(alloc, handle);
-    let answer = owner.answer_as(kind, query, a, b, c);
+    let answer = answer_as(&owner, kind, query, a, b, c);
     put(handle, owner);
-    answer
+    VersAnswer::of(answer)
 }
 
 /// Returns the bit at a position, fastest for bits with rank and select.
 #[unsafe(no_mangle)]
-pub extern "C" fn vers_quick_bits_get(alloc: Global, handle: &mut VersHandle, place: u64) -> Answer
+pub extern "C" fn vers_quick_bits_get(
+    alloc: Global,
+    handle: &mut VersHandle,
+    place: u64,
+) -> VersAnswer
     ensures value { result ≡ contents_asked (contents handle.old) query.Get place 0 0 }
     ensures kept { contents handle.new ≡ contents handle.old }
 {
@@ -54,7 +59,7 @@ pub extern "C" fn vers_quick_bits_rank0(
     alloc: Global,
     handle: &mut VersHandle,
     place: u64,
-) -> Answer
+) -> VersAnswer
     ensures value { result ≡ contents_asked (contents handle.old) query.Rank0 place 0 0 }
     ensures kept { contents handle.new ≡ contents handle.old }
 {
@@ -67,7 +72,7 @@ pub extern "C" fn vers_quick_bits_rank1(
     alloc: Global,
     handle: &mut VersHandle,
     place: u64,
-) -> Answer
+) -> VersAnswer
     ensures value { result ≡ contents_asked (contents handle.old) query.Rank1 place 0 0 }
     ensures kept { contents handle.new ≡ contents handle.old }
 {
@@ -80,7 +85,7 @@ pub extern "C" fn vers_quick_bits_select0(
     alloc: Global,
     handle: &mut VersHandle,
     number: u64,
-) -> Answer
+) -> VersAnswer
     ensures value { result ≡ contents_asked (contents handle.old) query.Select0 number 0 0 }
     ensures kept { contents handle.new ≡ contents handle.old }
 {
@@ -93,7 +98,7 @@ pub extern "C" fn vers_quick_bits_select1(
     alloc: Global,
     handle: &mut VersHandle,
     number: u64,
-) -> Answer
+) -> VersAnswer
     ensures value { result ≡ contents_asked (contents handle.old) query.Select1 number 0 0 }
     ensures kept { contents handle.new ≡ contents handle.old }
 {
@@ -106,7 +111,7 @@ pub extern "C" fn vers_quick_sorted_get(
     alloc: Global,
     handle: &mut VersHandle,
     place: u64,
-) -> Answer
+) -> VersAnswer
     ensures value { result ≡ contents_asked (contents handle.old) query.Get place 0 0 }
     ensures kept { contents handle.new ≡ contents handle.old }
 {
@@ -119,7 +124,7 @@ pub extern "C" fn vers_quick_sorted_rank(
     alloc: Global,
     handle: &mut VersHandle,
     number: u64,
-) -> Answer
+) -> VersAnswer
     ensures value { result ≡ contents_asked (contents handle.old) query.Rank number 0 0 }
     ensures kept { contents handle.new ≡ contents handle.old }
 {
@@ -132,7 +137,7 @@ pub extern "C" fn vers_quick_sorted_predecessor(
     alloc: Global,
     handle: &mut VersHandle,
     number: u64,
-) -> Answer
+) -> VersAnswer
     ensures value { result ≡ contents_asked (contents handle.old) query.Predecessor number 0 0 }
     ensures kept { contents handle.new ≡ contents handle.old }
 {
@@ -153,7 +158,7 @@ pub extern "C" fn vers_quick_sorted_successor(
     alloc: Global,
     handle: &mut VersHandle,
     number: u64,
-) -> Answer
+) -> VersAnswer
     ensures value { result ≡ contents_asked (contents handle.old) query.Successor number 0 0 }
     ensures kept { contents handle.new ≡ contents handle.old }
 {
@@ -166,7 +171,7 @@ pub extern "C" fn vers_quick_symbols_get(
     alloc: Global,
     handle: &mut VersHandle,
     place: u64,
-) -> Answer
+) -> VersAnswer
     ensures value { result ≡ contents_asked (contents handle.old) query.Get place 0 0 }
     ensures kept { contents handle.new ≡ contents handle.old }
 {
@@ -175,7 +180,11 @@ pub extern "C" fn vers_quick_symbols_get(
 
 /// Returns 1 if a parenthesis opens, otherwise 0, fastest for parentheses.
 #[unsafe(no_mangle)]
-pub extern "C" fn vers_quick_tree_get(alloc: Global, handle: &mut VersHandle, place: u64) -> Answer
+pub extern "C" fn vers_quick_tree_get(
+    alloc: Global,
+    handle: &mut VersHandle,
+    place: u64,
+) -> VersAnswer
     ensures value { result ≡ contents_asked (contents handle.old) query.Get place 0 0 }
     ensures kept { contents handle.new ≡ contents handle.old }
 {
@@ -188,7 +197,7 @@ pub extern "C" fn vers_quick_values_get(
     alloc: Global,
     handle: &mut VersHandle,
     place: u64,
-) -> Answer
+) -> VersAnswer
     ensures value { result ≡ contents_asked (contents handle.old) query.Get place 0 0 }
     ensures kept { contents handle.new ≡ contents handle.old }
 {
@@ -203,7 +212,7 @@ pub extern "C" fn vers_quick_values_range_min(
     handle: &mut VersHandle,
     from: u64,
     to: u64,
-) -> Answer
+) -> VersAnswer
     ensures value { result ≡ contents_asked (contents handle.old) query.RangeMin from to 0 }
     ensures kept { contents handle.new ≡ contents handle.old }
 {
@@ -217,7 +226,7 @@ pub extern "C" fn vers_quick_symbols_rank(
     handle: &mut VersHandle,
     end: u64,
     symbol: u64,
-) -> Answer
+) -> VersAnswer
     ensures value { result ≡ contents_asked (contents handle.old) (query.Symbols of_symbols.RankOf) end symbol 0 }
     ensures kept { contents handle.new ≡ contents handle.old }
 {
@@ -240,7 +249,7 @@ pub extern "C" fn vers_quick_symbols_quantile(
     from: u64,
     to: u64,
     number: u64,
-) -> Answer
+) -> VersAnswer
     ensures value { result ≡ contents_asked (contents handle.old) (query.Symbols of_symbols.Quantile) from to number }
     ensures kept { contents handle.new ≡ contents handle.old }
 {
@@ -261,7 +270,7 @@ pub extern "C" fn vers_quick_tree_close(
     alloc: Global,
     handle: &mut VersHandle,
     place: u64,
-) -> Answer
+) -> VersAnswer
     ensures value { result ≡ contents_asked (contents handle.old) (query.Tree of_tree.Close) place 0 0 }
     ensures kept { contents handle.new ≡ contents handle.old }
 {
@@ -282,7 +291,7 @@ pub extern "C" fn vers_quick_tree_parent(
     alloc: Global,
     handle: &mut VersHandle,
     node: u64,
-) -> Answer
+) -> VersAnswer
     ensures value { result ≡ contents_asked (contents handle.old) (query.Node of_node.Parent) node 0 0 }
     ensures kept { contents handle.new ≡ contents handle.old }
 {
@@ -303,7 +312,7 @@ pub extern "C" fn vers_quick_tree_first_child(
     alloc: Global,
     handle: &mut VersHandle,
     node: u64,
-) -> Answer
+) -> VersAnswer
     ensures value { result ≡ contents_asked (contents handle.old) (query.Node of_node.FirstChild) node 0 0 }
     ensures kept { contents handle.new ≡ contents handle.old }
 {
@@ -324,7 +333,7 @@ pub extern "C" fn vers_quick_tree_next_sibling(
     alloc: Global,
     handle: &mut VersHandle,
     node: u64,
-) -> Answer
+) -> VersAnswer
     ensures value { result ≡ contents_asked (contents handle.old) (query.Node of_node.NextSibling) node 0 0 }
     ensures kept { contents handle.new ≡ contents handle.old }
 {
@@ -341,7 +350,11 @@ pub extern "C" fn vers_quick_tree_next_sibling(
 
 /// Returns the depth of a node, fastest for trees.
 #[unsafe(no_mangle)]
-pub extern "C" fn vers_quick_tree_depth(alloc: Global, handle: &mut VersHandle, node: u64) -> Answer
+pub extern "C" fn vers_quick_tree_depth(
+    alloc: Global,
+    handle: &mut VersHandle,
+    node: u64,
+) -> VersAnswer
     ensures value { result ≡ contents_asked (contents handle.old) (query.Measure of_measure.Depth) node 0 0 }
     ensures kept { contents handle.new ≡ contents handle.old }
 {

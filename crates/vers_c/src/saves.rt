@@ -1,61 +1,45 @@
 //! Saved forms of the structures of handles.
-ghost use Rattle.std.specs.Prelude.{◌≡◌, ◌≢◌, ◌↔◌, ◌⊎◌, Some, None, IfOk, IfErr, IfSome, OnOk, IsSome, MatchResult, length, option_map};
+ghost use Rattle.std.specs.Prelude.{◌≡◌, ◌≢◌, ◌↔◌, ◌⊎◌, Bool, List, Some, None, IfOk, IfErr, IfSome, OnOk, MatchResult, length, option_map};
+ghost use Rattle.catalogue.specs.Contents.{Content};
+ghost use Rattle.catalogue.specs.declared.kind.Kind.TheVariants as kinds;
+ghost use Rattle.catalogue.specs.Forms.{Fits, HasForm, kind_of, saved_form, saved_kind};
+ghost use Rattle.vers_bits.specs.Bits.{limbs};
 ghost use Rattle.vers_saved.specs.Faults.{fault_of};
-ghost use Rattle.vers_saved.specs.Format.{saved};
-ghost use Rattle.vers_saved.specs.Kinds.{IsWhole};
-ghost use Rattle.vers_c.specs.declared.kind.Kind.TheVariants as kinds;
+ghost use Rattle.vers_saved.specs.Format.{saved_parentheses};
+ghost use Rattle.vers_saved.specs.Kinds.{IsWhole, tree_kind};
 ghost use Rattle.vers_c.specs.Answers.{absent, found_or_absent, vacant};
-ghost use Rattle.vers_c.specs.Saves.{ContentsHaveForm, Fits, HasForm, IsFormOf, IsLoaded, IsSaved, contents_form, fault_as, form_of, kind_of, saved_kind};
-ghost use Rattle.vers_c.specs.Structures.{Structure, contents, structure_of};
+ghost use Rattle.vers_c.specs.Saves.{ContentsHaveForm, IsFormOf, IsLoaded, IsSaved, contents_form, fault_as};
+ghost use Rattle.vers_c.specs.Structures.{content, contents};
 
-use crate::answer::Answer;
+use crate::answer::VersAnswer;
 use crate::handle::VersHandle;
 use crate::kept::Kept;
-use crate::kind::Kind;
+use crate::makes::{Parentheses, boxed};
 use crate::owners::{fill, put, taken};
 use crate::status::{
     ABSENT, BAD_LENGTH, BAD_PADDING, BAD_SUM, DONE, NO_MEMORY, NOT_A_TEXT, NOT_ASCENDING, NOT_OURS,
     OCCUPIED, OTHER_KIND, OTHER_VERSION, REFUSED, TOO_SHORT, UNKNOWN, VACANT,
 };
-use crate::tree::load_parentheses;
+use catalogue::answer::Answer;
+use catalogue::forms::bytes_of;
+use catalogue::kind::Kind;
+use catalogue::structure::Structure;
 use std::alloc::Global;
 use vers_saved::fault::{LoadError, SaveError};
-use vers_saved::saved::{Loaded, Saved, load_from_slice, save_to_vec, saved_size};
+use vers_saved::saved::{load_from_slice, saved_size};
 use vers_saved::texts::load_text_from_slice;
-
-// Returns the saved form of a list.
-fn saved_of<S: Saved>(alloc: Global, list: &S) -> Result<Vec<u8, Global>, SaveError>
-    ensures saved { IfOk result (λ out. out.items
-        ≡ saved S.kind.number (S.count list.now) (S.width list.now) (S.words list.now)) }
-    ensures whole { OnOk result (IsWhole S.kind (S.count list.now) (S.width list.now) (S.words list.now)) }
-    ensures fits { OnOk result (S.Fits list.now) }
-    ensures refused { IfErr result (λ e. (e ≡ SaveError.Memory) ⊎ ((e ≡ SaveError.NoForm)
-        × ¬ IsWhole S.kind (S.count list.now) (S.width list.now) (S.words list.now))) }
-{
-    let mut out = Vec::new(alloc);
-    save_to_vec(list, &mut out)?;
-    Ok(out)
-}
+use vers_saved::trees::load_parentheses_from_slice;
 
 impl Kept {
     /// Returns the number of bytes of the saved form, or `None` if there is none.
     pub fn saved_size(&self) -> Option<usize>
-        ensures size { IsSome result → result ≡ option_map length (form_of (structure_of self.now)) }
-        ensures some { IsSome result → HasForm (structure_of self.now) }
-        ensures none { result ≡ None → ¬ HasForm (structure_of self.now) }
+        ensures size { IfSome result (λ size. size ≡ length (saved_form (content self.now))) }
+        ensures some { IfSome result (λ _. HasForm (content self.now)) }
+        ensures none { result ≡ None → ¬ HasForm (content self.now) }
     {
         match self {
-            Kept::Growing(bits) => saved_size(bits),
-            Kept::Bits(bits) => saved_size(bits),
-            Kept::Sparse(bits) => saved_size(bits),
-            Kept::Sorted(members) => saved_size(members),
-            Kept::Symbols(symbols) => saved_size(symbols),
             Kept::Tree(tree) => saved_size(&**tree),
-            Kept::Fast(values) => saved_size(values),
-            Kept::Binary(values) => saved_size(values),
-            Kept::Posted(posted) => saved_size(posted),
-            Kept::Text(text) => saved_size(text),
-            Kept::Numbers(_) => None,
+            Kept::Other(structure) => structure.saved_size(),
         }
     }
 
@@ -64,32 +48,23 @@ impl Kept {
     /// # Errors
     ///
     /// `NoForm` if there is none; `Memory` if the allocator refuses a request.
-    pub fn save(&self, alloc: Global) -> Result<Vec<u8, Global>, SaveError>
-        ensures saved { IfOk result (λ out. form_of (structure_of self.now) ≡ Some out.items) }
-        ensures whole { OnOk result (HasForm (structure_of self.now)) }
-        ensures fits { OnOk result (Fits (structure_of self.now)) }
+    pub fn to_bytes(&self, alloc: Global) -> Result<Vec<u8, Global>, SaveError>
+        ensures saved { IfOk result (λ out. out.items ≡ saved_form (content self.now)) }
+        ensures whole { OnOk result (HasForm (content self.now)) }
+        ensures fits { OnOk result (Fits (content self.now)) }
         ensures refused { IfErr result (λ e. (e ≡ SaveError.Memory)
-            ⊎ ((e ≡ SaveError.NoForm) × ¬ HasForm (structure_of self.now))) }
+            ⊎ ((e ≡ SaveError.NoForm) × ¬ HasForm (content self.now))) }
     {
         match self {
-            Kept::Growing(bits) => saved_of(alloc, bits),
-            Kept::Bits(bits) => saved_of(alloc, bits),
-            Kept::Sparse(bits) => saved_of(alloc, bits),
-            Kept::Sorted(members) => saved_of(alloc, members),
-            Kept::Symbols(symbols) => saved_of(alloc, symbols),
-            Kept::Tree(tree) => saved_of(alloc, &**tree),
-            Kept::Fast(values) => saved_of(alloc, values),
-            Kept::Binary(values) => saved_of(alloc, values),
-            Kept::Posted(posted) => saved_of(alloc, posted),
-            Kept::Text(text) => saved_of(alloc, text),
-            Kept::Numbers(_) => Err(SaveError::NoForm),
+            Kept::Tree(tree) => bytes_of(alloc, &**tree),
+            Kept::Other(structure) => structure.to_bytes(alloc),
         }
     }
 }
 
 /// Returns the number of bytes of the saved form of the handle's structure.
 #[unsafe(no_mangle)]
-pub extern "C" fn vers_saved_size(alloc: Global, handle: &mut VersHandle) -> Answer
+pub extern "C" fn vers_saved_size(alloc: Global, handle: &mut VersHandle) -> VersAnswer
     ensures value { result.status ≡ DONE
         → result ≡ found_or_absent (option_map length (contents_form (contents handle.old))) }
     ensures whole { result.status ≡ DONE → ContentsHaveForm (contents handle.old) }
@@ -99,14 +74,14 @@ pub extern "C" fn vers_saved_size(alloc: Global, handle: &mut VersHandle) -> Ans
     ensures kept { contents handle.new ≡ contents handle.old }
 {
     if !handle.is_built {
-        return Answer::vacant();
+        return VersAnswer::vacant();
     }
     let owner = taken(alloc, handle);
     let size = owner.saved_size();
     put(handle, owner);
     match size {
-        Some(size) => Answer::place(size),
-        None => Answer::absent(),
+        Some(size) => VersAnswer::of(Answer::place(size)),
+        None => VersAnswer::of(Answer::Absent),
     }
 }
 
@@ -121,7 +96,7 @@ pub extern "C" fn vers_save(alloc: Global, handle: &mut VersHandle, bytes: &mut 
         return VACANT;
     }
     let owner = taken(alloc, handle);
-    let made = owner.save(alloc);
+    let made = owner.to_bytes(alloc);
     put(handle, owner);
     match made {
         Ok(out) => written(&out, bytes),
@@ -144,45 +119,69 @@ fn written(from: &[u8], to: &mut [u8]) -> u32
     DONE
 }
 
+// Loads parentheses from their saved form.
+//
+// # Errors
+//
+// That of the first test that fails; `Memory` if the allocator refuses a request.
+fn load_parentheses(alloc: Global, bytes: &[u8]) -> Result<Box<Parentheses, Global>, LoadError>
+    ensures loaded { IfOk result (λ tree. bytes.now ≡ saved_parentheses 512 tree.value) }
+    ensures whole { IfOk result (λ tree.
+        IsWhole (tree_kind 512) (length tree.value) 512 (limbs tree.value)) }
+    ensures none { OnOk result (fault_of (tree_kind 512) bytes.now ≡ None) }
+    ensures refused { IfErr result (λ e. (fault_of (tree_kind 512) bytes.now ≡ Some e)
+        ⊎ ((e ≡ LoadError.Memory) × (fault_of (tree_kind 512) bytes.now ≡ None))) }
+    ensures back { (x : List Bool) → IsWhole (tree_kind 512) (length x) 512 (limbs x)
+        → bytes.now ≡ saved_parentheses 512 x
+        → MatchResult result (λ tree. tree.value ≡ x) (λ e. e ≡ LoadError.Memory) }
+{
+    let bits = load_parentheses_from_slice(alloc, 512, bytes)?;
+    match boxed(alloc, bits) {
+        Ok(tree) => Ok(tree),
+        Err(_) => Err(LoadError::Memory),
+    }
+}
+
 // Returns a loaded list as a structure.
 macro_rules! loaded_as {
-    ($loaded:expr, $kept:path) => {
+    ($loaded:expr, $structure:path) => {
         match $loaded {
-            Ok(list) => Ok($kept(list)),
+            Ok(list) => Ok(Kept::Other($structure(list))),
             Err(error) => Err(error),
         }
     };
 }
 
-impl Kept {
-    /// Loads a structure of a kind from its saved form.
-    ///
-    /// # Errors
-    ///
-    /// That of the first test that fails, the last of which is that of a text; `Memory` if the allocator refuses a
-    /// request.
-    pub fn load(alloc: Global, kind: Kind, bytes: &[u8]) -> Result<Kept, LoadError>
-        ensures kind { IfOk result (λ kept. kind_of (structure_of kept) ≡ Some kind) }
-        ensures form { IfOk result (λ kept. IsFormOf bytes.now (structure_of kept)) }
-        ensures back { (held : Structure) → kind_of held ≡ Some kind → IsFormOf bytes.now held
-            → MatchResult result (λ kept. structure_of kept ≡ held) (λ e. e ≡ LoadError.Memory) }
-        ensures none { OnOk result (fault_of (saved_kind kind) bytes.now ≡ None) }
-        ensures refused { IfErr result (λ e. (fault_of (saved_kind kind) bytes.now ≡ Some e)
-            ⊎ (((e ≡ LoadError.Memory) ⊎ ((e ≡ LoadError.NotAText) × (kind ≡ kinds.Text)))
-            × (fault_of (saved_kind kind) bytes.now ≡ None))) }
-    {
-        match kind {
-            Kind::Growing => loaded_as!(load_from_slice(alloc, bytes), Kept::Growing),
-            Kind::Bits => loaded_as!(load_from_slice(alloc, bytes), Kept::Bits),
-            Kind::Sparse => loaded_as!(load_from_slice(alloc, bytes), Kept::Sparse),
-            Kind::Sorted => loaded_as!(load_from_slice(alloc, bytes), Kept::Sorted),
-            Kind::Symbols => loaded_as!(load_from_slice(alloc, bytes), Kept::Symbols),
-            Kind::Tree => loaded_as!(load_parentheses(alloc, bytes), Kept::Tree),
-            Kind::Fast => loaded_as!(load_from_slice(alloc, bytes), Kept::Fast),
-            Kind::Binary => loaded_as!(load_from_slice(alloc, bytes), Kept::Binary),
-            Kind::Postings => loaded_as!(load_from_slice(alloc, bytes), Kept::Posted),
-            Kind::Text => loaded_as!(load_text_from_slice(alloc, bytes), Kept::Text),
-        }
+// Loads a structure of a kind from its saved form.
+//
+// # Errors
+//
+// That of the first test that fails, the last of which is that of a text; `Memory` if the allocator refuses a
+// request.
+fn load(alloc: Global, kind: Kind, bytes: &[u8]) -> Result<Kept, LoadError>
+    ensures kind { IfOk result (λ kept. kind_of (content kept) ≡ Some kind) }
+    ensures form { IfOk result (λ kept. IsFormOf bytes.now (content kept)) }
+    ensures back { (held : Content) → kind_of held ≡ Some kind → IsFormOf bytes.now held
+        → MatchResult result (λ kept. content kept ≡ held) (λ e. e ≡ LoadError.Memory) }
+    ensures none { OnOk result (fault_of (saved_kind kind) bytes.now ≡ None) }
+    ensures refused { IfErr result (λ e. (fault_of (saved_kind kind) bytes.now ≡ Some e)
+        ⊎ (((e ≡ LoadError.Memory) ⊎ ((e ≡ LoadError.NotAText) × (kind ≡ kinds.Text)))
+        × (fault_of (saved_kind kind) bytes.now ≡ None))) }
+{
+    match kind {
+        Kind::Growing => loaded_as!(load_from_slice(alloc, bytes), Structure::Growing),
+        Kind::Bits => loaded_as!(load_from_slice(alloc, bytes), Structure::Bits),
+        Kind::Sparse => loaded_as!(load_from_slice(alloc, bytes), Structure::Sparse),
+        Kind::Sorted => loaded_as!(load_from_slice(alloc, bytes), Structure::Sorted),
+        Kind::Symbols => loaded_as!(load_from_slice(alloc, bytes), Structure::Symbols),
+        Kind::Tree => match load_parentheses(alloc, bytes) {
+            Ok(tree) => Ok(Kept::Tree(tree)),
+            Err(error) => Err(error),
+        },
+        Kind::Fast => loaded_as!(load_from_slice(alloc, bytes), Structure::Fast),
+        Kind::Binary => loaded_as!(load_from_slice(alloc, bytes), Structure::Binary),
+        Kind::Postings => loaded_as!(load_from_slice(alloc, bytes), Structure::Postings),
+        Kind::Text => loaded_as!(load_text_from_slice(alloc, bytes), Structure::Text),
     }
 }
 
@@ -198,7 +197,7 @@ pub extern "C" fn vers_load(alloc: Global, code: u32, bytes: &[u8], handle: &mut
     let Some(kind) = Kind::of(code) else {
         return UNKNOWN;
     };
-    match Kept::load(alloc, kind, bytes) {
+    match load(alloc, kind, bytes) {
         Ok(kept) => fill(alloc, handle, kept),
         Err(error) => fault(error),
     }

@@ -5,6 +5,7 @@ ghost use Rattle.vers_c.specs.Makes.{IsMade, IsShared};
 ghost use Rattle.vers_c.specs.Structures.{contents};
 
 use crate::handle::VersHandle;
+use crate::kept::common;
 use crate::owners::{fill_made, other_owner, put, taken};
 use crate::status::{DONE, NO_MEMORY, OCCUPIED, REFUSED, VACANT};
 use std::alloc::Global;
@@ -64,7 +65,7 @@ pub extern "C" fn vers_intersect(
     }
     let first = taken(alloc, one);
     let second = taken(alloc, other);
-    let made = first.common(&second);
+    let made = common(&first, &second);
     put(one, first);
     put(other, second);
     fill_made(alloc, into, made)

@@ -1,14 +1,10 @@
-//! Text indexes, in which patterns are found.
+//! Tests of the symbols of texts, and positions as plain numbers.
 ghost use Rattle.std.specs.List.{list_all};
 ghost use Rattle.std.specs.Prelude.{◌≡◌, ◌^◌, ◌≤◌, nat_lt, IfOk};
 ghost use Rattle.text_index.specs.Makers.{is_text as are_text};
-ghost use Rattle.vers_c.specs.TextAnswers.{text_answer};
 
-use crate::answer::Answer;
-use crate::asked::Asked;
-use crate::query::Query;
 use std::alloc::{AllocError, Global};
-use text_index::{MAX_LEN, TextIndex};
+use text_index::MAX_LEN;
 use vers_wavelet::wavelet::Integer;
 
 // Returns the least number that exceeds `width` bits.
@@ -59,19 +55,4 @@ pub fn as_numbers(alloc: Global, places: &[usize]) -> Result<Vec<u64, Global>, A
         numbers.push(*place as u64)?;
     }
     Ok(numbers)
-}
-
-impl Asked for TextIndex<Global> {
-    ghost answers = { text_answer };
-
-    #[inline(always)]
-    fn answer(&self, query: Query, _a: u64, _b: u64, _c: u64) -> Answer {
-        match query {
-            Query::Len => Answer::place(self.len()),
-            Query::Width => Answer::found(u64::from(self.bits_per_symbol())),
-            Query::HeapSize => Answer::place(self.heap_size()),
-            Query::Step => Answer::place(self.step()),
-            _ => Answer::unknown(),
-        }
-    }
 }

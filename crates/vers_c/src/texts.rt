@@ -2,15 +2,16 @@
 ghost use Rattle.std.specs.Prelude.{◌≡◌};
 ghost use Rattle.std.specs.Option.{option_and_then};
 ghost use Rattle.vers_c.specs.Makes.{IsMade};
-ghost use Rattle.vers_c.specs.TextAnswers.{contents_count, first_pattern_places, pattern_places, piece, text_made};
+ghost use Rattle.vers_c.specs.Texts.{contents_count, first_pattern_places, pattern_places, piece, text_made};
 ghost use Rattle.vers_c.specs.Structures.{contents};
 
-use crate::answer::Answer;
+use crate::answer::VersAnswer;
 use crate::handle::VersHandle;
-use crate::kept::Kept;
+use crate::kept::{Kept, count, extract, first_places, places};
 use crate::owners::{fill, fill_made, put, taken};
 use crate::status::{NO_MEMORY, OCCUPIED, REFUSED};
 use crate::text::{is_text, is_text_of_bytes, is_text_of_u16s};
+use catalogue::structure::Structure;
 use std::alloc::Global;
 use text_index::TextIndex;
 
@@ -33,7 +34,7 @@ pub extern "C" fn vers_text_build(
         return REFUSED;
     }
     match TextIndex::with_step(alloc, symbols, width as u16, step) {
-        Ok(text) => fill(alloc, handle, Kept::Text(text)),
+        Ok(text) => fill(alloc, handle, Kept::Other(Structure::Text(text))),
         Err(_) => NO_MEMORY,
     }
 }
@@ -56,7 +57,7 @@ pub extern "C" fn vers_text_build_bytes(
         return REFUSED;
     }
     match TextIndex::bytes_with_step(alloc, bytes, width as u16, step) {
-        Ok(text) => fill(alloc, handle, Kept::Text(text)),
+        Ok(text) => fill(alloc, handle, Kept::Other(Structure::Text(text))),
         Err(_) => NO_MEMORY,
     }
 }
@@ -79,7 +80,7 @@ pub extern "C" fn vers_text_build_u16s(
         return REFUSED;
     }
     match TextIndex::u16s_with_step(alloc, u16s, width as u16, step) {
-        Ok(text) => fill(alloc, handle, Kept::Text(text)),
+        Ok(text) => fill(alloc, handle, Kept::Other(Structure::Text(text))),
         Err(_) => NO_MEMORY,
     }
 }
@@ -87,17 +88,17 @@ pub extern "C" fn vers_text_build_u16s(
 /// Returns the number of occurrences of a pattern in a text. The empty pattern occurs at each position, and at
 /// the end.
 #[unsafe(no_mangle)]
-pub extern "C" fn vers_count(alloc: Global, handle: &mut VersHandle, pattern: &[u64]) -> Answer
+pub extern "C" fn vers_count(alloc: Global, handle: &mut VersHandle, pattern: &[u64]) -> VersAnswer
     ensures value { result ≡ contents_count (contents handle.old) pattern.now }
     ensures kept { contents handle.new ≡ contents handle.old }
 {
     if !handle.is_built {
-        return Answer::vacant();
+        return VersAnswer::vacant();
     }
     let owner = taken(alloc, handle);
-    let answer = owner.count(pattern);
+    let answer = count(&owner, pattern);
     put(handle, owner);
-    answer
+    VersAnswer::of(answer)
 }
 
 /// Puts the positions of a pattern in a text, ascending, into another handle, as plain numbers. The handles are
@@ -120,7 +121,7 @@ pub extern "C" fn vers_places(
         return REFUSED;
     }
     let owner = taken(alloc, handle);
-    let made = owner.places(alloc, pattern);
+    let made = places(&owner, alloc, pattern);
     put(handle, owner);
     fill_made(alloc, into, made)
 }
@@ -147,7 +148,7 @@ pub extern "C" fn vers_first_places(
         return REFUSED;
     }
     let owner = taken(alloc, handle);
-    let made = owner.first_places(alloc, pattern, limit);
+    let made = first_places(&owner, alloc, pattern, limit);
     put(handle, owner);
     fill_made(alloc, into, made)
 }
@@ -173,7 +174,7 @@ pub extern "C" fn vers_extract(
         return REFUSED;
     }
     let owner = taken(alloc, handle);
-    let made = owner.extract(from, to);
+    let made = extract(&owner, from, to);
     put(handle, owner);
     fill_made(alloc, into, made)
 }

@@ -11,15 +11,14 @@ pub use Rattle.std.specs.Option.{option_and_then}
 pub use Rattle.std.specs.Prelude.{All, MatchResult, if◌then◌else◌, nat_le, option_map, ◌&&◌, ◌||◌}
 pub use Rattle.vers_bits.specs.Bits.{number, pack, part}
 unfoldable pub use Rattle.vers_bits.specs.Bits.{part_number}
-pub use Rattle.vers_cli.specs.Holding.{SparseHeld, SymbolsHeld, is_accepted}
-pub use Rattle.vers_cli.specs.PostingsLines.{if_admitted, posted_first, posted_of, rising_count}
-pub use Rattle.vers_cli.specs.SortedLines.{first_numbers, first_then, in_order}
-pub use Rattle.vers_cli.specs.SymbolsLines.{symbols_loaded}
+pub use Rattle.catalogue.specs.Contents.{SparseBits, SymbolList}
+pub use Rattle.vers_cli.specs.Holding.{is_accepted}
+pub use Rattle.vers_cli.specs.Loads.{first_numbers, first_then, if_admitted, in_order, posted_first, posted_of, rising_count, symbols_loaded}
 pub use Rattle.vers_sorted.proofs.PublicLaws.{each_next-ascending, each_next-rising, ones_at-same}
 pub use Rattle.vers_sorted.specs.Sorted.{each_next}
 unfoldable pub use Rattle.vers_wavelet.specs.Makers.{low_symbols, packed_symbols}
 pub use Rattle.vers_wavelet.specs.Symbols.{Symbols}
 pub use Rattle.vers_words.specs.Arguments.{all_numbers, bits_of_digits, is_bit_digit}
-pub use Rattle.vers_words.specs.Reply.{Numbers, number_or_absent}
+pub use Rattle.vers_words.specs.Reply.{Numbers}
 pub use Rattle.vers_words.specs.Text.{number_of, words_in}
 pub use Rattle.vers_words.specs.declared.loading.Loading.TheVariants.{Accepted, Inadmissible}

@@ -1,18 +1,17 @@
 -- Answer texts: what the program writes for the lines of an input.
-use Rattle.std.specs.Prelude.{ℕ, List, Result}
+use Rattle.std.specs.Prelude.{ℕ, List, None, Result}
 use Rattle.vers_engine.specs.declared.engine.RunError.{RunError}
 use Rattle.vers_engine.specs.Answers.{Answering, answers_of, WrittenOf}
 use Rattle.vers_engine.specs.Replies.{Replying, answering_by}
 use Rattle.vers_words.specs.Text.{words_in}
-use Rattle.vers_cli.specs.Name.{name_of}
-use Rattle.vers_cli.specs.Holding.{Holding, Nothing}
-use Rattle.vers_cli.specs.Rules.{reply_to, holding_after_name}
+use Rattle.vers_cli.specs.Holding.{Holding}
+use Rattle.vers_cli.specs.Rules.{reply_to, holding_after_word}
 
 -- the reply to a line, and the structure after it, by the words of the line
 abbrev pub replies_by_the_rules : Replying Holding
 replies_by_the_rules = record {
-  reply_to = λ held word arguments. reply_to held (name_of word) (words_in arguments);
-  holding_after = λ held word arguments. holding_after_name held (name_of word) (words_in arguments);
+  reply_to = λ held word arguments. reply_to held word (words_in arguments);
+  holding_after = λ held word arguments. holding_after_word held word (words_in arguments);
 }
 
 -- the answer to a line, and the structure after it, as the engine takes them
@@ -37,4 +36,4 @@ WrittenFrom held result lines text = WrittenOf (answers_to held) result lines te
 
 -- `WrittenFrom` for a run that begins without a structure
 abbrev pub WrittenAt : Result (Unit {0}) RunError → List (List ℕ) → List ℕ → Type 0
-WrittenAt result lines text = WrittenFrom Nothing result lines text
+WrittenAt result lines text = WrittenFrom None result lines text

@@ -16,17 +16,9 @@ use Rattle.vers_trees.specs.declared.trees.bp.relatives.LevelEnd.TheVariants.{Ri
 use Rattle.vers_words.specs.Text.{number_of, signed_number_of}
 use Rattle.vers_engine.specs.Lines.{lines_of}
 use Rattle.vers_engine.specs.Replies.{answer_to_parts, holding_after_parts}
-use Rattle.vers_cli.specs.declared.name.Name.TheVariants.{Query}
-use Rattle.vers_cli.specs.declared.name.Query.TheVariants.{Rank1, Tree, Symbols, Forest}
-use Rattle.vers_cli.specs.declared.name.TreeQuery.TheVariants.{Place, Search}
-use Rattle.vers_cli.specs.declared.name.PlaceQuery.TheVariants.{Open}
-use Rattle.vers_cli.specs.declared.name.SearchQuery.TheVariants.{BwdSearch}
-use Rattle.vers_cli.specs.declared.name.SymbolsQuery.TheVariants.{Range}
-use Rattle.vers_cli.specs.declared.name.RangeQuery.TheVariants.{RangeMedianU64}
-use Rattle.vers_cli.specs.declared.name.ForestQuery.TheVariants.{Level, LevelAncestor}
-use Rattle.vers_cli.specs.Name.{name_of}
-use Rattle.vers_cli.specs.Holding.{Holding, Nothing, BitsHeld, SortedHeld, SparseHeld, ValuesHeld, TreeHeld, SymbolsHeld, PostingsHeld}
-use Rattle.vers_cli.specs.PostingsLines.{posted_of}
+use Rattle.catalogue.specs.Contents.{IndexedBits, SparseBits, SortedMembers, SymbolList, Parentheses, BlockValues, Documents}
+use Rattle.vers_cli.specs.Holding.{Holding}
+use Rattle.vers_cli.specs.Loads.{posted_of}
 use Rattle.vers_cli.specs.Answers.{answer_to, holding_after, answers_to}
 
 -- a text with the end of a line
@@ -35,7 +27,7 @@ ended text = text ++ 10 ∷ []
 
 -- the members 4, 4 and 9, held
 abbrev held_449 : Holding
-held_449 = SortedHeld (4 ∷ 4 ∷ 9 ∷ [])
+held_449 = Some (SortedMembers (4 ∷ 4 ∷ 9 ∷ []))
 
 -- values of which some are equal
 abbrev values_31211 : List ℕ
@@ -43,32 +35,14 @@ values_31211 = 3 ∷ 1 ∷ 2 ∷ 1 ∷ 1 ∷ []
 
 -- the bits 0110, held
 abbrev held_0110 : Holding
-held_0110 = BitsHeld (false ∷ true ∷ true ∷ false ∷ [])
-
-pub name_of-rank1 : name_of (codes "rank1") ≡ Some (Query Rank1)
-name_of-rank1 = refl
-
-pub name_of-rank2 : name_of (codes "rank2") ≡ None
-name_of-rank2 = refl
-
-pub name_of-open : name_of (codes "open") ≡ Some (Query (Tree (Place Open)))
-name_of-open = refl
-
-pub name_of-bwd_search : name_of (codes "bwd_search") ≡ Some (Query (Tree (Search BwdSearch)))
-name_of-bwd_search = refl
-
-pub name_of-level_ancestor : name_of (codes "level_ancestor") ≡ Some (Query (Forest LevelAncestor))
-name_of-level_ancestor = refl
-
-pub name_of-level_rightmost : name_of (codes "level_rightmost") ≡ Some (Query (Forest (Level Rightmost)))
-name_of-level_rightmost = refl
+held_0110 = Some (IndexedBits (false ∷ true ∷ true ∷ false ∷ []))
 
 -- a load line answers the length, and its list is held
-pub answer-bits_0110 : answer_to Nothing (codes "bits 0110") ≡ ended (codes "4")
+pub answer-bits_0110 : answer_to None (codes "bits 0110") ≡ ended (codes "4")
 unfolding answer_to_parts digits
 answer-bits_0110 = refl
 
-pub held-bits_0110 : holding_after Nothing (codes "bits 0110") ≡ held_0110
+pub held-bits_0110 : holding_after None (codes "bits 0110") ≡ held_0110
 unfolding holding_after_parts
 held-bits_0110 = refl
 
@@ -94,11 +68,11 @@ unfolding answer_to_parts number_of
 answer-get_9 = refl
 
 -- the name comes before what is held, and what is held before the arguments
-pub answer-no_name : answer_to Nothing (codes "foo 1") ≡ ended (codes "bad line")
+pub answer-no_name : answer_to None (codes "foo 1") ≡ ended (codes "bad line")
 unfolding answer_to_parts
 answer-no_name = refl
 
-pub answer-nothing_held : answer_to Nothing (codes "rank1 x") ≡ ended (codes "wrong structure")
+pub answer-nothing_held : answer_to None (codes "rank1 x") ≡ ended (codes "wrong structure")
 unfolding answer_to_parts
 answer-nothing_held = refl
 
@@ -107,11 +81,11 @@ unfolding answer_to_parts number_of
 answer-malformed = refl
 
 -- an ascending list may have equal members, and a sparse list takes each place once
-pub answer-sorted_449 : answer_to Nothing (codes "sorted 4 4 9") ≡ ended (codes "3")
+pub answer-sorted_449 : answer_to None (codes "sorted 4 4 9") ≡ ended (codes "3")
 unfolding answer_to_parts number_of digits
 answer-sorted_449 = refl
 
-pub held-sorted_449 : holding_after Nothing (codes "sorted 4 4 9") ≡ held_449
+pub held-sorted_449 : holding_after None (codes "sorted 4 4 9") ≡ held_449
 unfolding holding_after_parts number_of
 held-sorted_449 = refl
 
@@ -124,7 +98,7 @@ pub answer-iter : answer_to held_449 (codes "iter") ≡ ended (codes "4 4 9")
 unfolding answer_to_parts digits
 answer-iter = refl
 
-pub answer-iter_none : answer_to (SortedHeld []) (codes "iter") ≡ ended []
+pub answer-iter_none : answer_to (Some (SortedMembers [])) (codes "iter") ≡ ended []
 unfolding answer_to_parts
 answer-iter_none = refl
 
@@ -133,7 +107,7 @@ pub answer-rank1_of_sorted : answer_to held_449 (codes "rank1 5") ≡ ended (cod
 unfolding answer_to_parts
 answer-rank1_of_sorted = refl
 
-pub held-sparse_5_13 : holding_after Nothing (codes "sparse 5 1 3") ≡ SparseHeld (false ∷ true ∷ false ∷ true ∷ false ∷ [])
+pub held-sparse_5_13 : holding_after None (codes "sparse 5 1 3") ≡ Some (SparseBits (false ∷ true ∷ false ∷ true ∷ false ∷ []))
 unfolding holding_after_parts number_of ones_at
 held-sparse_5_13 = refl
 
@@ -166,17 +140,17 @@ first_least-2-1 = refl
 pub first_least-0-5 : first_least values_31211 0 5 ≡ None
 first_least-0-5 = refl
 
-pub answer-range_min_2_4 : answer_to (ValuesHeld values_31211) (codes "range_min 2 4") ≡ ended (codes "3")
+pub answer-range_min_2_4 : answer_to (Some (BlockValues values_31211)) (codes "range_min 2 4") ≡ ended (codes "3")
 unfolding answer_to_parts number_of digits least_place first_least_of costs_least
 answer-range_min_2_4 = refl
 
-pub answer-range_min_0_5 : answer_to (ValuesHeld values_31211) (codes "range_min 0 5") ≡ ended (codes "refused")
+pub answer-range_min_0_5 : answer_to (Some (BlockValues values_31211)) (codes "range_min 0 5") ≡ ended (codes "refused")
 unfolding answer_to_parts number_of
 answer-range_min_0_5 = refl
 
 -- a node with two leaves, held
 abbrev held_tree : Holding
-held_tree = TreeHeld (true ∷ true ∷ false ∷ true ∷ false ∷ false ∷ [])
+held_tree = Some (Parentheses (true ∷ true ∷ false ∷ true ∷ false ∷ false ∷ []))
 
 pub held-tree_110100 : holding_after held_0110 (codes "tree 110100") ≡ held_tree
 unfolding holding_after_parts
@@ -199,27 +173,24 @@ unfolding answer_to_parts places digits
 answer-dfs_iter = refl
 
 -- the excess may be below 0, and is refused past the end
-pub answer-excess_0 : answer_to (TreeHeld (false ∷ true ∷ [])) (codes "excess 0") ≡ ended (codes "-1")
+pub answer-excess_0 : answer_to (Some (Parentheses (false ∷ true ∷ []))) (codes "excess 0") ≡ ended (codes "-1")
 unfolding answer_to_parts number_of excess count digits
 answer-excess_0 = refl
 
-pub answer-excess_2 : answer_to (TreeHeld (false ∷ true ∷ [])) (codes "excess 2") ≡ ended (codes "refused")
+pub answer-excess_2 : answer_to (Some (Parentheses (false ∷ true ∷ []))) (codes "excess 2") ≡ ended (codes "refused")
 unfolding answer_to_parts number_of
 answer-excess_2 = refl
 
-pub name_of-range_median_u64 : name_of (codes "range_median_u64") ≡ Some (Query (Symbols (Range RangeMedianU64)))
-name_of-range_median_u64 = refl
-
 -- the symbols 1, 5 and 3 of three bits each, held
 abbrev held_153 : Holding
-held_153 = SymbolsHeld (record { width = 3; items = 1 ∷ 5 ∷ 3 ∷ [] })
+held_153 = Some (SymbolList (record { width = 3; items = 1 ∷ 5 ∷ 3 ∷ [] }))
 
 pub held-symbols_153 : holding_after held_0110 (codes "symbols 3 1 5 3") ≡ held_153
 unfolding holding_after_parts number_of low_symbols
 held-symbols_153 = refl
 
 -- the low bits of each number count, and symbols of no bits are none
-pub held-symbols_9_2 : holding_after held_0110 (codes "symbols 1 9 2") ≡ SymbolsHeld (record { width = 1; items = 1 ∷ 0 ∷ [] })
+pub held-symbols_9_2 : holding_after held_0110 (codes "symbols 1 9 2") ≡ Some (SymbolList (record { width = 1; items = 1 ∷ 0 ∷ [] }))
 unfolding holding_after_parts number_of low_symbols
 held-symbols_9_2 = refl
 
@@ -311,15 +282,15 @@ pub answer-parent_2 : answer_to held_tree (codes "parent 2") ≡ ended (codes "r
 unfolding answer_to_parts number_of
 answer-parent_2 = refl
 
-pub answer-parent_of_unbalanced : answer_to (TreeHeld (false ∷ true ∷ [])) (codes "parent 1") ≡ ended (codes "refused")
+pub answer-parent_of_unbalanced : answer_to (Some (Parentheses (false ∷ true ∷ []))) (codes "parent 1") ≡ ended (codes "refused")
 unfolding answer_to_parts number_of
 answer-parent_of_unbalanced = refl
 
-pub answer-level_leftmost_of_unbalanced : answer_to (TreeHeld (false ∷ true ∷ [])) (codes "level_leftmost 0") ≡ ended (codes "refused")
+pub answer-level_leftmost_of_unbalanced : answer_to (Some (Parentheses (false ∷ true ∷ []))) (codes "level_leftmost 0") ≡ ended (codes "refused")
 unfolding answer_to_parts number_of
 answer-level_leftmost_of_unbalanced = refl
 
-pub answer-parent_x_of_unbalanced : answer_to (TreeHeld (false ∷ true ∷ [])) (codes "parent x") ≡ ended (codes "bad line")
+pub answer-parent_x_of_unbalanced : answer_to (Some (Parentheses (false ∷ true ∷ []))) (codes "parent x") ≡ ended (codes "bad line")
 unfolding answer_to_parts number_of
 answer-parent_x_of_unbalanced = refl
 
@@ -332,7 +303,7 @@ posted_of-273 = refl
 
 -- four documents with their costs, held
 abbrev held_postings : Holding
-held_postings = PostingsHeld (record { documents = 2 ∷ 5 ∷ 9 ∷ 12 ∷ []; costs = 7 ∷ 3 ∷ 3 ∷ 8 ∷ [] })
+held_postings = Some (Documents (record { documents = 2 ∷ 5 ∷ 9 ∷ 12 ∷ []; costs = 7 ∷ 3 ∷ 3 ∷ 8 ∷ [] }))
 
 pub held-postings : holding_after held_0110 (codes "postings 2 7 5 3 9 3 12 8") ≡ held_postings
 unfolding holding_after_parts number_of
@@ -376,7 +347,7 @@ answer-no_words = refl
 abbrev input : List ℕ
 input = ended (codes "bits 0110") ++ ended (codes "rank1 3") ++ ended (codes "select1 1") ++ ended (codes "select1 2") ++ ended (codes "get 9")
 
-pub answers-input : answers_to Nothing (lines_of input)
+pub answers-input : answers_to None (lines_of input)
     ≡ ended (codes "4") ++ ended (codes "2") ++ ended (codes "2") ++ ended (codes "4") ++ ended (codes "none")
 unfolding answer_to_parts holding_after_parts number_of count select places digits
 answers-input = refl

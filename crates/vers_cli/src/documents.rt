@@ -1,23 +1,21 @@
-//! The lines of documents with costs.
+//! The load line of documents with costs.
 ghost use Rattle.std.specs.Prelude.{◌≡◌, ◌<◌, ℕ, List, [], length, unwrap_or, option_map, IfOk, OnOk, IsErr, IfSome, MatchOption, MatchResult};
 ghost use Rattle.std.specs.Option.{option_and_then};
 ghost use Rattle.vers_words.specs.Text.{words_in};
 ghost use Rattle.vers_words.specs.Arguments.{no_arguments as none_of, all_numbers as numbers_all};
 ghost use Rattle.vers_words.specs.Loading.{map_loading};
-ghost use Rattle.vers_words.specs.Reply.{plain_reply, Numbers, Refused};
-ghost use Rattle.postings.specs.Posted.{common};
-ghost use Rattle.vers_cli.specs.Holding.{holding_of, loaded, is_accepted as accepts};
-ghost use Rattle.vers_cli.specs.PostingsLines.{posted_first, posted_of, if_admitted, postings_found, postings_loaded, postings_reply, rising_count, shared_reply};
+ghost use Rattle.catalogue.specs.Contents.{content_of};
+ghost use Rattle.vers_cli.specs.Holding.{loaded, is_accepted as accepts};
+ghost use Rattle.vers_cli.specs.Loads.{if_admitted, posted_first, posted_of, postings_loaded, rising_count};
 
-use crate::held::Held;
-use crate::name::{Load, Query};
+use crate::name::Load;
 use crate::sorted::Rise;
+use catalogue::structure::Structure;
 use postings::{Postings, PostingsError};
 use std::alloc::{AllocError, Allocator};
 use vers_rmq::rmq::fast_rmq::MAX_LEN;
-use vers_words::arguments::{all_numbers, count_numbers, no_arguments, one_number, two_numbers};
+use vers_words::arguments::{count_numbers, no_arguments};
 use vers_words::loading::Loading;
-use vers_words::reply::Reply;
 use vers_words::text::{number, split_first_word};
 
 /// Returns true if the load line `postings d c ..` is accepted.
@@ -35,61 +33,17 @@ pub fn is_accepted(arguments: &[u8]) -> bool
 pub fn load<'a, A: Allocator + Copy>(
     alloc: &'a A,
     arguments: &[u8],
-) -> Result<Loading<Held<'a, A>>, AllocError>
+) -> Result<Loading<Structure<'a, A>>, AllocError>
     ensures { IfOk result (λ loading.
-        map_loading holding_of loading ≡ loaded Load.Postings (words_in arguments.now)) }
+        map_loading content_of loading ≡ loaded Load.Postings (words_in arguments.now)) }
 {
     let Some(Pairs { documents, costs }) = all_pairs(*alloc, arguments)? else {
         return Ok(Loading::Malformed);
     };
     match admitted(documents.as_slice(), costs) {
         Ok(None) => Ok(Loading::Inadmissible),
-        Ok(Some(postings)) => Ok(Loading::Accepted(Held::Postings(postings))),
+        Ok(Some(postings)) => Ok(Loading::Accepted(Structure::Postings(postings))),
         Err(error) => Err(error),
-    }
-}
-
-/// Returns the reply to a query of these documents. Errors: `AllocError` if the allocator refuses a request.
-pub fn reply<A: Allocator + Copy>(
-    alloc: A,
-    postings: &Postings<A>,
-    query: Query,
-    arguments: &[u8],
-) -> Result<Reply<A>, AllocError>
-    ensures { IfOk result (λ reply.
-        plain_reply reply ≡ postings_reply postings.now query (words_in arguments.now)) }
-{
-    match query {
-        Query::Len => match no_arguments(arguments) {
-            None => Ok(Reply::BadLine),
-            Some(()) => Ok(Reply::Number(postings.len() as u64)),
-        },
-        Query::Contains | Query::Rank | Query::Next => match one_number(arguments) {
-            None => Ok(Reply::BadLine),
-            Some(document) => Ok(Reply::number_or_absent(found(postings, query, document))),
-        },
-        Query::Cheapest => match two_numbers(arguments) {
-            None => Ok(Reply::BadLine),
-            Some((from, to)) => Ok(Reply::number_or_absent(postings.cheapest(from, to))),
-        },
-        Query::Intersect => match all_numbers(alloc, arguments) {
-            Ok(None) => Ok(Reply::BadLine),
-            Ok(Some(documents)) => shared(alloc, postings, documents.as_slice()),
-            Err(error) => Err(error),
-        },
-        _ => Ok(Reply::WrongStructure),
-    }
-}
-
-// Returns the result of a query with one document. `None` if there is no such query.
-fn found<A: Allocator + Copy>(postings: &Postings<A>, query: Query, document: u64) -> Option<u64>
-    ensures { result ≡ postings_found postings.now query document }
-{
-    match query {
-        Query::Contains => Some(u64::from(postings.contains(document))),
-        Query::Rank => Some(postings.rank(document)),
-        Query::Next => postings.next_at_least(document),
-        _ => None,
     }
 }
 
@@ -185,8 +139,8 @@ fn ascending_documents(arguments: &[u8]) -> Option<usize>
     }
 }
 
-// Returns documents with their costs. `None` if the documents don't ascend strictly or are too many.
-fn admitted<A: Allocator + Copy>(
+/// Returns documents with their costs. `None` if the documents don't ascend strictly or are too many.
+pub fn admitted<A: Allocator + Copy>(
     documents: &[u64],
     costs: Vec<u64, A>,
 ) -> Result<Option<Postings<A>>, AllocError>
@@ -200,55 +154,5 @@ fn admitted<A: Allocator + Copy>(
         Err(PostingsError::TooLong) => Ok(None),
         Err(PostingsError::NotAscending) => Ok(None),
         Err(PostingsError::Memory) => Err(AllocError),
-    }
-}
-
-// Returns the reply with the documents that are also among others, which are refused if they don't ascend
-// strictly or are too many.
-fn shared<A: Allocator + Copy>(
-    alloc: A,
-    postings: &Postings<A>,
-    documents: &[u64],
-) -> Result<Reply<A>, AllocError>
-    ensures { IfOk result (λ reply.
-        plain_reply reply ≡ shared_reply postings.now.documents documents.now) }
-{
-    // The costs are not used.
-    let costs = vec![in alloc; 0u64; documents.len()]?;
-    among(postings, admitted(documents, costs))
-}
-
-// Returns the reply with the documents that are also among others, if these are admitted. Their type is
-// generic, so that the proof doesn't go through their fields.
-fn among<A: Allocator + Copy, O: Others<A> + Drop>(
-    postings: &Postings<A>,
-    others: Result<Option<O>, AllocError>,
-) -> Result<Reply<A>, AllocError>
-    ensures { MatchResult others (λ others. IfOk result (λ reply. plain_reply reply ≡ unwrap_or
-        (option_map (λ others. Numbers (common postings.now.documents (O.documents others))) others) Refused))
-        (λ _. IsErr result) }
-{
-    match others {
-        Ok(None) => Ok(Reply::Refused),
-        Ok(Some(others)) => others.common_reply(postings),
-        Err(error) => Err(error),
-    }
-}
-
-// Other documents.
-trait Others<A: Allocator + Copy> {
-    ghost documents: { Self → List ℕ };
-
-    // Returns the reply with the documents that are in both lists.
-    fn common_reply(&self, postings: &Postings<A>) -> Result<Reply<A>, AllocError>
-        ensures { IfOk result (λ reply.
-            plain_reply reply ≡ Numbers (common postings.now.documents (documents self.now))) };
-}
-
-impl<A: Allocator + Copy> Others<A> for Postings<A> {
-    ghost documents = { λ posted. posted.documents };
-
-    fn common_reply(&self, postings: &Postings<A>) -> Result<Reply<A>, AllocError> {
-        Ok(Reply::Numbers(postings.intersect(self)?))
     }
 }

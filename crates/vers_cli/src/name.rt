@@ -1,24 +1,17 @@
 //! The names of lines.
 ghost use Rattle.std.specs.Prelude.{◌≡◌};
+ghost use Rattle.catalogue.specs.Contents.{content_of};
+ghost use Rattle.vers_cli.specs.Names.{is_query as is_known, line_of as named_line, load_of as named_load};
 
-use AllQuery::{IterSortedU64, IterU64};
-use ForestQuery::{DfsPostIter, IsAncestor, Level, LevelAncestor, Measure, Relative, Walk};
-use PlaceQuery::{Close, Enclose, Excess, NodeHandle, Open};
-use Query::{Forest, Symbols, Tree};
-use RangeQuery::{RangeMaxU64, RangeMedianU64, RangeMinU64};
-use SearchQuery::{BwdSearch, FwdSearch};
-use SymbolQuery::{RankU64, SelectU64};
-use SymbolsQuery::{All, GetU64, Range, Symbol, Within};
-use TreeQuery::{Place, Search, Whole};
-use WalkQuery::{Children, RevChildren, SubtreeIter, SubtreePostIter};
-use WholeQuery::{DfsIter, IsBalanced, Root, Size};
-use WithinQuery::{PredecessorU64, QuantileU64, RankRangeU64, SelectOffsetU64, SuccessorU64};
-use vers_trees::trees::bp;
-use vers_trees::trees::bp::LevelEnd::{Leftmost, Rightmost};
-use vers_trees::trees::bp::Measure::{Depth, IsLeaf, NodeIndex, SubtreeSize};
-use vers_trees::trees::bp::Relative::{
-    FirstChild, LastChild, LevelNext, LevelPrev, NextSibling, Parent, PreviousSibling,
-};
+use Arguments::{NoNumber, OneNumber, ThreeNumbers, TwoNumbers, WithSigned};
+use Line::{All, Common, Number, Walk};
+use Listing::{BySize, Items, Postorder};
+use Nodes::{Children, RevChildren, Subtree, SubtreePost};
+use Written::{Plain, Required, Signed};
+use catalogue::query::{Query, SymbolsQuery, TreeQuery};
+use catalogue::structure::Structure;
+use std::alloc::Allocator;
+use vers_trees::trees::bp::{LevelEnd, Measure, Relative};
 use vers_words::names::named;
 
 /// The first word of a load line.
@@ -33,248 +26,314 @@ pub enum Load {
     Postings,
 }
 
-/// The first word of a query line.
+/// The arguments of a query line.
 #[derive(Clone, Copy, Drop)]
-pub enum Query {
-    Len,
-    Get,
-    Rank0,
-    Rank1,
-    Select0,
-    Select1,
-    Rank,
-    Predecessor,
-    Successor,
-    Delta,
-    Iter,
-    Iter1,
-    RangeMin,
-    Tree(TreeQuery),
-    Symbols(SymbolsQuery),
-    Forest(ForestQuery),
-    Contains,
-    Next,
-    Cheapest,
-    Intersect,
+pub enum Arguments {
+    NoNumber,
+    OneNumber,
+    TwoNumbers,
+    ThreeNumbers,
+    /// A number and a signed number.
+    WithSigned,
 }
 
-/// The first word of a query line of parentheses, by its arguments.
+/// How an answer is written.
 #[derive(Clone, Copy, Drop)]
-pub enum TreeQuery {
-    /// A query of the whole list: no argument.
-    Whole(WholeQuery),
-    /// A query of a position: a number.
-    Place(PlaceQuery),
-    /// A search from a position: a number and a signed number.
-    Search(SearchQuery),
+pub enum Written {
+    /// A number, or `none`.
+    Plain,
+    /// A signed number.
+    Signed,
+    /// A number, or `refused` if there is none.
+    Required,
 }
 
-/// A query of a whole list of parentheses.
+/// A list of all items or nodes.
 #[derive(Clone, Copy, Drop)]
-pub enum WholeQuery {
-    Size,
-    Root,
-    IsBalanced,
-    DfsIter,
+pub enum Listing {
+    /// The members, the symbols, the positions of ones, or the nodes in preorder.
+    Items,
+    /// The symbols in ascending order.
+    BySize,
+    /// The nodes in postorder.
+    Postorder,
 }
 
-/// A query of a position in a list of parentheses.
+/// The nodes of a walk from a node.
 #[derive(Clone, Copy, Drop)]
-pub enum PlaceQuery {
-    Excess,
-    Close,
-    Open,
-    Enclose,
-    NodeHandle,
-}
-
-/// A search along a list of parentheses.
-#[derive(Clone, Copy, Drop)]
-pub enum SearchQuery {
-    FwdSearch,
-    BwdSearch,
-}
-
-/// The first word of a query line of symbols, by its arguments, which are numbers.
-#[derive(Clone, Copy, Drop)]
-pub enum SymbolsQuery {
-    /// A query of all symbols: no argument.
-    All(AllQuery),
-    /// The symbol at a position: the position.
-    GetU64,
-    /// A query of the positions of a symbol: a number, and the symbol.
-    Symbol(SymbolQuery),
-    /// A query of a range: its start and its end.
-    Range(RangeQuery),
-    /// A query of a range, or of the symbols from a position on: three numbers.
-    Within(WithinQuery),
-}
-
-/// A query of all symbols.
-#[derive(Clone, Copy, Drop)]
-pub enum AllQuery {
-    IterU64,
-    IterSortedU64,
-}
-
-/// A query of the positions of a symbol.
-#[derive(Clone, Copy, Drop)]
-pub enum SymbolQuery {
-    RankU64,
-    SelectU64,
-}
-
-/// A query of a range of symbols.
-#[derive(Clone, Copy, Drop)]
-pub enum RangeQuery {
-    RangeMinU64,
-    RangeMaxU64,
-    RangeMedianU64,
-}
-
-/// A query of a range of symbols, or of those from a position on, with one more number.
-#[derive(Clone, Copy, Drop)]
-pub enum WithinQuery {
-    RankRangeU64,
-    SelectOffsetU64,
-    QuantileU64,
-    PredecessorU64,
-    SuccessorU64,
-}
-
-/// The first word of a query line that only balanced parentheses have, by its arguments. A node is the position
-/// where it opens.
-#[derive(Clone, Copy, Drop)]
-pub enum ForestQuery {
-    /// All nodes in postorder: no argument.
-    DfsPostIter,
-    /// A relative of a node: a node.
-    Relative(bp::Relative),
-    /// A number of a node, 1 for true and 0 for false: a node.
-    Measure(bp::Measure),
-    /// The nodes of a walk from a node: a node.
-    Walk(WalkQuery),
-    /// An end of a level: a depth.
-    Level(bp::LevelEnd),
-    /// 1 if the first node is an ancestor of the second, otherwise 0: two nodes.
-    IsAncestor,
-    /// The ancestor a number of levels up: a node and a number.
-    LevelAncestor,
-}
-
-/// A walk from a node.
-#[derive(Clone, Copy, Drop)]
-pub enum WalkQuery {
+pub enum Nodes {
     Children,
     RevChildren,
-    SubtreeIter,
-    SubtreePostIter,
+    Subtree,
+    SubtreePost,
 }
 
-/// The first word of a line.
+/// A query line.
 #[derive(Clone, Copy, Drop)]
-pub enum Name {
-    Load(Load),
-    Query(Query),
+pub enum Line {
+    /// A query of the catalogue, its arguments, and how its answer is written.
+    Number(Query, Arguments, Written),
+    /// A list of all items or nodes: no argument.
+    All(Listing),
+    /// The nodes of a walk: a node.
+    Walk(Nodes),
+    /// The documents that are among others: any number of documents.
+    Common,
 }
 
-/// All names, with their text. It is the only table of names: the contract of `Name::of` reads it too.
-pub const NAMES: [(&[u8], Name); 68] = [
-    (b"bits", Name::Load(Load::Bits)),
-    (b"sorted", Name::Load(Load::Sorted)),
-    (b"sparse", Name::Load(Load::Sparse)),
-    (b"values", Name::Load(Load::Values)),
-    (b"tree", Name::Load(Load::Tree)),
-    (b"len", Name::Query(Query::Len)),
-    (b"get", Name::Query(Query::Get)),
-    (b"rank0", Name::Query(Query::Rank0)),
-    (b"rank1", Name::Query(Query::Rank1)),
-    (b"select0", Name::Query(Query::Select0)),
-    (b"select1", Name::Query(Query::Select1)),
-    (b"rank", Name::Query(Query::Rank)),
-    (b"predecessor", Name::Query(Query::Predecessor)),
-    (b"successor", Name::Query(Query::Successor)),
-    (b"delta", Name::Query(Query::Delta)),
-    (b"iter", Name::Query(Query::Iter)),
-    (b"iter1", Name::Query(Query::Iter1)),
-    (b"range_min", Name::Query(Query::RangeMin)),
-    (b"size", Name::Query(Tree(Whole(Size)))),
-    (b"root", Name::Query(Tree(Whole(Root)))),
-    (b"is_balanced", Name::Query(Tree(Whole(IsBalanced)))),
-    (b"dfs_iter", Name::Query(Tree(Whole(DfsIter)))),
-    (b"excess", Name::Query(Tree(Place(Excess)))),
-    (b"close", Name::Query(Tree(Place(Close)))),
-    (b"open", Name::Query(Tree(Place(Open)))),
-    (b"enclose", Name::Query(Tree(Place(Enclose)))),
-    (b"node_handle", Name::Query(Tree(Place(NodeHandle)))),
-    (b"fwd_search", Name::Query(Tree(Search(FwdSearch)))),
-    (b"bwd_search", Name::Query(Tree(Search(BwdSearch)))),
-    (b"symbols", Name::Load(Load::Symbols)),
-    (b"iter_u64", Name::Query(Symbols(All(IterU64)))),
-    (b"iter_sorted_u64", Name::Query(Symbols(All(IterSortedU64)))),
-    (b"get_u64", Name::Query(Symbols(GetU64))),
-    (b"rank_u64", Name::Query(Symbols(Symbol(RankU64)))),
-    (b"select_u64", Name::Query(Symbols(Symbol(SelectU64)))),
-    (b"range_min_u64", Name::Query(Symbols(Range(RangeMinU64)))),
-    (b"range_max_u64", Name::Query(Symbols(Range(RangeMaxU64)))),
+/// The load lines.
+pub const LOADS: [(&[u8], Load); 7] = [
+    (b"bits", Load::Bits),
+    (b"sorted", Load::Sorted),
+    (b"sparse", Load::Sparse),
+    (b"values", Load::Values),
+    (b"tree", Load::Tree),
+    (b"symbols", Load::Symbols),
+    (b"postings", Load::Postings),
+];
+
+/// The query lines of a list of bits.
+pub const BITS_LINES: [(&[u8], Line); 6] = [
+    (b"len", Number(Query::Len, NoNumber, Plain)),
+    (b"get", Number(Query::Get, OneNumber, Plain)),
+    (b"rank0", Number(Query::Rank0, OneNumber, Plain)),
+    (b"rank1", Number(Query::Rank1, OneNumber, Plain)),
+    (b"select0", Number(Query::Select0, OneNumber, Plain)),
+    (b"select1", Number(Query::Select1, OneNumber, Plain)),
+];
+
+/// The query lines of an ascending list.
+pub const SORTED_LINES: [(&[u8], Line); 7] = [
+    (b"len", Number(Query::Len, NoNumber, Plain)),
+    (b"get", Number(Query::Get, OneNumber, Plain)),
+    (b"rank", Number(Query::Rank, OneNumber, Plain)),
+    (b"predecessor", Number(Query::Predecessor, OneNumber, Plain)),
+    (b"successor", Number(Query::Successor, OneNumber, Plain)),
+    (b"delta", Number(Query::Delta, OneNumber, Plain)),
+    (b"iter", All(Items)),
+];
+
+/// The query lines of a sparse list of bits.
+pub const SPARSE_LINES: [(&[u8], Line); 6] = [
+    (b"len", Number(Query::Len, NoNumber, Plain)),
+    (b"get", Number(Query::Get, OneNumber, Plain)),
+    (b"rank0", Number(Query::Rank0, OneNumber, Plain)),
+    (b"rank1", Number(Query::Rank1, OneNumber, Plain)),
+    (b"select1", Number(Query::Select1, OneNumber, Plain)),
+    (b"iter1", All(Items)),
+];
+
+/// The query lines of a list of values.
+pub const VALUES_LINES: [(&[u8], Line); 2] = [
+    (b"len", Number(Query::Len, NoNumber, Plain)),
+    (b"range_min", Number(Query::RangeMin, TwoNumbers, Required)),
+];
+
+/// The query lines of a list of parentheses.
+pub const TREE_LINES: [(&[u8], Line); 31] = [
+    (
+        b"size",
+        Number(Query::Tree(TreeQuery::Size), NoNumber, Plain),
+    ),
+    (
+        b"root",
+        Number(Query::Tree(TreeQuery::Root), NoNumber, Plain),
+    ),
+    (
+        b"is_balanced",
+        Number(Query::Tree(TreeQuery::IsBalanced), NoNumber, Plain),
+    ),
+    (b"dfs_iter", All(Items)),
+    (
+        b"excess",
+        Number(Query::Tree(TreeQuery::Excess), OneNumber, Signed),
+    ),
+    (
+        b"close",
+        Number(Query::Tree(TreeQuery::Close), OneNumber, Plain),
+    ),
+    (
+        b"open",
+        Number(Query::Tree(TreeQuery::Open), OneNumber, Plain),
+    ),
+    (
+        b"enclose",
+        Number(Query::Tree(TreeQuery::Enclose), OneNumber, Plain),
+    ),
+    (
+        b"node_handle",
+        Number(Query::Tree(TreeQuery::NodeHandle), OneNumber, Plain),
+    ),
+    (
+        b"fwd_search",
+        Number(Query::Tree(TreeQuery::FwdSearch), WithSigned, Plain),
+    ),
+    (
+        b"bwd_search",
+        Number(Query::Tree(TreeQuery::BwdSearch), WithSigned, Plain),
+    ),
+    (
+        b"parent",
+        Number(Query::Node(Relative::Parent), OneNumber, Plain),
+    ),
+    (
+        b"first_child",
+        Number(Query::Node(Relative::FirstChild), OneNumber, Plain),
+    ),
+    (
+        b"last_child",
+        Number(Query::Node(Relative::LastChild), OneNumber, Plain),
+    ),
+    (
+        b"next_sibling",
+        Number(Query::Node(Relative::NextSibling), OneNumber, Plain),
+    ),
+    (
+        b"previous_sibling",
+        Number(Query::Node(Relative::PreviousSibling), OneNumber, Plain),
+    ),
+    (
+        b"level_next",
+        Number(Query::Node(Relative::LevelNext), OneNumber, Plain),
+    ),
+    (
+        b"level_prev",
+        Number(Query::Node(Relative::LevelPrev), OneNumber, Plain),
+    ),
+    (
+        b"node_index",
+        Number(Query::Measure(Measure::NodeIndex), OneNumber, Plain),
+    ),
+    (
+        b"is_leaf",
+        Number(Query::Measure(Measure::IsLeaf), OneNumber, Plain),
+    ),
+    (
+        b"depth",
+        Number(Query::Measure(Measure::Depth), OneNumber, Plain),
+    ),
+    (
+        b"subtree_size",
+        Number(Query::Measure(Measure::SubtreeSize), OneNumber, Plain),
+    ),
+    (b"is_ancestor", Number(Query::IsAncestor, TwoNumbers, Plain)),
+    (
+        b"level_ancestor",
+        Number(Query::LevelAncestor, TwoNumbers, Plain),
+    ),
+    (
+        b"level_leftmost",
+        Number(Query::Level(LevelEnd::Leftmost), OneNumber, Plain),
+    ),
+    (
+        b"level_rightmost",
+        Number(Query::Level(LevelEnd::Rightmost), OneNumber, Plain),
+    ),
+    (b"children", Walk(Children)),
+    (b"rev_children", Walk(RevChildren)),
+    (b"subtree_iter", Walk(Subtree)),
+    (b"subtree_post_iter", Walk(SubtreePost)),
+    (b"dfs_post_iter", All(Postorder)),
+];
+
+/// The query lines of a list of symbols.
+pub const SYMBOLS_LINES: [(&[u8], Line); 14] = [
+    (b"len", Number(Query::Len, NoNumber, Plain)),
+    (b"iter_u64", All(Items)),
+    (b"iter_sorted_u64", All(BySize)),
+    (b"get_u64", Number(Query::Get, OneNumber, Plain)),
+    (
+        b"rank_u64",
+        Number(Query::Symbols(SymbolsQuery::RankOf), TwoNumbers, Plain),
+    ),
+    (
+        b"select_u64",
+        Number(Query::Symbols(SymbolsQuery::SelectOf), TwoNumbers, Plain),
+    ),
+    (
+        b"range_min_u64",
+        Number(Query::Symbols(SymbolsQuery::Least), TwoNumbers, Plain),
+    ),
+    (
+        b"range_max_u64",
+        Number(Query::Symbols(SymbolsQuery::Greatest), TwoNumbers, Plain),
+    ),
     (
         b"range_median_u64",
-        Name::Query(Symbols(Range(RangeMedianU64))),
+        Number(Query::Symbols(SymbolsQuery::Median), TwoNumbers, Plain),
     ),
     (
         b"rank_range_u64",
-        Name::Query(Symbols(Within(RankRangeU64))),
+        Number(Query::Symbols(SymbolsQuery::RankRange), ThreeNumbers, Plain),
     ),
     (
         b"select_offset_u64",
-        Name::Query(Symbols(Within(SelectOffsetU64))),
+        Number(
+            Query::Symbols(SymbolsQuery::SelectFrom),
+            ThreeNumbers,
+            Plain,
+        ),
     ),
-    (b"quantile_u64", Name::Query(Symbols(Within(QuantileU64)))),
+    (
+        b"quantile_u64",
+        Number(Query::Symbols(SymbolsQuery::Quantile), ThreeNumbers, Plain),
+    ),
     (
         b"predecessor_u64",
-        Name::Query(Symbols(Within(PredecessorU64))),
+        Number(
+            Query::Symbols(SymbolsQuery::Predecessor),
+            ThreeNumbers,
+            Plain,
+        ),
     ),
-    (b"successor_u64", Name::Query(Symbols(Within(SuccessorU64)))),
-    (b"parent", Name::Query(Forest(Relative(Parent)))),
-    (b"first_child", Name::Query(Forest(Relative(FirstChild)))),
-    (b"last_child", Name::Query(Forest(Relative(LastChild)))),
-    (b"next_sibling", Name::Query(Forest(Relative(NextSibling)))),
     (
-        b"previous_sibling",
-        Name::Query(Forest(Relative(PreviousSibling))),
+        b"successor_u64",
+        Number(Query::Symbols(SymbolsQuery::Successor), ThreeNumbers, Plain),
     ),
-    (b"level_next", Name::Query(Forest(Relative(LevelNext)))),
-    (b"level_prev", Name::Query(Forest(Relative(LevelPrev)))),
-    (b"node_index", Name::Query(Forest(Measure(NodeIndex)))),
-    (b"is_leaf", Name::Query(Forest(Measure(IsLeaf)))),
-    (b"depth", Name::Query(Forest(Measure(Depth)))),
-    (b"subtree_size", Name::Query(Forest(Measure(SubtreeSize)))),
-    (b"is_ancestor", Name::Query(Forest(IsAncestor))),
-    (b"level_ancestor", Name::Query(Forest(LevelAncestor))),
-    (b"level_leftmost", Name::Query(Forest(Level(Leftmost)))),
-    (b"level_rightmost", Name::Query(Forest(Level(Rightmost)))),
-    (b"children", Name::Query(Forest(Walk(Children)))),
-    (b"rev_children", Name::Query(Forest(Walk(RevChildren)))),
-    (b"subtree_iter", Name::Query(Forest(Walk(SubtreeIter)))),
-    (
-        b"subtree_post_iter",
-        Name::Query(Forest(Walk(SubtreePostIter))),
-    ),
-    (b"dfs_post_iter", Name::Query(Forest(DfsPostIter))),
-    (b"postings", Name::Load(Load::Postings)),
-    (b"contains", Name::Query(Query::Contains)),
-    (b"next", Name::Query(Query::Next)),
-    (b"cheapest", Name::Query(Query::Cheapest)),
-    (b"intersect", Name::Query(Query::Intersect)),
 ];
 
-impl Name {
-    ghost use Rattle.vers_cli.specs.Name.{name_of};
+/// The query lines of documents with costs.
+pub const POSTINGS_LINES: [(&[u8], Line); 6] = [
+    (b"len", Number(Query::Len, NoNumber, Plain)),
+    (b"contains", Number(Query::Has, OneNumber, Plain)),
+    (b"rank", Number(Query::Rank, OneNumber, Plain)),
+    (b"next", Number(Query::Successor, OneNumber, Plain)),
+    (b"cheapest", Number(Query::Cheapest, TwoNumbers, Plain)),
+    (b"intersect", Common),
+];
 
-    /// Returns the name that a word is, or `None` if it is none.
-    pub fn of(word: &[u8]) -> Option<Name>
-        ensures { result ≡ name_of word.now }
-    {
-        named(&NAMES, word)
+/// Returns the load line that begins with a word, or `None` if none does.
+pub fn load_of(word: &[u8]) -> Option<Load>
+    ensures { result ≡ named_load word.now }
+{
+    named(&LOADS, word)
+}
+
+/// Returns the query line of a structure that begins with a word, or `None` if none does.
+pub fn line_of<A: Allocator + Copy>(structure: &Structure<'_, A>, word: &[u8]) -> Option<Line>
+    ensures { result ≡ named_line (content_of structure.now) word.now }
+{
+    match structure {
+        Structure::Bits(_) => named(&BITS_LINES, word),
+        Structure::Sorted(_) => named(&SORTED_LINES, word),
+        Structure::Sparse(_) => named(&SPARSE_LINES, word),
+        Structure::Fast(_) => named(&VALUES_LINES, word),
+        Structure::Tree(_) => named(&TREE_LINES, word),
+        Structure::Symbols(_) => named(&SYMBOLS_LINES, word),
+        Structure::Postings(_) => named(&POSTINGS_LINES, word),
+        _ => None,
     }
+}
+
+/// Returns true if a query line of some structure begins with a word.
+pub fn is_query(word: &[u8]) -> bool
+    ensures { result ≡ is_known word.now }
+{
+    named(&BITS_LINES, word).is_some()
+        || named(&SORTED_LINES, word).is_some()
+        || named(&SPARSE_LINES, word).is_some()
+        || named(&VALUES_LINES, word).is_some()
+        || named(&TREE_LINES, word).is_some()
+        || named(&SYMBOLS_LINES, word).is_some()
+        || named(&POSTINGS_LINES, word).is_some()
 }

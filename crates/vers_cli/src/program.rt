@@ -47,7 +47,7 @@ pub fn run<A: Allocator + Copy, R: Source, W: Sink>(
     ensures write_cause { result ≡ Err RunError.Write
         → FollowsWriteFault W.write_gives writer.new.inner }
 {
-    run_from(alloc, Store::new(&alloc), reader, writer)
+    run_from(Store::new(&alloc), reader, writer)
 }
 
 /// Does what `run` does, with the structure in `store` before the first line.
@@ -56,7 +56,6 @@ pub fn run<A: Allocator + Copy, R: Source, W: Sink>(
 ///
 /// As for `run`.
 pub fn run_from<A: Allocator + Copy, R: Source, W: Sink>(
-    alloc: A,
     store: Store<'_, A>,
     reader: &mut Device<R>,
     writer: &mut Device<W>,
@@ -75,5 +74,5 @@ pub fn run_from<A: Allocator + Copy, R: Source, W: Sink>(
     ensures write_cause { result ≡ Err RunError.Write
         → FollowsWriteFault W.write_gives writer.new.inner }
 {
-    answer_lines(alloc, store, reader, writer)
+    answer_lines(*store.allocator(), store, reader, writer)
 }

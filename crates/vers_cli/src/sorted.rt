@@ -1,4 +1,4 @@
-//! The lines of an ascending list.
+//! The load line of an ascending list.
 ghost use Rattle.std.specs.Prelude.{◌≡◌, ◌==◌, ◌||◌, ℕ, List, Some, None, true, false, length, nat_lt, IfOk, IfSome};
 ghost use Rattle.std.specs.List.Sorted.{IsNonDecreasing};
 ghost use Rattle.vers_sorted.specs.Layout.{last_of};
@@ -6,18 +6,16 @@ ghost use Rattle.vers_sorted.specs.Sorted.{each_next};
 ghost use Rattle.vers_words.specs.Text.{words_in};
 ghost use Rattle.vers_words.specs.Arguments.{all_numbers as numbers_all};
 ghost use Rattle.vers_words.specs.Loading.{map_loading};
-ghost use Rattle.vers_words.specs.Reply.{plain_reply, Numbers as reply_of_numbers};
-ghost use Rattle.vers_cli.specs.Holding.{holding_of, loaded, is_accepted as accepts};
-ghost use Rattle.vers_cli.specs.SortedLines.{first_numbers, in_order, sorted_found, sorted_loaded, sorted_reply};
+ghost use Rattle.catalogue.specs.Contents.{content_of};
+ghost use Rattle.vers_cli.specs.Holding.{loaded, is_accepted as accepts};
+ghost use Rattle.vers_cli.specs.Loads.{first_numbers, in_order, sorted_loaded};
 
-use crate::held::Held;
-use crate::name::{Load, Query};
+use crate::name::Load;
+use catalogue::structure::Structure;
 use std::alloc::{AllocError, Allocator};
 use vers_sorted::elias_fano::{EliasFanoVec, MAX_LEN, Numbers};
-use vers_tally::ends::{BothEnds, Source};
-use vers_words::arguments::{count_numbers, no_arguments, one_number};
+use vers_words::arguments::count_numbers;
 use vers_words::loading::Loading;
-use vers_words::reply::Reply;
 use vers_words::text::{number, split_first_word};
 
 /// The number of ascending numbers so far, and the last of them, or 0 if there are none.
@@ -123,9 +121,9 @@ pub fn is_accepted(arguments: &[u8]) -> bool
 pub fn load<'a, A: Allocator + Copy>(
     alloc: &'a A,
     arguments: &[u8],
-) -> Result<Loading<Held<'a, A>>, AllocError>
+) -> Result<Loading<Structure<'a, A>>, AllocError>
     ensures { IfOk result (λ loading.
-        map_loading holding_of loading ≡ loaded Load.Sorted (words_in arguments.now)) }
+        map_loading content_of loading ≡ loaded Load.Sorted (words_in arguments.now)) }
 {
     let Some(rise) = rise_of(arguments, false) else {
         if count_numbers(arguments).is_none() {
@@ -134,64 +132,7 @@ pub fn load<'a, A: Allocator + Copy>(
         return Ok(Loading::Inadmissible);
     };
     match members_of(*alloc, arguments, rise) {
-        Ok(members) => Ok(Loading::Accepted(Held::Sorted(members))),
+        Ok(members) => Ok(Loading::Accepted(Structure::Sorted(members))),
         Err(error) => Err(error),
     }
-}
-
-/// Returns the reply to a query of these members. Errors: `AllocError` if the allocator refuses a request.
-pub fn reply<A: Allocator + Copy>(
-    alloc: A,
-    members: &EliasFanoVec<A>,
-    query: Query,
-    arguments: &[u8],
-) -> Result<Reply<A>, AllocError>
-    ensures { IfOk result (λ reply.
-        plain_reply reply ≡ sorted_reply members.now query (words_in arguments.now)) }
-{
-    match query {
-        Query::Len => match no_arguments(arguments) {
-            None => Ok(Reply::BadLine),
-            Some(()) => Ok(Reply::Number(members.len() as u64)),
-        },
-        Query::Get | Query::Rank | Query::Predecessor | Query::Successor | Query::Delta => {
-            match one_number(arguments) {
-                None => Ok(Reply::BadLine),
-                Some(n) => Ok(Reply::number_or_absent(found(members, query, n))),
-            }
-        }
-        Query::Iter => match no_arguments(arguments) {
-            None => Ok(Reply::BadLine),
-            Some(()) => members_reply(alloc, members.iter()),
-        },
-        _ => Ok(Reply::WrongStructure),
-    }
-}
-
-// Returns the result of a query with one number. `None` if there is no such query.
-fn found<A: Allocator + Copy>(members: &EliasFanoVec<A>, query: Query, n: u64) -> Option<u64>
-    ensures { result ≡ sorted_found members.now query n }
-{
-    match query {
-        Query::Get => members.get(n as usize),
-        Query::Rank => Some(members.rank(n)),
-        Query::Predecessor => members.predecessor(n),
-        Query::Successor => members.successor(n),
-        Query::Delta => members.delta(n as usize),
-        _ => None,
-    }
-}
-
-/// Returns the reply with the numbers that an iterator has left. Errors: `AllocError` if the allocator refuses
-/// a request.
-pub fn members_reply<A: Allocator + Copy, S: Source<Item = u64>>(
-    alloc: A,
-    members: BothEnds<S>,
-) -> Result<Reply<A>, AllocError>
-    ensures { IfOk result (λ reply. plain_reply reply ≡ reply_of_numbers members.left) }
-{
-    // `collect` would continue if the memory for all at once is refused.
-    let mut numbers = Vec::with_capacity(alloc, members.len())?;
-    numbers.extend(members)?;
-    Ok(Reply::Numbers(numbers))
 }

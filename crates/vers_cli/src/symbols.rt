@@ -1,24 +1,22 @@
-//! The lines of a list of symbols.
+//! The load line of a list of symbols.
 ghost use Rattle.std.specs.Prelude.{◌≡◌, ◌<◌, ◌≤◌, ◌%◌, ◌++◌, ℕ, List, length, option_map, IfOk, OnOk};
 ghost use Rattle.vers_bits.specs.Bits.{low_bits, pack};
 ghost use Rattle.vers_wavelet.specs.Makers.{low_symbols};
 ghost use Rattle.vers_words.specs.Text.{words_in};
 ghost use Rattle.vers_words.specs.Arguments.{all_numbers as numbers_all};
 ghost use Rattle.vers_words.specs.Loading.{map_loading};
-ghost use Rattle.vers_words.specs.Reply.{plain_reply};
-ghost use Rattle.vers_cli.specs.Holding.{holding_of, loaded, is_accepted as accepts};
-ghost use Rattle.vers_cli.specs.SymbolsLines.{symbols_loaded, symbols_reply, all_reply as reply_of_all, place_reply as reply_at_place, symbol_reply as reply_of_symbol, range_reply as reply_of_range, within_reply as reply_within};
+ghost use Rattle.catalogue.specs.Contents.{content_of};
+ghost use Rattle.vers_cli.specs.Holding.{loaded, is_accepted as accepts};
+ghost use Rattle.vers_cli.specs.Loads.{symbols_loaded};
 
-use crate::held::Held;
-use crate::name::{AllQuery, Load, Query, RangeQuery, SymbolQuery, SymbolsQuery, WithinQuery};
-use crate::sorted::members_reply;
+use crate::name::Load;
+use catalogue::structure::Structure;
 use std::alloc::{AllocError, Allocator};
 use vers_bits::bit_vec::BitVec;
 use vers_bits::laws::packed_elements_are_items;
 use vers_wavelet::wavelet::WaveletMatrix;
-use vers_words::arguments::{count_numbers, no_arguments, one_number, three_numbers, two_numbers};
+use vers_words::arguments::count_numbers;
 use vers_words::loading::Loading;
-use vers_words::reply::Reply;
 use vers_words::text::{number, split_first_word};
 
 // The greatest number of bits of a symbol.
@@ -42,9 +40,9 @@ pub fn is_accepted(arguments: &[u8]) -> bool
 pub fn load<'a, A: Allocator + Copy>(
     alloc: &'a A,
     arguments: &[u8],
-) -> Result<Loading<Held<'a, A>>, AllocError>
+) -> Result<Loading<Structure<'a, A>>, AllocError>
     ensures { IfOk result (λ loading.
-        map_loading holding_of loading ≡ loaded Load.Symbols (words_in arguments.now)) }
+        map_loading content_of loading ≡ loaded Load.Symbols (words_in arguments.now)) }
 {
     let Some((word, numbers)) = split_first_word(arguments) else {
         return Ok(Loading::Malformed);
@@ -59,7 +57,7 @@ pub fn load<'a, A: Allocator + Copy>(
         return Ok(Loading::Inadmissible);
     }
     match of_packed(&packed, width as u16) {
-        Ok(symbols) => Ok(Loading::Accepted(Held::Symbols(symbols))),
+        Ok(symbols) => Ok(Loading::Accepted(Structure::Symbols(symbols))),
         Err(error) => Err(error),
     }
 }
@@ -130,125 +128,4 @@ fn of_packed<A: Allocator + Copy>(
         return WaveletMatrix::from_bit_vec_pc(packed, width);
     }
     WaveletMatrix::from_bit_vec(packed, width)
-}
-
-/// Returns the reply to a query of these symbols. Errors: `AllocError` if the allocator refuses a request.
-pub fn reply<A: Allocator + Copy>(
-    alloc: A,
-    symbols: &WaveletMatrix<A>,
-    query: Query,
-    arguments: &[u8],
-) -> Result<Reply<A>, AllocError>
-    ensures { IfOk result (λ reply.
-        plain_reply reply ≡ symbols_reply symbols.now query (words_in arguments.now)) }
-{
-    match query {
-        Query::Len => match no_arguments(arguments) {
-            None => Ok(Reply::BadLine),
-            Some(()) => Ok(Reply::Number(symbols.len() as u64)),
-        },
-        Query::Symbols(SymbolsQuery::All(query)) => match no_arguments(arguments) {
-            None => Ok(Reply::BadLine),
-            Some(()) => all_reply(alloc, symbols, query),
-        },
-        Query::Symbols(SymbolsQuery::GetU64) => match one_number(arguments) {
-            None => Ok(Reply::BadLine),
-            Some(i) => Ok(place_reply(symbols, i as usize)),
-        },
-        Query::Symbols(SymbolsQuery::Symbol(query)) => match two_numbers(arguments) {
-            None => Ok(Reply::BadLine),
-            Some((i, s)) => Ok(symbol_reply(symbols, query, i as usize, s)),
-        },
-        Query::Symbols(SymbolsQuery::Range(query)) => match two_numbers(arguments) {
-            None => Ok(Reply::BadLine),
-            Some((a, b)) => Ok(range_reply(symbols, query, a as usize, b as usize)),
-        },
-        Query::Symbols(SymbolsQuery::Within(query)) => match three_numbers(arguments) {
-            None => Ok(Reply::BadLine),
-            Some((a, b, n)) => Ok(within_reply(symbols, query, a as usize, b as usize, n)),
-        },
-        _ => Ok(Reply::WrongStructure),
-    }
-}
-
-// Returns the reply to a query of all symbols.
-fn all_reply<A: Allocator + Copy>(
-    alloc: A,
-    symbols: &WaveletMatrix<A>,
-    query: AllQuery,
-) -> Result<Reply<A>, AllocError>
-    ensures { IfOk result (λ reply. plain_reply reply ≡ reply_of_all symbols.now query) }
-{
-    match query {
-        AllQuery::IterU64 => match symbols.iter_u64() {
-            None => Ok(Reply::Absent),
-            Some(items) => members_reply(alloc, items),
-        },
-        AllQuery::IterSortedU64 => match symbols.iter_sorted_u64() {
-            None => Ok(Reply::Absent),
-            Some(items) => members_reply(alloc, items),
-        },
-    }
-}
-
-// Returns the reply to a query of the symbol at a position.
-#[tactic(auto, unfolding(vers_wavelet::specs::Symbols::as_word))]
-fn place_reply<A: Allocator + Copy>(symbols: &WaveletMatrix<A>, i: usize) -> Reply<A>
-    ensures { plain_reply result ≡ reply_at_place symbols.now i }
-{
-    Reply::number_or_absent(symbols.get_u64(i))
-}
-
-// Returns the reply to a query of the positions of a symbol.
-#[tactic(auto, unfolding(vers_wavelet::specs::Symbols::as_word))]
-fn symbol_reply<A: Allocator + Copy>(
-    symbols: &WaveletMatrix<A>,
-    query: SymbolQuery,
-    i: usize,
-    s: u64,
-) -> Reply<A>
-    ensures { plain_reply result ≡ reply_of_symbol symbols.now query i s }
-{
-    match query {
-        SymbolQuery::RankU64 => Reply::place_or_absent(symbols.rank_u64(i, s)),
-        SymbolQuery::SelectU64 => Reply::place_or_absent(symbols.select_u64(i, s)),
-    }
-}
-
-// Returns the reply to a query of a range.
-fn range_reply<A: Allocator + Copy>(
-    symbols: &WaveletMatrix<A>,
-    query: RangeQuery,
-    a: usize,
-    b: usize,
-) -> Reply<A>
-    ensures { plain_reply result ≡ reply_of_range symbols.now query a b }
-{
-    match query {
-        RangeQuery::RangeMinU64 => Reply::number_or_absent(symbols.range_min_u64(a..b)),
-        RangeQuery::RangeMaxU64 => Reply::number_or_absent(symbols.range_max_u64(a..b)),
-        RangeQuery::RangeMedianU64 => Reply::number_or_absent(symbols.range_median_u64(a..b)),
-    }
-}
-
-// Returns the reply to a query with three numbers.
-#[tactic(auto, unfolding(vers_wavelet::specs::Symbols::as_word))]
-fn within_reply<A: Allocator + Copy>(
-    symbols: &WaveletMatrix<A>,
-    query: WithinQuery,
-    a: usize,
-    b: usize,
-    n: u64,
-) -> Reply<A>
-    ensures { plain_reply result ≡ reply_within symbols.now query a b n }
-{
-    match query {
-        WithinQuery::RankRangeU64 => Reply::place_or_absent(symbols.rank_range_u64(a..b, n)),
-        WithinQuery::SelectOffsetU64 => Reply::place_or_absent(symbols.select_offset_u64(a, b, n)),
-        WithinQuery::QuantileU64 => {
-            Reply::number_or_absent(symbols.quantile_u64(a..b, n as usize))
-        }
-        WithinQuery::PredecessorU64 => Reply::number_or_absent(symbols.predecessor_u64(a..b, n)),
-        WithinQuery::SuccessorU64 => Reply::number_or_absent(symbols.successor_u64(a..b, n)),
-    }
 }

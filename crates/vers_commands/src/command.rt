@@ -16,6 +16,8 @@ pub enum Command<'a> {
     Text(&'a str),
     /// Saves the index of the bytes of a file to another file.
     Index(&'a str, &'a str),
+    /// Saves the index of a FASTA file to another file.
+    IndexFasta(&'a str, &'a str),
     /// Describes the structure in a file.
     Show(&'a str),
     /// Prints a text.
@@ -41,10 +43,27 @@ pub fn command_of(words: &[String]) -> Option<Command<'_>> {
             _ => None,
         },
         [_, word, verb, file, index] => match (word.as_str(), verb.as_str()) {
-            ("text", "index") => Some(Command::Index(file.as_str(), index.as_str())),
+            ("text", "index") if !is_flag(file.as_str()) => {
+                Some(Command::Index(file.as_str(), index.as_str()))
+            }
+            _ => None,
+        },
+        [_, word, verb, flag, file, index] => match (word.as_str(), verb.as_str()) {
+            ("text", "index") if is_flag(flag.as_str()) => Some(Command::IndexFasta(
+                file.as_str(),
+                index.as_str(),
+            )),
             _ => None,
         },
         _ => None,
+    }
+}
+
+// Returns true if a word is the flag of `text index`, which is no file.
+fn is_flag(word: &str) -> bool {
+    match word {
+        "--fasta" => true,
+        _ => false,
     }
 }
 

@@ -1,12 +1,13 @@
 //! Structures in files.
 use crate::lines::{fail, say_waiting, status};
+use catalogue::kind::Kind;
 use std::alloc::AllocError;
 use std::fs::{self, File};
 use std::process::ExitCode;
 use vers_cli::Device;
 use vers_files::{
-    FilePlace, SaveFault, Shown, ShownKind, ask, ask_text, fault_line, index_to, read, save_to,
-    show, symbols_cut, text_fault_line,
+    FilePlace, SaveFault, Shown, WrongLine, ask, ask_text, fault_line, index_fasta_to, index_to,
+    read, save_to, show, symbols_cut, text_fault_line,
 };
 use vers_saved::fault::LoadError;
 
@@ -58,7 +59,7 @@ fn print_shown(rt: &HostRuntime, list: &Shown) -> ExitCode {
         width,
         bytes,
     } = *list;
-    let name = if kind == ShownKind::Tree {
+    let name = if matches!(kind, Kind::Tree) {
         "block size"
     } else {
         "width"
@@ -103,7 +104,42 @@ pub fn index(rt: &HostRuntime, path: &str, index: &str) -> ExitCode {
         path: target.file.as_str(),
         beside: target.beside.as_str(),
     };
-    match index_to(rt.alloc(), &mut file, &mut place) {
+    let saved = index_to(rt.alloc(), &mut file, &mut place);
+    status_of_index(rt, path, index, saved)
+}
+
+/// Saves the index of a FASTA file to another file.
+pub fn index_fasta(rt: &HostRuntime, path: &str, index: &str) -> ExitCode {
+    let Ok(mut file) = File::open(rt, path) else {
+        return fail_about(rt, path, CANNOT_OPEN);
+    };
+    let Ok(target) = target_of(rt, index) else {
+        return fail(rt, "out of memory");
+    };
+    let mut place = FilePlace {
+        files: rt,
+        path: target.file.as_str(),
+        beside: target.beside.as_str(),
+    };
+    match index_fasta_to(rt.alloc(), &mut file, &mut place) {
+        Ok(saved) => status_of_index(rt, path, index, saved),
+        Err(WrongLine { number }) => {
+            let _ = eprintln!(rt;
+                "vers: {path}: line {number} is no header with a name, nor residues after a header"
+            );
+            ExitCode::FAILURE
+        }
+    }
+}
+
+// Returns the status of an index that was saved or not, and prints why not.
+fn status_of_index(
+    rt: &HostRuntime,
+    path: &str,
+    index: &str,
+    saved: Result<(), SaveFault>,
+) -> ExitCode {
+    match saved {
         Ok(()) => ExitCode::SUCCESS,
         Err(SaveFault::Read) => fail_about(rt, path, "the file can't be read"),
         Err(SaveFault::TooLong) => fail_about(rt, path, "a text has at most 4294967294 bytes"),

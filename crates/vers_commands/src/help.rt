@@ -42,6 +42,7 @@ Commands:
     vers text < LINES         answers lines about a text
     vers text FILE < LINES    answers lines about the text in FILE
     vers text index FILE INDEX    saves the index of the bytes of FILE to INDEX
+    vers text index --fasta FILE INDEX    saves the index of the sequences of a FASTA file to INDEX
     vers save FILE < LINE     saves the structure of a load line to FILE
     vers ask FILE < LINES     answers lines about the structure in FILE
     vers show FILE            describes the structure in FILE
@@ -50,10 +51,12 @@ Commands:
 
 /// Printed by `text --help`.
 pub const TEXT_HELP: &str = "Usage: vers text [FILE] < LINES
-       vers text index FILE INDEX
+       vers text index [--fasta] FILE INDEX
 
 Prints one line for each line of standard input. The text is that of the last line `text`, or the one saved in FILE.
 `index` saves the index of the bytes of FILE to INDEX, which it replaces completely or not at all.
+With --fasta, FILE is a FASTA file. The text has the sequences, and each name between two line feeds.
+In a name, the highest bit of each byte is set.
 
 text K PATTERN
     replaces the text by the symbols of a pattern, of K bits each, and prints their number
@@ -67,6 +70,10 @@ first N PATTERN
     prints the first N of them in the order of the suffixes there
 extract A B
     prints the symbols from A to before B
+piece A B
+    prints them as a pattern
+sites PATTERN
+    prints NAME OFFSET for each occurrence in the sequences of a FASTA file
 
 A pattern has numbers, bytes as 0x and two hexadecimal digits each, and texts in quotes: \"the end\" 0x0A 49.
 
@@ -91,4 +98,4 @@ Prints the kind of the structure in FILE, its length, the bits of an element or 
 FILE.";
 
 /// Printed by `--version`.
-pub const VERSION: &str = "vers 0.18.0";
+pub const VERSION: &str = "vers 0.19.0";

@@ -6,11 +6,11 @@ use Rattle.vers_words.specs.declared.loading.Loading.TheVariants.{Accepted}
 use Rattle.vers_saved.specs.declared.fault.SaveError.{SaveError}
 use Rattle.vers_saved.specs.declared.fault.SaveError.TheVariants as error
 use Rattle.vers_saved.specs.Streams.{Writes}
-use Rattle.vers_cli.specs.Holding.{Holding}
-use Rattle.vers_files.specs.Forms.{saved_form, HasForm}
+use Rattle.catalogue.specs.Contents.{Content}
+use Rattle.catalogue.specs.Forms.{HasForm, saved_form}
 use Rattle.vers_files.specs.SavedLines.{IfAccepted, SaysWhy, IsFormless, has_no_bits, line_saved}
 
-pub line_written : (loading : Loading Holding) (held : Holding) (b : Bool) (r : Result (Unit {0}) SaveError) (old new : Option (List ℕ)) → loading ≡ Accepted held
+pub line_written : (loading : Loading Content) (held : Content) (b : Bool) (r : Result (Unit {0}) SaveError) (old new : Option (List ℕ)) → loading ≡ Accepted held
     → (r ≢ Err error.NoForm → Writes r old new (saved_form held))
     → IfAccepted loading (λ it. ¬ IsFormless (line_saved b r) → Writes (line_saved b r) old new (saved_form it))
 line_written loading held b (Ok u) old new is written = rw is (λ _. written (λ e. cc))
@@ -19,7 +19,7 @@ line_written loading held false (Err error.NoForm) old new is written = rw is (�
 line_written loading held b (Err error.Memory) old new is written = rw is (λ _. written (λ e. cc))
 line_written loading held b (Err error.Write) old new is written = rw is (λ _. written (λ e. cc))
 
-pub line_refused : (loading : Loading Holding) (held : Holding) (b : Bool) (r : Result (Unit {0}) SaveError) → loading ≡ Accepted held → has_no_bits held ≡ b
+pub line_refused : (loading : Loading Content) (held : Content) (b : Bool) (r : Result (Unit {0}) SaveError) → loading ≡ Accepted held → has_no_bits held ≡ b
     → IfErr r (λ e. e ≡ error.NoForm → ¬ HasForm held) → IfErr (line_saved b r) (λ e. SaysWhy e loading)
 line_refused loading held b (Ok u) is bits none = tt
 line_refused loading held true (Err error.NoForm) is bits none = (held, is, bits, none refl)

@@ -4,19 +4,19 @@ use Rattle.std.specs.Prelude.{◌≢◌, ◌⊎◌, Option, Some, None, IfErr, I
 use Rattle.std.specs.Fmt.{option_append}
 use Rattle.std.specs.Io.KnownBytes.{Appends, Consumes, IsAtEnd}
 use Rattle.text_index.specs.Texts.{Text}
-use Rattle.text_index.specs.Makers.{symbols_of}
 use Rattle.vers_wavelet.specs.Symbols.{Symbols}
 use Rattle.vers_saved.specs.Format.{saved_text, text_words}
 use Rattle.vers_saved.specs.Kinds.{may_be_saved}
 use Rattle.vers_saved.specs.TextForms.{IsTextFault, IsTextRefused}
 use Rattle.vers_saved.specs.declared.fault.LoadError.{LoadError}
 use Rattle.vers_saved.specs.declared.kind.TheConstants.{TEXTS, TEXT_INDEXES}
-use Rattle.vers_cli.specs.Holding.{Holding, SymbolsHeld}
+use Rattle.catalogue.specs.Contents.{Content, SymbolList}
+use Rattle.catalogue.specs.Forms.{IsSomeForm}
 use Rattle.vers_files.specs.declared.saving.SaveFault.{SaveFault}
 use Rattle.vers_files.specs.declared.saving.SaveFault.TheVariants as save
 use Rattle.vers_files.specs.declared.texts.TextFault.{TextFault}
 use Rattle.vers_files.specs.declared.texts.TextFault.TheVariants.{File, NoSymbols, OtherWidth, TooLong, Memory}
-use Rattle.vers_files.specs.Forms.{IsFormOf, IsNoForm, form_fault, number_of_kind, saved_form}
+use Rattle.vers_files.specs.Forms.{IsFormOf, IsNoForm, form_fault, number_of_kind}
 use Rattle.vers_files.specs.Indexed.{AreTooMany, text_of_bytes}
 use Rattle.vers_files.specs.declared.showing.Shown.{Shown}
 use Rattle.vers_files.specs.Shown.{IsListShown, IsTextShown}
@@ -48,12 +48,12 @@ too_many (Err fault) left text of_bytes none = λ is.
     (λ bytes same. inr (subst (λ (t : Text). may_be_saved TEXT_INDEXES (length (text_words t)) t.width ≡ false) same (none is))) of_bytes
 
 -- a form of the bytes in front and those behind is one of all bytes
-form_of_all : (old mid whole : Option (List ℕ)) (front : List ℕ) → whole ≡ option_append (Some front) mid → Consumes old mid front → (held : Holding) → IsFormOf whole held → IsFormOf old held
-form_of_all old mid whole front is c held form = (form.0, of_all old mid whole front is c (λ bytes. bytes ≡ saved_form held) form.1, form.2)
+form_of_all : (old mid whole : Option (List ℕ)) (front : List ℕ) → whole ≡ option_append (Some front) mid → Consumes old mid front → (held : Content) → IsFormOf whole held → IsFormOf old held
+form_of_all old mid whole front is c held form = (form.0, form.1, of_all old mid whole front is c (IsSomeForm held) form.2, form.3)
 
 pub symbols_loaded : {T : Type 0} (r : Result T TextFault) (symbols : T → Symbols) (old mid whole : Option (List ℕ)) (front : List ℕ) → whole ≡ option_append (Some front) mid → Consumes old mid front
     → IfOk r (λ text. AreSymbolsOf whole (symbols text)) → IfOk r (λ text. AreTextOf old (symbols text))
-symbols_loaded (Ok text) symbols old mid whole front is c loaded = inl (form_of_all old mid whole front is c (SymbolsHeld (symbols text)) loaded)
+symbols_loaded (Ok text) symbols old mid whole front is c loaded = inl (form_of_all old mid whole front is c (SymbolList (symbols text)) loaded)
 symbols_loaded (Err e) symbols old mid whole front is c loaded = tt
 
 -- the error in a form of an index, read behind its first bytes
@@ -91,8 +91,8 @@ no_symbols : (old mid whole : Option (List ℕ)) (front : List ℕ) (e : TextFau
     → IfSome old (λ bytes. number_of_kind bytes ≢ TEXTS) → IsNoSymbolText whole e → IsNoText old e
 no_symbols old mid whole front (File fault) is c number why = list_fault old mid whole front fault is c number why
 no_symbols old mid whole front NoSymbols is c number why = (why.0, form_of_all old mid whole front is c why.0 why.1, why.2)
-no_symbols old mid whole front OtherWidth is c number why = (why.0, form_of_all old mid whole front is c (SymbolsHeld why.0) why.1, why.2)
-no_symbols old mid whole front TooLong is c number why = (why.0, form_of_all old mid whole front is c (SymbolsHeld why.0) why.1, why.2, why.3)
+no_symbols old mid whole front OtherWidth is c number why = (why.0, form_of_all old mid whole front is c (SymbolList why.0) why.1, why.2)
+no_symbols old mid whole front TooLong is c number why = (why.0, form_of_all old mid whole front is c (SymbolList why.0) why.1, why.2, why.3)
 no_symbols old mid whole front Memory is c number why = tt
 
 pub symbols_refused : {T : Type 0} (r : Result T TextFault) (old mid whole : Option (List ℕ)) (front : List ℕ) → whole ≡ option_append (Some front) mid → Consumes old mid front
@@ -105,13 +105,13 @@ symbols_refused (Err e) old mid whole front is c few end number why =
 -- the same of descriptions
 pub list_shown : (r : Result Shown LoadError) (old mid whole : Option (List ℕ)) (front : List ℕ) → whole ≡ option_append (Some front) mid → Consumes old mid front
     → IfOk r (λ shown. IsListShown whole shown) → IfOk r (λ shown. IsListShown old shown ⊎ IsTextShown old shown)
-list_shown (Ok shown) old mid whole front is c told = inl (told.0, form_of_all old mid whole front is c told.0 told.1, told.2, told.3, told.4, told.5)
+list_shown (Ok shown) old mid whole front is c told = inl (told.0, form_of_all old mid whole front is c told.0 told.1, told.2)
 list_shown (Err e) old mid whole front is c told = tt
 
 pub text_shown : (r : Result Shown LoadError) (old mid whole : Option (List ℕ)) (front : List ℕ) → whole ≡ option_append (Some front) mid → Consumes old mid front
     → IfOk r (λ shown. IsTextShown whole shown) → IfOk r (λ shown. IsListShown old shown ⊎ IsTextShown old shown)
 text_shown (Ok shown) old mid whole front is c told =
-    inr (told.0, (told.1.0, of_all old mid whole front is c (λ bytes. bytes ≡ saved_text told.0) told.1.1), told.2, told.3, told.4, told.5)
+    inr (told.0, (told.1.0, of_all old mid whole front is c (λ bytes. bytes ≡ saved_text told.0) told.1.1), told.2)
 text_shown (Err e) old mid whole front is c told = tt
 
 pub text_not_shown : (r : Result Shown LoadError) (old mid whole : Option (List ℕ)) (front : List ℕ) → whole ≡ option_append (Some front) mid → Consumes old mid front

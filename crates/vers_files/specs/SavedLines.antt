@@ -4,10 +4,10 @@ use Rattle.vers_words.specs.declared.loading.Loading.{Loading}
 use Rattle.vers_words.specs.declared.loading.Loading.TheVariants.{Malformed, Inadmissible, Accepted}
 use Rattle.vers_saved.specs.declared.fault.SaveError.{SaveError}
 use Rattle.vers_saved.specs.declared.fault.SaveError.TheVariants as error
-use Rattle.vers_cli.specs.Holding.{Holding, SymbolsHeld}
+use Rattle.catalogue.specs.Contents.{Content, SymbolList}
+use Rattle.catalogue.specs.Forms.{HasForm}
 use Rattle.vers_files.specs.declared.saving.SaveFault.{SaveFault}
 use Rattle.vers_files.specs.declared.saving.SaveFault.TheVariants.{BadLine, Refused, NoBits, TooLong, OutOfMemory, Read, Write, Begin, Sync, Put, Settle}
-use Rattle.vers_files.specs.Forms.{HasForm}
 
 -- P holds for the list of a load line, if the line is accepted
 abbrev pub IfAccepted : {H : Type 0} → Loading H → (H → Type 0) → Type 0
@@ -15,17 +15,17 @@ IfAccepted Malformed P = ⊤
 IfAccepted Inadmissible P = ⊤
 IfAccepted (Accepted held) P = P held
 
--- whether the current structure is a list of symbols of no bits
-abbrev pub has_no_bits : Holding → Bool
-has_no_bits (SymbolsHeld symbols) = symbols.width == 0
+-- whether a structure is a list of symbols of no bits
+abbrev pub has_no_bits : Content → Bool
+has_no_bits (SymbolList symbols) = symbols.width == 0
 has_no_bits _ = false
 
 -- why a line with this outcome is not saved
-abbrev pub SaysWhy : SaveFault → Loading Holding → Type 0
+abbrev pub SaysWhy : SaveFault → Loading Content → Type 0
 SaysWhy BadLine loading = loading ≡ Malformed
 SaysWhy Refused loading = loading ≡ Inadmissible
-SaysWhy NoBits loading = (held : Holding) × (loading ≡ Accepted held) × (has_no_bits held ≡ true) × ¬ HasForm held
-SaysWhy TooLong loading = (held : Holding) × (loading ≡ Accepted held) × (has_no_bits held ≡ false) × ¬ HasForm held
+SaysWhy NoBits loading = (held : Content) × (loading ≡ Accepted held) × (has_no_bits held ≡ true) × ¬ HasForm held
+SaysWhy TooLong loading = (held : Content) × (loading ≡ Accepted held) × (has_no_bits held ≡ false) × ¬ HasForm held
 SaysWhy _ loading = ⊤
 
 -- the result says that the list has no saved form

@@ -10,14 +10,14 @@ use Rattle.vers_saved.specs.TextForms.{IsTextFault}
 use Rattle.vers_saved.specs.declared.fault.LoadError.{LoadError}
 use Rattle.vers_saved.specs.declared.fault.LoadError.TheVariants.{Read, Memory as NoMemory}
 use Rattle.vers_saved.specs.declared.kind.TheConstants.{TEXTS}
-use Rattle.vers_cli.specs.Holding.{Holding, SymbolsHeld}
+use Rattle.catalogue.specs.Contents.{Content, SymbolList}
 use Rattle.vers_files.specs.declared.texts.TextFault.{TextFault}
 use Rattle.vers_files.specs.declared.texts.TextFault.TheVariants.{File, NoSymbols, OtherWidth, TooLong, Memory}
 use Rattle.vers_files.specs.Forms.{IsFormOf, IsNoForm, fault_text, form_fault, number_of_kind}
 
 -- the bytes left in a reader are the saved form of these symbols
 abbrev pub AreSymbolsOf : Option (List ℕ) → Symbols → Type 0
-AreSymbolsOf left symbols = IsFormOf left (SymbolsHeld symbols)
+AreSymbolsOf left symbols = IsFormOf left (SymbolList symbols)
 
 -- the bytes left in a reader are the saved form of the index of this text
 abbrev pub IsIndexOf : Option (List ℕ) → Text → Type 0
@@ -37,13 +37,13 @@ abbrev pub IsNoTextForm : Option (List ℕ) → LoadError → Type 0
 IsNoTextForm left fault = (fault ≡ Read) ⊎ ((fault ≡ NoMemory) ⊎ IfSome left (λ bytes. IsTextFileFault bytes fault))
 
 -- the list is none of symbols
-abbrev pub HasNoSymbols : Holding → Type 0
-HasNoSymbols held = (symbols : Symbols) → held ≡ SymbolsHeld symbols → ⊥
+abbrev pub HasNoSymbols : Content → Type 0
+HasNoSymbols held = (symbols : Symbols) → held ≡ SymbolList symbols → ⊥
 
 -- what each error means for the bytes left in a reader
 abbrev pub IsNoText : Option (List ℕ) → TextFault → Type 0
 IsNoText left (File fault) = IsNoTextForm left fault
-IsNoText left NoSymbols = (held : Holding) × IsFormOf left held × HasNoSymbols held
+IsNoText left NoSymbols = (held : Content) × IsFormOf left held × HasNoSymbols held
 IsNoText left OtherWidth = (symbols : Symbols) × AreSymbolsOf left symbols × (IsSymbolWidth symbols.width → ⊥)
 IsNoText left TooLong = (symbols : Symbols) × AreSymbolsOf left symbols × IsSymbolWidth symbols.width × (MAX_LEN < length symbols.items)
 IsNoText left Memory = ⊤

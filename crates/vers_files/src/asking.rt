@@ -1,7 +1,7 @@
 //! Query lines about the list of a file.
-ghost use Rattle.std.specs.Prelude.{◌≡◌, ◌<◌, ◌↔◌, IsTrue, false, IfOk, IfErr, OnErr};
+ghost use Rattle.std.specs.Prelude.{◌≡◌, Some, ◌<◌, ◌↔◌, IsTrue, false, IfOk, IfErr, OnErr};
 ghost use Rattle.vers_engine.specs.Device.{FollowsReadFault, FollowsWriteFault};
-ghost use Rattle.vers_cli.specs.Holding.{Holding};
+ghost use Rattle.catalogue.specs.Contents.{Content};
 ghost use Rattle.vers_cli.specs.Answers.{by_the_rules};
 ghost use Rattle.vers_files.specs.Forms.{IsFormOf, IsNoForm};
 ghost use Rattle.vers_files.specs.Asked.{AnswersFrom};
@@ -9,7 +9,7 @@ ghost use Rattle.vers_files.specs.Asked.{AnswersFrom};
 use crate::loading::load_file;
 use std::alloc::Allocator;
 use std::io::Read;
-use vers_cli::{Device, RunError, Sink, Source, run_from};
+use vers_cli::{Device, RunError, Sink, Source, Store, run_from};
 use vers_saved::fault::LoadError;
 
 /// Reads lines to the end of the input and writes the answer of each, with the list loaded from `file` as the
@@ -27,8 +27,8 @@ pub fn ask<A: Allocator + Copy, F: Read, R: Source, W: Sink>(
 ) -> Result<Result<(), RunError>, LoadError>
     requires reader { reader.old.has_failed ≡ false }
     requires writer { writer.old.has_failed ≡ false }
-    ensures answers { IfOk result (λ ended. (held : Holding) × IsFormOf (F.remaining file.old) held
-        × AnswersFrom by_the_rules held ended (R.remaining reader.old.inner) (R.remaining reader.new.inner)
+    ensures answers { IfOk result (λ ended. (held : Content) × IsFormOf (F.remaining file.old) held
+        × AnswersFrom by_the_rules (Some held) ended (R.remaining reader.old.inner) (R.remaining reader.new.inner)
         (W.contents writer.old.inner) (W.contents writer.new.inner)) }
     ensures read { IfOk result (λ ended. (ended ≡ Err RunError.Read) ↔ IsTrue reader.new.has_failed) }
     ensures write { IfOk result (λ ended. (ended ≡ Err RunError.Write) ↔ IsTrue writer.new.has_failed) }
@@ -41,7 +41,7 @@ pub fn ask<A: Allocator + Copy, F: Read, R: Source, W: Sink>(
     ensures writer { OnErr result (writer.new ≡ writer.old) }
 {
     match load_file(&alloc, file) {
-        Ok(store) => Ok(run_from(alloc, store, reader, writer)),
+        Ok(structure) => Ok(run_from(Store::of(&alloc, structure), reader, writer)),
         Err(fault) => Err(fault),
     }
 }

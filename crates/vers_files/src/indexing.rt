@@ -71,10 +71,28 @@ fn index_of<A: Allocator + Copy>(alloc: A, bytes: &[u8]) -> Result<TextIndex<A>,
     }
 }
 
+/// Replaces the bytes of a place by the saved form of the index of bytes, and syncs the replacement. Errors as for
+/// `index_to`.
+pub fn put_index<A: Allocator + Copy, P: Place>(
+    alloc: A,
+    bytes: &[u8],
+    place: &mut P,
+) -> Result<(), SaveFault>
+    ensures whole { IsPut result → Appends P.nothing (P.bytes place.new) (saved_text (text_of_bytes bytes.now)) }
+    ensures settled { OnOk result (P.settled place.new ≡ P.bytes place.new) }
+    ensures too_long { IfErr result (λ e. e ≡ SaveFault.TooLong → AreTooMany bytes.now) }
+    ensures kept { ¬ IsPut result → P.bytes place.new ≡ P.bytes place.old }
+{
+    match index_of(alloc, bytes) {
+        Ok(index) => put(alloc, &index, place),
+        Err(fault) => Err(fault),
+    }
+}
+
 // Replaces the bytes of a place by the saved form of a list, and syncs the replacement.
 fn put<A: Allocator, S: Saved, P: Place>(alloc: A, list: &S, place: &mut P) -> Result<(), SaveFault>
     ensures whole { IsPut result → Appends P.nothing (P.bytes place.new)
-        (saved S.kind.number (S.count list.now) (S.width list.now) (S.words list.now)) }
+        (saved S.kind.version S.kind.number (S.count list.now) (S.width list.now) (S.words list.now)) }
     ensures settled { OnOk result (P.settled place.new ≡ P.bytes place.new) }
     ensures none { IfErr result (λ e. e ≡ SaveFault.TooLong
         → may_be_saved S.kind (S.count list.now) (S.width list.now) ≡ false) }
@@ -101,7 +119,7 @@ fn put_synced<A: Allocator, S: Saved, P: Place>(
     beside: &mut P::Beside,
 ) -> Result<(), SaveFault>
     ensures whole { OnOk result (Appends (P.Beside.contents beside.old) (P.bytes place.new)
-        (saved S.kind.number (S.count list.now) (S.width list.now) (S.words list.now))) }
+        (saved S.kind.version S.kind.number (S.count list.now) (S.width list.now) (S.words list.now))) }
     ensures none { IfErr result (λ e. e ≡ SaveFault.TooLong
         → may_be_saved S.kind (S.count list.now) (S.width list.now) ≡ false) }
     ensures kind { IfErr result (λ e. e ≢ SaveFault.Settle) }

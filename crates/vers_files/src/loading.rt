@@ -1,14 +1,16 @@
-//! Loading files into stores.
+//! Loading files.
 ghost use Rattle.std.specs.Prelude.{◌≡◌, Bool, List, ℕ, ◌⊎◌, Err, IfOk, IfErr, IfSome, MatchResult, Some};
 ghost use Rattle.vers_saved.specs.Format.{bytes_word};
 ghost use Rattle.vers_saved.specs.Kinds.{tree_kind};
 ghost use Rattle.vers_saved.specs.Streams.{IsRefused};
-ghost use Rattle.vers_cli.specs.Holding.{Holding, TreeHeld};
-ghost use Rattle.vers_files.specs.Forms.{saved_form, HasForm, Fits, kind_numbered, number_of_kind, IsFormOf, IsNoForm, fault_text};
+ghost use Rattle.catalogue.specs.Contents.{Content, Parentheses, content_of};
+ghost use Rattle.catalogue.specs.Forms.{Fits, HasForm, saved_form};
+ghost use Rattle.vers_files.specs.Forms.{IsFormOf, IsNoForm, IsOfFile, fault_text, kind_numbered, number_of_kind};
 
+use catalogue::structure::Structure;
 use std::alloc::Allocator;
 use std::io::{ErrorKind, Read};
-use vers_cli::{Held, Source, Store};
+use vers_cli::Source;
 use vers_saved::fault::LoadError;
 use vers_saved::kind::{PARENTHESES, POSTINGS, SORTED, SPARSE, SYMBOLS, VALUES};
 use vers_saved::stream::{fill, load as load_list};
@@ -34,11 +36,11 @@ pub fn number_of_kind(bytes: &[u8]) -> u64
     word_of(words[2])
 }
 
-// Returns a loaded structure as a store.
-macro_rules! stored {
-    ($alloc:expr, $loaded:expr, $held:path) => {
+// Returns a loaded list as a structure.
+macro_rules! loaded_as {
+    ($loaded:expr, $structure:path) => {
         match $loaded {
-            Ok(list) => Ok(Store::of($alloc, $held(list))),
+            Ok(list) => Ok($structure(list)),
             Err(fault) => Err(fault),
         }
     };
@@ -59,42 +61,42 @@ fn boxed<T: Drop, A: Allocator>(
     }
 }
 
-// Loads a tree from its saved form, the rest of a reader, as a store.
+// Loads a tree from its saved form, the rest of a reader, as a structure.
 fn tree_of_reader<'a, A: Allocator + Copy, R: Source>(
     alloc: &'a A,
     reader: &mut R,
-) -> Result<Store<'a, A>, LoadError>
-    ensures loaded { IfOk result (λ held. IsFormOf (R.remaining reader.old) held) }
+) -> Result<Structure<'a, A>, LoadError>
+    ensures loaded { IfOk result (λ held. IsFormOf (R.remaining reader.old) (content_of held)) }
     ensures refused { IfErr result (IsRefused (tree_kind 512) (R.remaining reader.old)) }
-    ensures back { (x : List Bool) → HasForm (TreeHeld x)
-        → R.remaining reader.old ≡ Some (saved_form (TreeHeld x))
-        → MatchResult result (λ held. held ≡ TreeHeld x)
+    ensures back { (x : List Bool) → HasForm (Parentheses x)
+        → R.remaining reader.old ≡ Some (saved_form (Parentheses x))
+        → MatchResult result (λ held. content_of held ≡ Parentheses x)
         (λ e. (e ≡ LoadError.Read) ⊎ (e ≡ LoadError.Memory)) }
 {
-    stored!(alloc, boxed(alloc, load_tree(alloc, reader)), Held::Tree)
+    loaded_as!(boxed(alloc, load_tree(alloc, reader)), Structure::Tree)
 }
 
-// Loads a list of the kind with a number from its saved form, the rest of a reader, as a store.
+// Loads a list of the kind with a number from its saved form, the rest of a reader, as a structure.
 #[tactic(auto, using(crate::proofs::Numbered::kinds, crate::proofs::Named::numbers))]
 fn load_numbered<'a, A: Allocator + Copy, R: Source>(
     alloc: &'a A,
     number: u64,
     reader: &mut R,
-) -> Result<Store<'a, A>, LoadError>
-    ensures loaded { IfOk result (λ held. IsFormOf (R.remaining reader.old) held) }
+) -> Result<Structure<'a, A>, LoadError>
+    ensures loaded { IfOk result (λ held. IsFormOf (R.remaining reader.old) (content_of held)) }
     ensures refused { IfErr result (IsRefused (kind_numbered number) (R.remaining reader.old)) }
-    ensures back { (x : Holding) → HasForm x → Fits x → number_of_kind (saved_form x) ≡ number
+    ensures back { (x : Content) → IsOfFile x → HasForm x → Fits x → number_of_kind (saved_form x) ≡ number
         → R.remaining reader.old ≡ Some (saved_form x)
-        → MatchResult result (λ held. held ≡ x) (λ e. (e ≡ LoadError.Read) ⊎ (e ≡ LoadError.Memory)) }
+        → MatchResult result (λ held. content_of held ≡ x) (λ e. (e ≡ LoadError.Read) ⊎ (e ≡ LoadError.Memory)) }
 {
     match number {
-        SORTED => stored!(alloc, load_list(*alloc, reader), Held::Sorted),
-        SYMBOLS => stored!(alloc, load_list(*alloc, reader), Held::Symbols),
-        SPARSE => stored!(alloc, load_list(*alloc, reader), Held::Sparse),
-        VALUES => stored!(alloc, load_list(*alloc, reader), Held::Values),
+        SORTED => loaded_as!(load_list(*alloc, reader), Structure::Sorted),
+        SYMBOLS => loaded_as!(load_list(*alloc, reader), Structure::Symbols),
+        SPARSE => loaded_as!(load_list(*alloc, reader), Structure::Sparse),
+        VALUES => loaded_as!(load_list(*alloc, reader), Structure::Fast),
         PARENTHESES => tree_of_reader(alloc, reader),
-        POSTINGS => stored!(alloc, load_list(*alloc, reader), Held::Postings),
-        _ => stored!(alloc, load_list(*alloc, reader), Held::Bits),
+        POSTINGS => loaded_as!(load_list(*alloc, reader), Structure::Postings),
+        _ => loaded_as!(load_list(*alloc, reader), Structure::Bits),
     }
 }
 
@@ -118,7 +120,7 @@ pub fn read<A: Allocator, F: Read>(alloc: A, file: &mut F) -> Result<Vec<u8, A>,
 /// The number of bytes of a file up to the end of the word that names its kind.
 pub const NAMED: usize = 24;
 
-/// Loads a list from its saved form, the rest of a reader, as a store. It is read by blocks, and only its words
+/// Loads a list from its saved form, the rest of a reader, as a structure. It is read by blocks, and only its words
 /// are kept, with no copy of the bytes.
 ///
 /// # Errors
@@ -128,11 +130,11 @@ pub const NAMED: usize = 24;
 pub fn load_file<'a, A: Allocator + Copy, F: Read>(
     alloc: &'a A,
     file: &mut F,
-) -> Result<Store<'a, A>, LoadError>
-    ensures loaded { IfOk result (λ held. IsFormOf (F.remaining file.old) held) }
+) -> Result<Structure<'a, A>, LoadError>
+    ensures loaded { IfOk result (λ held. IsFormOf (F.remaining file.old) (content_of held)) }
     ensures refused { IfErr result (λ e. IsNoForm (F.remaining file.old) e) }
-    ensures back { (x : Holding) → HasForm x → Fits x → F.remaining file.old ≡ Some (saved_form x)
-        → MatchResult result (λ held. held ≡ x) (λ e. (e ≡ LoadError.Read) ⊎ (e ≡ LoadError.Memory)) }
+    ensures back { (x : Content) → IsOfFile x → HasForm x → Fits x → F.remaining file.old ≡ Some (saved_form x)
+        → MatchResult result (λ held. content_of held ≡ x) (λ e. (e ≡ LoadError.Read) ⊎ (e ≡ LoadError.Memory)) }
 {
     let mut block = [0; NAMED];
     let filled = fill(file, &mut block)?;

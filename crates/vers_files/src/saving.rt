@@ -3,17 +3,18 @@ ghost use Rattle.std.specs.Prelude.{◌≡◌, ◌≢◌, true, OnOk, OnErr, IfE
 ghost use Rattle.std.specs.Io.KnownBytes.{Appends, Keeps};
 ghost use Rattle.vers_words.specs.Text.{words_of};
 ghost use Rattle.vers_saved.specs.Streams.{Writes};
-ghost use Rattle.vers_cli.specs.Holding.{holding_of, is_accepted};
+ghost use Rattle.catalogue.specs.Contents.{content_of};
+ghost use Rattle.catalogue.specs.Forms.{HasForm, saved_form};
+ghost use Rattle.vers_cli.specs.Holding.{is_accepted};
 ghost use Rattle.vers_cli.specs.Rules.{line_loaded};
-ghost use Rattle.vers_files.specs.Forms.{saved_form, Fits, HasForm};
 ghost use Rattle.vers_files.specs.SavedLines.{IfAccepted, SaysWhy, IsFormless, IsOfLine, IsPut, has_no_bits, line_saved};
 
 use crate::place::Place;
+use catalogue::structure::Structure;
 use std::alloc::Allocator;
 use std::io::Write;
-use vers_cli::{Held, load_line};
+use vers_cli::load_line;
 use vers_saved::fault::SaveError;
-use vers_saved::stream::save as save_list;
 use vers_words::loading::Loading;
 
 /// Why a line, or the index of a text, was not saved.
@@ -44,12 +45,12 @@ pub enum SaveFault {
     Settle,
 }
 
-// Returns whether the current structure is a list of symbols of no bits.
-fn has_no_bits<A: Allocator + Copy>(held: &Held<'_, A>) -> bool
-    ensures { result ≡ has_no_bits (holding_of held.now) }
+// Returns whether a structure is a list of symbols of no bits.
+fn has_no_bits<A: Allocator + Copy>(held: &Structure<'_, A>) -> bool
+    ensures { result ≡ has_no_bits (content_of held.now) }
 {
     match held {
-        Held::Symbols(symbols) => symbols.bits_per_element() == 0,
+        Structure::Symbols(symbols) => symbols.bits_per_element() == 0,
         _ => false,
     }
 }
@@ -64,36 +65,6 @@ fn line_saved(has_no_bits: bool, saved: Result<(), SaveError>) -> Result<(), Sav
         Err(SaveError::NoForm) => Err(SaveFault::TooLong),
         Err(SaveError::Memory) => Err(SaveFault::OutOfMemory),
         Err(SaveError::Write) => Err(SaveFault::Write),
-    }
-}
-
-/// Writes the saved form of the current structure.
-///
-/// # Errors
-///
-/// On `Write`, a prefix of the form was written; on any other error, nothing.
-pub fn save<A: Allocator + Copy, W: Write>(
-    alloc: A,
-    held: &Held<'_, A>,
-    writer: &mut W,
-) -> Result<(), SaveError>
-    ensures written { result ≢ Err SaveError.NoForm
-        → Writes result (W.contents writer.old) (W.contents writer.new) (saved_form (holding_of held.now)) }
-    ensures kept { IfErr result (λ e. (e ≡ SaveError.Write)
-        ⊎ Keeps (W.contents writer.old) (W.contents writer.new)) }
-    ensures form { OnOk result (HasForm (holding_of held.now)) }
-    ensures fits { OnOk result (Fits (holding_of held.now)) }
-    ensures none { IfErr result (λ e. e ≡ SaveError.NoForm → ¬ HasForm (holding_of held.now)) }
-{
-    match held {
-        Held::Bits(bits) => save_list(alloc, bits, writer),
-        Held::Sorted(members) => save_list(alloc, members, writer),
-        Held::Sparse(bits) => save_list(alloc, bits, writer),
-        Held::Values(values) => save_list(alloc, values, writer),
-        Held::Symbols(symbols) => save_list(alloc, symbols, writer),
-        Held::Tree(tree) => save_list(alloc, &**tree, writer),
-        Held::Postings(postings) => save_list(alloc, postings, writer),
-        Held::Nothing => Err(SaveError::NoForm),
     }
 }
 
@@ -119,12 +90,11 @@ pub fn save_line<A: Allocator + Copy, W: Write>(
     match load_line(&alloc, line) {
         Ok(Loading::Malformed) => Err(SaveFault::BadLine),
         Ok(Loading::Inadmissible) => Err(SaveFault::Refused),
-        Ok(Loading::Accepted(store)) => {
-            let held = store.held();
-            let saved = save(alloc, held, writer);
-            let has_no_bits = has_no_bits(held);
+        Ok(Loading::Accepted(structure)) => {
+            let saved = structure.save(alloc, writer);
+            let has_no_bits = has_no_bits(&structure);
             // (by a call, so that the proof of this function doesn't go through the fields)
-            drop(store);
+            drop(structure);
             line_saved(has_no_bits, saved)
         }
         Err(_) => Err(SaveFault::OutOfMemory),

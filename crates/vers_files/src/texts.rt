@@ -3,7 +3,7 @@ ghost use Rattle.std.specs.Prelude.{◌≡◌, ◌<◌, ◌≤◌, ◌↔◌, �
 ghost use Rattle.vers_engine.specs.Device.{FollowsReadFault, FollowsWriteFault};
 ghost use Rattle.vers_wavelet.specs.Symbols.{Symbols};
 ghost use Rattle.text_index.specs.Makers.{IsSymbolWidth, symbols_of};
-ghost use Rattle.vers_cli.specs.Holding.{Holding, SymbolsHeld};
+ghost use Rattle.catalogue.specs.Contents.{Content, SymbolList, content_of};
 ghost use Rattle.vers_texts.specs.Answers.{by_the_rules};
 ghost use Rattle.vers_files.specs.Asked.{AnswersFrom};
 ghost use Rattle.vers_files.specs.Forms.{IsFormOf, IsNoForm};
@@ -11,10 +11,10 @@ ghost use Rattle.vers_files.specs.TextFiles.{AreSymbolsOf, AreTextOf, HasNoSymbo
 ghost use Rattle.vers_saved.specs.TextForms.{IsTextRefused};
 
 use crate::loading::{NAMED, fault_line, load_file, number_of_kind};
+use catalogue::structure::Structure;
 use std::alloc::{AllocError, Allocator};
 use std::io::Read;
 use text_index::{MAX_LEN, TextError, TextIndex};
-use vers_cli::Held;
 use vers_saved::fault::LoadError;
 use vers_saved::kind::TEXTS;
 use vers_saved::stream::fill;
@@ -157,11 +157,11 @@ fn symbols_of<A: Allocator + Copy, O: Owner<A>>(
     alloc: A,
     loaded: Result<O, LoadError>,
 ) -> Result<PlainSymbols<A>, TextFault>
-    ensures loaded { (left : Option (List ℕ)) → IfOk loaded (λ owner. IsFormOf left (O.holding owner))
+    ensures loaded { (left : Option (List ℕ)) → IfOk loaded (λ owner. IsFormOf left (O.content owner))
         → IfOk result (λ symbols. AreSymbolsOf left
         (record { width = symbols.width; items = symbols.items.items })) }
     ensures width { IfOk result (λ symbols. IsSymbolWidth symbols.width) }
-    ensures refused { (left : Option (List ℕ)) → IfOk loaded (λ owner. IsFormOf left (O.holding owner))
+    ensures refused { (left : Option (List ℕ)) → IfOk loaded (λ owner. IsFormOf left (O.content owner))
         → IfErr loaded (IsNoForm left) → IfErr result (IsNoSymbolText left) }
 {
     match loaded {
@@ -172,24 +172,24 @@ fn symbols_of<A: Allocator + Copy, O: Owner<A>>(
 
 // An owner of a list.
 trait Owner<A: Allocator + Copy>: Drop {
-    ghost holding: { Self → Holding };
+    ghost content: { Self → Content };
 
-    // Returns the symbols of the current structure.
+    // Returns the symbols.
     fn symbols(&self, alloc: A) -> Result<PlainSymbols<A>, TextFault>
-        ensures held { IfOk result (λ symbols. holding self.now
-            ≡ SymbolsHeld (record { width = symbols.width; items = symbols.items.items })) }
+        ensures held { IfOk result (λ symbols. content self.now
+            ≡ SymbolList (record { width = symbols.width; items = symbols.items.items })) }
         ensures width { IfOk result (λ symbols. IsSymbolWidth symbols.width) }
         ensures refused { IfErr result (λ e. (e ≡ TextFault.Memory)
-            ⊎ ((e ≡ TextFault.NoSymbols) × HasNoSymbols (holding self.now))
-            ⊎ ((e ≡ TextFault.OtherWidth) × ((symbols : Symbols) × (holding self.now ≡ SymbolsHeld symbols)
+            ⊎ ((e ≡ TextFault.NoSymbols) × HasNoSymbols (content self.now))
+            ⊎ ((e ≡ TextFault.OtherWidth) × ((symbols : Symbols) × (content self.now ≡ SymbolList symbols)
             × (IsSymbolWidth symbols.width → ⊥)))) };
 }
 
-impl<A: Allocator + Copy> Owner<A> for vers_cli::Store<'_, A> {
-    ghost holding = { λ store. store };
+impl<A: Allocator + Copy> Owner<A> for Structure<'_, A> {
+    ghost content = { content_of };
 
     fn symbols(&self, alloc: A) -> Result<PlainSymbols<A>, TextFault> {
-        let Held::Symbols(symbols) = self.held() else {
+        let Structure::Symbols(symbols) = self else {
             return Err(TextFault::NoSymbols);
         };
         let width = symbols.bit_len();

@@ -182,7 +182,7 @@ fn is_whole_or_not_at_all(alloc: Global, fails_at: u64) -> bool {
         2 => Err(SaveFault::Sync),
         3 => Err(SaveFault::Put),
         4 => Err(SaveFault::Settle),
-        5..=11 => Err(SaveFault::Write),
+        5..=12 => Err(SaveFault::Write),
         _ => Ok(()),
     };
     let is_put = result.is_ok() || result == Err(SaveFault::Settle);
@@ -214,7 +214,7 @@ fn symbols_that_are_cut_are_counted(rt: HostRuntime) {
 
 #[test]
 fn a_place_is_filled_whole_or_not_at_all(rt: HostRuntime) {
-    for fails_at in 1..14u64 {
+    for fails_at in 1..15u64 {
         assert!(rt; is_whole_or_not_at_all(rt.alloc(), fails_at));
     }
 }

@@ -102,7 +102,7 @@ fn files_without_a_text_are_told(rt: HostRuntime) {
     assert!(rt; is_fault(alloc, &POSTINGS, TextFault::NoSymbols));
     assert!(rt; is_fault(alloc, &WIDE_SYMBOLS, TextFault::OtherWidth));
     assert!(rt; is_fault(alloc, &OTHER_KIND, TextFault::File(LoadError::OtherKind)));
-    assert!(rt; is_fault(alloc, &SYMBOLS[..55], TextFault::File(LoadError::TooShort)));
+    assert!(rt; is_fault(alloc, &SYMBOLS[..71], TextFault::File(LoadError::TooShort)));
     assert!(rt; is_fault(alloc, &INDEX[..87], TextFault::File(LoadError::TooShort)));
     assert!(rt; is_fault(alloc, &INDEX[..23], TextFault::File(LoadError::TooShort)));
     assert!(rt; is_fault(alloc, b"", TextFault::File(LoadError::TooShort)));

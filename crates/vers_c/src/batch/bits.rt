@@ -1,14 +1,15 @@
 //! Batches of queries of bits with rank and select.
 ghost use Rattle.std.specs.Prelude.{◌≡◌, map};
 ghost use Rattle.vers_bits.specs.Bits.{select};
-ghost use Rattle.vers_c.specs.Answers.{found};
+ghost use Rattle.catalogue.specs.declared.answer.Answer.TheVariants as answer;
 ghost use Rattle.vers_c.specs.Batches.{told_row};
-ghost use Rattle.vers_c.specs.BitsAnswers.{bits_answer, select_query};
+ghost use Rattle.catalogue.specs.BitsAnswers.{bits_answer};
+ghost use Rattle.vers_c.specs.BatchQueries.{select_query};
 
 use super::{Batch, GROUP, in_groups};
-use crate::answer::Answer;
 use crate::asked::{Ask, Row, answer_each};
-use crate::query::Query;
+use catalogue::answer::Answer;
+use catalogue::query::Query;
 use std::alloc::Global;
 use vers_rank::fast_rs_vec::RsVec;
 
@@ -21,9 +22,9 @@ struct Selects {
 impl Batch<RsVec<Global>, usize> for Selects {
     ghost answers = { λ batch bits. bits_answer bits (select_query batch.bit) };
 
-    ghost wants = { λ batch bits number. found (select batch.bit bits number) };
+    ghost wants = { λ batch bits number. answer.Found (select batch.bit bits number) };
 
-    ghost says = { λ _ place. found place };
+    ghost says = { λ _ place. answer.Found place };
 
     #[inline(always)]
     fn of(self, ask: Ask) -> usize {

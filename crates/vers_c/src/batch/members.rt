@@ -1,15 +1,17 @@
 //! Batches of queries of ascending lists.
 ghost use Rattle.std.specs.Prelude.{◌≡◌, map, option_and_then};
 ghost use Rattle.vers_sorted.specs.Sorted.{below};
-ghost use Rattle.vers_c.specs.Answers.{found, found_or_absent};
+ghost use Rattle.catalogue.specs.Answers.{found_or_absent};
+ghost use Rattle.catalogue.specs.declared.answer.Answer.TheVariants as answer;
 ghost use Rattle.vers_c.specs.Batches.{told_row};
-ghost use Rattle.vers_c.specs.SortedAnswers.{member_found, member_query, sorted_answer};
-ghost use Rattle.vers_c.specs.declared.query.Query.TheVariants as query;
+ghost use Rattle.catalogue.specs.SortedAnswers.{sorted_answer};
+ghost use Rattle.vers_c.specs.BatchQueries.{member_found, member_query};
+ghost use Rattle.catalogue.specs.declared.query.Query.TheVariants as query;
 
 use super::{Batch, GROUP, in_groups};
-use crate::answer::Answer;
 use crate::asked::{Ask, Row, answer_each};
-use crate::query::Query;
+use catalogue::answer::Answer;
+use catalogue::query::Query;
 use std::alloc::Global;
 use vers_sorted::elias_fano::EliasFanoVec;
 
@@ -20,9 +22,9 @@ struct Ranks;
 impl Batch<EliasFanoVec<Global>, u64> for Ranks {
     ghost answers = { λ _ members. sorted_answer members query.Rank };
 
-    ghost wants = { λ _ members number. found (below members number) };
+    ghost wants = { λ _ members number. answer.Found (below members number) };
 
-    ghost says = { λ _ rank. found rank };
+    ghost says = { λ _ rank. answer.Found rank };
 
     #[inline(always)]
     fn of(self, ask: Ask) -> u64 {
@@ -36,7 +38,7 @@ impl Batch<EliasFanoVec<Global>, u64> for Ranks {
 
     #[inline(always)]
     fn answer(self, rank: u64) -> Answer {
-        Answer::found(rank)
+        Answer::Found(rank)
     }
 }
 

@@ -1,15 +1,15 @@
 //! Batches of queries of symbols.
 ghost use Rattle.std.specs.Prelude.{◌≡◌, map, slice_get};
-ghost use Rattle.vers_c.specs.Answers.{found_or_absent};
+ghost use Rattle.catalogue.specs.Answers.{found_or_absent};
 ghost use Rattle.vers_c.specs.Batches.{told_row};
-ghost use Rattle.vers_c.specs.SymbolsAnswers.{answer_of_symbols, found_of_symbols, if_numbers, symbols_answer};
-ghost use Rattle.vers_c.specs.declared.query.Query.TheVariants as query;
-ghost use Rattle.vers_c.specs.declared.query.SymbolsQuery.TheVariants as of_symbols;
+ghost use Rattle.catalogue.specs.SymbolsAnswers.{answer_of_symbols, found_of_symbols, if_numbers, symbols_answer};
+ghost use Rattle.catalogue.specs.declared.query.Query.TheVariants as query;
+ghost use Rattle.catalogue.specs.declared.query.SymbolsQuery.TheVariants as of_symbols;
 
 use super::{Batch, GROUP, in_wide_groups};
-use crate::answer::Answer;
 use crate::asked::{Ask, Row, answer_each};
-use crate::query::{Query, SymbolsQuery};
+use catalogue::answer::Answer;
+use catalogue::query::{Query, SymbolsQuery};
 use std::alloc::Global;
 use vers_wavelet::wavelet::{GetQuery, QuantileQuery, RankQuery, SelectQuery, WaveletMatrix};
 

@@ -1,6 +1,6 @@
 use Rattle.vers_c.proofs.Names.{map, take, value_or}
 use Rattle.std.proofs.Common.{◌≡◌, ◌++◌, drop}
-use Rattle.vers_c.specs.declared.answer.Answer.{Answer}
+use Rattle.catalogue.specs.declared.answer.Answer.{Answer}
 use Rattle.vers_c.proofs.batch.tell_each.Given as goal
 
 abbrev pub invariant-loop-i : goal.invariant-loop-i

@@ -1,4 +1,4 @@
-use Rattle.vers_cli.proofs.Names.{◌≡◌, ◌∷◌, Some, true, refl, sym, ◌∙◌, ap, nat_lt, list_all, words_in, all_numbers, each_next-ascending, each_next-rising, ones_at-same, first_numbers, Accepted, SparseHeld}
+use Rattle.vers_cli.proofs.Names.{◌≡◌, ◌∷◌, Some, true, refl, sym, ◌∙◌, ap, nat_lt, list_all, words_in, all_numbers, each_next-ascending, each_next-rising, ones_at-same, first_numbers, Accepted, SparseBits}
 use Rattle.vers_cli.proofs.Rises.{all_below, all_are_below, rising_ascends}
 use Rattle.vers_cli.proofs.sparse.load.Goals as goal
 
@@ -27,4 +27,4 @@ returns-in-Ok g c =
     sym (all_below c.in-Some-number.len c.in-Some-rise_of.rise.last c.in-Some-rise_of.rise.len ones told.order told.len told.last) ∙ sym c.is_below.ensures ∙ c.if-not-is_below.false in
     let numbers : all_numbers (words_in c.args.arguments.now) ≡ Some (c.in-Some-number.len ∷ ones) =
     rw (c.in-Some.ensures.words, ← c.number.ensures, c.in-Some-number.is, told.all) refl in
-    rw (numbers, told.order, below) (ap (λ bits. Accepted (SparseHeld bits)) (ones_at-same c.from_sorted.result c.in-Some-number.len ones c.from_sorted.ensures.length (c.from_sorted.ensures.places ∙ c.in-Ok.ensures)))
+    rw (numbers, told.order, below) (ap (λ bits. Accepted (SparseBits bits)) (ones_at-same c.from_sorted.result c.in-Some-number.len ones c.from_sorted.ensures.length (c.from_sorted.ensures.places ∙ c.in-Ok.ensures)))

@@ -8,14 +8,9 @@ returns-in_default g c = rw (← c.without_return.ensures, c.in_default.ensures.
 
 pub returns-in-None : goal.returns-in-None
 unfolding line_loaded
-returns-in-None g c = rw (← c.without_return.ensures, c.in-Some.ensures.words, ← c.of.ensures, c.in-None.is) refl
+returns-in-None g c = rw (← c.without_return.ensures, c.in-Some.ensures.words, ← c.load_of.ensures, c.in-None.is) refl
 
-pub returns-in-Some-Query : goal.returns-in-Some-Query
+pub returns-in-Some-load_of : goal.returns-in-Some-load_of
 unfolding line_loaded
-returns-in-Some-Query g c =
-    rw (← c.without_return.ensures, c.in-Some.ensures.words, ← c.of.ensures, c.in-Some-Query.is, c.in-Some-Query.field-0-is) refl
-
-pub returns-in-Some-Load : goal.returns-in-Some-Load
-unfolding line_loaded
-returns-in-Some-Load g c =
-    rw (← c.without_return.ensures, c.in-Some.ensures.words, ← c.of.ensures, c.in-Some-Load.is, c.in-Some-Load.field-0-is) c.store_loaded.ensures
+returns-in-Some-load_of g c =
+    rw (← c.without_return.ensures, c.in-Some.ensures.words, ← c.load_of.ensures, c.in-Some-load_of.is) c.load.ensures

@@ -1,6 +1,6 @@
 use Rattle.std.proofs.Common.{◌∙◌, take, sym, arith}
 use Rattle.std.proofs.lemmas.List.{length-take}
-use Rattle.vers_files.specs.Forms.{saved_form}
+use Rattle.catalogue.specs.Forms.{saved_form}
 use Rattle.vers_files.proofs.Fronts.{named_fault, front_form}
 use Rattle.vers_files.proofs.loading.load_file.Goals as goal
 
@@ -12,8 +12,8 @@ returns-clause-refused g c =
     (λ short. c.in_ok-filled.ensures.end (omega (arith, short, long, c.fill.auto.block))) c.load_numbered.ensures.refused
 
 pub returns-clause-back : goal.returns-clause-back
-returns-clause-back g c = λ x whole fits is.
+returns-clause-back g c = λ x of_file whole fits is.
     let long = length-take c.in_ok-filled.filled c.fill.new.block in
     let both = front_form (g.F.Read.remaining c.args.file.now) (g.F.Read.remaining c.fill.new.reader) (take c.in_ok-filled.filled c.fill.new.block) (saved_form x)
     c.in_ok-filled.ensures.read (omega (arith, long, c.fill.auto.block)) (λ short. c.in_ok-filled.ensures.end (omega (arith, short, long, c.fill.auto.block))) is in
-    c.load_numbered.ensures.back x whole fits (both.0 ∙ sym c.number_of_kind.ensures) (c.chain.ensures.bytes ∙ both.1)
+    c.load_numbered.ensures.back x of_file whole fits (both.0 ∙ sym c.number_of_kind.ensures) (c.chain.ensures.bytes ∙ both.1)

@@ -5,8 +5,8 @@ use Rattle.vers_files.proofs.loading.tree_of_reader.Goals as goal
 
 pub returns-in-Ok-clause-loaded : goal.returns-in-Ok-clause-loaded
 returns-in-Ok-clause-loaded g c =
-    let tree = c.load_tree.ensures in
-    rw c.of.ensures (
+    let tree = c.load_tree.ensures in (
+      tt,
       in_box c.load_tree.result c.boxed.result (λ b. b.value) c.in-Ok.list _ c.in-Ok.is c.boxed.ensures tree.whole,
       in_box c.load_tree.result c.boxed.result (λ b. b.value) c.in-Ok.list _ c.in-Ok.is c.boxed.ensures tree.loaded,
       tt,

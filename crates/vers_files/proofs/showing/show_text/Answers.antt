@@ -7,8 +7,10 @@ returns-in-Ok-clause-shown g c =
     let whole = c.in-Ok.ensures.whole in (
       c.in-Ok.text,
       (whole.1, c.in-Ok.ensures.loaded),
-      refl,
-      c.len.ensures.value,
-      c.from.ensures ∙ c.bits_per_symbol.ensures,
-      c.unwrap_or-bytes.ensures ∙ size_of_form c.saved_size.result _ _ c.saved_size.ensures.some c.saved_size.ensures.none whole.0.may,
+      record {
+        kind = refl;
+        len = c.len.ensures.value;
+        width = c.from.ensures ∙ c.bits_per_symbol.ensures;
+        bytes = λ _. c.unwrap_or.ensures ∙ size_of_form c.saved_size.result _ _ c.saved_size.ensures.some c.saved_size.ensures.none whole.0.may;
+      },
     )

@@ -6,7 +6,8 @@ use types.Kit.{drop}
 use Rattle.vers_c.proofs.OwnerBoxes.{E}
 use Rattle.std.specs.contracts.alloc.Global as Heap
 use Rattle.vers_c.specs.contracts.held.Held as Held
-use Rattle.vers_c.specs.declared.kept.Kept.TheVariants.{Growing}
+use Rattle.catalogue.specs.declared.structure.Structure.TheVariants.{Growing}
+use Rattle.vers_c.specs.declared.kept.Kept.TheVariants.{Other}
 use Rattle.vers_c.specs.contracts.held.Held.vacant as F
 use Rattle.vers_c.specs.contracts.held.Held.vacant.Key.{name as #self}
 use Rattle.vers_c.proofs.held.Held.vacant.Statement as stated
@@ -23,7 +24,7 @@ module _ {M : Type 1} {𝓤 : Ura M} (𝓛 : Logic 𝓤) (at_mem : Memory → SP
   walk z =
       let Post = (walk_of 𝓛 F.ended stayed (F.clauses 𝓛 at_mem run)).post z in
       let a = z.0.3.0 in
-      let made : (Held.the_row).Denot = record { at = null_ptr; alloc = a; is_owner = false; value = record { ptr = null_ptr; value = Growing [] } } in
+      let made : (Held.the_row).Denot = record { at = null_ptr; alloc = a; is_owner = false; value = record { ptr = null_ptr; value = Other (Growing []) } } in
       qed 𝓛 ((‵ ftrue ⊛ ‵ (fsep ((Heap.the_row).own_val a z.0.4.0) ftrue)) ∷ raw (emp 𝓤) ∷ []) ∵ split ! $ drop ! $ fsplit ! $
       handle_tells E.al ! a z.0.4.0 (λ h ws fa. move ! (1 ∷ 2 ∷ []) $ drop ! $ drop ! $
       let w = vstruct (vcons vnull (vcons h vnil)) in

@@ -1,0 +1,12 @@
+pub mod Answers
+pub mod BitsAnswers
+pub mod Contents
+pub mod Forms
+pub mod Kinds
+pub mod MinimaAnswers
+pub mod PostingsAnswers
+pub mod Queries
+pub mod SortedAnswers
+pub mod SymbolsAnswers
+pub mod TextAnswers
+pub mod TreeAnswers

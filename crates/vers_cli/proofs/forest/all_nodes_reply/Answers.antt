@@ -1,9 +1,0 @@
-use Rattle.vers_cli.proofs.Names.{ap, Numbers}
-use Rattle.vers_cli.proofs.Gathers.{items_left}
-use Rattle.vers_cli.proofs.forest.all_nodes_reply.Goals as goal
-
-pub returns : goal.returns
-returns g c =
-    let given = rw c.in_ok-places_left.was at c.places_left.ensures in
-    rw (← c.if-not-is_balanced.ensures.value)
-    (ap Numbers (items_left c.dfs_post_iter.result (λ walk. walk.left) c.in_ok-places_left.field-0.items given c.dfs_post_iter.ensures))

@@ -1,0 +1,7 @@
+use Rattle.vers_cli.proofs.name.line_of.Goals as goal
+
+pub returns-in-Tree : goal.returns-in-Tree
+returns-in-Tree g c = rw c.in-Tree.is c.named-in-Tree.ensures
+
+pub returns-in-Symbols : goal.returns-in-Symbols
+returns-in-Symbols g c = rw c.in-Symbols.is c.named-in-Symbols.ensures

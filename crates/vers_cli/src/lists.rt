@@ -1,0 +1,238 @@
+//! The replies that are lists.
+ghost use Rattle.std.specs.Prelude.{◌≡◌, ℕ, List, true, unwrap_or, option_map, IfOk, IsErr, MatchResult};
+ghost use Rattle.std.specs.Iterator.{Drains, IsFinite};
+ghost use Rattle.catalogue.specs.Contents.{content_of, Documents, Parentheses, SortedMembers, SymbolList};
+ghost use Rattle.postings.specs.Posted.{common};
+ghost use Rattle.vers_bits.specs.Bits.{places};
+ghost use Rattle.vers_trees.specs.Forest.{IsBalanced, forest_of};
+ghost use Rattle.vers_trees.specs.Nodes.{IsNode};
+ghost use Rattle.vers_words.specs.Reply.{plain_reply, Numbers, Refused};
+ghost use Rattle.vers_cli.specs.Lists.{all_reply as reply_of_all, common_reply as reply_of_common, walk_of, walk_reply as reply_of_walk};
+
+use crate::documents::admitted;
+use crate::name::{Listing, Nodes};
+use catalogue::structure::Structure;
+use postings::Postings;
+use std::alloc::{AllocError, Allocator};
+use vers_tally::ends::{BothEnds, Source};
+use vers_trees::trees::bp::BpTree;
+use vers_wavelet::wavelet::WaveletMatrix;
+use vers_words::reply::Reply;
+
+/// Returns the reply with all items of a structure, or all nodes. Errors: `AllocError` if the allocator refuses a
+/// request.
+pub fn all_reply<A: Allocator + Copy>(
+    alloc: A,
+    structure: &Structure<'_, A>,
+    listing: Listing,
+) -> Result<Reply<A>, AllocError>
+    ensures { IfOk result (λ reply.
+        plain_reply reply ≡ reply_of_all (content_of structure.now) listing) }
+{
+    match structure {
+        Structure::Sorted(members) => match listing {
+            Listing::Items => numbers_reply(alloc, members.iter()),
+            Listing::BySize | Listing::Postorder => Ok(Reply::WrongStructure),
+        },
+        Structure::Sparse(bits) => match listing {
+            Listing::Items => numbers_reply(alloc, bits.iter1()),
+            Listing::BySize | Listing::Postorder => Ok(Reply::WrongStructure),
+        },
+        Structure::Symbols(symbols) => symbols_reply(alloc, symbols, listing),
+        Structure::Tree(tree) => nodes_reply(alloc, tree, listing),
+        _ => Ok(Reply::WrongStructure),
+    }
+}
+
+// Returns the reply with the numbers that an iterator has left.
+fn numbers_reply<A: Allocator + Copy, S: Source<Item = u64>>(
+    alloc: A,
+    numbers_left: BothEnds<S>,
+) -> Result<Reply<A>, AllocError>
+    ensures { IfOk result (λ reply. plain_reply reply ≡ Numbers numbers_left.left) }
+{
+    // `collect` would continue if the memory for all at once is refused.
+    let mut numbers = Vec::with_capacity(alloc, numbers_left.len())?;
+    numbers.extend(numbers_left)?;
+    Ok(Reply::Numbers(numbers))
+}
+
+// Returns the reply with all symbols.
+fn symbols_reply<A: Allocator + Copy>(
+    alloc: A,
+    symbols: &WaveletMatrix<A>,
+    listing: Listing,
+) -> Result<Reply<A>, AllocError>
+    ensures { IfOk result (λ reply. plain_reply reply ≡ reply_of_all (SymbolList symbols.now) listing) }
+{
+    match listing {
+        Listing::Items => match symbols.iter_u64() {
+            None => Ok(Reply::Absent),
+            Some(items) => numbers_reply(alloc, items),
+        },
+        Listing::BySize => match symbols.iter_sorted_u64() {
+            None => Ok(Reply::Absent),
+            Some(items) => numbers_reply(alloc, items),
+        },
+        Listing::Postorder => Ok(Reply::WrongStructure),
+    }
+}
+
+// Returns the numbers that an iterator over positions has left.
+fn places_left<A: Allocator + Copy, I: Iterator<Item = usize> + Drop>(
+    alloc: A,
+    places: I,
+) -> Result<Vec<u64, A>, AllocError>
+    requires can { I.can_next places }
+    requires ends { IsFinite (I.remaining places) }
+    ensures { IfOk result (λ numbers. Drains I.next_gives places numbers.items) }
+{
+    let mut numbers = Vec::new(alloc);
+    for place in places {
+        numbers.push(place as u64)?;
+    }
+    Ok(numbers)
+}
+
+// Returns the reply with all nodes.
+fn nodes_reply<A: Allocator + Copy>(
+    alloc: A,
+    tree: &BpTree<512, &A>,
+    listing: Listing,
+) -> Result<Reply<A>, AllocError>
+    ensures { IfOk result (λ reply. plain_reply reply ≡ reply_of_all (Parentheses tree.now) listing) }
+{
+    match listing {
+        Listing::Items => Ok(Reply::Numbers(preorder(alloc, tree)?)),
+        Listing::Postorder => postorder_reply(alloc, tree),
+        Listing::BySize => Ok(Reply::WrongStructure),
+    }
+}
+
+// Returns the positions of the ones.
+fn preorder<A: Allocator + Copy>(
+    alloc: A,
+    tree: &BpTree<512, &A>,
+) -> Result<Vec<u64, A>, AllocError>
+    ensures { IfOk result (λ numbers. numbers.items ≡ places true tree.now) }
+{
+    places_left(alloc, tree.dfs_iter())
+}
+
+// Returns the reply with all nodes in postorder.
+fn postorder_reply<A: Allocator + Copy>(
+    alloc: A,
+    tree: &BpTree<512, &A>,
+) -> Result<Reply<A>, AllocError>
+    ensures { IfOk result (λ reply.
+        plain_reply reply ≡ reply_of_all (Parentheses tree.now) Listing.Postorder) }
+{
+    if !tree.is_balanced() {
+        return Ok(Reply::Refused);
+    }
+    Ok(Reply::Numbers(places_left(alloc, tree.dfs_post_iter())?))
+}
+
+/// Returns the reply with the nodes that a walk from a node passes. Errors: `AllocError` if the allocator refuses a
+/// request.
+pub fn walk_reply<A: Allocator + Copy>(
+    alloc: A,
+    structure: &Structure<'_, A>,
+    nodes: Nodes,
+    node: usize,
+) -> Result<Reply<A>, AllocError>
+    ensures { IfOk result (λ reply.
+        plain_reply reply ≡ reply_of_walk (content_of structure.now) nodes node) }
+{
+    match structure {
+        Structure::Tree(tree) if tree.has_node(node) => {
+            Ok(Reply::Numbers(walk(alloc, tree, nodes, node)?))
+        }
+        Structure::Tree(_) => Ok(Reply::Refused),
+        _ => Ok(Reply::WrongStructure),
+    }
+}
+
+// Returns the nodes that a walk from a node passes.
+fn walk<A: Allocator + Copy>(
+    alloc: A,
+    tree: &BpTree<512, &A>,
+    nodes: Nodes,
+    node: usize,
+) -> Result<Vec<u64, A>, AllocError>
+    requires balanced { IsBalanced tree.now }
+    requires node { IsNode (forest_of tree.now) node }
+    ensures { IfOk result (λ numbers. numbers.items ≡ walk_of (forest_of tree.now) nodes node) }
+{
+    match nodes {
+        Nodes::Children => places_left(alloc, tree.children(node)),
+        Nodes::RevChildren => places_left(alloc, tree.rev_children(node)),
+        Nodes::Subtree => places_left(alloc, tree.subtree_iter(node)),
+        Nodes::SubtreePost => places_left(alloc, tree.subtree_post_iter(node)),
+    }
+}
+
+/// Returns the reply with the documents that are also among others, which are refused if they don't ascend strictly
+/// or are too many. Errors: `AllocError` if the allocator refuses a request.
+pub fn common_reply<A: Allocator + Copy>(
+    alloc: A,
+    structure: &Structure<'_, A>,
+    documents: &[u64],
+) -> Result<Reply<A>, AllocError>
+    ensures { IfOk result (λ reply.
+        plain_reply reply ≡ reply_of_common (content_of structure.now) documents.now) }
+{
+    match structure {
+        Structure::Postings(postings) => shared_reply(alloc, postings, documents),
+        _ => Ok(Reply::WrongStructure),
+    }
+}
+
+// Returns the reply with the documents that are also among others.
+fn shared_reply<A: Allocator + Copy>(
+    alloc: A,
+    postings: &Postings<A>,
+    documents: &[u64],
+) -> Result<Reply<A>, AllocError>
+    ensures { IfOk result (λ reply.
+        plain_reply reply ≡ reply_of_common (Documents postings.now) documents.now) }
+{
+    // The costs are not used.
+    let costs = vec![in alloc; 0u64; documents.len()]?;
+    among(postings, admitted(documents, costs))
+}
+
+// Returns the reply with the documents that are also among others, if these are admitted. Their type is
+// generic, so that the proof doesn't go through their fields.
+fn among<A: Allocator + Copy, O: Others<A> + Drop>(
+    postings: &Postings<A>,
+    others: Result<Option<O>, AllocError>,
+) -> Result<Reply<A>, AllocError>
+    ensures { MatchResult others (λ others. IfOk result (λ reply. plain_reply reply ≡ unwrap_or
+        (option_map (λ others. Numbers (common postings.now.documents (O.documents others))) others) Refused))
+        (λ _. IsErr result) }
+{
+    match others {
+        Ok(None) => Ok(Reply::Refused),
+        Ok(Some(others)) => others.common_reply(postings),
+        Err(error) => Err(error),
+    }
+}
+
+// Other documents.
+trait Others<A: Allocator + Copy> {
+    ghost documents: { Self → List ℕ };
+
+    // Returns the reply with the documents that are in both lists.
+    fn common_reply(&self, postings: &Postings<A>) -> Result<Reply<A>, AllocError>
+        ensures { IfOk result (λ reply.
+            plain_reply reply ≡ Numbers (common postings.now.documents (documents self.now))) };
+}
+
+impl<A: Allocator + Copy> Others<A> for Postings<A> {
+    ghost documents = { λ posted. posted.documents };
+
+    fn common_reply(&self, postings: &Postings<A>) -> Result<Reply<A>, AllocError> {
+        Ok(Reply::Numbers(postings.intersect(self)?))
+    }
+}

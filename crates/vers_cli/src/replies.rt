@@ -1,0 +1,88 @@
+//! Replies to query lines.
+ghost use Rattle.std.specs.Prelude.{◌≡◌, IfOk};
+ghost use Rattle.catalogue.specs.Contents.{content_of};
+ghost use Rattle.vers_words.specs.Text.{words_in};
+ghost use Rattle.vers_words.specs.Reply.{plain_reply};
+ghost use Rattle.vers_cli.specs.Rules.{line_reply as reply_of_line, numbers_of as numbers_in, reply_of as reply_of_answer};
+
+use crate::lists::{all_reply, common_reply, walk_reply};
+use crate::name::{Arguments, Line, Written};
+use catalogue::answer::Answer;
+use catalogue::structure::Structure;
+use std::alloc::{AllocError, Allocator};
+use vers_words::arguments::{
+    all_numbers, no_arguments, number_and_signed, one_number, three_numbers, two_numbers,
+};
+use vers_words::reply::Reply;
+
+// Returns the numbers of a query in the arguments of its line, 0 for those that it doesn't have. `None` if the
+// arguments are malformed.
+fn numbers_of(kind: Arguments, arguments: &[u8]) -> Option<(u64, u64, u64)>
+    ensures { result ≡ numbers_in kind (words_in arguments.now) }
+{
+    match kind {
+        Arguments::NoNumber => {
+            no_arguments(arguments)?;
+            Some((0, 0, 0))
+        }
+        Arguments::OneNumber => Some((one_number(arguments)?, 0, 0)),
+        Arguments::TwoNumbers => {
+            let (a, b) = two_numbers(arguments)?;
+            Some((a, b, 0))
+        }
+        Arguments::ThreeNumbers => three_numbers(arguments),
+        Arguments::WithSigned => {
+            let (a, signed) = number_and_signed(arguments)?;
+            Some((a, signed.cast_unsigned(), 0))
+        }
+    }
+}
+
+// Returns the reply that an answer is written as.
+fn reply_of<A: Allocator + Copy>(written: Written, answer: Answer) -> Reply<A>
+    ensures { plain_reply result ≡ reply_of_answer written answer }
+{
+    match answer {
+        Answer::Found(number) => match written {
+            Written::Signed => Reply::Signed(number.cast_signed()),
+            Written::Plain | Written::Required => Reply::Number(number),
+        },
+        Answer::Absent => match written {
+            Written::Required => Reply::Refused,
+            Written::Plain | Written::Signed => Reply::Absent,
+        },
+        Answer::Refused => Reply::Refused,
+        Answer::Unknown => Reply::WrongStructure,
+    }
+}
+
+/// Returns the reply to a query line. Errors: `AllocError` if the allocator refuses a request.
+pub fn line_reply<A: Allocator + Copy>(
+    alloc: A,
+    structure: &Structure<'_, A>,
+    line: Line,
+    arguments: &[u8],
+) -> Result<Reply<A>, AllocError>
+    ensures { IfOk result (λ reply.
+        plain_reply reply ≡ reply_of_line (content_of structure.now) line (words_in arguments.now)) }
+{
+    match line {
+        Line::Number(query, kind, written) => match numbers_of(kind, arguments) {
+            None => Ok(Reply::BadLine),
+            Some((a, b, c)) => Ok(reply_of(written, structure.answer(query, a, b, c))),
+        },
+        Line::All(listing) => match no_arguments(arguments) {
+            None => Ok(Reply::BadLine),
+            Some(()) => all_reply(alloc, structure, listing),
+        },
+        Line::Walk(nodes) => match one_number(arguments) {
+            None => Ok(Reply::BadLine),
+            Some(node) => walk_reply(alloc, structure, nodes, node as usize),
+        },
+        Line::Common => match all_numbers(alloc, arguments) {
+            Ok(None) => Ok(Reply::BadLine),
+            Ok(Some(documents)) => common_reply(alloc, structure, documents.as_slice()),
+            Err(error) => Err(error),
+        },
+    }
+}
