@@ -43,12 +43,12 @@ STRICT = ["-O1", "-g", "-pedantic", "-Wall", "-Wextra", "-Wconversion", "-Werror
 SLOW = {"clang", "clang++", "valgrind", "pip"}
 # by which tests refuse the library memory
 REFUSING = "-Wl,--wrap=malloc,--wrap=realloc"
-# the table of crates/vers_c, the enum of vers.h with its codes, what its names begin with, and a row of that table
+# a table of codes, the enum of vers.h with them, what its names begin with, and a row of that table
 TABLES = (
-    ("status.rt", "vers_status", "", r"()pub const (\w+): u32 = \d+;"),
-    ("query.rt", "vers_query", "", r"(?m)^    Query::(?:(\w+)\(\w+::)?(\w+)\)?,$"),
-    ("kind.rt", "vers_kind", "KIND_", r"(?m)^    ()Kind::(\w+),$"),
-    ("change.rt", "vers_change_code", "", r"()Change::(\w+)(?=[,\]])"),
+    ("vers_c/src/status.rt", "vers_status", "", r"()pub const (\w+): u32 = \d+;"),
+    ("catalogue/src/query.rt", "vers_query", "", r"(?m)^    Query::(?:(\w+)\(\w+::)?(\w+)\)?,$"),
+    ("catalogue/src/kind.rt", "vers_kind", "KIND_", r"(?m)^    ()Kind::(\w+),$"),
+    ("vers_c/src/change.rt", "vers_change_code", "", r"()Change::(\w+)(?=[,\]])"),
 )
 # the examples in Python that compare their answers with plain Python, and need nothing else
 GALLERY = ("search_engine", "genome_reads", "sliding_quantiles", "json_tree", "dictionary_column", "ip_ranges")
@@ -202,9 +202,9 @@ def written_constants(tables):
 
 def check_codes(checks, write):
     """Compares the codes with the crate's tables, or writes them."""
-    source = os.path.join(TOP, "crates", "vers_c", "src")
+    source = os.path.join(TOP, "crates")
     if not os.path.exists(source):
-        checks.left_out.append("codes (no crates/vers_c)")
+        checks.left_out.append("codes (no crates)")
         return
     tables = code_tables(source)
     files = {os.path.join(C, "vers.h"): lambda text: written_header(text, tables),

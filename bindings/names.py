@@ -71,7 +71,7 @@ LEFT_OUT = {
         """RsVec.into_bit_vec RsVec.*_equals BpTree.into_parentheses_vec SparseRSVec.from_* *.from_iter
         EliasFanoVec.from_numbers TextIndex.from_* TextIndex.*_with_step""",
     "They serve saved forms, which C, C++ and Python load and save whole.":
-        "TextIndex.column TextIndex.whole_row TextIndex.kept_len TextIndex.kept_row",
+        "TextIndex.column TextIndex.whole_row TextIndex.kept_len TextIndex.kept_row WaveletMatrix.level",
     "Symbols are numbers of at most 64 bits, and not lists of bits.":
         """WaveletMatrix.bit_len WaveletMatrix.from_* WaveletMatrix.get_value WaveletMatrix.get_sorted
         WaveletMatrix.iter WaveletMatrix.iter_sorted WaveletMatrix.into_iter WaveletMatrix.into_iter_sorted

@@ -33,7 +33,8 @@ BELOW, COUNTERS = "vers_bits", "vers_tally"
 # The functions that may read a whole list without a counter.
 WHOLE = {
     "RsVec::clone", "RsVec::into_bit_vec", "RsVec::eq", "EliasFanoVec::clone", "BinaryRmq::clone",
-    "BinaryRmq::as_slice", "FastRmq::clone", "FastRmq::as_slice", "MinMaxTree::copied", "PackedNumbers::clone", "Rows::copied",
+    "BinaryRmq::as_slice", "FastRmq::clone", "FastRmq::as_slice", "MinMaxTree::copied", "PackedNumbers::clone", "WordRank::bits",
+    "WordRank::clone", "WaveletTree::clone",
 }
 # Functions that make a counter, besides the calls whose names end in `_unchecked`: those without a counted form, and
 # lists that are made of counted numbers.
@@ -52,6 +53,7 @@ TABLES = {
     "Parts.low": "BitVec<A>",
     "AllOf.others": "Vec<S, A>", "AnyOf.others": "Vec<S, A>",
     "Documents.numbers": "EliasFanoRefIter<'a, A>",
+    "Grown.nodes": "Vec<Node, A>", "Grown.bits": "BitVec<A>", "Forks.nodes": "Vec<Node, A>",
     "Asked.numbers": "[usize; GROUP]", "Group.slots": "[usize; GROUP]",
 }
 # The calls that bodies have to make: public calls those of their kernels, and kernels those that make them kernels.

@@ -68,7 +68,7 @@ def with_figures(text, found):
 
 
 # The crates of structures; those of the line programs have their calls in the sources.
-CRATES = "vers_bits vers_tally vers_rank vers_sorted vers_rmq vers_trees vers_wavelet vers_saved postings sets inverted text_index"
+CRATES = "vers_bits vers_tally vers_rank word_rank vers_sorted vers_rmq vers_trees vers_wavelet wavelet_tree vers_saved postings sets inverted text_index"
 # The crates whose calls the Rust crate has under the same names.
 IN_RUST = "vers_bits vers_rank vers_sorted vers_rmq vers_trees vers_wavelet vers_saved postings sets inverted text_index".split()
 

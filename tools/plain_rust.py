@@ -19,14 +19,14 @@ from sources import read as read_text
 
 RUST = "rust/src"
 # The crates: each becomes a module of `proved`, and each crate of tests a module of `proved_tests`.
-CRATES = """vers_bits vers_tally vers_rank vers_sorted vers_rmq vers_wavelet vers_trees postings text_index sets
-inverted vers_saved""".split()
-TESTS = """test_alloc vers_bits_tests vers_rank_tests vers_sorted_tests vers_rmq_tests vers_wavelet_tests
-vers_trees_tests postings_tests text_index_tests sets_tests inverted_tests
+CRATES = """vers_bits vers_tally vers_rank word_rank vers_sorted vers_rmq vers_wavelet wavelet_tree vers_trees
+postings text_index sets inverted vers_saved""".split()
+TESTS = """test_alloc vers_bits_tests vers_rank_tests word_rank_tests wavelet_tree_tests vers_sorted_tests
+vers_rmq_tests vers_wavelet_tests vers_trees_tests postings_tests text_index_tests sets_tests inverted_tests
 vers_saved_tests""".split()
 # The programs as libraries, the exports to C, and their tests: written only for the build of wrong bodies
 # (tools/mutants.py).
-PROGRAMS = "vers_words vers_engine vers_cli vers_texts vers_files vers_vecs vers_uses vers_c".split()
+PROGRAMS = "catalogue vers_words vers_engine vers_cli vers_texts vers_files vers_vecs vers_uses vers_c".split()
 PROGRAM_TESTS = "vers_cli_tests vers_texts_tests vers_files_tests vers_uses_tests".split()
 # The module that each belongs to, and the modules that are stored.
 MODULES = {"proved": CRATES, "proved_tests": TESTS, "programs": PROGRAMS, "program_tests": PROGRAM_TESTS}

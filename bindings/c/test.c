@@ -821,6 +821,33 @@ static void test_faults(void) {
     uint64_t posted[8] = {words[0], 1, 7, 128, 1, 5, 2, 0};
     is("a document", load_changed(VERS_KIND_POSTINGS, posted, 8, 6, 9, true), VERS_DONE);
     is("less a cost", load_changed(VERS_KIND_POSTINGS, posted, 8, 4, 2, true), VERS_TOO_SHORT);
+    uint64_t levels[9] = {words[0], 2, 3, 3, 3, 2, 2, 7, 0};
+    is("levels", load_changed(VERS_KIND_SYMBOLS, levels, 9, 5, 2, true), VERS_DONE);
+    is("a one past a level", load_changed(VERS_KIND_SYMBOLS, levels, 9, 5, 10, true), VERS_BAD_PADDING);
+    is("less a level", load_changed(VERS_KIND_SYMBOLS, levels, 9, 3, 2, true), VERS_BAD_LENGTH);
+    is("version 3", load_changed(VERS_KIND_SYMBOLS, levels, 9, 1, 3, true), VERS_OTHER_VERSION);
+}
+
+/* The symbols 1, 5, 3 of 3 bits are loaded from the first version of their form, and saved by levels. */
+static void test_first_version(void) {
+    uint64_t words[7], levels[9], wanted[9];
+    memcpy(words, worked, sizeof words);
+    words[2] = words[3] = words[4] = 3;
+    words[5] = 0351;
+    words[6] = sum_of(words, 7);
+    memcpy(wanted, words, 5 * 8);
+    wanted[1] = wanted[5] = wanted[6] = 2;
+    wanted[7] = 7;
+    wanted[8] = sum_of(wanted, 9);
+    vers_symbols symbols = {0};
+    is("load the first version", vers_symbols_load(&symbols, (const uint8_t *)words, sizeof words), VERS_DONE);
+    found("first symbol", 0, vers_symbols_get(&symbols, 0), 1);
+    found("second symbol", 1, vers_symbols_get(&symbols, 1), 5);
+    found("third symbol", 2, vers_symbols_get(&symbols, 2), 3);
+    found("saved_size by levels", 0, vers_symbols_saved_size(&symbols), sizeof levels);
+    is("save by levels", vers_symbols_save(&symbols, (uint8_t *)levels, sizeof levels), VERS_DONE);
+    is("saved by levels", memcmp(levels, wanted, sizeof levels) == 0, 1);
+    vers_symbols_free(&symbols);
 }
 
 /* Saves a list and loads it: the other list answers like the first. As another kind it is refused. */
@@ -1222,6 +1249,7 @@ int main(void) {
     test_listed(40);
     test_worked_form();
     test_faults();
+    test_first_version();
     test_tree_form();
     test_forms(0);
     test_forms(1);

@@ -355,6 +355,13 @@ class Owners(unittest.TestCase):
                 self.assertEqual((type(other), list(other)), (type(made), list(made)))
             with self.assertRaises(vers.TooShort):
                 type(made).from_bytes(made.to_bytes()[:-1])
+        # (the bytes that releases up to 0.18 saved, and pickled)
+        packed = bytes.fromhex(
+            "776f6c74736a656d0100000000000000030000000000000003000000000000000300000000000000"
+            "4101000000000000e938ac22f41685a0"
+        )
+        symbols = vers.WaveletMatrix.from_bytes(packed)
+        self.assertEqual((list(symbols), len(symbols.to_bytes())), ([1, 0, 5], 72))
         tree = vers.BpTree("(()())")
         self.assertEqual(len(tree.to_bytes()), 56)
         for other in (pickle.loads(pickle.dumps(tree)), vers.BpTree.from_bytes(tree.to_bytes())):

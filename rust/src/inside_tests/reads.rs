@@ -17,6 +17,7 @@ use crate::proved::vers_trees::trees::bp::BpTree;
 use crate::proved::vers_wavelet::wavelet::{
     GatheredQuery, GetQuery, QuantileQuery, RankQuery, SelectQuery, WaveletMatrix,
 };
+use crate::proved::word_rank::WordRank;
 use crate::rattle::reads::{during, Read, Way};
 use crate::rattle::{Global, Vec};
 use std::collections::{BTreeMap, BTreeSet};
@@ -83,6 +84,8 @@ fn most_of(name: &str, digits: u64, chunks: u64) -> [u64; 9] {
         ("RsVec", it) if it.starts_with("predecessor") || it.starts_with("successor") => [16, 18, 18, 0, 2, 0, 0, 0, 0],
         ("RsVec", it) if it.starts_with("iter ") => [1, 0, 0, 0, 2, 0, 0, 0, 0],
         ("RsVec", _) => [8, 17, 17, 0, 2, 0, 0, 0, 0],
+        ("WordRank", "is_one") => [1, 0, 0, 0, 0, 0, 0, 0, 0],
+        ("WordRank", _) => [1, 1, 1, 0, 0, 0, 0, 0, 0],
         ("EliasFanoVec", it) if it.contains("_each") => [any; 9],
         ("EliasFanoVec", "predecessor" | "successor" | "rank" | "has") => times(digits + 8, digits + 8),
         ("SparseRSVec", "rank0" | "rank1" | "is_set" | "get") => times(digits + 8, digits + 8),
@@ -405,6 +408,24 @@ fn reads_of_bits_are_counted() {
             walked!(book, "RsVec iter0", about.clone(), list.iter0());
             walked!(book, "RsVec iter1", about.clone(), list.iter1());
             walked!(book, "RsVec into_iter1", about.clone(), list.into_iter1());
+        }
+    }
+    assert_eq!(book.told(), [""; 0]);
+}
+
+#[test]
+fn reads_of_counted_words_are_counted() {
+    let mut book = Book::default();
+    for n in LENGTHS {
+        for kind in 0..5 {
+            let list = WordRank::from_bit_vec(bits_of(n, kind)).ok().unwrap();
+            let about = format!("{n} bits of kind {kind}");
+            for place in places(n) {
+                asked!(book, "WordRank", list, about, rank1_counted(place));
+                if place < n {
+                    asked!(book, "WordRank", list, about, is_one_counted(place), get_and_rank1_counted(place));
+                }
+            }
         }
     }
     assert_eq!(book.told(), [""; 0]);

@@ -5,9 +5,11 @@
 pub mod vers_bits;
 pub mod vers_tally;
 pub mod vers_rank;
+pub mod word_rank;
 pub mod vers_sorted;
 pub mod vers_rmq;
 pub mod vers_wavelet;
+pub mod wavelet_tree;
 pub mod vers_trees;
 pub mod postings;
 pub mod text_index;

@@ -5,6 +5,8 @@
 pub mod test_alloc;
 pub mod vers_bits_tests;
 pub mod vers_rank_tests;
+pub mod word_rank_tests;
+pub mod wavelet_tree_tests;
 pub mod vers_sorted_tests;
 pub mod vers_rmq_tests;
 pub mod vers_wavelet_tests;

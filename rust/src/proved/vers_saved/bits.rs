@@ -3,7 +3,7 @@
 use crate::rattle::prelude::*;
 
 use crate::proved::vers_saved::form::{Shape, bits_of, taken};
-use crate::proved::vers_saved::kind::{BIT_LISTS, BITS, Kind};
+use crate::proved::vers_saved::kind::{BIT_LISTS, Kind};
 use crate::proved::vers_saved::saved::{Loaded, Saved};
 use crate::rattle::AllocError;
 use crate::rattle::Allocator;
@@ -12,11 +12,7 @@ use crate::proved::vers_rank::fast_rs_vec::RsVec;
 
 // Returns the shape of a list of `count` bits.
 fn shape_of(count: usize) -> Shape {
-    Shape {
-        kind: BITS,
-        count,
-        width: 1,
-    }
+    Shape { count, width: 1 }
 }
 
 // Returns limb `k`.

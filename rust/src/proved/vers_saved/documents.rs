@@ -3,7 +3,7 @@
 use crate::rattle::prelude::*;
 
 use crate::proved::vers_saved::form::Shape;
-use crate::proved::vers_saved::kind::{Kind, POSTING_LISTS, POSTINGS};
+use crate::proved::vers_saved::kind::{Kind, POSTING_LISTS};
 use crate::proved::vers_saved::numbers::{are_words, copy_members};
 use crate::proved::vers_saved::saved::{Loaded, Saved};
 use crate::proved::postings::Postings;
@@ -22,11 +22,7 @@ impl<A: Allocator + Copy> Saved for Postings<A> {
             return None;
         }
         are_words(self.costs());
-        Some(Shape {
-            kind: POSTINGS,
-            count,
-            width: 128,
-        })
+        Some(Shape { count, width: 128 })
     }
 
     #[inline]

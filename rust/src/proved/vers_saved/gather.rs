@@ -3,14 +3,13 @@
 use crate::rattle::prelude::*;
 
 use crate::proved::vers_saved::fault::LoadError;
-use crate::proved::vers_saved::form::{Form, HEAD, Head, Shape, head_of, test_body};
-use crate::proved::vers_saved::kind::Kind;
+use crate::proved::vers_saved::form::{Form, HEAD, Head, head_of, test_body};
+use crate::proved::vers_saved::kind::{Kind, Rows};
 use crate::proved::vers_saved::numbers::are_words;
 use crate::proved::vers_saved::words::{FRAME, TwoParts, word_of};
 use crate::rattle::AllocError;
 use crate::rattle::Allocator;
 use std::io;
-use crate::proved::vers_bits::bit_vec::MAX_LEN;
 use crate::rattle::io::Source;
 
 /// The greatest number of bytes read or written at once.
@@ -112,7 +111,7 @@ fn gather_head<R: Source, A: Allocator>(
         return Err(fault);
     }
     are_words(words.as_slice());
-    head_of(kind, words)
+    head_of(&kind.at_version(words[1]), words)
 }
 
 // Removes a head from the words that begin with it, and returns it. One more word is left.
@@ -127,13 +126,13 @@ fn cut_head<A: Allocator>(words: &mut Vec<u64, A>) -> [u64; HEAD] {
 // after it was gathered.
 fn gather_body<R: Source, A: Allocator>(
     kind: &Kind,
-    n: usize,
+    rows: Rows,
     head: &[u64],
     reader: &mut R,
     block: &mut [u8],
     words: &mut Vec<u64, A>,
 ) -> Result<(), LoadError> {
-    if let Err(fault) = gather(reader, block, words, n.div_ceil(64) + 1) {
+    if let Err(fault) = gather(reader, block, words, rows.words() + 1) {
         return Err(fault);
     }
     if let Err(fault) = test_end(reader, block) {
@@ -141,27 +140,29 @@ fn gather_body<R: Source, A: Allocator>(
     }
     let rest = words.as_slice();
     are_words(rest);
-    test_body(kind.order, n, &TwoParts { front: head, rest })
+    test_body(kind.order, rows, &TwoParts { front: head, rest })
 }
 
-// Returns the shape in the saved form that is the rest of a reader, for a list of that kind, and gathers its
-// words; none was gathered before.
+// Returns the head of the saved form that is the rest of a reader, for a list of that kind, and gathers its words;
+// none was gathered before.
 fn gather_form<R: Source, A: Allocator>(
     kind: &Kind,
     reader: &mut R,
     block: &mut [u8],
     words: &mut Vec<u64, A>,
-) -> Result<Shape, LoadError> {
+) -> Result<Head, LoadError> {
     let said = gather_head(kind, reader, block, words)?;
+    let used = kind.at_version(said.version);
     let head = cut_head(words);
-    if let Err(fault) = gather_body(kind, said.bits, &head, reader, block, words) {
+    if let Err(fault) = gather_body(&used, said.rows, &head, reader, block, words) {
         return Err(fault);
     }
-    words.truncate(said.bits.div_ceil(64));
-    Ok(said.shape)
+    words.truncate(said.rows.words());
+    Ok(said)
 }
 
-// Returns the shape and the words of the saved form that is the rest of a reader, for a list of that kind.
+// Returns the shape and the words of the saved form that is the rest of a reader, for a list of that kind in the
+// version that it names.
 pub(crate) fn form_from<R: Source, A: Allocator + Copy>(
     alloc: A,
     kind: Kind,
@@ -170,7 +171,17 @@ pub(crate) fn form_from<R: Source, A: Allocator + Copy>(
     let mut block = Vec::from_elem(alloc, 0u8, BLOCK)?;
     let mut words = Vec::new(alloc);
     match gather_form(&kind, reader, block.as_mut_slice(), &mut words) {
-        Ok(shape) => Ok(Form { shape, words }),
+        Ok(
+            Head {
+                version,
+                shape,
+                rows: _,
+            },
+        ) => Ok(Form {
+            version,
+            shape,
+            words,
+        }),
         Err(fault) => Err(fault),
     }
 }

@@ -2,6 +2,7 @@
 
 use crate::rattle::prelude::*;
 
+use crate::proved::vers_saved::{LEVELS_VERSION, VERSION};
 use crate::proved::vers_bits::bit_vec::MAX_LEN;
 use crate::proved::vers_rmq::rmq::{binary_rmq, fast_rmq};
 
@@ -23,12 +24,16 @@ pub enum Order {
 pub struct Kind {
     /// The number of the kind.
     pub number: u64,
+    /// The version of its forms.
+    pub version: u64,
     /// The least width of its items.
     pub least_width: u64,
     /// The greatest width of its items.
     pub greatest_width: u64,
     /// The number of bits of an item, or 0 if its width says it.
     pub item_bits: u64,
+    /// Whether the bits of the items are in levels: a row for each bit of an item, with a bit of each item.
+    pub by_levels: bool,
     /// The least number of items of a list.
     pub least_count: u64,
     /// The greatest number of items of a list.
@@ -61,7 +66,40 @@ pub const POSTINGS: u64 = 7;
 /// The number of indexes of texts.
 pub const TEXTS: u64 = 9;
 
+/// Rows of bits, each from a whole word on.
+#[derive(Clone, Copy)]
+pub(crate) struct Rows {
+    pub(crate) count: usize,
+    pub(crate) bits: usize,
+}
+
+impl Rows {
+    // Returns the number of words that they fill.
+    #[inline]
+    pub(crate) fn words(&self) -> usize {
+        self.count * self.bits.div_ceil(64)
+    }
+}
+
 impl Kind {
+    // Returns the kind in a version: that of lists by levels has a first version, with the items one after another.
+    pub(crate) fn at_version(&self, version: u64) -> Kind {
+        if self.by_levels && version == VERSION {
+            return Kind {
+                number: self.number,
+                version: VERSION,
+                least_width: self.least_width,
+                greatest_width: self.greatest_width,
+                item_bits: self.item_bits,
+                by_levels: false,
+                least_count: self.least_count,
+                greatest_count: self.greatest_count,
+                order: self.order,
+            };
+        }
+        *self
+    }
+
     // Returns true if a list of this kind may have that width.
     pub(crate) fn takes_width(&self, width: u64) -> bool {
         self.least_width <= width && width <= self.greatest_width
@@ -70,6 +108,32 @@ impl Kind {
     // Returns true if a list of this kind may have that many items.
     pub(crate) fn takes_count(&self, count: u64) -> bool {
         self.least_count <= count && count <= self.greatest_count
+    }
+
+    // Returns the number of rows of the items' bits.
+    fn count_rows(&self, width: usize) -> usize {
+        if self.by_levels { width } else { 1 }
+    }
+
+    // Returns the number of bits in a row of `count` items. `None` if they fill too many words.
+    fn count_row(&self, count: usize, width: usize) -> Option<usize> {
+        if self.by_levels {
+            return Some(count);
+        }
+        count.checked_mul(self.bits_of_item(width))
+    }
+
+    // Returns the rows of the bits of `count` items. `None` if they fill too many words.
+    pub(crate) fn rows_of_items(&self, count: usize, width: usize) -> Option<Rows> {
+        let rows = Rows {
+            count: self.count_rows(width),
+            bits: self.count_row(count, width)?,
+        };
+        let words = rows.count.checked_mul(rows.bits.div_ceil(64))?;
+        if words as u64 > GREATEST_WORDS {
+            return None;
+        }
+        Some(rows)
     }
 
     // Returns the number of bits of an item.
@@ -88,9 +152,11 @@ pub const GREATEST_WORDS: u64 = 288230376151711743;
 /// Lists of bits, which have one bit an item.
 pub const BIT_LISTS: Kind = Kind {
     number: BITS,
+    version: VERSION,
     least_width: 1,
     greatest_width: 1,
     item_bits: 1,
+    by_levels: false,
     least_count: 0,
     greatest_count: MAX_LEN as u64,
     order: Order::Any,
@@ -99,9 +165,11 @@ pub const BIT_LISTS: Kind = Kind {
 /// Ascending lists of numbers.
 pub const SORTED_LISTS: Kind = Kind {
     number: SORTED,
+    version: VERSION,
     least_width: 64,
     greatest_width: 64,
     item_bits: 64,
+    by_levels: false,
     least_count: 0,
     greatest_count: GREATEST_WORDS,
     order: Order::Ascending,
@@ -110,9 +178,11 @@ pub const SORTED_LISTS: Kind = Kind {
 /// Lists of bits with few ones: the positions of the ones, and the length.
 pub const SPARSE_LISTS: Kind = Kind {
     number: SPARSE,
+    version: VERSION,
     least_width: 64,
     greatest_width: 64,
     item_bits: 64,
+    by_levels: false,
     least_count: 1,
     greatest_count: GREATEST_WORDS,
     order: Order::Rising,
@@ -121,9 +191,11 @@ pub const SPARSE_LISTS: Kind = Kind {
 /// Lists of numbers in any order, with range minima from a sparse table.
 pub const TABLE_VALUES: Kind = Kind {
     number: VALUES,
+    version: VERSION,
     least_width: 64,
     greatest_width: 64,
     item_bits: 64,
+    by_levels: false,
     least_count: 0,
     greatest_count: binary_rmq::MAX_LEN as u64,
     order: Order::Any,
@@ -132,9 +204,11 @@ pub const TABLE_VALUES: Kind = Kind {
 /// Lists of numbers in any order, with range minima from blocks.
 pub const BLOCK_VALUES: Kind = Kind {
     number: VALUES,
+    version: VERSION,
     least_width: 64,
     greatest_width: 64,
     item_bits: 64,
+    by_levels: false,
     least_count: 0,
     greatest_count: fast_rmq::MAX_LEN as u64,
     order: Order::Any,
@@ -143,20 +217,37 @@ pub const BLOCK_VALUES: Kind = Kind {
 /// Documents with costs: the documents, and then the cost of each.
 pub const POSTING_LISTS: Kind = Kind {
     number: POSTINGS,
+    version: VERSION,
     least_width: 128,
     greatest_width: 128,
     item_bits: 128,
+    by_levels: false,
     least_count: 0,
     greatest_count: fast_rmq::MAX_LEN as u64,
     order: Order::HalfRising,
 };
 
-/// Lists of symbols of 1 to 64 bits.
+/// Lists of symbols of 1 to 64 bits, by their levels.
 pub const SYMBOL_LISTS: Kind = Kind {
     number: SYMBOLS,
+    version: LEVELS_VERSION,
     least_width: 1,
     greatest_width: 64,
     item_bits: 0,
+    by_levels: true,
+    least_count: 0,
+    greatest_count: MAX_LEN as u64,
+    order: Order::Any,
+};
+
+/// Lists of symbols of 1 to 64 bits in the first version: their bits, one symbol after another.
+pub const PACKED_SYMBOLS: Kind = Kind {
+    number: SYMBOLS,
+    version: VERSION,
+    least_width: 1,
+    greatest_width: 64,
+    item_bits: 0,
+    by_levels: false,
     least_count: 0,
     greatest_count: MAX_LEN as u64,
     order: Order::Any,
@@ -166,9 +257,11 @@ pub const SYMBOL_LISTS: Kind = Kind {
 /// and their width is that of a symbol.
 pub const TEXT_INDEXES: Kind = Kind {
     number: TEXTS,
+    version: VERSION,
     least_width: 1,
     greatest_width: 16,
     item_bits: 64,
+    by_levels: false,
     least_count: 4,
     greatest_count: GREATEST_WORDS,
     order: Order::Any,

@@ -3,7 +3,7 @@
 use crate::rattle::prelude::*;
 
 use crate::proved::vers_saved::form::{Shape, taken};
-use crate::proved::vers_saved::kind::{BLOCK_VALUES, GREATEST_WORDS, Kind, SORTED, SORTED_LISTS, TABLE_VALUES, VALUES};
+use crate::proved::vers_saved::kind::{BLOCK_VALUES, GREATEST_WORDS, Kind, SORTED_LISTS, TABLE_VALUES};
 use crate::proved::vers_saved::saved::{Loaded, Saved};
 use crate::rattle::AllocError;
 use crate::rattle::Allocator;
@@ -11,13 +11,9 @@ use crate::proved::vers_rmq::rmq::binary_rmq::BinaryRmq;
 use crate::proved::vers_rmq::rmq::fast_rmq::FastRmq;
 use crate::proved::vers_sorted::elias_fano::{EliasFanoRefIter, EliasFanoVec};
 
-// Returns the shape of `count` words of a kind, one for each item.
-pub(crate) fn words_shape(kind: u64, count: usize) -> Shape {
-    Shape {
-        kind,
-        count,
-        width: 64,
-    }
+// Returns the shape of `count` words, one for each item.
+pub(crate) fn words_shape(count: usize) -> Shape {
+    Shape { count, width: 64 }
 }
 
 // Shows that all items of a slice are words.
@@ -75,7 +71,7 @@ impl<A: Allocator + Copy> Saved for EliasFanoVec<A> {
             return None;
         }
         read_last(self);
-        Some(words_shape(SORTED, count))
+        Some(words_shape(count))
     }
 
     #[inline]
@@ -102,7 +98,7 @@ impl<A: Allocator + Copy> Saved for BinaryRmq<A> {
 
     fn shape(&self) -> Option<Shape> {
         are_words(self.as_slice());
-        Some(words_shape(VALUES, self.len()))
+        Some(words_shape(self.len()))
     }
 
     #[inline]
@@ -124,7 +120,7 @@ impl<A: Allocator + Copy> Saved for FastRmq<A> {
 
     fn shape(&self) -> Option<Shape> {
         are_words(self.as_slice());
-        Some(words_shape(VALUES, self.len()))
+        Some(words_shape(self.len()))
     }
 
     #[inline]

@@ -2,6 +2,7 @@
 
 use crate::rattle::prelude::*;
 
+use crate::proved::vers_saved::VERSION;
 use crate::proved::vers_saved::fault::{LoadError, SaveError};
 use crate::proved::vers_saved::form::{Form, Shape, form_of, put_head, put_words};
 use crate::proved::vers_saved::kind::Kind;
@@ -35,11 +36,21 @@ pub trait Loaded<A: Allocator>: Saved + Sized {
     /// Returns the list of the items in these words, which are taken out of the vector. Precondition: the words
     /// are those of a list of that shape. Errors: `AllocError` if the allocator refuses a request.
     fn make(of: Shape, held: &mut Vec<u64, A>) -> Result<Self, AllocError>;
+
+    /// Returns the list of the items in these words, which are those of the first version of the form.
+    /// Precondition: the words are those of a list of that shape, one item after another. Errors: `AllocError` if
+    /// the allocator refuses a request, or if lists of this kind are not saved by levels.
+    fn make_packed(_of: Shape, _held: &mut Vec<u64, A>) -> Result<Self, AllocError> {
+        Err(AllocError)
+    }
 }
 
 // Returns the number of words of a list of that shape.
 pub(crate) fn count_words<S: Saved>(list: &S, shape: Shape) -> usize {
-    (shape.count * S::kind().bits_of_item(shape.width)).div_ceil(64)
+    match S::kind().rows_of_items(shape.count, shape.width) {
+        Some(rows) => rows.words(),
+        None => 0,
+    }
 }
 
 /// Returns the number of bytes of the saved form of a list, or `None` if it has none.
@@ -73,7 +84,7 @@ fn append_saved<S: Saved, B: Allocator>(
 ) -> Result<(), AllocError> {
     let count = count_words(list, shape);
     out.reserve(8 * (count + FRAME))?;
-    let mut sum = put_head(out, shape);
+    let mut sum = put_head(out, &S::kind(), shape);
     let mut done = 0;
     while done < count {
         let n = GROUP.min(count - done);
@@ -97,12 +108,28 @@ pub fn save_to_vec<S: Saved, B: Allocator>(list: &S, out: &mut Vec<u8, B>) -> Re
     Ok(())
 }
 
-/// Loads a list from its saved form.
+// Returns the list of the items in the words of a version of its form, which are taken out of the vector.
+pub(crate) fn list_of<S: Loaded<A>, A: Allocator>(
+    version: u64,
+    of: Shape,
+    held: &mut Vec<u64, A>,
+) -> Result<S, AllocError> {
+    if S::kind().by_levels && version == VERSION {
+        return S::make_packed(of, held);
+    }
+    S::make(of, held)
+}
+
+/// Loads a list from its saved form, in any version.
 ///
 /// # Errors
 ///
 /// That of the first test that fails; `Memory` only if the bytes pass all tests.
 pub fn load_from_slice<S: Loaded<A>, A: Allocator>(alloc: A, bytes: &[u8]) -> Result<S, LoadError> {
-    let Form { shape, mut words } = form_of(alloc, S::kind(), bytes)?;
-    Ok(S::make(shape, &mut words)?)
+    let Form {
+        version,
+        shape,
+        mut words,
+    } = form_of(alloc, S::kind(), bytes)?;
+    Ok(list_of(version, shape, &mut words)?)
 }

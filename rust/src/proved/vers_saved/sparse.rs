@@ -3,7 +3,7 @@
 use crate::rattle::prelude::*;
 
 use crate::proved::vers_saved::form::Shape;
-use crate::proved::vers_saved::kind::{GREATEST_WORDS, Kind, SPARSE, SPARSE_LISTS};
+use crate::proved::vers_saved::kind::{GREATEST_WORDS, Kind, SPARSE_LISTS};
 use crate::proved::vers_saved::numbers::{copy_members, words_shape};
 use crate::proved::vers_saved::saved::{Loaded, Saved};
 use crate::rattle::AllocError;
@@ -20,7 +20,7 @@ impl<A: Allocator + Copy> Saved for SparseRSVec<A> {
         if ones >= GREATEST_WORDS {
             return None;
         }
-        Some(words_shape(SPARSE, ones as usize + 1))
+        Some(words_shape(ones as usize + 1))
     }
 
     #[inline]

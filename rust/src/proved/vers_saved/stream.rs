@@ -6,7 +6,7 @@ use crate::proved::vers_saved::fault::{LoadError, SaveError};
 use crate::proved::vers_saved::form::{Form, Shape, put_head};
 pub use crate::proved::vers_saved::gather::fill;
 use crate::proved::vers_saved::gather::{BLOCK, form_from};
-use crate::proved::vers_saved::saved::{GROUP, Loaded, Saved, count_words, put_group};
+use crate::proved::vers_saved::saved::{GROUP, Loaded, Saved, count_words, list_of, put_group};
 use crate::proved::vers_saved::words::put_word;
 use crate::rattle::Allocator;
 use crate::rattle::io::Sink;
@@ -46,7 +46,7 @@ fn write_words<S: Saved, W: Sink, A: Allocator>(
     list: &S,
 ) -> Result<(), SaveError> {
     let count = count_words(list, shape);
-    let mut sum = put_head(&mut buffer, shape);
+    let mut sum = put_head(&mut buffer, &S::kind(), shape);
     let mut done = 0;
     while done < count {
         if let Err(error) = make_room(writer, &mut buffer) {
@@ -80,8 +80,8 @@ pub fn save<S: Saved, A: Allocator, W: Sink>(
     write_words(writer, buffer, shape, list)
 }
 
-/// Loads a list from its saved form, the rest of a reader. Reads blocks of 64 KiB, and keeps the words. Memory
-/// is allocated as bytes come, however great a length the head says.
+/// Loads a list from its saved form, in any version, the rest of a reader. Reads blocks of 64 KiB, and keeps the
+/// words. Memory is allocated as bytes come, however great a length the head says.
 ///
 /// # Errors
 ///
@@ -91,6 +91,10 @@ pub fn load<S: Loaded<A>, A: Allocator + Copy, R: Source>(
     alloc: A,
     reader: &mut R,
 ) -> Result<S, LoadError> {
-    let Form { shape, mut words } = form_from(alloc, S::kind(), reader)?;
-    Ok(S::make(shape, &mut words)?)
+    let Form {
+        version,
+        shape,
+        mut words,
+    } = form_from(alloc, S::kind(), reader)?;
+    Ok(list_of(version, shape, &mut words)?)
 }

@@ -1,158 +1,96 @@
-//! Lists of symbols, saved by the limbs of their bits, one symbol after another.
+//! Lists of symbols, saved by the limbs of the levels of their wavelet matrix.
 
 use crate::rattle::prelude::*;
 
-use crate::proved::vers_saved::form::{Shape, bits_of, taken};
-use crate::proved::vers_saved::kind::{Kind, SYMBOL_LISTS, SYMBOLS};
+use crate::proved::vers_saved::bits::limb_of;
+use crate::proved::vers_saved::form::{Shape, first_bits, taken};
+use crate::proved::vers_saved::kind::{Kind, SYMBOL_LISTS};
+use crate::proved::vers_saved::packed::packed_list;
 use crate::proved::vers_saved::saved::{Loaded, Saved};
 use crate::rattle::AllocError;
 use crate::rattle::Allocator;
-use crate::proved::vers_bits::bit_vec::{BitVec, MAX_LEN};
-use crate::proved::vers_wavelet::wavelet::{GetQuery, WaveletMatrix};
+use crate::proved::vers_bits::bit_vec::MAX_LEN;
+use crate::proved::vers_rank::fast_rs_vec::RsVec;
+use crate::proved::vers_wavelet::wavelet::WaveletMatrix;
 
-/// The number of symbols read at once. Their bits fill as many words as a symbol has bits.
-const GROUP: usize = 64;
-
-// Answers queries for the symbols of a group.
-fn ask_group<A: Allocator + Copy>(list: &WaveletMatrix<A>, group: usize, queries: &mut [GetQuery]) {
-    for j in 0..GROUP {
-        queries[j] = GetQuery::new(GROUP * group + j);
-    }
-    list.get_u64_each(queries);
+// A limb of a level.
+#[derive(Clone, Copy)]
+struct Place {
+    level: usize,
+    limb: usize,
 }
 
-// Returns the symbol in an answered query, or 0 if there is none.
+// Returns the place of the next limb, where each level has as many limbs.
 #[inline(always)]
-fn answer_of(queries: &[GetQuery], j: usize) -> u64 {
-    queries[j].answer.unwrap_or(0)
+fn place_after(place: Place, limbs: usize) -> Place {
+    let limb = place.limb + 1;
+    if limb == limbs {
+        return Place {
+            level: place.level + 1,
+            limb: 0,
+        };
+    }
+    Place {
+        level: place.level,
+        limb,
+    }
 }
 
-// Reads the symbols of a group, unless they have been read.
-fn read_group<A: Allocator + Copy>(
-    list: &WaveletMatrix<A>,
-    known: usize,
-    group: usize,
-    symbols: &mut [u64],
-) {
-    if known == group {
+// Copies the limbs of a level from limb `from` on, as many as the slice has.
+fn copy_level<A: Allocator + Copy>(level: &RsVec<A>, from: usize, out: &mut [u64]) {
+    for j in 0..out.len() {
+        out[j] = limb_of(level, from + j);
+    }
+}
+
+// Copies the limbs of the levels from limb `from` on, as many as the slice has, which may be of several levels.
+fn copy_across<A: Allocator + Copy>(list: &WaveletMatrix<A>, from: usize, out: &mut [u64]) {
+    let limbs = list.len().div_ceil(64).max(1);
+    let mut place = Place {
+        level: from / limbs,
+        limb: from % limbs,
+    };
+    for j in 0..out.len() {
+        out[j] = limb_of(list.level(place.level), place.limb);
+        place = place_after(place, limbs);
+    }
+}
+
+// Copies the limbs of the levels from limb `from` on, as many as the slice has. Mostly they are of one level.
+fn copy_levels<A: Allocator + Copy>(list: &WaveletMatrix<A>, from: usize, out: &mut [u64]) {
+    let limbs = list.len().div_ceil(64).max(1);
+    let limb = from % limbs;
+    if out.is_empty() || out.len() > limbs - limb {
+        copy_across(list, from, out);
         return;
     }
-    let mut queries = [GetQuery::new(0); GROUP];
-    ask_group(list, group, &mut queries);
-    for j in 0..GROUP {
-        symbols[j] = answer_of(&queries, j);
-    }
+    copy_level(list.level(from / limbs), limb, out);
 }
 
-// Returns the number of bits of all symbols.
-fn count_bits<A: Allocator + Copy>(list: &WaveletMatrix<A>) -> usize {
-    let width = list.bits_per_element();
-    list.len() * width
+// Returns the first `len` bits of words, of which there are as many as these bits need, with their index.
+fn level_of<A: Allocator + Copy>(
+    alloc: A,
+    len: usize,
+    words: &[u64],
+) -> Result<RsVec<A>, AllocError> {
+    RsVec::from_bit_vec(first_bits(len, Vec::from_slice(alloc, words)?))
 }
 
-// Returns a number whose low digits are `n` of a symbol, and whose others are those of a word.
-#[inline(always)]
-fn joined(symbol: u64, n: usize, word: u64) -> u64 {
-    if n == 64 {
-        return symbol;
-    }
-    symbol % (1 << n) + (1 << n) * word
-}
-
-// Returns the bits of all symbols from position `64 * k` on, 64 of them or as many as there are, as a number.
-// The symbols of its group were read.
-fn limb_of<A: Allocator + Copy>(list: &WaveletMatrix<A>, symbols: &[u64], k: usize) -> u64 {
-    let width = list.bits_per_element();
-    let from = 64 * k;
-    let mut place = count_bits(list).min(from + 64);
-    let mut item = (place - 1) / width;
-    let mut word = 0;
-    while place > from {
-        let first = item * width;
-        let start = first.max(from);
-        word = joined(
-            symbols[item % GROUP] >> (start - first),
-            place - start,
-            word,
-        );
-        place = start;
-        item = item.saturating_sub(1);
-    }
-    word
-}
-
-// Copies the limbs of the bits of all symbols from a limb on, as many as the slice has.
-pub(crate) fn copy_limbs<A: Allocator + Copy>(list: &WaveletMatrix<A>, from: usize, out: &mut [u64]) {
-    let width = list.bits_per_element();
-    let mut symbols = [0; GROUP];
-    let mut known = usize::MAX;
-    for k in 0..out.len() {
-        let group = (from + k) / width;
-        read_group(list, known, group, &mut symbols);
-        known = group;
-        out[k] = limb_of(list, &symbols, from + k);
-    }
-}
-
-// Returns the numbers of `width` bits each in a list of bits, one after another.
-fn unpacked<A: Allocator + Copy>(bits: &BitVec<A>, width: usize) -> Result<Vec<u64, A>, AllocError> {
-    let count = bits.len() / width;
-    let mut numbers = Vec::with_capacity(bits.allocator(), count)?;
-    for e in 0..count {
-        numbers.push(bits.unpack_element_unchecked(e, width))?;
-    }
-    Ok(numbers)
-}
-
-// Returns the numbers of at most 8 bits each in a list of bits, one after another.
-fn unpacked_bytes<A: Allocator + Copy>(
-    bits: &BitVec<A>,
-    width: usize,
-) -> Result<Vec<u8, A>, AllocError> {
-    let count = bits.len() / width;
-    let mut numbers = Vec::with_capacity(bits.allocator(), count)?;
-    for e in 0..count {
-        numbers.push(bits.unpack_element_unchecked(e, width) as u8)?;
-    }
-    Ok(numbers)
-}
-
-// Returns the symbols in words.
-pub(crate) fn symbols_of<A: Allocator + Copy>(
-    of: Shape,
-    words: Vec<u64, A>,
-) -> Result<Vec<u64, A>, AllocError> {
-    let bits = bits_of(&SYMBOL_LISTS, of, words);
-    unpacked(&bits, of.width)
-}
-
-// Returns the symbols of at most 8 bits in words, as bytes.
-pub(crate) fn bytes_of<A: Allocator + Copy>(
-    of: Shape,
-    words: Vec<u64, A>,
-) -> Result<Vec<u8, A>, AllocError> {
-    let bits = bits_of(&SYMBOL_LISTS, of, words);
-    unpacked_bytes(&bits, of.width)
-}
-
-// Returns the matrix of the symbols in words.
-fn matrix_of<A: Allocator + Copy>(
+// Returns the levels in words.
+fn levels_of<A: Allocator + Copy>(
     alloc: A,
     of: Shape,
-    words: Vec<u64, A>,
-) -> Result<WaveletMatrix<A>, AllocError> {
-    let symbols = symbols_of(of, words)?;
-    WaveletMatrix::from_slice(alloc, symbols.as_slice(), of.width as u16)
-}
-
-// Returns the matrix of the symbols of at most 8 bits in words.
-fn matrix_of_bytes<A: Allocator + Copy>(
-    alloc: A,
-    of: Shape,
-    words: Vec<u64, A>,
-) -> Result<WaveletMatrix<A>, AllocError> {
-    let bytes = bytes_of(of, words)?;
-    WaveletMatrix::from_integers(alloc, bytes.as_slice(), of.width as u16)
+    words: &[u64],
+) -> Result<Vec<RsVec<A>, A>, AllocError> {
+    let limbs = of.count.div_ceil(64);
+    let mut levels = Vec::with_capacity(alloc, of.width)?;
+    let mut rest = words;
+    for _ in 0..of.width {
+        let (level, others) = rest.split_at(limbs);
+        levels.push(level_of(alloc, of.count, level)?)?;
+        rest = others;
+    }
+    Ok(levels)
 }
 
 impl<A: Allocator + Copy> Saved for WaveletMatrix<A> {
@@ -166,35 +104,30 @@ impl<A: Allocator + Copy> Saved for WaveletMatrix<A> {
         if width == 0 || width > 64 {
             return None;
         }
-        if count > MAX_LEN / width {
-            return None;
-        }
-        Some(Shape {
-            kind: SYMBOLS,
-            count,
-            width,
-        })
+        SYMBOL_LISTS.rows_of_items(count, width)?;
+        Some(Shape { count, width })
     }
 
     fn word(&self, k: usize) -> u64 {
         let mut word = [0];
-        copy_limbs(self, k, &mut word);
+        copy_levels(self, k, &mut word);
         word[0]
     }
 
     fn copy_words(&self, from: usize, out: &mut [u64]) {
-        copy_limbs(self, from, out)
+        copy_levels(self, from, out)
     }
 }
 
 impl<A: Allocator + Copy> Loaded<A> for WaveletMatrix<A> {
     fn make(of: Shape, held: &mut Vec<u64, A>) -> Result<Self, AllocError> {
         let alloc = *held.allocator();
-        let words = taken(held);
-        if of.width <= 8 {
-            matrix_of_bytes(alloc, of, words)
-        } else {
-            matrix_of(alloc, of, words)
-        }
+        let levels = levels_of(alloc, of, held.as_slice())?;
+        Ok(WaveletMatrix::from_levels(levels).unwrap())
+    }
+
+    fn make_packed(of: Shape, held: &mut Vec<u64, A>) -> Result<Self, AllocError> {
+        let alloc = *held.allocator();
+        packed_list(alloc, of, taken(held))
     }
 }

@@ -2,6 +2,7 @@
 
 use crate::rattle::prelude::*;
 
+use crate::proved::vers_saved::VERSION;
 use crate::proved::vers_saved::bits::limb_of;
 use crate::proved::vers_saved::fault::LoadError;
 use crate::proved::vers_saved::form::{Form, Shape, bits_of, form_of, taken};
@@ -18,9 +19,11 @@ use crate::proved::vers_trees::trees::bp::{BpTree, MAX_BLOCK_SIZE, MAX_LEN};
 pub fn tree_kind(size: usize) -> Kind {
     Kind {
         number: PARENTHESES,
+        version: VERSION,
         least_width: size.max(1) as u64,
         greatest_width: size.min(MAX_BLOCK_SIZE) as u64,
         item_bits: 1,
+        by_levels: false,
         least_count: 0,
         greatest_count: MAX_LEN as u64,
         order: Order::Any,
@@ -37,7 +40,6 @@ impl<const BLOCK_SIZE: usize, A: Allocator + Copy> Saved for BpTree<BLOCK_SIZE, 
             return None;
         }
         Some(Shape {
-            kind: PARENTHESES,
             count: self.len(),
             width: BLOCK_SIZE,
         })
@@ -70,6 +72,10 @@ impl<'a, const BLOCK_SIZE: usize, A: Allocator> Loaded<&'a A> for BpTree<BLOCK_S
     fn make(of: Shape, held: &mut Vec<u64, &'a A>) -> Result<Self, AllocError> {
         tree_of(of, held)
     }
+
+    fn make_packed(_of: Shape, _held: &mut Vec<u64, &'a A>) -> Result<Self, AllocError> {
+        Err(AllocError)
+    }
 }
 
 /// Loads parentheses from the saved form of a tree with blocks of `size` bits.
@@ -82,7 +88,7 @@ pub fn load_parentheses_from_slice<A: Allocator + Copy>(
     size: usize,
     bytes: &[u8],
 ) -> Result<BitVec<A>, LoadError> {
-    let Form { shape, words } = form_of(alloc, tree_kind(size), bytes)?;
+    let Form { shape, words, .. } = form_of(alloc, tree_kind(size), bytes)?;
     Ok(parentheses_of(size, shape, words))
 }
 
@@ -107,6 +113,10 @@ pub fn load_tree<'a, const BLOCK_SIZE: usize, A: Allocator, R: Source>(
     alloc: &'a A,
     reader: &mut R,
 ) -> Result<BpTree<BLOCK_SIZE, &'a A>, LoadError> {
-    let Form { shape, mut words } = form_from(alloc, tree_kind(BLOCK_SIZE), reader)?;
+    let Form {
+        shape,
+        mut words,
+        ..
+    } = form_from(alloc, tree_kind(BLOCK_SIZE), reader)?;
     Ok(tree_of(shape, &mut words)?)
 }

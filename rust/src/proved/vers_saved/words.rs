@@ -2,7 +2,7 @@
 
 use crate::rattle::prelude::*;
 
-use crate::proved::vers_saved::kind::Order;
+use crate::proved::vers_saved::kind::{Order, Rows};
 use crate::proved::vers_saved::{FACTOR, START, TURN};
 use crate::rattle::Allocator;
 
@@ -82,14 +82,15 @@ pub(crate) fn sum_before<W: Words>(end: usize, words: &W) -> u64 {
     sum
 }
 
-// Copies the words of `n` bits, for which there is room. Returns the sum of the words before that of the form.
+// Copies the `n` words of the content, for which there is room. Returns the sum of the words before that of the
+// form.
 pub(crate) fn copy_summed<W: Words, A: Allocator>(
     n: usize,
     words: &W,
     kept: &mut Vec<u64, A>,
 ) -> u64 {
     let mut sum = sum_before(5, words);
-    for k in 0..n.div_ceil(64) {
+    for k in 0..n {
         let word = words.word(k + 5);
         kept.push_reserved(word);
         sum = mixed(sum, word);
@@ -97,9 +98,19 @@ pub(crate) fn copy_summed<W: Words, A: Allocator>(
     sum
 }
 
-// Returns true if the word of the last of `n` bits has only zeros past them.
-pub(crate) fn is_padded<W: Words>(n: usize, words: &W) -> bool {
-    n % 64 == 0 || words.word(n.div_ceil(64) + FRAME - 2) < 1 << (n % 64)
+// Returns true if the last word of row `k` has only zeros past the bits of the row.
+fn row_is_padded<W: Words>(bits: usize, k: usize, words: &W) -> bool {
+    let limbs = bits.div_ceil(64);
+    bits % 64 == 0 || words.word(k * limbs + limbs + FRAME - 2) < 1 << (bits % 64)
+}
+
+// Returns true if the last word of each row has only zeros past the bits of the row.
+pub(crate) fn is_padded<W: Words>(rows: Rows, words: &W) -> bool {
+    let mut holds = true;
+    for k in 0..rows.count {
+        holds = holds & row_is_padded(rows.bits, k, words);
+    }
+    holds
 }
 
 // Returns true if a word and the next one are in order.
@@ -121,9 +132,9 @@ fn count_ordered(order: Order, count: usize) -> usize {
     }
 }
 
-// Returns true if the words of `n` bits are in order.
+// Returns true if the `n` words of the content are in order.
 pub(crate) fn is_in_order<W: Words>(order: Order, n: usize, words: &W) -> bool {
-    let end = count_ordered(order, n.div_ceil(64));
+    let end = count_ordered(order, n);
     let mut holds = true;
     for k in 0..end.saturating_sub(1) {
         holds = holds & stands(order, words.word(k + 5), words.word(k + 6));

@@ -60,5 +60,14 @@ pub fn quantiles_list_members_by_size() {}
 /// Numbers of at most `k` digits, where `k` isn't 0, are their own low digits.
 pub fn small_numbers_stay() {}
 
+/// A list of symbols has a level for each digit, and each level has a bit for each symbol.
+pub fn levels_are_even() {}
+
+/// Any lists of bits of one length are the levels of a list of symbols.
+pub fn every_levels_are_some() {}
+
+/// Two lists of as many symbols are equal if they have the same levels.
+pub fn levels_determine_symbols() {}
+
 /// A symbol occurs in a range as often as it is among the range's members.
 pub fn occurrences_are_counted() {}

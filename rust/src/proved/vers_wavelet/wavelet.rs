@@ -3,6 +3,7 @@
 use crate::rattle::prelude::*;
 
 mod batch;
+mod by_levels;
 mod count;
 pub(crate) mod digits;
 mod find;

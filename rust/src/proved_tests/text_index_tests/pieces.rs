@@ -76,13 +76,14 @@ fn pieces_are_those_of_the_symbols() {
     assert!(are_right && pieces_are_right(rt.alloc(), 70, 32) == Ok(true));
 }
 
-// Returns the numbers of rank calls, numbers and sampled rows that a piece of ten symbols of three bits reads.
+// Returns the numbers of nodes, data words and sampled rows that a piece of ten symbols reads, none of which is deeper
+// than three.
 fn reads_of_piece(text: &TextIndex<Global>) -> (u64, u64, u64) {
     let mut tally = Tally::new();
     if text.extract_counted(1000..1010, &mut tally).is_err() {
         return (u64::MAX, u64::MAX, u64::MAX);
     }
-    (tally.rank_calls(), tally.items(), tally.low_parts())
+    (tally.nodes(), tally.data_words(), tally.low_parts())
 }
 
 fn reads_of_pieces(alloc: Global) -> Result<(u64, u64, u64), TextError> {
@@ -97,8 +98,8 @@ fn reads_of_pieces(alloc: Global) -> Result<(u64, u64, u64), TextError> {
 fn a_piece_reads_within_its_bound() {
     let rt = HostRuntime;
     match reads_of_pieces(rt.alloc()) {
-        Ok((rank_calls, items, low_parts)) => {
-            assert!(rank_calls <= (32 + 10) * (2 * 3) && items <= 32 + 10 && low_parts == 1);
+        Ok((nodes, data_words, low_parts)) => {
+            assert!(nodes <= (32 + 10) * 3 && data_words <= (32 + 10) * 3 && low_parts == 1);
         }
         Err(_) => assert!(false),
     }

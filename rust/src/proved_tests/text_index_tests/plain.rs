@@ -87,11 +87,11 @@ fn periods_and_one_symbol() {
     assert!(are_right && periodic_is_right(rt.alloc(), 257, 1));
 }
 
-// Returns the numbers of rank calls and numbers that a count of a pattern of five symbols of two bits reads.
+// Returns the numbers of nodes and numbers that a count of a pattern of five symbols reads, each at depth 0.
 fn reads_of_count(text: &TextIndex<Global>) -> (u64, u64) {
     let mut tally = Tally::new();
     text.count_counted(&[0, 0, 0, 0, 0], &mut tally);
-    (tally.rank_calls(), tally.items())
+    (tally.nodes(), tally.items())
 }
 
 // Returns the numbers of rank calls, numbers and sampled positions that locating its last occurrence reads.
@@ -117,8 +117,8 @@ fn counts_and_places_read_within_their_bounds() {
     let rt = HostRuntime;
     match reads_of_one_symbol(rt.alloc(), 20000) {
         Ok((count, place)) => {
-            assert!(count.0 <= 5 * 2 * 2 && count.1 <= 5);
-            assert!(place.0 <= 32 * (1 + 2 * 2) + 2 && place.1 <= 32 && place.2 == 1);
+            assert!(count.0 == 0 && count.1 <= 5 * 2);
+            assert!(place.0 <= 32 + 2 && place.1 == 0 && place.2 == 1);
         }
         Err(_) => assert!(false),
     }

@@ -4,15 +4,10 @@ use crate::rattle::prelude::*;
 use crate::proved_tests::text_index_tests::shared::{periodic, scattered};
 use crate::rattle::Allocator;
 use crate::rattle::Global;
-use std::mem::size_of;
 use crate::proved_tests::test_alloc::{Refusing, Size, Sizing, Spare, asked, first_wrong_size, spare_of};
 use crate::proved::text_index::TextIndex;
-use crate::proved::vers_rank::fast_rs_vec::RsVec;
 
 type Heap = Refusing<Global>;
-
-// The number of levels of a text of symbols of two bits.
-const LEVELS: usize = 2;
 
 // Lengths of texts at and around the ends of limbs and blocks.
 const LENGTHS: [usize; 7] = [0, 1, 63, 64, 65, 511, 600];
@@ -36,7 +31,7 @@ struct Kept {
     step: usize,
 }
 
-// A clone uses exactly what it reports, and a vector of its levels.
+// A clone uses exactly what it reports.
 impl Sizing<Global> for Kept {
     fn spare(self, inner: Global, heap: &Heap, len: usize) -> Option<Spare> {
         match periodic(inner, len, 3) {
@@ -50,10 +45,7 @@ impl Sizing<Global> for Kept {
     }
 
     fn is_allowed(self, _len: usize, spare: Spare) -> bool {
-        let structs = LEVELS.wrapping_mul(size_of::<RsVec<&Heap>>());
-        spare.cloned == structs
-            && structs <= spare.made
-            && spare.made <= structs.saturating_add(ROUNDED)
+        spare.cloned == 0 && spare.made <= ROUNDED
     }
 }
 
@@ -71,7 +63,7 @@ const MADE: [usize; 7] = [0, 1, 2, 99, 100, 10_000, 100_000];
 const WIDE: [usize; 3] = [0, 100, 100_000];
 
 // Returns the most bytes in use while a text is made, the text included: 8 for each position and 12 for each sample,
-// 24 for each symbol that there may be, and some for each level and the text.
+// 48 for each symbol that there may be, and some for each bit of a symbol and the text.
 fn most_at_work(len: usize, width: u16, step: usize) -> usize {
     let level: usize = 200;
     let positions = len.wrapping_add(1);
@@ -79,7 +71,7 @@ fn most_at_work(len: usize, width: u16, step: usize) -> usize {
         .wrapping_mul(width as usize)
         .wrapping_add(8usize.wrapping_mul(positions))
         .wrapping_add(12usize.wrapping_mul(positions.div_ceil(step.max(1))))
-        .wrapping_add(24usize << width.min(16))
+        .wrapping_add(48usize << width.min(16))
         .wrapping_add(400)
 }
 

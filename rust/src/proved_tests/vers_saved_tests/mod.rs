@@ -5,7 +5,11 @@ use crate::rattle::prelude::*;
 #[cfg(test)]
 mod devices;
 #[cfg(test)]
+mod levels;
+#[cfg(test)]
 mod memory;
+#[cfg(test)]
+mod proportion;
 #[cfg(test)]
 mod rows;
 #[cfg(test)]

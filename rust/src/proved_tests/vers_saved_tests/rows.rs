@@ -2,9 +2,8 @@
 
 use crate::rattle::prelude::*;
 use crate::proved_tests::vers_saved_tests::stored::{
-    BITS, BYTE_SYMBOLS, DESCENDING, EQUAL_DOCUMENTS, HOSTILE, NINE_BIT_SYMBOLS, NO_BITS, NO_LENGTH,
-    NOT_OURS, OTHER_VERSION, PADDING, POSTINGS, SORTED, SPARSE, SYMBOLS, TOO_LONG, VALUES,
-    WIDE_SYMBOLS,
+    BITS, DESCENDING, EQUAL_DOCUMENTS, HOSTILE, NO_BITS, NO_LENGTH, NOT_OURS, OTHER_VERSION,
+    PADDING, POSTINGS, SORTED, SPARSE, TOO_LONG, VALUES,
 };
 use crate::proved::postings::Postings;
 use crate::rattle::AllocError;
@@ -19,7 +18,6 @@ use crate::proved::vers_saved::saved::{Loaded, Saved, load_from_slice, save_to_v
 use crate::proved::vers_saved::stream::load;
 use crate::proved::vers_sorted::elias_fano::EliasFanoVec;
 use crate::proved::vers_sorted::sparse::SparseRSVec;
-use crate::proved::vers_wavelet::wavelet::WaveletMatrix;
 
 /// Returns true if a list is saved as these bytes, after those that are there.
 pub fn is_saved_as<S: Saved, A: Allocator>(alloc: A, list: &S, bytes: &[u8]) -> bool {
@@ -30,11 +28,15 @@ pub fn is_saved_as<S: Saved, A: Allocator>(alloc: A, list: &S, bytes: &[u8]) -> 
     saved_size(list) == Some(bytes.len()) && out.len() > 0 && out[0] == 7 && &out[1..] == bytes
 }
 
-// Returns true if bytes are loaded, and the loaded list is saved as the same bytes.
-fn is_loaded<S: Loaded<A>, A: Allocator + Copy>(alloc: A, bytes: &[u8]) -> bool {
+/// Returns true if bytes are loaded, and the loaded list is saved as other bytes, which may be the same.
+pub fn is_loaded<S: Loaded<A>, A: Allocator + Copy>(
+    alloc: A,
+    bytes: &[u8],
+    again: &[u8],
+) -> bool {
     let loaded: Result<S, LoadError> = load_from_slice(alloc, bytes);
     match loaded {
-        Ok(list) => is_saved_as(alloc, &list, bytes),
+        Ok(list) => is_saved_as(alloc, &list, again),
         Err(_) => false,
     }
 }
@@ -58,9 +60,12 @@ fn reader_fault<S: Loaded<A>, A: Allocator + Copy>(
     loaded.err()
 }
 
-// Returns the error of bytes, from a slice and from a reader, or `None` if both load them. `Read` if these
-// differ.
-fn fault_of<S: Loaded<A>, A: Allocator + Copy>(alloc: A, bytes: &[u8]) -> Option<LoadError> {
+/// Returns the error of bytes, from a slice and from a reader, or `None` if both load them. `Read` if these
+/// differ.
+pub fn fault_of<S: Loaded<A>, A: Allocator + Copy>(
+    alloc: A,
+    bytes: &[u8],
+) -> Option<LoadError> {
     let fault = slice_fault::<S, A>(alloc, bytes);
     if reader_fault::<S, A>(alloc, bytes) == fault {
         fault
@@ -129,9 +134,9 @@ pub fn changes_are_told<F: Fn(&[u8]) -> Option<LoadError>>(
         && more_is_told(alloc, bytes, &fault)
 }
 
-// Returns true if a form is that of the list that it is loaded as, and each change of it has an error.
-fn is_kept<S: Loaded<Global>>(alloc: Global, bytes: &[u8]) -> bool {
-    is_loaded::<S, Global>(alloc, bytes)
+/// Returns true if a form is that of the list that it is loaded as, and each change of it has an error.
+pub fn is_kept<S: Loaded<Global>>(alloc: Global, bytes: &[u8]) -> bool {
+    is_loaded::<S, Global>(alloc, bytes, bytes)
         && changes_are_told(
             alloc,
             bytes,
@@ -165,15 +170,6 @@ fn sparse_bits() {
 fn documents() {
     let rt = HostRuntime;
     assert!(is_kept::<Postings<Global>>(rt.alloc(), &POSTINGS));
-}
-
-#[test]
-fn symbols() {
-    let rt = HostRuntime;
-    assert!(is_kept::<WaveletMatrix<Global>>(rt.alloc(), &SYMBOLS));
-    assert!(is_kept::<WaveletMatrix<Global>>(rt.alloc(), &BYTE_SYMBOLS));
-    assert!(is_kept::<WaveletMatrix<Global>>(rt.alloc(), &NINE_BIT_SYMBOLS));
-    assert!(is_kept::<WaveletMatrix<Global>>(rt.alloc(), &WIDE_SYMBOLS));
 }
 
 #[test]

@@ -37,9 +37,9 @@ fn numbers_of<A: Allocator + Copy>(alloc: A, len: usize) -> Result<Vec<u64, A>, 
     Ok(numbers)
 }
 
-// The size that each structure reports.
+/// The size that each structure reports.
 #[derive(Clone, Copy)]
-struct HeapSize;
+pub struct HeapSize;
 
 impl<A: Allocator + Copy> Size<BitVec<A>> for HeapSize {
     fn bytes(&self, list: &BitVec<A>) -> usize {

@@ -56,8 +56,8 @@ fn stored_texts() {
     assert!(text_fault(alloc, &SYMBOLS) == Some(LoadError::OtherKind));
 }
 
-// Returns the words of bytes, eight for each.
-fn words_of(alloc: Global, bytes: &[u8]) -> Result<Vec<u64>, AllocError> {
+/// Returns the words of bytes, eight for each.
+pub fn words_of(alloc: Global, bytes: &[u8]) -> Result<Vec<u64>, AllocError> {
     let (chunks, _) = bytes.as_arrays::<8>();
     let mut words = Vec::new(alloc);
     for chunk in chunks {
@@ -66,8 +66,8 @@ fn words_of(alloc: Global, bytes: &[u8]) -> Result<Vec<u64>, AllocError> {
     Ok(words)
 }
 
-// Returns the bytes of words, the last of which becomes the sum of those before it.
-fn summed(alloc: Global, words: &[u64]) -> Result<Vec<u8>, AllocError> {
+/// Returns the bytes of words, the last of which becomes the sum of those before it.
+pub fn summed(alloc: Global, words: &[u64]) -> Result<Vec<u8>, AllocError> {
     let mut bytes = Vec::new(alloc);
     let mut sum = START;
     for (k, word) in words.iter().enumerate() {

@@ -6,6 +6,7 @@ use crate::rattle::prelude::*;
 mod batches;
 mod compared;
 mod gathered;
+mod levels;
 mod lists;
 mod makers;
 mod memory;

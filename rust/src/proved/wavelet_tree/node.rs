@@ -1,0 +1,40 @@
+//! The nodes of a wavelet tree.
+
+use crate::rattle::prelude::*;
+
+/// Links from this number on lead to leaves: the symbol is the rest.
+pub(crate) const LEAVES: u32 = 65_536;
+
+// A fork of the tree: where its symbols are divided, the links to both subtrees, and what is added modulo 2^64 to the
+// number of bits before a position, zeros or ones, so that it becomes a position of the subtree.
+#[derive(Clone, Copy)]
+pub(crate) struct Node {
+    pub(crate) low: u64,
+    pub(crate) high: u64,
+    pub(crate) low_link: u32,
+    pub(crate) high_link: u32,
+    pub(crate) split: u32,
+}
+
+impl Node {
+    // Returns the position of a subtree to which a position leads. It has `ones` ones before it.
+    #[inline(always)]
+    pub(crate) fn place_below(self, is_high: bool, place: usize, ones: usize) -> usize {
+        let (before, shift) = if is_high {
+            (ones, self.high)
+        } else {
+            (place - ones, self.low)
+        };
+        before.wrapping_add(shift as usize)
+    }
+
+    // Returns the link to a subtree.
+    #[inline(always)]
+    pub(crate) fn link_below(self, is_high: bool) -> u32 {
+        if is_high {
+            self.high_link
+        } else {
+            self.low_link
+        }
+    }
+}

@@ -1,0 +1,111 @@
+//! The wavelet tree, its constructors, and its size.
+
+use crate::rattle::prelude::*;
+
+use crate::proved::wavelet_tree::grow::{Forks, forks_of};
+use crate::proved::wavelet_tree::node::Node;
+use crate::proved::wavelet_tree::starts::{starts_of, symbol_limit};
+use crate::rattle::AllocError;
+use crate::rattle::Allocator;
+use crate::proved::vers_tally::tally::{CountedItems, CountedNodes, Uncounted};
+use crate::proved::vers_wavelet::wavelet::Integer;
+use crate::proved::word_rank::WordRank;
+
+/// A list of symbols, which are numbers of the same width of at most 16 bits. Contracts see the width and the list of
+/// numbers.
+///
+/// It stores a binary tree over the symbols, in which each fork divides its symbols where half of its elements are
+/// below, as nearly as symbols allow, and has a bit for each of its elements that tells on which side the element is
+/// (Grossi, Gupta and Vitter, SODA 2003). A symbol's depth, the number of forks that lead to it, is the length of its
+/// code: frequent symbols have short codes. The bits of all forks are one list with a count for each word.
+///
+/// Each query has a form `_counted`, which counts its reads in a `Tally`: forks as nodes, and numbers of lesser
+/// elements as items. The plain form passes a counter of its own.
+pub struct WaveletTree<A: Allocator + Copy> {
+    pub(crate) starts: CountedItems<A>,
+    pub(crate) nodes: CountedNodes<Node, A>,
+    pub(crate) bits: WordRank<A>,
+    pub(crate) root: u32,
+    pub(crate) width: u16,
+    pub(crate) len: usize,
+}
+
+impl<A: Allocator + Copy> Clone for WaveletTree<A> {
+    /// Returns a copy of the tree.
+    fn clone(&self) -> Result<Self, AllocError> {
+        let bits = self.bits.clone()?;
+        let alloc = bits.bits().allocator();
+        let starts = Vec::from_slice(alloc, self.starts.as_slice(Uncounted))?;
+        let nodes = Vec::from_slice(alloc, self.nodes.as_slice(Uncounted))?;
+        Ok(WaveletTree {
+            starts: CountedItems::new(starts),
+            nodes: CountedNodes::new(nodes),
+            bits,
+            root: self.root,
+            width: self.width,
+            len: self.len,
+        })
+    }
+}
+
+impl<A: Allocator + Copy> WaveletTree<A> {
+    /// Returns the tree of some symbols of `width` bits. Allocates two buffers of as many numbers of the same type, in
+    /// addition to the tree. Precondition: `width` is at most 16, and the symbols have no more bits. Errors:
+    /// `AllocError` if the allocator refuses a request.
+    pub fn from_integers<T: Integer>(
+        alloc: A,
+        symbols: &[T],
+        width: u16,
+    ) -> Result<Self, AllocError> {
+        let items = Vec::from_slice(alloc, symbols)?;
+        WaveletTree::from_vec(alloc, items, width)
+    }
+
+    /// Returns the tree that `from_integers` does, and reorders the symbols instead of a copy. Precondition and errors
+    /// as for `from_integers`.
+    pub fn from_vec<T: Integer>(
+        alloc: A,
+        symbols: Vec<T, A>,
+        width: u16,
+    ) -> Result<Self, AllocError> {
+        let len = symbols.len();
+        let limit = symbol_limit(width);
+        let starts = starts_of(alloc, symbols.as_slice(), limit)?;
+        let Forks { nodes, bits, root } = forks_of(alloc, starts.as_slice(), limit, symbols)?;
+        Ok(WaveletTree {
+            starts: CountedItems::new(starts),
+            nodes: CountedNodes::new(nodes),
+            bits,
+            root,
+            width,
+            len,
+        })
+    }
+
+    /// Returns the number of symbols.
+    #[inline]
+    pub fn len(&self) -> usize {
+        self.len
+    }
+
+    /// Returns true if there are no symbols.
+    #[inline]
+    pub fn is_empty(&self) -> bool {
+        self.len() == 0
+    }
+
+    /// Returns the number of bits of a symbol, at most 16: each is below two to that power.
+    #[inline]
+    pub fn bit_len(&self) -> u16 {
+        self.width
+    }
+
+    /// Returns the number of bytes that the tree takes, in addition to the `WaveletTree` itself; the greatest
+    /// `usize` if it is larger.
+    pub fn heap_size(&self) -> usize {
+        self.bits
+            .heap_size()
+            .saturating_add(32 * self.nodes.len())
+            .saturating_add(8 * self.starts.len())
+    }
+}

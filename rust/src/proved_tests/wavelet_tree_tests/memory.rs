@@ -1,0 +1,153 @@
+//! The calls that allocate, each of their requests refused in turn, and the memory that a tree takes.
+
+use crate::rattle::prelude::*;
+use crate::proved_tests::wavelet_tree_tests::lists::{LOOKS, Look, symbols_of, tree_of};
+use crate::rattle::AllocError;
+use crate::rattle::Allocator;
+use crate::rattle::Global;
+use crate::proved_tests::test_alloc::{
+    Check, Ending, Making, Refusing, Size, Sizing, Spare, Trial, first_wrong_size,
+    first_wrong_trial, spare_of, try_clone_checked, try_making,
+};
+use crate::proved::wavelet_tree::WaveletTree;
+
+type Heap = Refusing<Global>;
+
+// Lengths of lists, up to one whose bits have more than one word.
+const LENGTHS: [usize; 5] = [0, 1, 2, 65, 200];
+
+// Symbols of which a tree is made.
+struct Indexing<'a, A: Allocator + Copy> {
+    alloc: A,
+    symbols: &'a [u8],
+}
+
+// Returns true if a tree has these symbols.
+fn has_symbols<A: Allocator + Copy>(tree: &WaveletTree<A>, symbols: &[u8]) -> bool {
+    for place in 0..tree.len().min(symbols.len()) {
+        if tree.get(place) != u64::from(symbols[place]) {
+            return false;
+        }
+    }
+    tree.len() == symbols.len()
+}
+
+impl<A: Allocator + Copy> Making for Indexing<'_, A> {
+    type Made = WaveletTree<A>;
+
+    type Fault = AllocError;
+
+    fn make(&self) -> Result<WaveletTree<A>, AllocError> {
+        tree_of(self.alloc, self.symbols)
+    }
+
+    fn is_right(&self, tree: &WaveletTree<A>) -> bool {
+        has_symbols(tree, self.symbols)
+    }
+}
+
+fn tried(heap: &Heap, symbols: &[u8]) -> Ending {
+    let indexing = Indexing {
+        alloc: heap,
+        symbols,
+    };
+    try_making(heap, &indexing)
+}
+
+// The symbols of a tree that was made.
+#[derive(Clone, Copy)]
+struct SymbolsOf<'a> {
+    symbols: &'a [u8],
+}
+
+impl<A: Allocator + Copy> Check<WaveletTree<A>> for SymbolsOf<'_> {
+    fn is_right(&self, tree: &mut WaveletTree<A>) -> bool {
+        has_symbols(tree, self.symbols)
+    }
+}
+
+fn cloned(heap: &Heap, symbols: &[u8]) -> Ending {
+    let check = SymbolsOf { symbols };
+    try_clone_checked(heap, tree_of(heap, symbols), &check)
+}
+
+// A call that allocates.
+#[derive(Clone, Copy)]
+enum Call {
+    Make(Look),
+    Clone(Look),
+}
+
+const CALLS: [Call; 4] = [
+    Call::Make(Look::Turning),
+    Call::Make(Look::Skewed),
+    Call::Clone(Look::Turning),
+    Call::Clone(Look::Equal),
+];
+
+impl Trial<Global> for Call {
+    fn run(self, heap: &Heap, len: usize) -> Ending {
+        let look = match self {
+            Call::Make(look) | Call::Clone(look) => look,
+        };
+        let symbols = match symbols_of(heap, look, len) { Ok(symbols) => symbols, _ => {
+            return Ending::Wrong;
+        } };
+        match self {
+            Call::Make(_) => tried(heap, symbols.as_slice()),
+            Call::Clone(_) => cloned(heap, symbols.as_slice()),
+        }
+    }
+
+    fn takes_memory(self, _len: usize) -> bool {
+        true
+    }
+}
+
+#[test]
+fn calls_are_refused_in_turn() {
+    let rt = HostRuntime;
+    let wrong = first_wrong_trial(rt.alloc(), &LENGTHS, &CALLS);
+    assert_eq!(wrong, None, "a length and a row");
+}
+
+// The size that a tree reports.
+#[derive(Clone, Copy)]
+struct HeapSize;
+
+impl<A: Allocator + Copy> Size<WaveletTree<A>> for HeapSize {
+    fn bytes(&self, tree: &WaveletTree<A>) -> usize {
+        tree.heap_size()
+    }
+}
+
+// A tree of a look.
+#[derive(Clone, Copy)]
+struct TreeOf {
+    look: Look,
+}
+
+// A tree and its clone use what they report: what is allocated while a tree is made is of that size, or freed.
+impl Sizing<Global> for TreeOf {
+    fn spare(self, inner: Global, heap: &Heap, len: usize) -> Option<Spare> {
+        match symbols_of(inner, self.look, len) {
+            Ok(symbols) => spare_of(heap, tree_of(heap, symbols.as_slice()), &HeapSize),
+            Err(_) => None,
+        }
+    }
+
+    fn is_allowed(self, _len: usize, spare: Spare) -> bool {
+        spare.cloned == 0 && spare.made == 0
+    }
+}
+
+// Lengths of lists whose vectors would show that they grow by doubling.
+const SIZES: [usize; 6] = [0, 1, 64, 65, 600, 5000];
+
+#[test]
+fn a_tree_takes_what_it_reports() {
+    let rt = HostRuntime;
+    for look in LOOKS {
+        assert!(first_wrong_size(rt.alloc(), &SIZES, &[TreeOf { look }]).is_none());
+    }
+}

@@ -1,0 +1,154 @@
+//! Queries and their answers, beside plain lists.
+
+use crate::rattle::prelude::*;
+use crate::proved_tests::wavelet_tree_tests::lists::{LOOKS, Look, lesser_than, rank_of, symbols_of, tree_of, tree_of_shorts};
+use crate::rattle::AllocError;
+use crate::rattle::Allocator;
+use crate::rattle::Global;
+use std::ops::Range;
+use crate::rattle::testing::Fail;
+use crate::proved_tests::test_alloc::asked;
+use crate::proved::vers_tally::tally::Tally;
+use crate::proved::wavelet_tree::WaveletTree;
+
+// Returns true if the ranks of a symbol are right, of which two begin and end a range.
+fn is_ranked<A: Allocator + Copy>(
+    tree: &WaveletTree<A>,
+    symbols: &[u8],
+    symbol: u64,
+    range: Range<usize>,
+) -> bool {
+    if range.start > range.end || range.end > tree.len() {
+        return true;
+    }
+    let lesser = lesser_than(symbols, symbol);
+    let first = rank_of(symbols, range.start, symbol);
+    let end = rank_of(symbols, range.end, symbol);
+    let wanted = if first == end {
+        None
+    } else {
+        Some(lesser.wrapping_add(first)..lesser.wrapping_add(end))
+    };
+    let mut tally = Tally::new();
+    tree.rank(range.start, symbol) == first
+        && tree.rank(range.end, symbol) == end
+        && tree.rank_counted(range.end, symbol, &mut tally) == end
+        && tree.sorted_range(range.start..range.end, symbol) == wanted
+        && tree.sorted_range_counted(range, symbol, &mut tally) == wanted
+}
+
+// Returns true if the symbol at a position, and its sorted position, are right.
+fn is_read<A: Allocator + Copy>(tree: &WaveletTree<A>, symbols: &[u8], place: usize) -> bool {
+    if place >= tree.len() || place >= symbols.len() {
+        return tree.len() == symbols.len();
+    }
+    let symbol = u64::from(symbols[place]);
+    let sorted = lesser_than(symbols, symbol).wrapping_add(rank_of(symbols, place, symbol));
+    let mut tally = Tally::new();
+    let found = tree.get_sorted_counted(place, &mut tally);
+    tree.get(place) == symbol
+        && tree.get_sorted(place) == found
+        && found.symbol == symbol
+        && found.place == sorted
+        && tally.nodes() == tally.data_words()
+        && tally.items() == 0
+}
+
+// Symbols of which some lists have some, and some have none.
+const ASKED: [u64; 10] = [0, 1, 2, 7, 18, 100, 200, 255, 256, u64::MAX];
+
+// Returns true if a tree answers as its list.
+fn is_right<A: Allocator + Copy>(tree: &WaveletTree<A>, symbols: &[u8]) -> bool {
+    for place in 0..symbols.len().saturating_add(1) {
+        if !is_read(tree, symbols, place) {
+            return false;
+        }
+        for symbol in ASKED {
+            let end = place.saturating_add(place % 5).min(symbols.len());
+            if !is_ranked(tree, symbols, symbol, 0..place)
+                || !is_ranked(tree, symbols, symbol, place..end)
+                || !is_ranked(tree, symbols, symbol, place..symbols.len())
+            {
+                return false;
+            }
+        }
+    }
+    tree.len() == symbols.len() && tree.is_empty() == symbols.is_empty() && tree.bit_len() == 8
+}
+
+// Lengths of lists, at and around the ends of words.
+const LENGTHS: [usize; 8] = [0, 1, 2, 3, 63, 64, 65, 200];
+
+// Returns the first look and length whose tree doesn't answer as its list.
+fn first_wrong_list(alloc: Global) -> Result<Option<(usize, usize)>, AllocError> {
+    for (number, look) in LOOKS.iter().enumerate() {
+        for len in LENGTHS {
+            let symbols = symbols_of(alloc, *look, len)?;
+            let made = tree_of(alloc, symbols.as_slice());
+            if !asked(made, |tree| is_right(tree, symbols.as_slice()))? {
+                return Ok(Some((number, len)));
+            }
+        }
+    }
+    Ok(None)
+}
+
+#[test]
+fn answers_are_those_of_lists() -> Result<(), Fail> {
+    let rt = HostRuntime;
+    assert_eq!(first_wrong_list(rt.alloc())?, None, "a look and a length");
+    Ok(())
+}
+
+// Returns true if a tree of all numbers of 16 bits reads each of them.
+fn are_all_read(tree: &WaveletTree<Global>) -> bool {
+    for place in 0..tree.len() {
+        let found = tree.get_sorted(place);
+        if found.symbol != place as u64 || found.place != place {
+            return false;
+        }
+    }
+    tree.rank(65_536.min(tree.len()), 65_535) == 1 && tree.bit_len() == 16
+}
+
+fn are_all_numbers_read(alloc: Global) -> Result<bool, AllocError> {
+    let mut numbers = Vec::with_capacity(alloc, 65_536)?;
+    for number in 0..65_536u32 {
+        numbers.push(number as u16)?;
+    }
+    asked(tree_of_shorts(alloc, numbers.as_slice()), are_all_read)
+}
+
+#[test]
+fn all_numbers_of_16_bits() -> Result<(), Fail> {
+    let rt = HostRuntime;
+    assert!(are_all_numbers_read(rt.alloc())?);
+    Ok(())
+}
+
+// Returns true if a long list of a look is read back.
+fn is_read_back(tree: &WaveletTree<Global>, symbols: &[u8]) -> bool {
+    for place in 0..tree.len().min(symbols.len()) {
+        if tree.get(place) != u64::from(symbols[place]) {
+            return false;
+        }
+    }
+    tree.len() == symbols.len()
+}
+
+// Returns true if a list with more bits than a superblock of counts is read back.
+fn is_long_list_read(alloc: Global, look: Look) -> Result<bool, AllocError> {
+    let symbols = symbols_of(alloc, look, 30_000)?;
+    asked(
+        tree_of(alloc, symbols.as_slice()),
+        |tree| is_read_back(tree, symbols.as_slice()),
+    )
+}
+
+#[test]
+fn long_lists_are_read_back() -> Result<(), Fail> {
+    let rt = HostRuntime;
+    assert!(is_long_list_read(rt.alloc(), Look::Turning)?);
+    assert!(is_long_list_read(rt.alloc(), Look::Skewed)?);
+    Ok(())
+}
