@@ -84,6 +84,29 @@ impl InvertedIndex {
         self.index.universe()
     }
 
+    /// Returns the number of pairs of a term and a document.
+    #[doc = contract!(InvertedIndex::len)]
+    #[must_use]
+    #[inline]
+    pub fn len(&self) -> usize {
+        self.index.len()
+    }
+
+    /// Returns true if no term has a document.
+    #[must_use]
+    #[inline]
+    pub fn is_empty(&self) -> bool {
+        self.len() == 0
+    }
+
+    /// Returns the pair at position `i` of all pairs as the number `term * universe + document`, or `None` past the end.
+    #[doc = contract!(InvertedIndex::pair_number)]
+    #[must_use]
+    #[inline]
+    pub fn pair_number(&self, i: usize) -> Option<u64> {
+        self.index.pair_number(i)
+    }
+
     /// Returns the number of bytes on the heap.
     #[doc = contract!(InvertedIndex::heap_size)]
     #[must_use]
@@ -175,6 +198,7 @@ impl InvertedIndex {
 }
 
 counted! { InvertedIndex, index:
+    pair_number_counted, pair_number(i: usize) -> Option<u64>;
     count_counted, count(t: u64) -> u64;
     contains_counted, contains(t: u64, d: u64) -> bool;
     get_counted, get(t: u64, i: usize) -> Option<u64>;

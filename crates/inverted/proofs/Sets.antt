@@ -1,14 +1,23 @@
 -- The sets of several terms.
-use Rattle.std.proofs.Common.{◌≡◌, ℕ, Bool, true, false, List, [], ◌∷◌, map, refl, ap, ◌∙◌}
+use Rattle.std.proofs.Common.{◌≡◌, ℕ, ◌<◌, Bool, true, false, List, [], ◌∷◌, map, inl, inr, refl, ap, ◌∙◌}
 use Rattle.std.specs.Prelude.{◌&&◌, ◌||◌, IfOk, Result, if◌then◌else◌}
 use Rattle.std.specs.List.{list_all, list_any}
+use Rattle.std.specs.List.Sorted.{IsNonDecreasing}
+use Rattle.std.proofs.lemmas.Map.Keys.{non_decreasing_from_sorted, sorted_from_strictly_increasing}
 use Rattle.std.proofs.lemmas.Result.{IfOk-weaker}
-use Rattle.sets.specs.Sets.{IsSetOf, in_both, is_member}
-use Rattle.inverted.specs.Lists.{Lists, list_of, searched_term, term_of}
+use Rattle.std.proofs.lemmas.Bool.{and_parts, or_cases}
+use Rattle.sets.specs.Sets.{IsSetOf, in_both, in_either, in_first_alone, is_member}
+use Rattle.sets.proofs.PublicLaws.{set_below_is_filter}
+use Rattle.inverted.specs.Lists.{Lists, documents_with, list_of, searched_term, term_of}
+
+-- the list of a set ascends
+pub ascending_set : {has : ℕ → Bool} {found : List ℕ} → IsSetOf has found → IsNonDecreasing found
+ascending_set set = non_decreasing_from_sorted _ (sorted_from_strictly_increasing _ set.ascending)
 
 -- a result that is the set of a test is the set of an equal test
-pub ok_same : {E : Type 0} (r : Result (List ℕ) E) (p q : ℕ → Bool) → ((x : ℕ) → p x ≡ q x) → IfOk r (IsSetOf p) → IfOk r (IsSetOf q)
-ok_same r p q same = IfOk-weaker r (IsSetOf p) (IsSetOf q) (λ xs set. record { ascending = set.ascending; numbers = λ x. set.numbers x ∙ same x })
+pub ok_same : {V E : Type 0} (items : V → List ℕ) (r : Result V E) (p q : ℕ → Bool) → ((x : ℕ) → p x ≡ q x) → IfOk r (λ v. IsSetOf p (items v)) → IfOk r (λ v. IsSetOf q (items v))
+ok_same items r p q same =
+    IfOk-weaker r (λ v. IsSetOf p (items v)) (λ v. IsSetOf q (items v)) (λ v set. record { ascending = set.ascending; numbers = λ x. set.numbers x ∙ same x })
 
 and_turned : (a b : Bool) → (a && b) ≡ (b && a)
 and_turned true true = refl
@@ -28,3 +37,30 @@ all_have index (t ∷ terms) x = ap (λ b. is_member (list_of index t) x && b) (
 pub any_has : (index : Lists) (terms : List ℕ) (x : ℕ) → list_any (λ one. one.has x) (map searched_term (map (term_of index) terms)) ≡ list_any (λ other. is_member other x) (map (list_of index) terms)
 any_has index [] x = refl
 any_has index (t ∷ terms) x = ap (λ b. is_member (list_of index t) x || b) (any_has index terms x)
+
+-- ---- documents of two terms
+
+-- all documents for which `has` is true are below the limit
+abbrev IsBelow : Lists → (ℕ → Bool) → Type 0
+IsBelow index has = (x : ℕ) → has x ≡ true → x < index.universe
+
+module _ (index : Lists) (one other : ℕ) (first : IsBelow index (is_member (list_of index one))) (second : IsBelow index (is_member (list_of index other))) where
+  pub either_below : IsBelow index (in_either (list_of index one) (list_of index other))
+  either_below x h = elim (or_cases _ _ h) [
+    | inl has ↦ first x has
+    | inr has ↦ second x has
+  ]
+
+  pub first_below : IsBelow index (in_first_alone (list_of index one) (list_of index other))
+  first_below x h = first x (and_parts _ _ h).0
+
+-- the same of two terms in any order
+pub turned_below : (index : Lists) (one other : ℕ) (kept : Bool) → IsBelow index (is_member (list_of index (if kept then one else other))) → IsBelow index (is_member (list_of index (if kept then other else one)))
+    → IsBelow index (in_both (list_of index one) (list_of index other))
+turned_below index one other true first second x h = first x (and_parts _ _ h).0
+turned_below index one other false first second x h = second x (and_parts _ _ h).0
+
+-- a set of documents of an index is one list
+pub exact : {V E : Type 0} (items : V → List ℕ) (r : Result V E) (index : Lists) (has : ℕ → Bool) → IsBelow index has → IfOk r (λ v. IsSetOf has (items v)) → IfOk r (λ v. items v ≡ documents_with index has)
+exact items r index has below =
+    IfOk-weaker r (λ v. IsSetOf has (items v)) (λ v. items v ≡ documents_with index has) (λ v set. set_below_is_filter has index.universe (items v) below set)

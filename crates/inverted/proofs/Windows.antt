@@ -358,6 +358,20 @@ lists_ascend ns universe terms up =
     All-map IsStrictlyIncreasing (documents_of ns universe) (range_with_len 0 terms)
     (All-from_get_or (λ t. IsStrictlyIncreasing (documents_of ns universe t)) (range_with_len 0 terms) 0 (λ i inside. documents_strict ns universe (get_or (range_with_len 0 terms) i 0) up))
 
+-- ---- documents are below the universe
+
+false-true : {A : Type 0} → false ≡ true → A
+false-true e = cc
+
+pub listed_below : (ns : List ℕ) (universe terms t d : ℕ) → is_member (slice_index_or (lists_of ns universe terms) t []) d ≡ true → d < universe
+listed_below ns universe terms t d has = elim (cases_lt t terms) [
+  | inr past ↦ false-true (sym (member_none d) ∙ rw (no_list ns universe terms t past) at has)
+  | inl inside ↦ elim (cases_lt d universe) [
+    | inl below ↦ below
+    | inr past ↦ false-true (sym (member_past ns universe t d past) ∙ rw (list_is ns universe terms t inside) at has)
+  ]
+]
+
 -- ---- a walk along the documents
 
 drop_next : (n : ℕ) (ns : List ℕ) (i j : ℕ) → i ≡ suc j → drop i (n ∷ ns) ≡ drop j ns

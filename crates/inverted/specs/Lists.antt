@@ -1,5 +1,6 @@
 -- Lists of documents, one for each term.
-use Rattle.std.specs.Prelude.{ℕ, List, [], length, slice_index_or}
+use Rattle.std.specs.Prelude.{ℕ, Bool, List, [], filter, length, slice_index_or}
+use Rattle.std.specs.List.{range_with_len}
 use Rattle.vers_sorted.specs.Sorted.{below}
 use Rattle.sets.specs.Sets.{is_member}
 use Rattle.sets.specs.Sources.{seek_reads}
@@ -14,6 +15,10 @@ pub record Lists : Type 0 where
 -- the list of term t, which is empty if there is no such term
 abbrev pub list_of : Lists → ℕ → List ℕ
 list_of index t = slice_index_or index.lists t []
+
+-- the documents for which `has` is true, ascending: all documents are below `universe`
+abbrev pub documents_with : Lists → (ℕ → Bool) → List ℕ
+documents_with index has = filter has (range_with_len 0 index.universe)
 
 -- a term of an index
 pub record Term : Type 0 where

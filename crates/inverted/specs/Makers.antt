@@ -1,8 +1,9 @@
--- The lists of pairs of a term and a document, and when they are not made.
-use Rattle.std.specs.Prelude.{◌≡◌, ℕ, ◌+◌, ◌*◌, ◌<◌, ◌≤◌, ◌==◌, ◌&&◌, ◌||◌, All, Bool, true, List, filter, length, map, nat_lt}
-use Rattle.std.specs.List.{AllAdjacentBelow, range_with_len}
+-- The index of pairs of a term and a document, and when there is none.
+use Rattle.std.specs.Prelude.{ℕ, ◌+◌, ◌*◌, ◌==◌, ◌&&◌, ◌||◌, not, Bool, true, List, [], ◌∷◌, filter, map, nat_lt, Option, None, Some, if◌then◌else◌}
+use Rattle.std.specs.List.{list_all, range_with_len}
+use Rattle.inverted.specs.Lists.{Lists}
 use Rattle.inverted.specs.declared.fault.InvertedError.{InvertedError}
-use Rattle.inverted.specs.declared.fault.InvertedError.TheVariants.{TooLarge, OutOfRange, NotAscending, Memory}
+use Rattle.inverted.specs.declared.fault.InvertedError.TheVariants.{TooLarge, OutOfRange, NotAscending}
 
 -- the documents that are paired with term t
 abbrev pub paired_with : List (ℕ × ℕ) → ℕ → List ℕ
@@ -16,21 +17,27 @@ lists_from pairs terms = map (paired_with pairs) (range_with_len 0 terms)
 abbrev pub number_of : ℕ → ℕ × ℕ → ℕ
 number_of universe p = p.0 * universe + p.1
 
--- the term and the document of a pair are below their limits
-abbrev pub IsInRange : ℕ → ℕ → ℕ × ℕ → Type 0
-IsInRange terms universe p = (p.0 < terms) × (p.1 < universe)
+-- the index of pairs
+abbrev pub index_of : ℕ → ℕ → List (ℕ × ℕ) → Lists
+index_of terms universe pairs = record { lists = lists_from pairs terms; universe = universe; numbers = map (number_of universe) pairs }
+
+-- whether the term and the document of a pair are below their limits
+abbrev pub is_in_range : ℕ → ℕ → ℕ × ℕ → Bool
+is_in_range terms universe p = nat_lt p.0 terms && nat_lt p.1 universe
 
 -- whether a pair is before another: by term, and pairs of one term by document
 abbrev pub is_before : ℕ × ℕ → ℕ × ℕ → Bool
 is_before p q = nat_lt p.0 q.0 || (p.0 == q.0 && nat_lt p.1 q.1)
 
--- each pair is before the next one
-abbrev pub DoAscend : List (ℕ × ℕ) → Type 0
-DoAscend pairs = AllAdjacentBelow (λ p q. is_before p q ≡ true) pairs (length pairs)
+-- whether each pair is before the next one
+abbrev pub do_ascend : List (ℕ × ℕ) → Bool
+do_ascend [] = true
+do_ascend (p ∷ []) = true
+do_ascend (p ∷ q ∷ more) = is_before p q && do_ascend (q ∷ more)
 
--- what each error means for the pairs and their limits: the first that applies
-abbrev pub IsRefusedFor : ℕ → ℕ → List (ℕ × ℕ) → InvertedError → Type 0
-IsRefusedFor terms universe pairs TooLarge = 18446744073709551615 < terms * universe
-IsRefusedFor terms universe pairs OutOfRange = (terms * universe ≤ 18446744073709551615) × (All (IsInRange terms universe) pairs → ⊥)
-IsRefusedFor terms universe pairs NotAscending = (terms * universe ≤ 18446744073709551615) × All (IsInRange terms universe) pairs × (DoAscend pairs → ⊥)
-IsRefusedFor terms universe pairs Memory = (terms * universe ≤ 18446744073709551615) × All (IsInRange terms universe) pairs × DoAscend pairs
+-- why pairs below these limits have no index: the first reason that applies
+abbrev pub refusal_of : ℕ → ℕ → List (ℕ × ℕ) → Option InvertedError
+refusal_of terms universe pairs =
+    if nat_lt 18446744073709551615 (terms * universe) then Some TooLarge
+    else (if not (list_all (is_in_range terms universe) pairs) then Some OutOfRange
+    else (if not (do_ascend pairs) then Some NotAscending else None))

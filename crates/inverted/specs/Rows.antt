@@ -1,7 +1,8 @@
 -- Worked rows of the definitions, which compute.
-use Rattle.std.specs.Prelude.{◌≡◌, ℕ, false, true, List, [], ◌∷◌, map, refl}
+use Rattle.std.specs.Prelude.{◌≡◌, ℕ, false, true, List, [], ◌∷◌, map, None, Some, refl}
 use Rattle.inverted.specs.Lists.{Lists, list_of}
-use Rattle.inverted.specs.Makers.{is_before, lists_from, number_of}
+use Rattle.inverted.specs.declared.fault.InvertedError.TheVariants.{TooLarge, OutOfRange, NotAscending}
+use Rattle.inverted.specs.Makers.{is_before, lists_from, number_of, refusal_of}
 
 -- three pairs of terms below 3 and documents below 10
 abbrev three : List (ℕ × ℕ)
@@ -33,3 +34,19 @@ is_before-document = refl
 
 pub is_before-itself : is_before (0, 7) (0, 7) ≡ false
 is_before-itself = refl
+
+-- the three pairs have an index, and the first reason counts why others have none
+pub refusal_of-three : refusal_of 3 10 three ≡ None
+refusal_of-three = refl
+
+pub refusal_of-large : refusal_of 18446744073709551615 2 ((9, 9) ∷ []) ≡ Some TooLarge
+refusal_of-large = refl
+
+pub refusal_of-term : refusal_of 2 10 three ≡ Some OutOfRange
+refusal_of-term = refl
+
+pub refusal_of-document : refusal_of 2 7 ((1, 0) ∷ (0, 7) ∷ []) ≡ Some OutOfRange
+refusal_of-document = refl
+
+pub refusal_of-twice : refusal_of 2 10 ((0, 3) ∷ (0, 3) ∷ []) ≡ Some NotAscending
+refusal_of-twice = refl

@@ -65,6 +65,14 @@ impl<A: Allocator + Copy> InvertedIndex<A> {
         self.universe
     }
 
+    /// Returns the number of pairs of a term and a document.
+    #[inline]
+    pub fn len(&self) -> usize
+        ensures { result ≡ length self.now.numbers }
+    {
+        self.numbers.len()
+    }
+
     /// Returns the number of bytes that the lists take.
     pub fn heap_size(&self) -> usize
         ensures { result ≡ heap_size_of self.now.numbers }

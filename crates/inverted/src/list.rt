@@ -1,5 +1,5 @@
 //! The list of a term as a source.
-ghost use Rattle.std.specs.Prelude.{◌≡◌, ◌+◌, ◌^◌, ◌<◌, length};
+ghost use Rattle.std.specs.Prelude.{◌≡◌, ◌+◌, ◌^◌, ◌<◌, ℕ, true, length};
 ghost use Rattle.vers_tally.specs.Reads.{AddsAtMost};
 ghost use Rattle.vers_sorted.specs.Sorted.{below};
 ghost use Rattle.sets.specs.Sets.{is_member};
@@ -37,7 +37,8 @@ impl<'a, A: Allocator + Copy> Model for ListOf<'a, A> {
 impl<'a, A: Allocator + Copy> ListOf<'a, A> {
     /// Returns the documents of a term, of which there are none if there is no such term.
     pub fn new(index: &'a InvertedIndex<A>, term: u64) -> Self
-        ensures { result ≡ term_of index.now term }
+        ensures value { result ≡ term_of index.now term }
+        ensures below { (d : ℕ) → is_member (list_of index.now term) d ≡ true → d < index.now.universe }
     {
         ListOf {
             index,
@@ -59,7 +60,8 @@ impl<'a, A: Allocator + Copy> Seek for ListOf<'a, A> {
 impl<A: Allocator + Copy> InvertedIndex<A> {
     // Returns a cursor at the first number of all terms.
     fn cursor(&self) -> Cursor<'_, A>
-        ensures { IsCursorOf result self.now.numbers }
+        ensures cursor { IsCursorOf result self.now.numbers }
+        ensures below { (t d : ℕ) → is_member (list_of self.now t) d ≡ true → d < self.now.universe }
     {
         Cursor::new(&self.numbers)
     }

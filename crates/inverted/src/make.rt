@@ -1,12 +1,41 @@
-//! The constructor.
-ghost use Rattle.std.specs.Prelude.{◌≡◌, ◌*◌, ◌≤◌, ◌↔◌, All, IfErr, IfOk, IsTrue, OnOk, map};
+//! The constructors.
+ghost use Rattle.std.specs.Prelude.{◌≡◌, ◌⊎◌, ℕ, List, All, None, Some, IfErr, IfOk, OnOk, map};
+ghost use Rattle.std.specs.List.{list_all};
 ghost use Rattle.std.specs.List.Sorted.{IsStrictlyIncreasing};
-ghost use Rattle.inverted.specs.Makers.{DoAscend, IsInRange, IsRefusedFor, is_before, lists_from, number_of};
+ghost use Rattle.vers_bits.specs.Walk.{TakesFirst};
+ghost use Rattle.inverted.specs.Makers.{do_ascend as each_before_next, index_of, is_before, is_in_range, number_of, refusal_of};
 
 use crate::fault::InvertedError;
 use crate::inverted_index::InvertedIndex;
 use std::alloc::{AllocError, Allocator};
 use vers_sorted::elias_fano::EliasFanoVec;
+
+/// Pairs of a term and a document that are read one by one, and once more from a copy.
+pub trait Pairs: Copy {
+    // The pairs that are left.
+    ghost left: { Self → List (ℕ × ℕ) };
+
+    /// Takes the first of the pairs left. `None` if none is left.
+    fn next(&mut self) -> Option<(u64, u64)>
+        ensures { TakesFirst (left self.old) result (left self.new) };
+}
+
+// The pairs of a slice.
+#[derive(Clone, Copy, Drop)]
+struct SlicePairs<'a> {
+    rest: &'a [(u64, u64)],
+}
+
+impl Pairs for SlicePairs<'_> {
+    ghost left = { λ pairs. pairs.rest.now };
+
+    #[inline]
+    fn next(&mut self) -> Option<(u64, u64)> {
+        let (first, others) = self.rest.split_first()?;
+        self.rest = others;
+        Some(*first)
+    }
+}
 
 impl<A: Allocator + Copy> InvertedIndex<A> {
     /// Returns the index of pairs of a term below `terms` and a document below `universe`, which ascend strictly by
@@ -18,15 +47,31 @@ impl<A: Allocator + Copy> InvertedIndex<A> {
         universe: u64,
         pairs: &[(u64, u64)],
     ) -> Result<Self, InvertedError>
-        ensures made { IfOk result (λ index. index ≡ record {
-          lists = lists_from pairs.now terms;
-          universe = universe;
-          numbers = map (number_of universe) pairs.now;
-        }) }
+        ensures made { IfOk result (λ index. index ≡ index_of terms universe pairs.now) }
         ensures ascending { IfOk result (λ index. All IsStrictlyIncreasing index.lists) }
-        ensures refused { IfErr result (IsRefusedFor terms universe pairs.now) }
+        ensures admitted { OnOk result (refusal_of terms universe pairs.now ≡ None) }
+        ensures refused { IfErr result (λ e. (refusal_of terms universe pairs.now ≡ Some e)
+            ⊎ ((e ≡ InvertedError.Memory) × (refusal_of terms universe pairs.now ≡ None))) }
     {
-        check(terms, universe, pairs)?;
+        InvertedIndex::from_source(alloc, terms, universe, SlicePairs { rest: pairs })
+    }
+
+    /// Returns what `from_pairs` does, of pairs that are read one by one. Errors: as for `from_pairs`.
+    pub fn from_source<P: Pairs>(
+        alloc: A,
+        terms: u64,
+        universe: u64,
+        pairs: P,
+    ) -> Result<Self, InvertedError>
+        ensures made { IfOk result (λ index. index ≡ index_of terms universe (P.left pairs)) }
+        ensures ascending { IfOk result (λ index. All IsStrictlyIncreasing index.lists) }
+        ensures admitted { OnOk result (refusal_of terms universe (P.left pairs) ≡ None) }
+        ensures refused { IfErr result (λ e. (refusal_of terms universe (P.left pairs) ≡ Some e)
+            ⊎ ((e ≡ InvertedError.Memory) × (refusal_of terms universe (P.left pairs) ≡ None))) }
+    {
+        if let Some(error) = refusal(terms, universe, pairs) {
+            return Err(error);
+        }
         let numbers = numbers_of(alloc, terms, universe, pairs)?;
         let numbers = EliasFanoVec::from_slice(alloc, numbers.as_slice())?;
         Ok(InvertedIndex {
@@ -37,40 +82,46 @@ impl<A: Allocator + Copy> InvertedIndex<A> {
     }
 }
 
-// Tests whether the index can be made, in the order of `InvertedError`.
-fn check(terms: u64, universe: u64, pairs: &[(u64, u64)]) -> Result<(), InvertedError>
-    ensures fits { OnOk result (terms * universe ≤ 18446744073709551615) }
-    ensures in_range { OnOk result (All (IsInRange terms universe) pairs.now) }
-    ensures ascend { OnOk result (DoAscend pairs.now) }
-    ensures refused { IfErr result (IsRefusedFor terms universe pairs.now) }
+/// Returns the first reason for which pairs make no index, in the order of `InvertedError`. `None` if they make one.
+pub fn refusal<P: Pairs>(terms: u64, universe: u64, pairs: P) -> Option<InvertedError>
+    ensures { result ≡ refusal_of terms universe (P.left pairs) }
 {
     if terms.checked_mul(universe).is_none() {
-        return Err(InvertedError::TooLarge);
+        return Some(InvertedError::TooLarge);
     }
     if !are_in_range(terms, universe, pairs) {
-        return Err(InvertedError::OutOfRange);
+        return Some(InvertedError::OutOfRange);
     }
     if !do_ascend(pairs) {
-        return Err(InvertedError::NotAscending);
+        return Some(InvertedError::NotAscending);
     }
-    Ok(())
+    None
 }
 
 // Returns true if terms and documents are below their limits.
-fn are_in_range(terms: u64, universe: u64, pairs: &[(u64, u64)]) -> bool
-    ensures { IsTrue result ↔ All (IsInRange terms universe) pairs.now }
+fn are_in_range<P: Pairs>(terms: u64, universe: u64, mut pairs: P) -> bool
+    ensures { result ≡ list_all (is_in_range terms universe) (P.left pairs) }
 {
-    pairs.iter().all(|pair| pair.0 < terms && pair.1 < universe)
+    while let Some(pair) = pairs.next() {
+        if pair.0 >= terms || pair.1 >= universe {
+            return false;
+        }
+    }
+    true
 }
 
 // Returns true if each pair is before the next one.
-fn do_ascend(pairs: &[(u64, u64)]) -> bool
-    ensures { IsTrue result ↔ DoAscend pairs.now }
+fn do_ascend<P: Pairs>(mut pairs: P) -> bool
+    ensures { result ≡ each_before_next (P.left pairs) }
 {
-    for i in 1..pairs.len() {
-        if !is_before(pairs[i - 1], pairs[i]) {
+    let Some(mut last) = pairs.next() else {
+        return true;
+    };
+    while let Some(pair) = pairs.next() {
+        if !is_before(last, pair) {
             return false;
         }
+        last = pair;
     }
     true
 }
@@ -83,18 +134,17 @@ fn is_before(one: (u64, u64), other: (u64, u64)) -> bool
 }
 
 // Returns the numbers of pairs.
-fn numbers_of<A: Allocator + Copy>(
+fn numbers_of<A: Allocator + Copy, P: Pairs>(
     alloc: A,
     terms: u64,
     universe: u64,
-    pairs: &[(u64, u64)],
+    mut pairs: P,
 ) -> Result<Vec<u64, A>, AllocError>
-    requires fits { terms * universe ≤ 18446744073709551615 }
-    requires in_range { All (IsInRange terms universe) pairs.now }
-    ensures { IfOk result (λ numbers. numbers.items ≡ map (number_of universe) pairs.now) }
+    requires { refusal_of terms universe (P.left pairs) ≡ None }
+    ensures { IfOk result (λ numbers. numbers.items ≡ map (number_of universe) (P.left pairs)) }
 {
     let mut numbers = Vec::new(alloc);
-    for pair in pairs {
+    while let Some(pair) = pairs.next() {
         numbers.push(pair.0 * universe + pair.1)?;
     }
     Ok(numbers)

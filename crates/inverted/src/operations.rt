@@ -1,11 +1,11 @@
 //! Intersections, unions and differences of the lists of terms.
 ghost use Rattle.std.specs.Prelude.{◌≡◌, ◌∷◌, IfOk, if◌then◌else◌, length, map, nat_le};
 ghost use Rattle.sets.specs.Sets.{IsSetOf, in_all, in_any, in_both, in_either, in_first_alone};
-ghost use Rattle.inverted.specs.Lists.{list_of, term_of};
+ghost use Rattle.inverted.specs.Lists.{documents_with, list_of, term_of};
 
 use crate::inverted_index::InvertedIndex;
 use crate::list::ListOf;
-use sets::{AllOf, AnyOf, Both, Either, Without, collect};
+use sets::{AllOf, AnyOf, Both, Either, Without, collect, numbers_of};
 use std::alloc::{AllocError, Allocator};
 use vers_sorted::elias_fano::EliasFanoVec;
 
@@ -19,12 +19,29 @@ impl<A: Allocator + Copy> InvertedIndex<A> {
     ) -> Result<EliasFanoVec<A>, AllocError>
         ensures { IfOk result (IsSetOf (in_both (list_of self.now one) (list_of self.now other))) }
     {
+        let found = self.intersection_numbers(alloc, one, other)?;
+        EliasFanoVec::from_slice(alloc, found.as_slice())
+    }
+
+    /// Returns the members of `intersection(alloc, one, other)`. Errors: `AllocError` only if the allocator refuses a
+    /// request.
+    pub fn intersection_numbers(
+        &self,
+        alloc: A,
+        one: u64,
+        other: u64,
+    ) -> Result<Vec<u64, A>, AllocError>
+        ensures value { IfOk result (λ found. found.items
+            ≡ documents_with self.now (in_both (list_of self.now one) (list_of self.now other))) }
+        ensures set { IfOk result (λ found.
+            IsSetOf (in_both (list_of self.now one) (list_of self.now other)) found.items) }
+    {
         let (rarer, commoner) = rarer_first(self, one, other);
         let both = Both {
             one: ListOf::new(self, rarer),
             other: ListOf::new(self, commoner),
         };
-        collect(alloc, both)
+        numbers_of(alloc, both)
     }
 
     /// Returns the documents that have one of two terms, or both. Errors: `AllocError` only if the allocator
@@ -32,11 +49,22 @@ impl<A: Allocator + Copy> InvertedIndex<A> {
     pub fn union(&self, alloc: A, one: u64, other: u64) -> Result<EliasFanoVec<A>, AllocError>
         ensures { IfOk result (IsSetOf (in_either (list_of self.now one) (list_of self.now other))) }
     {
+        let found = self.union_numbers(alloc, one, other)?;
+        EliasFanoVec::from_slice(alloc, found.as_slice())
+    }
+
+    /// Returns the members of `union(alloc, one, other)`. Errors: `AllocError` only if the allocator refuses a request.
+    pub fn union_numbers(&self, alloc: A, one: u64, other: u64) -> Result<Vec<u64, A>, AllocError>
+        ensures value { IfOk result (λ found. found.items
+            ≡ documents_with self.now (in_either (list_of self.now one) (list_of self.now other))) }
+        ensures set { IfOk result (λ found.
+            IsSetOf (in_either (list_of self.now one) (list_of self.now other)) found.items) }
+    {
         let either = Either {
             one: ListOf::new(self, one),
             other: ListOf::new(self, other),
         };
-        collect(alloc, either)
+        numbers_of(alloc, either)
     }
 
     /// Returns the documents that have the first term and not the other. Errors: `AllocError` only if the
@@ -45,11 +73,28 @@ impl<A: Allocator + Copy> InvertedIndex<A> {
         ensures { IfOk result
             (IsSetOf (in_first_alone (list_of self.now one) (list_of self.now other))) }
     {
+        let found = self.difference_numbers(alloc, one, other)?;
+        EliasFanoVec::from_slice(alloc, found.as_slice())
+    }
+
+    /// Returns the members of `difference(alloc, one, other)`. Errors: `AllocError` only if the allocator refuses a
+    /// request.
+    pub fn difference_numbers(
+        &self,
+        alloc: A,
+        one: u64,
+        other: u64,
+    ) -> Result<Vec<u64, A>, AllocError>
+        ensures value { IfOk result (λ found. found.items
+            ≡ documents_with self.now (in_first_alone (list_of self.now one) (list_of self.now other))) }
+        ensures set { IfOk result (λ found.
+            IsSetOf (in_first_alone (list_of self.now one) (list_of self.now other)) found.items) }
+    {
         let without = Without {
             one: ListOf::new(self, one),
             other: ListOf::new(self, other),
         };
-        collect(alloc, without)
+        numbers_of(alloc, without)
     }
 
     /// Returns the documents that have the first term and each of the others. The fewer documents the first has,

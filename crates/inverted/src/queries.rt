@@ -143,6 +143,26 @@ impl<A: Allocator + Copy> InvertedIndex<A> {
     }
 }
 
+impl<A: Allocator + Copy> InvertedIndex<A> {
+    /// Returns the pair at position `i` of all pairs as one number, or `None` if `i` is out of bounds: document `d` of
+    /// term `t` is the number `t * universe + d`.
+    #[inline]
+    pub fn pair_number(&self, i: usize) -> Option<u64>
+        ensures { result ≡ slice_get self.now.numbers i }
+    {
+        let mut tally = Tally::new();
+        self.pair_number_counted(i, &mut tally)
+    }
+
+    /// Returns `pair_number(i)`. Reads at most one of the numbers of all terms.
+    pub fn pair_number_counted(&self, i: usize, tally: &mut Tally) -> Option<u64>
+        ensures value { result ≡ slice_get self.now.numbers i }
+        ensures adds { AddsAtMost tally.old tally.new (member_reads self.now.numbers) }
+    {
+        self.numbers.get_counted(i, tally)
+    }
+}
+
 // Returns the document of a number, or `None` if the number is past those of a term.
 #[inline(always)]
 pub(crate) fn document(start: u64, universe: u64, number: Option<u64>) -> Option<u64>

@@ -75,6 +75,23 @@ fn wrong_list(index: &Index, lists: &[(u64, &[u64])]) -> Option<usize> {
     None
 }
 
+// Returns true if the pairs of an index are those of these lists, each as one number.
+fn has_numbers(index: &Index, lists: &[(u64, &[u64])]) -> bool {
+    let mut place = 0usize;
+    for (term, documents) in lists {
+        for document in *documents {
+            let number = term.wrapping_mul(index.universe()).wrapping_add(*document);
+            if index.pair_number(place) != Some(number) {
+                return false;
+            }
+            place = place.saturating_add(1);
+        }
+    }
+    index.len() == place
+        && index.pair_number(place).is_none()
+        && index.pair_number(usize::MAX).is_none()
+}
+
 // Returns true if an index has these lists and answers.
 fn is_right(
     index: &Index,
@@ -85,6 +102,7 @@ fn is_right(
 ) -> bool {
     index.terms() == terms
         && index.universe() == universe
+        && has_numbers(index, lists)
         && wrong_list(index, lists).is_none()
         && wrong_query(index, queries).is_none()
 }

@@ -4,7 +4,7 @@ use Rattle.std.specs.List.Sorted.{IsNonDecreasing}
 use Rattle.vers_sorted.specs.Sorted.{below, least_not_below}
 use Rattle.sets.specs.Sets.{is_member}
 use Rattle.sets.specs.Steps.{HasNoMore, IsNext}
-use Rattle.sets.specs.Laws.{SetIsOneList, IntersectionIsFilter, DifferenceIsFilter}
+use Rattle.sets.specs.Laws.{SetIsOneList, IntersectionIsFilter, DifferenceIsFilter, SetBelowIsFilter}
 use Rattle.sets.proofs.Lists as Lists
 use Rattle.sets.proofs.Uniqueness as Uniqueness
 
@@ -16,6 +16,9 @@ intersection_is_filter = Uniqueness.intersection_is_filter
 
 pub difference_is_filter : DifferenceIsFilter
 difference_is_filter = Uniqueness.difference_is_filter
+
+pub set_below_is_filter : SetBelowIsFilter
+set_below_is_filter = Uniqueness.set_below_is_filter
 
 -- a search of an ascending list for the next member is a step
 pub next_member : (xs : List ℕ) (v x : ℕ) → IsNonDecreasing xs → Some x ≡ least_not_below xs v → x ≤ 18446744073709551615 → (x ≡ 18446744073709551615 → get_or xs (length xs - 1) 0 ≤ 18446744073709551615) → IsNext (is_member xs) v x

@@ -1,14 +1,15 @@
 -- A set is one list.
-use Rattle.std.proofs.Common.{◌≡◌, ℕ, suc, ◌<◌, ◌≤◌, Bool, true, false, List, [], ◌∷◌, refl, sym, ap, ◌∙◌, inl, inr, arith}
+use Rattle.std.proofs.Common.{◌≡◌, ℕ, suc, ◌+◌, ◌<◌, ◌≤◌, Bool, true, false, List, [], ◌∷◌, length, refl, sym, ap, ◌∙◌, inl, inr, arith}
 use Rattle.std.specs.Prelude.{◌&&◌, not, filter}
 use Rattle.std.specs.List.Sorted.{IsStrictlyIncreasing}
 use Rattle.std.proofs.lemmas.Bool.{cases_lt, eq-eqb, ne_eqb}
 use Rattle.std.proofs.Math.Bool.{and-false}
 use Rattle.std.proofs.lemmas.List.Kept.{AllPairs-from_increasing, IsStrictlyIncreasing-filter}
-use Rattle.std.specs.List.{AllPairs}
+use Rattle.std.proofs.lemmas.List.FromFn.{get_or-range_with_len, length-range_with_len}
+use Rattle.std.specs.List.{AllPairs, range_with_len}
 use Rattle.sets.specs.Sets.{is_member, IsSetOf, in_both, in_first_alone}
-use Rattle.sets.specs.Laws.{SetIsOneList, IntersectionIsFilter, DifferenceIsFilter}
-use Rattle.sets.proofs.Lists.{not_member}
+use Rattle.sets.specs.Laws.{SetIsOneList, IntersectionIsFilter, DifferenceIsFilter, SetBelowIsFilter}
+use Rattle.sets.proofs.Lists.{member_at, not_member}
 
 -- each number is below all later ones
 abbrev Rising : List ℕ → Type 0
@@ -100,5 +101,24 @@ intersection_is_filter one other found up set = set_is_one_list (in_both one oth
 
 pub difference_is_filter : DifferenceIsFilter
 difference_is_filter one other found up set = set_is_one_list (in_first_alone one other) found (filter (λ x. not (is_member other x)) one) set (filter_is_set (λ x. not (is_member other x)) one up)
+
+-- ---- a set of numbers below a limit
+
+range_rises : (n : ℕ) → IsStrictlyIncreasing (range_with_len 0 n)
+range_rises n k inside =
+    let long : length (range_with_len 0 n) ≡ n = length-range_with_len 0 n in
+    rw (get_or-range_with_len 0 n k 0 (omega (arith, inside, long)), get_or-range_with_len 0 n (k + 1) 0 (omega (arith, inside, long))) (omega arith)
+
+in_range : (n x : ℕ) → x < n → is_member (range_with_len 0 n) x ≡ true
+in_range n x less = member_at (range_with_len 0 n) x x (omega (arith, less, length-range_with_len 0 n)) (omega (arith, get_or-range_with_len 0 n x 0 less))
+
+pub set_below_is_filter : SetBelowIsFilter
+set_below_is_filter has limit found below set =
+    set_is_one_list has found (filter has (range_with_len 0 limit)) set
+    (record { ascending = IsStrictlyIncreasing-filter has (range_with_len 0 limit) (range_rises limit); numbers = λ x. member_filter has (range_with_len 0 limit) x ∙ all x (has x) refl })
+  where
+    all : (x : ℕ) (b : Bool) → has x ≡ b → (is_member (range_with_len 0 limit) x && has x) ≡ has x
+    all x true e = rw (in_range limit x (below x e), e) refl
+    all x false e = rw (e, and-false (is_member (range_with_len 0 limit) x)) refl
 
 pub ruleset laws = (set_is_one_list, intersection_is_filter, difference_is_filter)

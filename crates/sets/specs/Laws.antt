@@ -1,5 +1,6 @@
 -- The laws of sets as ascending lists, as statements.
-use Rattle.std.specs.Prelude.{◌≡◌, ℕ, not, Bool, List, filter}
+use Rattle.std.specs.Prelude.{◌≡◌, ◌<◌, ℕ, not, Bool, true, List, filter}
+use Rattle.std.specs.List.{range_with_len}
 use Rattle.std.specs.List.Sorted.{IsStrictlyIncreasing}
 use Rattle.sets.specs.Sets.{is_member, IsSetOf, in_both, in_first_alone}
 
@@ -16,3 +17,8 @@ IntersectionIsFilter = (one other found : List ℕ) → IsStrictlyIncreasing one
 abbrev pub DifferenceIsFilter : Type 0
 DifferenceIsFilter = (one other found : List ℕ) → IsStrictlyIncreasing one → IsSetOf (in_first_alone one other) found
     → found ≡ filter (λ x. not (is_member other x)) one
+
+-- a set of numbers below a limit is a filter of the numbers below it
+abbrev pub SetBelowIsFilter : Type 0
+SetBelowIsFilter = (has : ℕ → Bool) (limit : ℕ) (found : List ℕ) → ((x : ℕ) → has x ≡ true → x < limit) → IsSetOf has found
+    → found ≡ filter has (range_with_len 0 limit)

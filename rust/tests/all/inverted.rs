@@ -44,6 +44,10 @@ fn queries_of_terms() {
         let index = InvertedIndex::from_pairs(terms, universe, &pairs(&plain)).unwrap();
         let index = index.clone();
         assert_eq!((index.terms(), index.universe()), (terms, universe));
+        let pairs = pairs(&plain);
+        assert_eq!((index.len(), index.is_empty()), (pairs.len(), pairs.is_empty()));
+        let number = |i: usize| pairs.get(i).map(|(term, document)| term * universe + document);
+        assert!((0..=pairs.len()).all(|i| index.pair_number(i) == number(i)));
         for term in 0..terms + 2 {
             let list = plain.get(&term).cloned().unwrap_or_default();
             assert!(index.documents(term).eq(list.iter().copied()));

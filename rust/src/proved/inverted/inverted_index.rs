@@ -41,6 +41,12 @@ impl<A: Allocator + Copy> InvertedIndex<A> {
         self.universe
     }
 
+    /// Returns the number of pairs of a term and a document.
+    #[inline]
+    pub fn len(&self) -> usize {
+        self.numbers.len()
+    }
+
     /// Returns the number of bytes that the lists take.
     pub fn heap_size(&self) -> usize {
         self.numbers.heap_size()

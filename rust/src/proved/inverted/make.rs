@@ -1,4 +1,4 @@
-//! The constructor.
+//! The constructors.
 
 use crate::rattle::prelude::*;
 
@@ -7,6 +7,27 @@ use crate::proved::inverted::inverted_index::InvertedIndex;
 use crate::rattle::AllocError;
 use crate::rattle::Allocator;
 use crate::proved::vers_sorted::elias_fano::EliasFanoVec;
+
+/// Pairs of a term and a document that are read one by one, and once more from a copy.
+pub trait Pairs: Copy {
+    /// Takes the first of the pairs left. `None` if none is left.
+    fn next(&mut self) -> Option<(u64, u64)>;
+}
+
+// The pairs of a slice.
+#[derive(Clone, Copy)]
+struct SlicePairs<'a> {
+    rest: &'a [(u64, u64)],
+}
+
+impl Pairs for SlicePairs<'_> {
+    #[inline]
+    fn next(&mut self) -> Option<(u64, u64)> {
+        let (first, others) = self.rest.split_first()?;
+        self.rest = others;
+        Some(*first)
+    }
+}
 
 impl<A: Allocator + Copy> InvertedIndex<A> {
     /// Returns the index of pairs of a term below `terms` and a document below `universe`, which ascend strictly by
@@ -18,7 +39,19 @@ impl<A: Allocator + Copy> InvertedIndex<A> {
         universe: u64,
         pairs: &[(u64, u64)],
     ) -> Result<Self, InvertedError> {
-        check(terms, universe, pairs)?;
+        InvertedIndex::from_source(alloc, terms, universe, SlicePairs { rest: pairs })
+    }
+
+    /// Returns what `from_pairs` does, of pairs that are read one by one. Errors: as for `from_pairs`.
+    pub fn from_source<P: Pairs>(
+        alloc: A,
+        terms: u64,
+        universe: u64,
+        pairs: P,
+    ) -> Result<Self, InvertedError> {
+        if let Some(error) = refusal(terms, universe, pairs) {
+            return Err(error);
+        }
         let numbers = numbers_of(alloc, terms, universe, pairs)?;
         let numbers = EliasFanoVec::from_slice(alloc, numbers.as_slice())?;
         Ok(InvertedIndex {
@@ -29,31 +62,40 @@ impl<A: Allocator + Copy> InvertedIndex<A> {
     }
 }
 
-// Tests whether the index can be made, in the order of `InvertedError`.
-fn check(terms: u64, universe: u64, pairs: &[(u64, u64)]) -> Result<(), InvertedError> {
+/// Returns the first reason for which pairs make no index, in the order of `InvertedError`. `None` if they make one.
+pub fn refusal<P: Pairs>(terms: u64, universe: u64, pairs: P) -> Option<InvertedError> {
     if terms.checked_mul(universe).is_none() {
-        return Err(InvertedError::TooLarge);
+        return Some(InvertedError::TooLarge);
     }
     if !are_in_range(terms, universe, pairs) {
-        return Err(InvertedError::OutOfRange);
+        return Some(InvertedError::OutOfRange);
     }
     if !do_ascend(pairs) {
-        return Err(InvertedError::NotAscending);
+        return Some(InvertedError::NotAscending);
     }
-    Ok(())
+    None
 }
 
 // Returns true if terms and documents are below their limits.
-fn are_in_range(terms: u64, universe: u64, pairs: &[(u64, u64)]) -> bool {
-    pairs.iter().all(|pair| pair.0 < terms && pair.1 < universe)
+fn are_in_range<P: Pairs>(terms: u64, universe: u64, mut pairs: P) -> bool {
+    while let Some(pair) = pairs.next() {
+        if pair.0 >= terms || pair.1 >= universe {
+            return false;
+        }
+    }
+    true
 }
 
 // Returns true if each pair is before the next one.
-fn do_ascend(pairs: &[(u64, u64)]) -> bool {
-    for i in 1..pairs.len() {
-        if !is_before(pairs[i - 1], pairs[i]) {
+fn do_ascend<P: Pairs>(mut pairs: P) -> bool {
+    let mut last = match pairs.next() { Some(last) => last, _ => {
+        return true;
+    } };
+    while let Some(pair) = pairs.next() {
+        if !is_before(last, pair) {
             return false;
         }
+        last = pair;
     }
     true
 }
@@ -64,14 +106,14 @@ fn is_before(one: (u64, u64), other: (u64, u64)) -> bool {
 }
 
 // Returns the numbers of pairs.
-fn numbers_of<A: Allocator + Copy>(
+fn numbers_of<A: Allocator + Copy, P: Pairs>(
     alloc: A,
     terms: u64,
     universe: u64,
-    pairs: &[(u64, u64)],
+    mut pairs: P,
 ) -> Result<Vec<u64, A>, AllocError> {
     let mut numbers = Vec::new(alloc);
-    for pair in pairs {
+    while let Some(pair) = pairs.next() {
         numbers.push(pair.0 * universe + pair.1)?;
     }
     Ok(numbers)

@@ -14,3 +14,4 @@ pub use documents::Documents;
 pub use fault::InvertedError;
 pub use inverted_index::InvertedIndex;
 pub use list::ListOf;
+pub use make::{Pairs, refusal};

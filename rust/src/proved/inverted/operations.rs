@@ -4,7 +4,7 @@ use crate::rattle::prelude::*;
 
 use crate::proved::inverted::inverted_index::InvertedIndex;
 use crate::proved::inverted::list::ListOf;
-use crate::proved::sets::{AllOf, AnyOf, Both, Either, Without, collect};
+use crate::proved::sets::{AllOf, AnyOf, Both, Either, Without, collect, numbers_of};
 use crate::rattle::AllocError;
 use crate::rattle::Allocator;
 use crate::proved::vers_sorted::elias_fano::EliasFanoVec;
@@ -17,32 +17,62 @@ impl<A: Allocator + Copy> InvertedIndex<A> {
         one: u64,
         other: u64,
     ) -> Result<EliasFanoVec<A>, AllocError> {
+        let found = self.intersection_numbers(alloc, one, other)?;
+        EliasFanoVec::from_slice(alloc, found.as_slice())
+    }
+
+    /// Returns the members of `intersection(alloc, one, other)`. Errors: `AllocError` only if the allocator refuses a
+    /// request.
+    pub fn intersection_numbers(
+        &self,
+        alloc: A,
+        one: u64,
+        other: u64,
+    ) -> Result<Vec<u64, A>, AllocError> {
         let (rarer, commoner) = rarer_first(self, one, other);
         let both = Both {
             one: ListOf::new(self, rarer),
             other: ListOf::new(self, commoner),
         };
-        collect(alloc, both)
+        numbers_of(alloc, both)
     }
 
     /// Returns the documents that have one of two terms, or both. Errors: `AllocError` only if the allocator
     /// refuses a request.
     pub fn union(&self, alloc: A, one: u64, other: u64) -> Result<EliasFanoVec<A>, AllocError> {
+        let found = self.union_numbers(alloc, one, other)?;
+        EliasFanoVec::from_slice(alloc, found.as_slice())
+    }
+
+    /// Returns the members of `union(alloc, one, other)`. Errors: `AllocError` only if the allocator refuses a request.
+    pub fn union_numbers(&self, alloc: A, one: u64, other: u64) -> Result<Vec<u64, A>, AllocError> {
         let either = Either {
             one: ListOf::new(self, one),
             other: ListOf::new(self, other),
         };
-        collect(alloc, either)
+        numbers_of(alloc, either)
     }
 
     /// Returns the documents that have the first term and not the other. Errors: `AllocError` only if the
     /// allocator refuses a request.
     pub fn difference(&self, alloc: A, one: u64, other: u64) -> Result<EliasFanoVec<A>, AllocError> {
+        let found = self.difference_numbers(alloc, one, other)?;
+        EliasFanoVec::from_slice(alloc, found.as_slice())
+    }
+
+    /// Returns the members of `difference(alloc, one, other)`. Errors: `AllocError` only if the allocator refuses a
+    /// request.
+    pub fn difference_numbers(
+        &self,
+        alloc: A,
+        one: u64,
+        other: u64,
+    ) -> Result<Vec<u64, A>, AllocError> {
         let without = Without {
             one: ListOf::new(self, one),
             other: ListOf::new(self, other),
         };
-        collect(alloc, without)
+        numbers_of(alloc, without)
     }
 
     /// Returns the documents that have the first term and each of the others. The fewer documents the first has,

@@ -11,3 +11,6 @@ pub fn intersection_is_filter() {}
 
 /// States that a difference of a strictly ascending list and another is a filter of the first.
 pub fn difference_is_filter() {}
+
+/// States that a set of numbers below a limit is a filter of the numbers below it.
+pub fn set_below_is_filter() {}

@@ -8,4 +8,4 @@ returns c =
     let made : IfOk c.collect.result (IsSetOf (λ document. (is_member (list_of c.new.result.index c.new.result.term) document
     && is_member (list_of c.new-2.result.index c.new-2.result.term) document)
     && not (is_member (list_of c.new-3.result.index c.new-3.result.term) document))) = c.collect.ensures in
-    rw (c.new.ensures, c.new-2.ensures, c.new-3.ensures) at made
+    rw (c.new.ensures.value, c.new-2.ensures.value, c.new-3.ensures.value) at made
