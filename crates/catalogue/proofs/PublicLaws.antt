@@ -1,7 +1,7 @@
 -- Laws of structures.
 use Rattle.std.specs.Prelude.{◌≡◌, Some, unwrap_or}
 use Rattle.std.proofs.Common.{refl}
-use Rattle.catalogue.specs.Contents.{Content, GrowingBits, IndexedBits, SparseBits, SortedMembers, SymbolList, Parentheses, BlockValues, TableValues, Documents, IndexedText, PlainNumbers}
+use Rattle.catalogue.specs.Contents.{Content, GrowingBits, IndexedBits, SparseBits, SortedMembers, SymbolList, Parentheses, BlockValues, TableValues, Documents, DocumentLists, IndexedText, PlainNumbers}
 use Rattle.catalogue.specs.Forms.{HasSomeForm, kind_of}
 use Rattle.catalogue.specs.declared.kind.Kind.{Kind}
 
@@ -17,4 +17,5 @@ formed_has_kind (BlockValues values) other whole = refl
 formed_has_kind (TableValues values) other whole = refl
 formed_has_kind (Documents posted) other whole = refl
 formed_has_kind (IndexedText text) other whole = refl
+formed_has_kind (DocumentLists index) other whole = absurd whole
 formed_has_kind (PlainNumbers numbers) other whole = absurd whole

@@ -2,6 +2,7 @@
 use Rattle.std.specs.Prelude.{ℕ, Bool, List, length}
 use Rattle.vers_wavelet.specs.Symbols.{Symbols}
 use Rattle.postings.specs.Posted.{Posted}
+use Rattle.inverted.specs.Lists.{Lists}
 use Rattle.text_index.specs.Texts.{Text}
 use Rattle.catalogue.specs.declared.structure.Structure.{Structure}
 use Rattle.catalogue.specs.declared.structure.Structure.TheVariants as structure
@@ -17,6 +18,7 @@ pub data Content : Type 0 where
   BlockValues : List ℕ → Content
   TableValues : List ℕ → Content
   Documents : Posted → Content
+  DocumentLists : Lists → Content
   IndexedText : Text → Content
   PlainNumbers : List ℕ → Content
 
@@ -31,6 +33,7 @@ content_of (structure.Tree tree) = Parentheses tree.value
 content_of (structure.Fast values) = BlockValues values
 content_of (structure.Binary values) = TableValues values
 content_of (structure.Postings posted) = Documents posted
+content_of (structure.Inverted index) = DocumentLists index
 content_of (structure.Text text) = IndexedText text
 content_of (structure.Numbers numbers) = PlainNumbers numbers.items
 
@@ -45,5 +48,6 @@ length_of (Parentheses bits) = length bits
 length_of (BlockValues values) = length values
 length_of (TableValues values) = length values
 length_of (Documents posted) = length posted.documents
+length_of (DocumentLists index) = length index.numbers
 length_of (IndexedText text) = length text.items
 length_of (PlainNumbers numbers) = length numbers

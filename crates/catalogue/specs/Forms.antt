@@ -8,7 +8,7 @@ use Rattle.vers_saved.specs.declared.kind.Kind.{Kind as SavedKind}
 use Rattle.vers_saved.specs.declared.kind.TheConstants.{BIT_LISTS, SORTED_LISTS, SYMBOL_LISTS, SPARSE_LISTS, TABLE_VALUES, BLOCK_VALUES, POSTING_LISTS, TEXT_INDEXES}
 use Rattle.catalogue.specs.declared.kind.Kind.{Kind}
 use Rattle.catalogue.specs.declared.kind.Kind.TheVariants as kind
-use Rattle.catalogue.specs.Contents.{Content, GrowingBits, IndexedBits, SparseBits, SortedMembers, SymbolList, Parentheses, BlockValues, TableValues, Documents, IndexedText, PlainNumbers}
+use Rattle.catalogue.specs.Contents.{Content, GrowingBits, IndexedBits, SparseBits, SortedMembers, SymbolList, Parentheses, BlockValues, TableValues, Documents, DocumentLists, IndexedText, PlainNumbers}
 
 -- the saved form of a structure, or no bytes if such have none
 abbrev pub saved_form : Content → List ℕ
@@ -22,6 +22,7 @@ saved_form (BlockValues values) = saved_values values
 saved_form (TableValues values) = saved_values values
 saved_form (Documents posted) = saved_postings posted
 saved_form (IndexedText text) = saved_text text
+saved_form (DocumentLists index) = []
 saved_form (PlainNumbers numbers) = []
 
 -- a structure has a saved form: it is of a kind that has, its items are neither too many nor too wide, and its words are as the kind wants
@@ -36,6 +37,7 @@ HasForm (BlockValues values) = IsWhole BLOCK_VALUES (length values) 64 values
 HasForm (TableValues values) = IsWhole TABLE_VALUES (length values) 64 values
 HasForm (Documents posted) = IsWhole POSTING_LISTS (length posted.documents) 128 (posting_words posted)
 HasForm (IndexedText text) = IsWhole TEXT_INDEXES (length (text_words text)) text.width (text_words text)
+HasForm (DocumentLists index) = ⊥
 HasForm (PlainNumbers numbers) = ⊥
 
 -- a structure has a saved form of some version: symbols may have one of the first alone
@@ -67,6 +69,7 @@ kind_of (BlockValues values) = Some kind.Fast
 kind_of (TableValues values) = Some kind.Binary
 kind_of (Documents posted) = Some kind.Postings
 kind_of (IndexedText text) = Some kind.Text
+kind_of (DocumentLists index) = None
 kind_of (PlainNumbers numbers) = None
 
 -- what the saved forms of a kind have to meet

@@ -1,6 +1,6 @@
 -- The kinds of structures.
 use Rattle.std.specs.Prelude.{ℕ, List, codes}
-use Rattle.catalogue.specs.Contents.{Content, GrowingBits, IndexedBits, SparseBits, SortedMembers, SymbolList, Parentheses, BlockValues, TableValues, Documents, IndexedText, PlainNumbers}
+use Rattle.catalogue.specs.Contents.{Content, GrowingBits, IndexedBits, SparseBits, SortedMembers, SymbolList, Parentheses, BlockValues, TableValues, Documents, DocumentLists, IndexedText, PlainNumbers}
 use Rattle.catalogue.specs.declared.kind.Kind.{Kind}
 use Rattle.catalogue.specs.declared.kind.Kind.TheVariants as kind
 
@@ -28,5 +28,6 @@ width_of (Parentheses bits) = 512
 width_of (BlockValues values) = 64
 width_of (TableValues values) = 64
 width_of (Documents posted) = 128
+width_of (DocumentLists index) = 64
 width_of (IndexedText text) = text.width
 width_of (PlainNumbers numbers) = 64

@@ -2,7 +2,9 @@ pub mod Answers
 pub mod BitsAnswers
 pub mod Contents
 pub mod Forms
+pub mod Joined
 pub mod Kinds
+pub mod ListsAnswers
 pub mod MinimaAnswers
 pub mod PostingsAnswers
 pub mod Queries

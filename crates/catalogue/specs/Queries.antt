@@ -2,8 +2,9 @@
 use Rattle.std.specs.Prelude.{ℕ}
 use Rattle.catalogue.specs.declared.answer.Answer.{Answer}
 use Rattle.catalogue.specs.declared.query.Query.{Query}
-use Rattle.catalogue.specs.Contents.{Content, GrowingBits, IndexedBits, SparseBits, SortedMembers, SymbolList, Parentheses, BlockValues, TableValues, Documents, IndexedText, PlainNumbers}
+use Rattle.catalogue.specs.Contents.{Content, GrowingBits, IndexedBits, SparseBits, SortedMembers, SymbolList, Parentheses, BlockValues, TableValues, Documents, DocumentLists, IndexedText, PlainNumbers}
 use Rattle.catalogue.specs.BitsAnswers.{bits_answer, growing_answer, sparse_answer}
+use Rattle.catalogue.specs.ListsAnswers.{lists_answer}
 use Rattle.catalogue.specs.MinimaAnswers.{fast_answer, numbers_answer, table_answer}
 use Rattle.catalogue.specs.PostingsAnswers.{posted_answer}
 use Rattle.catalogue.specs.SortedAnswers.{sorted_answer}
@@ -22,5 +23,6 @@ answer (Parentheses bits) query a b c = tree_answer 512 bits query a b c
 answer (BlockValues values) query a b c = fast_answer values query a b c
 answer (TableValues values) query a b c = table_answer values query a b c
 answer (Documents posted) query a b c = posted_answer posted query a b c
+answer (DocumentLists index) query a b c = lists_answer index query a b c
 answer (IndexedText text) query a b c = text_answer text query a b c
 answer (PlainNumbers numbers) query a b c = numbers_answer numbers query a b c

@@ -69,7 +69,7 @@ impl<A: Allocator + Copy> Structure<'_, A> {
             Structure::Binary(_) => Some(Kind::Binary),
             Structure::Postings(_) => Some(Kind::Postings),
             Structure::Text(_) => Some(Kind::Text),
-            Structure::Numbers(_) => None,
+            Structure::Inverted(_) | Structure::Numbers(_) => None,
         }
     }
 
@@ -87,6 +87,7 @@ impl<A: Allocator + Copy> Structure<'_, A> {
             | Structure::Sorted(_)
             | Structure::Fast(_)
             | Structure::Binary(_)
+            | Structure::Inverted(_)
             | Structure::Numbers(_) => 64,
         }
     }
@@ -108,7 +109,7 @@ impl<A: Allocator + Copy> Structure<'_, A> {
             Structure::Binary(values) => saved_size(values),
             Structure::Postings(posted) => saved_size(posted),
             Structure::Text(text) => saved_size(text),
-            Structure::Numbers(_) => None,
+            Structure::Inverted(_) | Structure::Numbers(_) => None,
         }
     }
 
@@ -135,7 +136,7 @@ impl<A: Allocator + Copy> Structure<'_, A> {
             Structure::Binary(values) => bytes_of(alloc, values),
             Structure::Postings(posted) => bytes_of(alloc, posted),
             Structure::Text(text) => bytes_of(alloc, text),
-            Structure::Numbers(_) => Err(SaveError::NoForm),
+            Structure::Inverted(_) | Structure::Numbers(_) => Err(SaveError::NoForm),
         }
     }
 
@@ -165,7 +166,7 @@ impl<A: Allocator + Copy> Structure<'_, A> {
             Structure::Binary(values) => write_form(alloc, values, writer),
             Structure::Postings(posted) => write_form(alloc, posted, writer),
             Structure::Text(text) => write_form(alloc, text, writer),
-            Structure::Numbers(_) => Err(SaveError::NoForm),
+            Structure::Inverted(_) | Structure::Numbers(_) => Err(SaveError::NoForm),
         }
     }
 }

@@ -7,8 +7,10 @@
 
 pub mod answer;
 mod bits;
+pub mod documents;
 pub mod forms;
 pub mod kind;
+mod lists;
 mod minima;
 mod posted;
 pub mod query;

@@ -58,6 +58,27 @@ pub enum Query {
     HasNode,
     /// The step of the samples of a text.
     Step,
+    /// The number of terms.
+    Terms,
+    /// The number that all documents of terms are below.
+    Universe,
+    /// A query of the documents of term `a`.
+    Term(TermQuery),
+}
+
+/// A query of the documents of term `a`.
+#[derive(Clone, Copy, Drop)]
+pub enum TermQuery {
+    /// The number of documents.
+    Count,
+    /// The document at position `b`.
+    Get,
+    /// The number of documents below `b`.
+    Rank,
+    /// Membership: true if `b` is a document.
+    Has,
+    /// The least document that is at least `b`.
+    Successor,
 }
 
 /// A query of a list of symbols.
@@ -111,7 +132,7 @@ pub enum TreeQuery {
 }
 
 /// The query of each code of C, which is its index here. The root has none: it is the first position, if there is one.
-pub const QUERIES: [Query; 53] = [
+pub const QUERIES: [Query; 60] = [
     Query::Len,
     Query::Get,
     Query::GetBits,
@@ -165,6 +186,13 @@ pub const QUERIES: [Query; 53] = [
     Query::Cost,
     Query::HasNode,
     Query::Step,
+    Query::Terms,
+    Query::Universe,
+    Query::Term(TermQuery::Count),
+    Query::Term(TermQuery::Get),
+    Query::Term(TermQuery::Rank),
+    Query::Term(TermQuery::Has),
+    Query::Term(TermQuery::Successor),
 ];
 
 impl Query {

@@ -6,6 +6,7 @@ ghost use Rattle.catalogue.specs.Queries.{answer};
 use crate::answer::Answer;
 use crate::query::Query;
 use crate::queryable::answer_once;
+use inverted::InvertedIndex;
 use postings::Postings;
 use std::alloc::Allocator;
 use text_index::TextIndex;
@@ -40,6 +41,8 @@ pub enum Structure<'a, A: Allocator + Copy> {
     Binary(BinaryRmq<A>),
     /// Documents with costs.
     Postings(Postings<A>),
+    /// A list of documents for each term.
+    Inverted(InvertedIndex<A>),
     /// A text index.
     Text(TextIndex<A>),
     /// Plain numbers, the result of some calls.
@@ -61,6 +64,7 @@ impl<A: Allocator + Copy> Structure<'_, A> {
             Structure::Fast(values) => values.len() as u64,
             Structure::Binary(values) => values.len() as u64,
             Structure::Postings(posted) => posted.len() as u64,
+            Structure::Inverted(index) => index.len() as u64,
             Structure::Text(text) => text.len() as u64,
             Structure::Numbers(numbers) => numbers.len() as u64,
         }
@@ -80,6 +84,7 @@ impl<A: Allocator + Copy> Structure<'_, A> {
             Structure::Fast(values) => answer_once(values, query, a, b, c),
             Structure::Binary(values) => answer_once(values, query, a, b, c),
             Structure::Postings(posted) => answer_once(posted, query, a, b, c),
+            Structure::Inverted(index) => answer_once(index, query, a, b, c),
             Structure::Text(text) => answer_once(text, query, a, b, c),
             Structure::Numbers(numbers) => answer_once(numbers, query, a, b, c),
         }

@@ -140,6 +140,7 @@ fn each_other<R: Row>(
         Structure::Fast(values) => each_of_values(values, query, rows, b, c, other),
         Structure::Binary(values) => answer_each(values, query, rows, b, c, other),
         Structure::Postings(posted) => answer_each(posted, query, rows, b, c, other),
+        Structure::Inverted(index) => answer_each(index, query, rows, b, c, other),
         Structure::Text(text) => answer_each(text, query, rows, b, c, other),
         Structure::Numbers(numbers) => answer_each(numbers, query, rows, b, c, other),
     }

@@ -3,7 +3,7 @@ use Rattle.std.proofs.Common.{◌≡◌, ℕ, List, ◌++◌, [], ◌∷◌, len
 use Rattle.vers_bits.specs.Bits.{limbs}
 use Rattle.vers_wavelet.specs.Symbols.{Symbols}
 use Rattle.vers_saved.specs.Format.{saved, with_sum, word_bytes, bytes_word, bytes_of, words_of, check_sum, sparse_words, posting_words, text_words}
-use Rattle.catalogue.specs.Contents.{Content, GrowingBits, IndexedBits, SparseBits, SortedMembers, SymbolList, Parentheses, BlockValues, TableValues, Documents, IndexedText, PlainNumbers}
+use Rattle.catalogue.specs.Contents.{Content, GrowingBits, IndexedBits, SparseBits, SortedMembers, SymbolList, Parentheses, BlockValues, TableValues, Documents, DocumentLists, IndexedText, PlainNumbers}
 use Rattle.catalogue.specs.Forms.{Fits, HasForm, saved_form}
 use Rattle.vers_files.specs.Forms.{number_of_kind}
 use Rattle.vers_files.proofs.Fronts.{same_number}
@@ -63,4 +63,5 @@ only_symbols P (Parentheses bits) whole fits named of = absurd (omega (arith, na
 only_symbols P (SymbolList symbols) whole fits named of = of symbols refl whole fits
 only_symbols P (Documents posted) whole fits named of = absurd (omega (arith, named, postings_number (length posted.documents) 128 (posting_words posted)))
 only_symbols P (IndexedText text) whole fits named of = absurd (omega (arith, named, text_number (length (text_words text)) text.width (text_words text)))
+only_symbols P (DocumentLists index) whole fits named of = absurd whole
 only_symbols P (PlainNumbers numbers) whole fits named of = absurd whole

@@ -1,5 +1,5 @@
 use Rattle.std.proofs.Common.{◌≡◌, ℕ, List, Some, ap}
-use Rattle.catalogue.specs.Contents.{Content, GrowingBits, IndexedBits, SparseBits, SortedMembers, SymbolList, Parentheses, BlockValues, TableValues, Documents, IndexedText, PlainNumbers}
+use Rattle.catalogue.specs.Contents.{Content, GrowingBits, IndexedBits, SparseBits, SortedMembers, SymbolList, Parentheses, BlockValues, TableValues, Documents, DocumentLists, IndexedText, PlainNumbers}
 use Rattle.catalogue.specs.Forms.{kind_of}
 use Rattle.catalogue.specs.declared.kind.Kind.{Kind}
 use Rattle.catalogue.specs.declared.kind.Kind.TheVariants as kinds
@@ -22,6 +22,7 @@ text_back (BlockValues values) kind bytes text is named form back = cc
 text_back (TableValues values) kind bytes text is named form back = cc
 text_back (Documents posted) kind bytes text is named form back = cc
 text_back (IndexedText other) kind bytes text is named form back = ap IndexedText (back other form.fits form.form)
+text_back (DocumentLists index) kind bytes text is named form back = cc
 text_back (PlainNumbers numbers) kind bytes text is named form back = cc
 
 pub returns-in-Ok-load_text_from_slice-clause-back : goal.returns-in-Ok-load_text_from_slice-clause-back

@@ -1,0 +1,70 @@
+//! Lists of documents of an inverted index: of one term, and of two.
+ghost use Rattle.std.specs.Prelude.{◌≡◌, slice_get, IfOk};
+ghost use Rattle.inverted.specs.Lists.{list_of};
+ghost use Rattle.catalogue.specs.Joined.{joined};
+
+use inverted::InvertedIndex;
+use std::alloc::{AllocError, Allocator};
+
+/// Which documents of two terms are listed.
+#[derive(Clone, Copy, Drop)]
+pub enum Joint {
+    /// Those that have both terms.
+    Intersection,
+    /// Those that have one of the terms, or both.
+    Union,
+    /// Those that have the first term and not the other.
+    Difference,
+}
+
+/// The `Joint` of each code of C, which is its index here.
+pub const JOINTS: [Joint; 3] = [Joint::Intersection, Joint::Union, Joint::Difference];
+
+impl Joint {
+    // Returns the entry at a position of a table.
+    fn at(table: &[Joint], place: usize) -> Option<Joint>
+        ensures { result ≡ slice_get table.now place }
+    {
+        table.get(place).copied()
+    }
+
+    /// Returns the `Joint` of a code, or `None` if there is none.
+    pub fn of(code: u32) -> Option<Joint>
+        ensures { result ≡ slice_get JOINTS code }
+    {
+        Joint::at(&JOINTS, code as usize)
+    }
+}
+
+/// Returns the documents of a term, ascending. Errors: `AllocError` if the allocator refuses a request.
+pub fn documents_of<A: Allocator + Copy>(
+    alloc: A,
+    index: &InvertedIndex<A>,
+    term: u64,
+) -> Result<Vec<u64, A>, AllocError>
+    ensures { IfOk result (λ found. found.items ≡ list_of index.now term) }
+{
+    let mut found = Vec::with_capacity(alloc, index.count(term) as usize)?;
+    let mut documents = index.documents(term);
+    while let Some(document) = documents.next() {
+        found.push(document)?;
+    }
+    Ok(found)
+}
+
+/// Returns documents of two terms, ascending. Errors: `AllocError` if the allocator refuses a request.
+pub fn joined_documents<A: Allocator + Copy>(
+    alloc: A,
+    index: &InvertedIndex<A>,
+    joint: Joint,
+    one: u64,
+    other: u64,
+) -> Result<Vec<u64, A>, AllocError>
+    ensures { IfOk result (λ found. found.items ≡ joined index.now joint one other) }
+{
+    match joint {
+        Joint::Intersection => index.intersection_numbers(alloc, one, other),
+        Joint::Union => index.union_numbers(alloc, one, other),
+        Joint::Difference => index.difference_numbers(alloc, one, other),
+    }
+}
