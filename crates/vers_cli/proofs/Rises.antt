@@ -60,7 +60,7 @@ first_at None others first numbers rest h = cc
 first_at (Some k) None first numbers rest h = cc
 first_at (Some k) (Some xs) first numbers rest h = ap (λ l. k ∷ l) (rest xs refl) ∙ same_Some (k ∷ xs) numbers h
 
-all_first : (words : List (List ℕ)) (numbers : List ℕ) → all_numbers words ≡ Some numbers → first_numbers words ≡ numbers
+pub all_first : (words : List (List ℕ)) (numbers : List ℕ) → all_numbers words ≡ Some numbers → first_numbers words ≡ numbers
 all_first [] numbers h = same_Some [] numbers h
 all_first (word ∷ more) numbers h = first_at (number_of word) (all_numbers more) (first_numbers more) numbers (all_first more) h
 

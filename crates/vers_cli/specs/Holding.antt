@@ -4,12 +4,12 @@ use Rattle.vers_words.specs.Arguments.{bits_of, all_numbers}
 use Rattle.vers_words.specs.Loading.{map_loading}
 use Rattle.vers_words.specs.declared.loading.Loading.{Loading}
 use Rattle.vers_words.specs.declared.loading.Loading.TheVariants.{Malformed, Inadmissible, Accepted}
-use Rattle.catalogue.specs.Contents.{Content, IndexedBits, SparseBits, SortedMembers, SymbolList, Parentheses, BlockValues, Documents, content_of, length_of}
+use Rattle.catalogue.specs.Contents.{Content, IndexedBits, SparseBits, SortedMembers, SymbolList, Parentheses, BlockValues, Documents, DocumentLists, content_of, length_of}
 use Rattle.vers_cli.specs.declared.held.Held.{Held}
 use Rattle.vers_cli.specs.declared.held.Held.TheVariants as held
 use Rattle.vers_cli.specs.declared.name.Load.{Load}
 use Rattle.vers_cli.specs.declared.name.Load.TheVariants as load
-use Rattle.vers_cli.specs.Loads.{bits_loaded, sorted_loaded, sparse_loaded, values_loaded, tree_loaded, symbols_loaded, postings_loaded}
+use Rattle.vers_cli.specs.Loads.{bits_loaded, sorted_loaded, sparse_loaded, values_loaded, tree_loaded, symbols_loaded, postings_loaded, inverted_loaded}
 
 -- the list of the last accepted load line, if there was one
 abbrev pub Holding : Type 0
@@ -34,6 +34,7 @@ loaded load.Values arguments = map_loading BlockValues (values_loaded (all_numbe
 loaded load.Tree arguments = map_loading Parentheses (tree_loaded (bits_of arguments))
 loaded load.Symbols arguments = map_loading SymbolList (symbols_loaded (all_numbers arguments))
 loaded load.Postings arguments = map_loading Documents (postings_loaded (all_numbers arguments))
+loaded load.Inverted arguments = map_loading DocumentLists (inverted_loaded (all_numbers arguments))
 
 -- what a load line gives, without what it writes
 abbrev pub outcome_of : {H : Type 0} → Loading H → Loading (Unit {0})

@@ -1,5 +1,6 @@
 -- The replies that are lists.
 use Rattle.std.specs.Prelude.{ℕ, Bool, true, nat_le, List, reverse, if◌then◌else◌}
+use Rattle.inverted.specs.Lists.{list_of}
 use Rattle.postings.specs.Posted.{common}
 use Rattle.vers_bits.specs.Bits.{places}
 use Rattle.vers_trees.specs.Balance.{are_balanced, has_node}
@@ -8,7 +9,9 @@ use Rattle.vers_trees.specs.Nodes.{children, subtree}
 use Rattle.vers_trees.specs.Traversals.{postorder, subtree_post}
 use Rattle.vers_wavelet.specs.Symbols.{Symbols, by_size}
 use Rattle.vers_words.specs.Reply.{PlainReply, WrongStructure, Refused, Absent, Numbers}
-use Rattle.catalogue.specs.Contents.{Content, SparseBits, SortedMembers, SymbolList, Parentheses, Documents}
+use Rattle.catalogue.specs.Contents.{Content, SparseBits, SortedMembers, SymbolList, Parentheses, Documents, DocumentLists}
+use Rattle.catalogue.specs.Joined.{joined}
+use Rattle.catalogue.specs.declared.documents.Joint.{Joint}
 use Rattle.vers_cli.specs.declared.name.Listing.{Listing}
 use Rattle.vers_cli.specs.declared.name.Listing.TheVariants.{Items, BySize, Postorder}
 use Rattle.vers_cli.specs.declared.name.Nodes.{Nodes}
@@ -49,3 +52,13 @@ walk_reply _ nodes v = WrongStructure
 abbrev pub common_reply : Content → List ℕ → PlainReply
 common_reply (Documents posted) others = reply_if (are_admitted others) (Numbers (common posted.documents others))
 common_reply _ others = WrongStructure
+
+-- the documents of a term
+abbrev pub documents_reply : Content → ℕ → PlainReply
+documents_reply (DocumentLists index) t = Numbers (list_of index t)
+documents_reply _ t = WrongStructure
+
+-- documents of two terms
+abbrev pub joined_reply : Content → Joint → ℕ → ℕ → PlainReply
+joined_reply (DocumentLists index) joint one other = Numbers (joined index joint one other)
+joined_reply _ joint one other = WrongStructure

@@ -2,6 +2,9 @@
 use Rattle.std.specs.Prelude.{ℕ, Bool, true, false, ◌&&◌, nat_le, nat_lt, List, [], ◌∷◌, length, Option, option_map, Some, None, if◌then◌else◌}
 use Rattle.std.specs.List.{list_all}
 use Rattle.std.specs.Option.{option_and_then}
+use Rattle.inverted.specs.Lists.{Lists}
+use Rattle.inverted.specs.Makers.{index_of, refusal_of}
+use Rattle.inverted.specs.declared.fault.InvertedError.{InvertedError}
 use Rattle.postings.specs.Posted.{Posted}
 use Rattle.vers_bits.specs.declared.bit_vec.TheConstants as bits
 use Rattle.vers_rmq.specs.declared.rmq.fast_rmq.TheConstants as values
@@ -98,3 +101,35 @@ posted_loaded (Some posted) = accepted_or_not (if_admitted posted)
 -- the load line `postings d c ..`, for its numbers
 abbrev pub postings_loaded : Option (List ℕ) → Loading Posted
 postings_loaded numbers = posted_loaded (option_and_then posted_of numbers)
+
+-- numbers read as pairs, without a last number that has no second one
+abbrev pub pairs_in : List ℕ → List (ℕ × ℕ)
+pairs_in [] = []
+pairs_in (n ∷ []) = []
+pairs_in (m ∷ n ∷ more) = (m, n) ∷ pairs_in more
+
+-- the same, `None` if the last number has no second one
+abbrev pub pairs_of : List ℕ → Option (List (ℕ × ℕ))
+pairs_of [] = Some []
+pairs_of (n ∷ []) = None
+pairs_of (m ∷ n ∷ more) = option_map (λ others. (m, n) ∷ others) (pairs_of more)
+
+-- numbers read as the limits of terms and of documents, and then pairs of these
+abbrev pub index_parts : List ℕ → Option (ℕ × ℕ × List (ℕ × ℕ))
+index_parts [] = None
+index_parts (terms ∷ []) = None
+index_parts (terms ∷ universe ∷ numbers) = option_map (λ pairs. (terms, universe, pairs)) (pairs_of numbers)
+
+-- an index, unless there is a reason against it
+abbrev pub accepted_unless : Option InvertedError → Lists → Loading Lists
+accepted_unless None index = Accepted index
+accepted_unless (Some reason) index = Inadmissible
+
+-- the load line `inverted TERMS UNIVERSE t d ..`, for the limits and pairs that its numbers write
+abbrev pub index_loaded : Option (ℕ × ℕ × List (ℕ × ℕ)) → Loading Lists
+index_loaded None = Malformed
+index_loaded (Some (terms, universe, pairs)) = accepted_unless (refusal_of terms universe pairs) (index_of terms universe pairs)
+
+-- the load line `inverted TERMS UNIVERSE t d ..`, for its numbers
+abbrev pub inverted_loaded : Option (List ℕ) → Loading Lists
+inverted_loaded numbers = index_loaded (option_and_then index_parts numbers)

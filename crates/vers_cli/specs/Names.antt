@@ -1,10 +1,10 @@
 -- The names of lines.
 use Rattle.std.specs.Prelude.{ℕ, Bool, ◌||◌, List, [], map, Option, None, is_some}
 use Rattle.vers_words.specs.Names.{named}
-use Rattle.catalogue.specs.Contents.{Content, IndexedBits, SparseBits, SortedMembers, SymbolList, Parentheses, BlockValues, Documents}
+use Rattle.catalogue.specs.Contents.{Content, IndexedBits, SparseBits, SortedMembers, SymbolList, Parentheses, BlockValues, Documents, DocumentLists}
 use Rattle.vers_cli.specs.declared.name.Line.{Line}
 use Rattle.vers_cli.specs.declared.name.Load.{Load}
-use Rattle.vers_cli.specs.declared.name.TheConstants.{LOADS, BITS_LINES, SORTED_LINES, SPARSE_LINES, VALUES_LINES, TREE_LINES, SYMBOLS_LINES, POSTINGS_LINES}
+use Rattle.vers_cli.specs.declared.name.TheConstants.{LOADS, BITS_LINES, SORTED_LINES, SPARSE_LINES, VALUES_LINES, TREE_LINES, SYMBOLS_LINES, POSTINGS_LINES, INVERTED_LINES}
 
 -- what a word is in one of the program's tables, unless it is none of its names
 abbrev pub found_in : {N : Type 0} → List ((record { now : List ℕ }) × N) → List ℕ → Option N
@@ -23,6 +23,7 @@ line_of (BlockValues values) = found_in VALUES_LINES
 line_of (Parentheses bits) = found_in TREE_LINES
 line_of (SymbolList symbols) = found_in SYMBOLS_LINES
 line_of (Documents posted) = found_in POSTINGS_LINES
+line_of (DocumentLists index) = found_in INVERTED_LINES
 line_of _ = λ word. None
 
 -- whether a query line of some structure begins with a word
@@ -30,4 +31,4 @@ abbrev pub is_query : List ℕ → Bool
 is_query word =
     is_some (found_in BITS_LINES word) || is_some (found_in SORTED_LINES word) || is_some (found_in SPARSE_LINES word)
     || is_some (found_in VALUES_LINES word) || is_some (found_in TREE_LINES word) || is_some (found_in SYMBOLS_LINES word)
-    || is_some (found_in POSTINGS_LINES word)
+    || is_some (found_in POSTINGS_LINES word) || is_some (found_in INVERTED_LINES word)

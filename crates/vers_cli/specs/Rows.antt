@@ -16,9 +16,11 @@ use Rattle.vers_trees.specs.declared.trees.bp.relatives.LevelEnd.TheVariants.{Ri
 use Rattle.vers_words.specs.Text.{number_of, signed_number_of}
 use Rattle.vers_engine.specs.Lines.{lines_of}
 use Rattle.vers_engine.specs.Replies.{answer_to_parts, holding_after_parts}
-use Rattle.catalogue.specs.Contents.{IndexedBits, SparseBits, SortedMembers, SymbolList, Parentheses, BlockValues, Documents}
+use Rattle.catalogue.specs.Contents.{IndexedBits, SparseBits, SortedMembers, SymbolList, Parentheses, BlockValues, Documents, DocumentLists}
+use Rattle.inverted.specs.Makers.{lists_from}
+use Rattle.sets.specs.Sets.{is_member}
 use Rattle.vers_cli.specs.Holding.{Holding}
-use Rattle.vers_cli.specs.Loads.{posted_of}
+use Rattle.vers_cli.specs.Loads.{pairs_of, posted_of}
 use Rattle.vers_cli.specs.Answers.{answer_to, holding_after, answers_to}
 
 -- a text with the end of a line
@@ -337,6 +339,58 @@ answer-postings_3_1_2_1 = refl
 pub answer-postings_1 : answer_to held_postings (codes "postings 1") ≡ ended (codes "bad line")
 unfolding answer_to_parts number_of
 answer-postings_1 = refl
+
+-- numbers read as pairs, and a last number without a second one
+pub pairs_of-0307 : pairs_of (0 ∷ 3 ∷ 0 ∷ 7 ∷ []) ≡ Some ((0, 3) ∷ (0, 7) ∷ [])
+pairs_of-0307 = refl
+
+pub pairs_of-030 : pairs_of (0 ∷ 3 ∷ 0 ∷ []) ≡ None
+pairs_of-030 = refl
+
+-- an index of three terms, held
+abbrev held_index : Holding
+held_index = Some (DocumentLists (record { lists = (3 ∷ 7 ∷ []) ∷ [] ∷ (3 ∷ 5 ∷ []) ∷ []; universe = 10; numbers = 3 ∷ 7 ∷ 23 ∷ 25 ∷ [] }))
+
+pub held-inverted : holding_after held_0110 (codes "inverted 3 10 0 3 0 7 2 3 2 5") ≡ held_index
+unfolding holding_after_parts number_of lists_from
+held-inverted = refl
+
+pub answer-count_0 : answer_to held_index (codes "count 0") ≡ ended (codes "2")
+unfolding answer_to_parts number_of digits
+answer-count_0 = refl
+
+pub answer-next_2_4 : answer_to held_index (codes "next 2 4") ≡ ended (codes "5")
+unfolding answer_to_parts number_of least_not_below digits
+answer-next_2_4 = refl
+
+pub answer-documents_0 : answer_to held_index (codes "documents 0") ≡ ended (codes "3 7")
+unfolding answer_to_parts number_of digits
+answer-documents_0 = refl
+
+pub answer-and_0_2 : answer_to held_index (codes "and 0 2") ≡ ended (codes "3")
+unfolding answer_to_parts number_of is_member digits
+answer-and_0_2 = refl
+
+pub answer-or_0_2 : answer_to held_index (codes "or 0 2") ≡ ended (codes "3 5 7")
+unfolding answer_to_parts number_of is_member digits
+answer-or_0_2 = refl
+
+pub answer-without_0_2 : answer_to held_index (codes "without 0 2") ≡ ended (codes "7")
+unfolding answer_to_parts number_of is_member digits
+answer-without_0_2 = refl
+
+-- pairs that don't ascend, or are not below their limits, are refused, and a term without a document is malformed
+pub answer-inverted_twice : answer_to held_index (codes "inverted 3 10 0 3 0 3") ≡ ended (codes "refused")
+unfolding answer_to_parts number_of
+answer-inverted_twice = refl
+
+pub answer-inverted_3 : answer_to held_index (codes "inverted 3 10 3 0") ≡ ended (codes "refused")
+unfolding answer_to_parts number_of
+answer-inverted_3 = refl
+
+pub answer-inverted_term : answer_to held_index (codes "inverted 3 10 0 3 0") ≡ ended (codes "bad line")
+unfolding answer_to_parts number_of
+answer-inverted_term = refl
 
 -- a line without words has no answer
 pub answer-no_words : answer_to held_0110 (codes "  ") ≡ []

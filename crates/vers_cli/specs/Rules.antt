@@ -24,7 +24,7 @@ use Rattle.vers_cli.specs.declared.name.Line.{Line}
 use Rattle.vers_cli.specs.declared.name.Line.TheVariants as line
 use Rattle.vers_cli.specs.declared.name.Load.{Load}
 use Rattle.vers_cli.specs.Holding.{Holding, loaded, held_after}
-use Rattle.vers_cli.specs.Lists.{all_reply, walk_reply, common_reply}
+use Rattle.vers_cli.specs.Lists.{all_reply, walk_reply, common_reply, documents_reply, joined_reply}
 use Rattle.vers_cli.specs.Names.{load_of, line_of, is_query}
 
 -- the numbers of a query in the arguments of its line; 0 for those that it doesn't have, and a signed number as its 64 bits
@@ -51,6 +51,8 @@ line_reply held (line.Number query arguments written) words =
 line_reply held (line.All listing) words = if_well_formed (no_arguments words) (λ _. all_reply held listing)
 line_reply held (line.Walk nodes) words = if_well_formed (one_number words) (λ v. walk_reply held nodes v)
 line_reply held line.Common words = if_well_formed (all_numbers words) (λ others. common_reply held others)
+line_reply held line.Documents words = if_well_formed (one_number words) (λ t. documents_reply held t)
+line_reply held (line.Joined joint) words = if_well_formed (two_numbers words) (λ t. joined_reply held joint t.0 t.1)
 
 -- the reply to a query line that what is held may have: its first word is the name of one or not
 abbrev pub query_reply : Holding → (is_name : Bool) → Option Line → List (List ℕ) → PlainReply

@@ -1,12 +1,12 @@
 //! The load line of documents with costs.
-ghost use Rattle.std.specs.Prelude.{◌≡◌, ◌<◌, ℕ, List, [], length, unwrap_or, option_map, IfOk, OnOk, IsErr, IfSome, MatchOption, MatchResult};
+ghost use Rattle.std.specs.Prelude.{◌≡◌, ◌<◌, ◌∷◌, ℕ, List, [], length, unwrap_or, option_map, IfOk, OnOk, IsErr, IfSome, MatchOption, MatchResult};
 ghost use Rattle.std.specs.Option.{option_and_then};
 ghost use Rattle.vers_words.specs.Text.{words_in};
 ghost use Rattle.vers_words.specs.Arguments.{no_arguments as none_of, all_numbers as numbers_all};
 ghost use Rattle.vers_words.specs.Loading.{map_loading};
 ghost use Rattle.catalogue.specs.Contents.{content_of};
 ghost use Rattle.vers_cli.specs.Holding.{loaded, is_accepted as accepts};
-ghost use Rattle.vers_cli.specs.Loads.{if_admitted, posted_first, posted_of, postings_loaded, rising_count};
+ghost use Rattle.vers_cli.specs.Loads.{first_numbers, if_admitted, pairs_in, posted_first, posted_of, postings_loaded, rising_count};
 
 use crate::name::Load;
 use crate::sorted::Rise;
@@ -100,15 +100,18 @@ impl<A: Allocator> Pairs<A> {
     }
 }
 
-// Returns the document and the cost at the beginning of a text, and the text after them. `None` if it doesn't
-// begin with two numbers below 2^64.
-fn split_first_pair(text: &[u8]) -> Option<(u64, u64, &[u8])>
+/// Returns the two numbers at the beginning of a text, such as a document and its cost, and the text after them. `None`
+/// if it doesn't begin with two numbers below 2^64.
+pub fn split_first_pair(text: &[u8]) -> Option<(u64, u64, &[u8])>
     ensures pairs { MatchOption result
         (option_and_then posted_of (numbers_all (words_in text.now))
         ≡ option_map (λ _. record { documents = []; costs = [] }) (none_of (words_in text.now)))
         (λ parts. option_and_then posted_of (numbers_all (words_in text.now))
         ≡ option_map (posted_first parts.0 parts.1)
         (option_and_then posted_of (numbers_all (words_in parts.2.now)))) }
+    ensures first { MatchOption result (pairs_in (first_numbers (words_in text.now)) ≡ [])
+        (λ parts. pairs_in (first_numbers (words_in text.now))
+        ≡ (parts.0, parts.1) ∷ pairs_in (first_numbers (words_in parts.2.now))) }
     ensures shorter { IfSome result (λ parts. length parts.2.now < length text.now) }
 {
     let (word, others) = split_first_word(text)?;

@@ -7,10 +7,11 @@ ghost use Rattle.vers_bits.specs.Bits.{places};
 ghost use Rattle.vers_trees.specs.Forest.{IsBalanced, forest_of};
 ghost use Rattle.vers_trees.specs.Nodes.{IsNode};
 ghost use Rattle.vers_words.specs.Reply.{plain_reply, Numbers, Refused};
-ghost use Rattle.vers_cli.specs.Lists.{all_reply as reply_of_all, common_reply as reply_of_common, walk_of, walk_reply as reply_of_walk};
+ghost use Rattle.vers_cli.specs.Lists.{all_reply as reply_of_all, common_reply as reply_of_common, documents_reply as reply_of_documents, joined_reply as reply_of_joined, walk_of, walk_reply as reply_of_walk};
 
 use crate::documents::admitted;
 use crate::name::{Listing, Nodes};
+use catalogue::documents::{Joint, documents_of, joined_documents};
 use catalogue::structure::Structure;
 use postings::Postings;
 use std::alloc::{AllocError, Allocator};
@@ -234,5 +235,39 @@ impl<A: Allocator + Copy> Others<A> for Postings<A> {
 
     fn common_reply(&self, postings: &Postings<A>) -> Result<Reply<A>, AllocError> {
         Ok(Reply::Numbers(postings.intersect(self)?))
+    }
+}
+
+/// Returns the reply with the documents of a term. Errors: `AllocError` if the allocator refuses a request.
+pub fn documents_reply<A: Allocator + Copy>(
+    alloc: A,
+    structure: &Structure<'_, A>,
+    term: u64,
+) -> Result<Reply<A>, AllocError>
+    ensures { IfOk result (λ reply.
+        plain_reply reply ≡ reply_of_documents (content_of structure.now) term) }
+{
+    match structure {
+        Structure::Inverted(index) => Ok(Reply::Numbers(documents_of(alloc, index, term)?)),
+        _ => Ok(Reply::WrongStructure),
+    }
+}
+
+/// Returns the reply with documents of two terms. Errors: `AllocError` if the allocator refuses a request.
+pub fn joined_reply<A: Allocator + Copy>(
+    alloc: A,
+    structure: &Structure<'_, A>,
+    joint: Joint,
+    one: u64,
+    other: u64,
+) -> Result<Reply<A>, AllocError>
+    ensures { IfOk result (λ reply.
+        plain_reply reply ≡ reply_of_joined (content_of structure.now) joint one other) }
+{
+    match structure {
+        Structure::Inverted(index) => {
+            Ok(Reply::Numbers(joined_documents(alloc, index, joint, one, other)?))
+        }
+        _ => Ok(Reply::WrongStructure),
     }
 }

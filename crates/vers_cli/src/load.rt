@@ -6,7 +6,7 @@ ghost use Rattle.vers_words.specs.Loading.{map_loading};
 ghost use Rattle.vers_cli.specs.Holding.{loaded, is_accepted as accepts};
 
 use crate::name::Load;
-use crate::{bits, documents, sorted, sparse, symbols, tree, values};
+use crate::{bits, documents, index, sorted, sparse, symbols, tree, values};
 use catalogue::structure::Structure;
 use std::alloc::{AllocError, Allocator};
 use vers_words::loading::Loading;
@@ -23,6 +23,7 @@ pub fn is_accepted(load: Load, arguments: &[u8]) -> bool
         Load::Tree => tree::is_accepted(arguments),
         Load::Symbols => symbols::is_accepted(arguments),
         Load::Postings => documents::is_accepted(arguments),
+        Load::Inverted => index::is_accepted(arguments),
     }
 }
 
@@ -43,5 +44,6 @@ pub fn load<'a, A: Allocator + Copy>(
         Load::Tree => tree::load(alloc, arguments),
         Load::Symbols => symbols::load(alloc, arguments),
         Load::Postings => documents::load(alloc, arguments),
+        Load::Inverted => index::load(alloc, arguments),
     }
 }

@@ -4,11 +4,12 @@ ghost use Rattle.catalogue.specs.Contents.{content_of};
 ghost use Rattle.vers_cli.specs.Names.{is_query as is_known, line_of as named_line, load_of as named_load};
 
 use Arguments::{NoNumber, OneNumber, ThreeNumbers, TwoNumbers, WithSigned};
-use Line::{All, Common, Number, Walk};
+use Line::{All, Common, Documents, Joined, Number, Walk};
 use Listing::{BySize, Items, Postorder};
 use Nodes::{Children, RevChildren, Subtree, SubtreePost};
 use Written::{Plain, Required, Signed};
-use catalogue::query::{Query, SymbolsQuery, TreeQuery};
+use catalogue::documents::Joint;
+use catalogue::query::{Query, SymbolsQuery, TermQuery, TreeQuery};
 use catalogue::structure::Structure;
 use std::alloc::Allocator;
 use vers_trees::trees::bp::{LevelEnd, Measure, Relative};
@@ -24,6 +25,7 @@ pub enum Load {
     Tree,
     Symbols,
     Postings,
+    Inverted,
 }
 
 /// The arguments of a query line.
@@ -79,10 +81,14 @@ pub enum Line {
     Walk(Nodes),
     /// The documents that are among others: any number of documents.
     Common,
+    /// The documents of a term: a term.
+    Documents,
+    /// Documents of two terms: two terms.
+    Joined(Joint),
 }
 
 /// The load lines.
-pub const LOADS: [(&[u8], Load); 7] = [
+pub const LOADS: [(&[u8], Load); 8] = [
     (b"bits", Load::Bits),
     (b"sorted", Load::Sorted),
     (b"sparse", Load::Sparse),
@@ -90,6 +96,7 @@ pub const LOADS: [(&[u8], Load); 7] = [
     (b"tree", Load::Tree),
     (b"symbols", Load::Symbols),
     (b"postings", Load::Postings),
+    (b"inverted", Load::Inverted),
 ];
 
 /// The query lines of a list of bits.
@@ -302,6 +309,37 @@ pub const POSTINGS_LINES: [(&[u8], Line); 6] = [
     (b"intersect", Common),
 ];
 
+/// The query lines of an inverted index.
+pub const INVERTED_LINES: [(&[u8], Line); 12] = [
+    (b"len", Number(Query::Len, NoNumber, Plain)),
+    (b"terms", Number(Query::Terms, NoNumber, Plain)),
+    (b"universe", Number(Query::Universe, NoNumber, Plain)),
+    (
+        b"count",
+        Number(Query::Term(TermQuery::Count), OneNumber, Plain),
+    ),
+    (
+        b"get",
+        Number(Query::Term(TermQuery::Get), TwoNumbers, Plain),
+    ),
+    (
+        b"rank",
+        Number(Query::Term(TermQuery::Rank), TwoNumbers, Plain),
+    ),
+    (
+        b"contains",
+        Number(Query::Term(TermQuery::Has), TwoNumbers, Plain),
+    ),
+    (
+        b"next",
+        Number(Query::Term(TermQuery::Successor), TwoNumbers, Plain),
+    ),
+    (b"documents", Documents),
+    (b"and", Joined(Joint::Intersection)),
+    (b"or", Joined(Joint::Union)),
+    (b"without", Joined(Joint::Difference)),
+];
+
 /// Returns the load line that begins with a word, or `None` if none does.
 pub fn load_of(word: &[u8]) -> Option<Load>
     ensures { result ≡ named_load word.now }
@@ -321,6 +359,7 @@ pub fn line_of<A: Allocator + Copy>(structure: &Structure<'_, A>, word: &[u8]) -
         Structure::Tree(_) => named(&TREE_LINES, word),
         Structure::Symbols(_) => named(&SYMBOLS_LINES, word),
         Structure::Postings(_) => named(&POSTINGS_LINES, word),
+        Structure::Inverted(_) => named(&INVERTED_LINES, word),
         _ => None,
     }
 }
@@ -336,4 +375,5 @@ pub fn is_query(word: &[u8]) -> bool
         || named(&TREE_LINES, word).is_some()
         || named(&SYMBOLS_LINES, word).is_some()
         || named(&POSTINGS_LINES, word).is_some()
+        || named(&INVERTED_LINES, word).is_some()
 }

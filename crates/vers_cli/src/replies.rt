@@ -5,7 +5,7 @@ ghost use Rattle.vers_words.specs.Text.{words_in};
 ghost use Rattle.vers_words.specs.Reply.{plain_reply};
 ghost use Rattle.vers_cli.specs.Rules.{line_reply as reply_of_line, numbers_of as numbers_in, reply_of as reply_of_answer};
 
-use crate::lists::{all_reply, common_reply, walk_reply};
+use crate::lists::{all_reply, common_reply, documents_reply, joined_reply, walk_reply};
 use crate::name::{Arguments, Line, Written};
 use catalogue::answer::Answer;
 use catalogue::structure::Structure;
@@ -83,6 +83,14 @@ pub fn line_reply<A: Allocator + Copy>(
             Ok(None) => Ok(Reply::BadLine),
             Ok(Some(documents)) => common_reply(alloc, structure, documents.as_slice()),
             Err(error) => Err(error),
+        },
+        Line::Documents => match one_number(arguments) {
+            None => Ok(Reply::BadLine),
+            Some(term) => documents_reply(alloc, structure, term),
+        },
+        Line::Joined(joint) => match two_numbers(arguments) {
+            None => Ok(Reply::BadLine),
+            Some((one, other)) => joined_reply(alloc, structure, joint, one, other),
         },
     }
 }

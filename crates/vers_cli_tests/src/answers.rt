@@ -387,6 +387,73 @@ const POSTINGS_CASES: [Case; 8] = [
     ),
 ];
 
+// Term 0 has the documents 0, 3 and 9, term 1 none, term 2 has 0, 4 and 9, and term 3 has 4 and 5.
+const INVERTED_CASES: [Case; 7] = [
+    (
+        "numbers of an inverted index",
+        &[
+            "inverted 4 10 0 0 0 3 0 9 2 0 2 4 2 9 3 4 3 5 -> 8; len -> 8; terms -> 4; universe -> 10; count 0 -> 3",
+            "count 1 -> 0; count 3 -> 2; count 4 -> 0; get 0 2 -> 9; get 0 3 -> none; get 1 0 -> none; get 3 0 -> 4",
+            "get 4 0 -> none; rank 2 4 -> 1; rank 2 5 -> 2; rank 3 18446744073709551615 -> 2; rank 9 9 -> 0",
+            "contains 3 4 -> 1; contains 4 3 -> 0; contains 0 10 -> 0; contains 2 0 -> 1; next 2 1 -> 4",
+            "next 2 10 -> none; next 0 3 -> 3; next 0 4 -> 9; next 1 0 -> none; next 4 0 -> none",
+        ],
+    ),
+    (
+        "documents of a term, and of two",
+        &[
+            "inverted 4 10 0 0 0 3 0 9 2 0 2 4 2 9 3 4 3 5 -> 8; documents 0 -> 0 3 9; documents 1 -> (empty)",
+            "documents 3 -> 4 5; documents 4 -> (empty); and 0 2 -> 0 9; and 2 0 -> 0 9; and 2 3 -> 4",
+            "and 0 3 -> (empty); and 0 0 -> 0 3 9; or 0 3 -> 0 3 4 5 9; or 3 0 -> 0 3 4 5 9; or 1 1 -> (empty)",
+            "or 2 7 -> 0 4 9; without 0 2 -> 3; without 2 0 -> 4; without 0 1 -> 0 3 9; without 1 0 -> (empty)",
+            "without 3 3 -> (empty); and 1 18446744073709551615 -> (empty)",
+        ],
+    ),
+    (
+        "an index without pairs, and the greatest limits",
+        &[
+            "inverted 0 0 -> 0; terms -> 0; universe -> 0; documents 0 -> (empty); or 0 1 -> (empty); count 0 -> 0",
+            "inverted 1 18446744073709551615 0 18446744073709551614 -> 1; documents 0 -> 18446744073709551614",
+            "inverted 18446744073709551615 1 18446744073709551614 0 -> 1; contains 18446744073709551614 0 -> 1",
+            "terms -> 18446744073709551615; inverted 4294967296 4294967295 -> 0; universe -> 4294967295",
+        ],
+    ),
+    (
+        "load lines that are malformed: numbers, the limits, and a document for each term",
+        &[
+            "inverted 1 2 0 1 -> 1; inverted -> bad line; inverted 3 -> bad line; inverted 3 9 0 -> bad line",
+            "inverted x 9 -> bad line; inverted 3 x -> bad line; inverted 3 9 0 x -> bad line; len -> 1",
+            "inverted 3 9 0 1 x 2 -> bad line; inverted 3 9 0 1 2 -> bad line; inverted -1 9 -> bad line",
+            "inverted 3 9 0 18446744073709551616 -> bad line; inverted 1 1 9 9 x -> bad line; documents 0 -> 1",
+        ],
+    ),
+    (
+        "load lines that are refused: the product of the limits, a number that isn't below its limit, and the order",
+        &[
+            "inverted 1 2 0 1 -> 1; inverted 4294967296 4294967296 -> refused; inverted 3 9 3 1 -> refused",
+            "inverted 3 9 0 9 -> refused; inverted 3 9 1 4 0 5 -> refused; inverted 3 9 1 4 1 4 -> refused",
+            "inverted 3 9 1 4 1 3 -> refused; inverted 0 9 0 0 -> refused; inverted 3 0 0 0 -> refused; len -> 1",
+        ],
+    ),
+    (
+        "malformed arguments",
+        &[
+            "inverted 1 2 0 1 -> 1; len 0 -> bad line; count -> bad line; get 0 -> bad line; rank 0 1 2 -> bad line",
+            "documents -> bad line; documents 0 1 -> bad line; documents x -> bad line; and 0 -> bad line",
+            "or 0 1 2 -> bad line; without 0 x -> bad line; next 0 -> bad line; terms 1 -> bad line; and -> bad line",
+        ],
+    ),
+    (
+        "lines of an inverted index are of no other structure",
+        &[
+            "documents 0 -> wrong structure; and x -> wrong structure; postings 4 1 -> 1; or 0 1 -> wrong structure",
+            "count 0 -> wrong structure; documents 0 -> wrong structure; inverted 1 5 0 4 -> 1; cheapest 0 4 -> wrong structure",
+            "intersect 4 -> wrong structure; iter -> wrong structure; rank 0 -> bad line; contains 0 4 -> 1; sorted 4 -> 1",
+            "terms -> wrong structure; universe -> wrong structure; without 0 1 -> wrong structure; rank 5 -> 1",
+        ],
+    ),
+];
+
 // What a case shows, and its lines and answers with their ends, if they have one.
 type ExactCase = (&'static str, &'static [(&'static [u8], &'static [u8])]);
 
@@ -461,6 +528,7 @@ fn lines_and_their_answers(rt: HostRuntime) -> Result<(), Fail> {
         &TREE_CASES,
         &SYMBOLS_CASES,
         &POSTINGS_CASES,
+        &INVERTED_CASES,
     ] {
         for (name, rows) in cases {
             assert_answered(&rt, rt.alloc(), *name, *rows)?;

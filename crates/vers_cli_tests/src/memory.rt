@@ -7,7 +7,7 @@ use test_alloc::{Refusing, answers_of, lines_of};
 use vers_cli::RunError;
 
 // Load lines, queries with a list as their answer, and load lines that are refused.
-const RUNS: [&[&str]; 4] = [
+const RUNS: [&[&str]; 5] = [
     &[
         "bits 0110 -> 4; rank1 3 -> 2; sorted 3 1 -> refused; sorted 4 4 9 -> 3; iter -> 4 4 9; foo -> bad line",
         "values 9 6 10 -> 3; range_min 0 2 -> 1; sparse 3 3 -> refused; sparse 5 1 3 -> 5; iter1 -> 1 3",
@@ -27,6 +27,11 @@ const RUNS: [&[&str]; 4] = [
         "postings 2 7 5 3 9 3 12 8 -> 4; intersect 5 6 12 40 -> 5 12; postings 1 -> bad line; cheapest 6 12 -> 9",
         "postings 3 1 2 1 -> refused; intersect 5 5 -> refused; intersect -> (empty); postings 4 1 -> 1",
         "intersect 1 4 5 -> 4",
+    ],
+    &[
+        "inverted 4 10 0 0 0 3 0 9 2 0 2 4 2 9 3 4 -> 7; documents 2 -> 0 4 9; inverted 1 -> bad line; and 0 2 -> 0 9",
+        "inverted 1 9 0 9 -> refused; or 0 3 -> 0 3 4 9; without 2 0 -> 4; documents 1 -> (empty); next 2 5 -> 9",
+        "inverted 2 5 0 3 1 3 1 4 -> 3; and 1 0 -> 3; count 1 -> 2; documents 1 -> 3 4",
     ],
 ];
 
@@ -123,7 +128,7 @@ fn each_request_is_refused_in_turn(rt: HostRuntime) -> Result<(), Fail> {
 }
 
 // With ample memory a load line that isn't admitted is refused, and the current structure is kept.
-const REFUSED: [&str; 12] = [
+const REFUSED: [&str; 15] = [
     "bits 0110 -> 4; sorted 3 1 -> refused; rank1 3 -> 2",
     "bits 0110 -> 4; sorted 1 2 3 2 -> refused; rank1 3 -> 2",
     "bits 0110 -> 4; sorted 18446744073709551615 0 -> refused; rank1 3 -> 2",
@@ -136,6 +141,9 @@ const REFUSED: [&str; 12] = [
     "bits 0110 -> 4; symbols 18446744073709551615 -> refused; rank1 3 -> 2",
     "bits 0110 -> 4; postings 2 1 2 5 -> refused; rank1 3 -> 2",
     "bits 0110 -> 4; postings 1 1 3 1 2 1 -> refused; rank1 3 -> 2",
+    "bits 0110 -> 4; inverted 4294967296 4294967296 -> refused; rank1 3 -> 2",
+    "bits 0110 -> 4; inverted 2 9 2 0 -> refused; rank1 3 -> 2",
+    "bits 0110 -> 4; inverted 2 9 0 3 0 3 -> refused; rank1 3 -> 2",
 ];
 
 #[test]

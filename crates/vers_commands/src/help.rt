@@ -28,6 +28,9 @@ symbols 3 1 5 3  (symbols: the bits of each, then the symbols)
     iter_sorted_u64 (a range is from A to before B)
 postings 2 7 5 3 9 3  (document ids and their costs, alternating)
     len, contains D, rank D, next D, cheapest A B (both included), intersect D ..
+inverted 3 10 0 3 0 7 2 3  (an inverted index: how many terms and documents, then a document after each term)
+    len, terms, universe, count T, get T I, rank T D, contains T D, next T D, documents T, and T U, or T U,
+    without T U (the documents of term T that term U doesn't have)
 
 Other answers: \"none\" if a query finds nothing, \"refused\" if a precondition fails, \"wrong structure\" if the current
 structure has no such query, and \"bad line\" if the line does not parse. One or more spaces separate words.

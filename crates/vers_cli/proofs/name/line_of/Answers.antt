@@ -5,3 +5,6 @@ returns-in-Tree g c = rw c.in-Tree.is c.named-in-Tree.ensures
 
 pub returns-in-Symbols : goal.returns-in-Symbols
 returns-in-Symbols g c = rw c.in-Symbols.is c.named-in-Symbols.ensures
+
+pub returns-in-Inverted : goal.returns-in-Inverted
+returns-in-Inverted g c = rw c.in-Inverted.is c.named-in-Inverted.ensures
