@@ -49,6 +49,7 @@ TABLES = (
     ("catalogue/src/query.rt", "vers_query", "", r"(?m)^    Query::(?:(\w+)\(\w+::)?(\w+)\)?,$"),
     ("catalogue/src/kind.rt", "vers_kind", "KIND_", r"(?m)^    ()Kind::(\w+),$"),
     ("vers_c/src/change.rt", "vers_change_code", "", r"()Change::(\w+)(?=[,\]])"),
+    ("catalogue/src/documents.rt", "vers_joint", "", r"()Joint::(\w+)(?=[,\]])"),
 )
 # the examples in Python that compare their answers with plain Python, and need nothing else
 GALLERY = ("search_engine", "genome_reads", "sliding_quantiles", "json_tree", "dictionary_column", "ip_ranges")

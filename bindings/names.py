@@ -28,6 +28,7 @@ STRUCTURES = {
     "FastRmq": ("fast_rmq", "rmq/*.rs"),
     "BpTree": ("tree", "trees/bp.rs"),
     "Postings": ("postings", "postings.rs"),
+    "InvertedIndex": ("inverted", "inverted.rs"),
     "TextIndex": ("text", "text.rs"),
 }
 # The names of calls in languages in which they are not their own (in all but Rust: without `_u64`), or None for none.
@@ -43,6 +44,8 @@ NAMES = {
     """SparseRSVec.new EliasFanoVec.from_slice WaveletMatrix.from_slice *Rmq.from_vec Postings.from_sorted
     TextIndex.with_step""":
         {"C": "of", "C++": "from", "Python": "()"},
+    "InvertedIndex.from_pairs": {"C": "of", "C++": "from", "Python": "()"},
+    "InvertedIndex.union": {"C++": "either"},
     "TextIndex.bytes_with_step WaveletMatrix.from_integers": {"C": "of_bytes", "C++": "from", "Python": "()"},
     "TextIndex.u16s_with_step": {"C": "of_u16s", "C++": "from", "Python": "()"},
     "*Rmq.item *Rmq.as_slice": {"C": "get", "C++": "get", "Rust": "[]", "Python": "[]"},
@@ -69,7 +72,8 @@ LEFT_OUT = {
         BitVec.*mask_*""",
     "A structure is made of an array, and its items are written over one.":
         """RsVec.into_bit_vec RsVec.*_equals BpTree.into_parentheses_vec SparseRSVec.from_* *.from_iter
-        EliasFanoVec.from_numbers TextIndex.from_* TextIndex.*_with_step""",
+        EliasFanoVec.from_numbers InvertedIndex.from_source TextIndex.from_* TextIndex.*_with_step""",
+    "Documents of terms are combined two terms at a time, into plain numbers.": "InvertedIndex.*_of InvertedIndex.*_numbers",
     "They serve saved forms, which C, C++ and Python load and save whole.":
         "TextIndex.column TextIndex.whole_row TextIndex.kept_len TextIndex.kept_row WaveletMatrix.level",
     "Symbols are numbers of at most 64 bits, and not lists of bits.":

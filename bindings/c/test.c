@@ -540,6 +540,128 @@ static void test_intersect(size_t n) {
     free(two);
 }
 
+/* Whether term `term` has document `document`, in the table of an index of 5 terms and `universe` documents. */
+static bool has_pair(const bool *table, size_t universe, uint64_t term, uint64_t document) {
+    return term < 5 && document < universe && table[term * universe + document];
+}
+
+/* Compares a list of documents with those below `universe` for which a table of two terms is as a list of two says. */
+static void test_documents(const vers_numbers *list, const bool *table, size_t universe, uint64_t one, uint64_t other,
+                           enum vers_joint joint) {
+    uint64_t k = 0;
+    for (uint64_t d = 0; d < universe; d++) {
+        bool first = has_pair(table, universe, one, d), second = has_pair(table, universe, other, d);
+        bool is_listed = joint == VERS_UNION ? first || second : first && second == (joint == VERS_INTERSECTION);
+        if (is_listed) found("document of two", d, vers_numbers_get(list, k), d), k++;
+    }
+    found("documents of two", one, vers_numbers_len(list), k);
+}
+
+/* The lists of two terms of an index, by the calls for each. */
+static void test_joined(const vers_inverted *index, const bool *table, size_t universe) {
+    for (uint64_t one = 0; one < 6; one++)
+        for (uint64_t other = 0; other < 6; other++) {
+            vers_numbers both = {0}, either = {0}, first = {0};
+            is("intersection", vers_inverted_intersection(index, one, other, &both), VERS_DONE);
+            is("union", vers_inverted_union(index, one, other, &either), VERS_DONE);
+            is("difference", vers_inverted_difference(index, one, other, &first), VERS_DONE);
+            test_documents(&both, table, universe, one, other, VERS_INTERSECTION);
+            test_documents(&either, table, universe, one, other, VERS_UNION);
+            test_documents(&first, table, universe, one, other, VERS_DIFFERENCE);
+            is("into a full one", vers_inverted_union(index, one, other, &either), VERS_OCCUPIED);
+            vers_numbers_free(&both);
+            vers_numbers_free(&either);
+            vers_numbers_free(&first);
+        }
+}
+
+/* The documents of each term of an index, by queries and in a list. */
+static void test_terms(const vers_inverted *index, const bool *table, size_t universe) {
+    for (uint64_t term = 0; term < 6; term++) {
+        vers_numbers list = {0};
+        uint64_t rank = 0;
+        is("documents", vers_inverted_documents(index, term, &list), VERS_DONE);
+        for (uint64_t d = 0; d < universe + 2; d++) {
+            uint64_t next = d;
+            while (next < universe && !has_pair(table, universe, term, next)) next++;
+            found("rank", d, vers_inverted_rank(index, term, d), rank);
+            found("contains", d, vers_inverted_contains(index, term, d), has_pair(table, universe, term, d));
+            found_if("next_at_least", d, vers_inverted_next_at_least(index, term, d), next < universe, next);
+            if (has_pair(table, universe, term, d)) {
+                found("get", rank, vers_inverted_get(index, term, rank), d);
+                found("listed", rank, vers_numbers_get(&list, rank), d);
+                rank++;
+            }
+        }
+        found("count", term, vers_inverted_count(index, term), rank);
+        found("listed len", term, vers_numbers_len(&list), rank);
+        found_if("get past the end", term, vers_inverted_get(index, term, rank), false, 0);
+        vers_numbers_free(&list);
+    }
+}
+
+static void test_inverted(size_t universe) {
+    bool *table = room(5 * universe, sizeof *table);
+    uint64_t *terms = room(5 * universe, 8), *documents = room(5 * universe, 8);
+    size_t count = 0;
+    for (uint64_t number = 0; number < 5 * universe; number++) {
+        table[number] = next() % 5 > number / universe;
+        if (!table[number]) continue;
+        terms[count] = number / universe;
+        documents[count++] = number % universe;
+    }
+    vers_inverted index = {0}, other = {0};
+    is("inverted of", vers_inverted_of(&index, 5, universe, terms, documents, count), VERS_DONE);
+    found("len", 0, vers_inverted_len(&index), count);
+    found("terms", 0, vers_inverted_terms(&index), 5);
+    found("universe", 0, vers_inverted_universe(&index), universe);
+    for (size_t k = 0; k < count; k++)
+        found("number", k, vers_inverted_pair_number(&index, k), terms[k] * universe + documents[k]);
+    found_if("no number", count, vers_inverted_pair_number(&index, count), false, 0);
+    test_terms(&index, table, universe);
+    test_joined(&index, table, universe);
+    is("clone", vers_inverted_clone(&index, &other), VERS_DONE);
+    vers_inverted_free(&index);
+    found("clone len", 0, vers_inverted_len(&other), count);
+    is("into itself", vers_inverted_of(&other, 5, universe, terms, documents, count), VERS_OCCUPIED);
+    vers_inverted_free(&other);
+    is("a term at its limit", vers_inverted_of(&other, 0, universe, terms, documents, count),
+       count ? VERS_REFUSED : VERS_DONE);
+    vers_inverted_free(&other);
+    if (count > 1) {
+        is("fewer documents", vers_inverted_build(5, universe, terms, count, documents, count - 1, &other.handle),
+           VERS_REFUSED);
+        is("a document at its limit", vers_inverted_of(&other, 5, documents[0], terms, documents, count), VERS_REFUSED);
+        is("great limits", vers_inverted_of(&other, (uint64_t)1 << 63, 2, terms, documents, count), VERS_REFUSED);
+        terms[1] = terms[0];
+        documents[1] = documents[0];
+        is("equal pairs", vers_inverted_of(&other, 5, universe, terms, documents, count), VERS_REFUSED);
+    }
+    free(table);
+    free(terms);
+    free(documents);
+}
+
+/* Calls on an index that hold nothing, or another list. */
+static void test_no_index(void) {
+    const uint64_t word = 0;
+    vers_inverted index = {0};
+    vers_numbers list = {0};
+    vers_sorted sorted = {0};
+    is("documents of none", vers_inverted_documents(&index, 0, &list), VERS_REFUSED);
+    is("union of none", vers_inverted_union(&index, 0, 1, &list), VERS_REFUSED);
+    compare("no terms", 0, vers_inverted_terms(&index), VERS_VACANT, 0);
+    is("sorted", vers_sorted_of(&sorted, &word, 1), VERS_DONE);
+    is("documents of a sorted", vers_documents(&sorted.handle, 0, &list.handle), VERS_REFUSED);
+    is("joined of a sorted", vers_joined(&sorted.handle, VERS_UNION, 0, 1, &list.handle), VERS_REFUSED);
+    vers_sorted_free(&sorted);
+    is("inverted", vers_inverted_of(&index, 1, 1, &word, &word, 1), VERS_DONE);
+    is("no such joint", vers_joined(&index.handle, 3, 0, 0, &list.handle), VERS_REFUSED);
+    compare("no form", 0, vers_saved_size(&index.handle), VERS_ABSENT, 0);
+    vers_inverted_free(&index);
+    vers_inverted_free(NULL);
+}
+
 /* Whether a text goes on with a pattern from a place on. */
 static bool stands_at(const uint64_t *text, size_t n, const uint64_t *pattern, size_t m, size_t place) {
     if (place + m > n) return false;
@@ -962,6 +1084,7 @@ static void test_types(void) {
     TEST_TYPE(binary_rmq, VERS_GET, numbers, 4);
     TEST_TYPE(tree, VERS_CLOSE, &word, 1, 5);
     TEST_TYPE(postings, VERS_SUCCESSOR, numbers, numbers, 4);
+    TEST_TYPE(inverted, VERS_COUNT, 10, 10, numbers, numbers, 4);
     TEST_ROWS(growing, VERS_GET_BITS, &word, 1, 5);
     TEST_ROWS(bits, VERS_GET_BITS, &word, 1, 5);
     TEST_ROWS(symbols, VERS_LEAST, numbers, 4, 4);
@@ -969,6 +1092,7 @@ static void test_types(void) {
     TEST_ROWS(binary_rmq, VERS_RANGE_MIN, numbers, 4);
     TEST_ROWS(tree, VERS_FWD_SEARCH, &word, 1, 5);
     TEST_ROWS(postings, VERS_CHEAPEST, numbers, numbers, 4);
+    TEST_ROWS(inverted, VERS_TERM_HAS, 10, 10, numbers, numbers, 4);
 }
 
 /* How many bytes some 64,000 bits or 1000 numbers take: not fewer than they have, and few more. */
@@ -1072,6 +1196,9 @@ static void test_missing_arrays(void) {
     vers_postings postings = {0};
     is("postings of null", vers_postings_of(&postings, NULL, &word, 1), VERS_REFUSED);
     is("postings of null costs", vers_postings_of(&postings, &word, NULL, 1), VERS_REFUSED);
+    vers_inverted index = {0};
+    is("inverted of null terms", vers_inverted_of(&index, 9, 9, NULL, &word, 1), VERS_REFUSED);
+    is("inverted of null documents", vers_inverted_of(&index, 9, 9, &word, NULL, 1), VERS_REFUSED);
     vers_text text = {0};
     is("text of null", vers_text_of(&text, NULL, 1, 8, 1), VERS_REFUSED);
     is("load of null", vers_bits_load(&bits, NULL, 8), VERS_REFUSED);
@@ -1125,6 +1252,9 @@ static void test_missing_everywhere(void) {
     ROWS(postings);
 #undef SAVED
 #undef ROWS
+    vers_inverted index = {0};
+    is("index each of null", vers_inverted_each(&index, VERS_COUNT, NULL, 1, 0), VERS_REFUSED);
+    is("index rows of null", vers_inverted_rows(&index, VERS_TERM_GET, NULL, 1, 0), VERS_REFUSED);
     vers_numbers numbers = {0};
     vers_text text = {0};
     is("numbers each of null", vers_numbers_each(&numbers, VERS_GET, NULL, 1, 0), VERS_REFUSED);
@@ -1156,6 +1286,8 @@ static void test_no_items(void) {
     is("fast minima", vers_fast_rmq_build(NULL, 0, &handle), VERS_DONE);
     vers_free(&handle);
     is("binary minima", vers_binary_rmq_build(NULL, 0, &handle), VERS_DONE);
+    vers_free(&handle);
+    is("inverted", vers_inverted_build(0, 0, NULL, 0, NULL, 0, &handle), VERS_DONE);
     vers_free(&handle);
     is("postings", vers_postings_build(NULL, 0, NULL, 0, &handle), VERS_DONE);
     vers_free(&handle);
@@ -1234,6 +1366,10 @@ int main(void) {
     test_postings(0);
     test_postings(1);
     test_postings(500);
+    test_inverted(0);
+    test_inverted(1);
+    test_inverted(30);
+    test_no_index();
     test_intersect(0);
     test_intersect(1);
     test_intersect(800);

@@ -42,7 +42,7 @@ static void check(const char *what, bool holds) {
 
 enum { COUNT = 3000 };
 static uint64_t numbers[COUNT];
-static vers_handle one, two, texts;
+static vers_handle one, two, texts, lists;
 
 static uint32_t growing(vers_handle *handle) { return vers_growing_build(numbers, 20, 1280, handle); }
 static uint32_t bits(vers_handle *handle) { return vers_bits_build(numbers, COUNT, COUNT * 64, handle); }
@@ -53,10 +53,15 @@ static uint32_t symbols(vers_handle *handle) { return vers_symbols_build(numbers
 static uint32_t fast_rmq(vers_handle *handle) { return vers_fast_rmq_build(numbers, COUNT, handle); }
 static uint32_t binary_rmq(vers_handle *handle) { return vers_binary_rmq_build(numbers, COUNT, handle); }
 static uint32_t postings(vers_handle *handle) { return vers_postings_build(numbers, COUNT, numbers, COUNT, handle); }
+static uint32_t inverted(vers_handle *handle) {
+    return vers_inverted_build(COUNT * 3, COUNT * 3, numbers, COUNT, numbers, COUNT, handle);
+}
 static uint32_t text(vers_handle *handle) { return vers_text_build(numbers, COUNT, 16, 3, handle); }
 static uint32_t places(vers_handle *handle) { return vers_places(&texts, numbers, 0, handle); }
 static uint32_t first_places(vers_handle *handle) { return vers_first_places(&texts, numbers, 0, COUNT, handle); }
 static uint32_t extract(vers_handle *handle) { return vers_extract(&texts, 1, COUNT, handle); }
+static uint32_t documents(vers_handle *handle) { return vers_documents(&lists, 3, handle); }
+static uint32_t joined(vers_handle *handle) { return vers_joined(&lists, VERS_UNION, 0, 3, handle); }
 static uint32_t clone(vers_handle *handle) { return vers_clone(&one, handle); }
 static uint32_t intersect(vers_handle *handle) { return vers_intersect(&one, &two, handle); }
 
@@ -163,6 +168,10 @@ int main(void) {
     test_fill("fast_rmq", fast_rmq);
     test_fill("binary_rmq", binary_rmq);
     test_fill("postings", postings);
+    check("lists", inverted(&lists) == VERS_DONE);
+    test_fill("inverted", inverted);
+    test_fill("documents", documents);
+    test_fill("joined", joined);
     check("texts", text(&texts) == VERS_DONE);
     test_fill("text", text);
     test_fill("places", places);
@@ -184,6 +193,7 @@ int main(void) {
     vers_free(&one);
     vers_free(&two);
     vers_free(&texts);
+    vers_free(&lists);
     check("all memory came back", given == taken_back);
     printf("%lu passed, %lu failed\n", passed, failed);
     return failed != 0;

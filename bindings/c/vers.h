@@ -121,7 +121,14 @@ enum vers_query {
     VERS_CHEAPEST = 49,            /**< Postings: the first document of least cost from a to b. */
     VERS_COST = 50,                /**< Postings: the cost of the document at place a. */
     VERS_HAS_NODE = 51,            /**< Tree: whether the parentheses are balanced and a node opens at a, 1 or 0. */
-    VERS_STEP = 52                 /**< Text: of how many places one is kept. */
+    VERS_STEP = 52,                /**< Text: of how many places one is kept. */
+    VERS_TERMS = 53,               /**< Inverted: the number of terms. */
+    VERS_UNIVERSE = 54,            /**< Inverted: the number that all documents are below. */
+    VERS_COUNT = 55,               /**< Inverted: the number of documents of term a. */
+    VERS_TERM_GET = 56,            /**< Inverted: the document of term a at place b. */
+    VERS_TERM_RANK = 57,           /**< Inverted: documents of term a below b. */
+    VERS_TERM_HAS = 58,            /**< Inverted: whether term a has document b, 1 or 0. */
+    VERS_TERM_SUCCESSOR = 59       /**< Inverted: the least document of term a not below b. */
 };
 
 /** The codes of changes of a vers_growing. */
@@ -130,6 +137,13 @@ enum vers_change_code {
     VERS_APPEND = 1,   /**< Appends the b low bits of a. */
     VERS_SET = 2,      /**< Makes bit a the lowest bit of b. */
     VERS_DROP_LAST = 3 /**< Drops the last a bits. */
+};
+
+/** Which documents of two terms of a vers_inverted a call lists. */
+enum vers_joint {
+    VERS_INTERSECTION = 0, /**< Those that have both terms. */
+    VERS_UNION = 1,        /**< Those that have one of the terms, or both. */
+    VERS_DIFFERENCE = 2    /**< Those that have the first term and not the other. */
 };
 
 /** The kinds of lists that have a saved form: from 1 to 7, and 9, the numbers of those forms. A vers_growing has that
@@ -216,6 +230,16 @@ uint32_t vers_first_places(vers_handle *handle, const uint64_t *pattern, size_t 
  *  differ. */
 uint32_t vers_extract(vers_handle *handle, size_t start, size_t end, vers_handle *into);
 
+/** Puts the documents of a term of a vers_inverted, ascending, into an empty other handle, as vers_numbers. A term that
+ *  the index doesn't have has none. VERS_REFUSED if the first holds no such index, VERS_OCCUPIED, VERS_NO_MEMORY. The
+ *  two handles differ. */
+uint32_t vers_documents(vers_handle *handle, uint64_t term, vers_handle *into);
+
+/** Puts the documents of two terms of a vers_inverted that a vers_joint names, ascending, into an empty other handle, as
+ *  vers_numbers. VERS_REFUSED if the first holds no such index, or there is no such vers_joint, VERS_OCCUPIED,
+ *  VERS_NO_MEMORY. The two handles differ. */
+uint32_t vers_joined(vers_handle *handle, uint32_t joint, uint64_t one, uint64_t other, vers_handle *into);
+
 /** Empties a handle, and frees the list if no other handle holds it. An empty handle stays empty. Other threads may
  *  use and free other handles of the list meanwhile. One handle, no array. */
 void vers_free(vers_handle *handle);
@@ -256,7 +280,7 @@ uint32_t vers_save(vers_handle *handle, uint8_t *bytes, size_t count);
 uint32_t vers_load(uint32_t kind, const uint8_t *bytes, size_t count, vers_handle *handle);
 
 /* The exports that build a list into an empty handle, as the calls `_of` below say: VERS_OCCUPIED, VERS_NO_MEMORY, and
- * VERS_REFUSED where those have it. One handle; each reads its arrays, of which `documents` and `costs` may be one. */
+ * VERS_REFUSED where those have it. One handle; each reads its arrays, of which two may be one. */
 uint32_t vers_growing_build(const uint64_t *words, size_t count, size_t length, vers_handle *handle);
 uint32_t vers_bits_build(const uint64_t *words, size_t count, size_t length, vers_handle *handle);
 uint32_t vers_tree_build(const uint64_t *words, size_t count, size_t length, vers_handle *handle);
@@ -270,6 +294,8 @@ uint32_t vers_fast_rmq_build(const uint64_t *values, size_t count, vers_handle *
 uint32_t vers_binary_rmq_build(const uint64_t *values, size_t count, vers_handle *handle);
 uint32_t vers_postings_build(const uint64_t *documents, size_t count, const uint64_t *costs, size_t cost_count,
                              vers_handle *handle);
+uint32_t vers_inverted_build(uint64_t limit, uint64_t universe, const uint64_t *terms, size_t count,
+                             const uint64_t *documents, size_t document_count, vers_handle *handle);
 uint32_t vers_text_build(const uint64_t *symbols, size_t count, uint32_t width, size_t step, vers_handle *handle);
 uint32_t vers_text_build_bytes(const uint8_t *symbols, size_t count, uint32_t width, size_t step, vers_handle *handle);
 uint32_t vers_text_build_u16s(const uint16_t *symbols, size_t count, uint32_t width, size_t step, vers_handle *handle);
@@ -1498,6 +1524,125 @@ static inline uint32_t vers_postings_intersect(const vers_postings *one, const v
 static inline uint32_t vers_numbers_each(const vers_numbers *list, enum vers_query query, uint64_t *numbers,
                                          size_t count, uint64_t other) {
     return vers_asked_each(&list->handle, query, numbers, count, 0, 0, other);
+}
+
+/* An inverted index: ascending documents for each term. */
+
+/** An inverted index: ascending documents for each term. Terms and documents are numbers below limits. A term that the
+ * index doesn't have has no documents. */
+typedef struct vers_inverted {
+    vers_handle handle;
+} vers_inverted;
+
+/** Makes the index of `count` pairs of a term below `limit` and a document below `universe`, which ascend strictly by
+ * term, and those of one term by document. VERS_REFUSED if they don't, or a number isn't below its limit, or `limit`
+ * times `universe` exceeds 64 bits. VERS_OCCUPIED, VERS_NO_MEMORY. */
+static inline uint32_t vers_inverted_of(vers_inverted *index, uint64_t limit, uint64_t universe, const uint64_t *terms,
+                                        const uint64_t *documents, size_t count) {
+    if (vers_is_missing(terms, count) || vers_is_missing(documents, count)) return VERS_REFUSED;
+    return vers_inverted_build(limit, universe, vers_array(terms), count, vers_array(documents), count, &index->handle);
+}
+
+/** Empties a handle, and frees the index if no other handle holds it. Null is ignored. */
+static inline void vers_inverted_free(vers_inverted *index) {
+    if (index) vers_free(&index->handle);
+}
+
+/** Makes an empty handle one more handle of the index, for another thread. VERS_VACANT, VERS_OCCUPIED,
+ * VERS_NO_MEMORY. */
+static inline uint32_t vers_inverted_clone(const vers_inverted *index, vers_inverted *other) {
+    return vers_cloned(&index->handle, &other->handle);
+}
+
+/** The number of pairs of a term and a document. */
+static inline vers_answer vers_inverted_len(const vers_inverted *index) {
+    return vers_asked(&index->handle, VERS_LEN, 0, 0, 0);
+}
+
+/** The number of terms. */
+static inline vers_answer vers_inverted_terms(const vers_inverted *index) {
+    return vers_asked(&index->handle, VERS_TERMS, 0, 0, 0);
+}
+
+/** The number that all documents are below. */
+static inline vers_answer vers_inverted_universe(const vers_inverted *index) {
+    return vers_asked(&index->handle, VERS_UNIVERSE, 0, 0, 0);
+}
+
+/** The number of bytes of the heap that the index takes. */
+static inline vers_answer vers_inverted_heap_size(const vers_inverted *index) {
+    return vers_asked(&index->handle, VERS_HEAP_SIZE, 0, 0, 0);
+}
+
+/** The pair at a place of all pairs as one number: the term times the universe, plus the document. VERS_ABSENT past the
+ * end. */
+static inline vers_answer vers_inverted_pair_number(const vers_inverted *index, uint64_t place) {
+    return vers_asked(&index->handle, VERS_GET, place, 0, 0);
+}
+
+/** The number of documents of a term. */
+static inline vers_answer vers_inverted_count(const vers_inverted *index, uint64_t term) {
+    return vers_asked(&index->handle, VERS_COUNT, term, 0, 0);
+}
+
+/** The document of a term at a place. VERS_ABSENT past the end. */
+static inline vers_answer vers_inverted_get(const vers_inverted *index, uint64_t term, uint64_t place) {
+    return vers_asked(&index->handle, VERS_TERM_GET, term, place, 0);
+}
+
+/** The number of documents of a term that are below a number. */
+static inline vers_answer vers_inverted_rank(const vers_inverted *index, uint64_t term, uint64_t number) {
+    return vers_asked(&index->handle, VERS_TERM_RANK, term, number, 0);
+}
+
+/** Whether a term has a document, 1 or 0. */
+static inline vers_answer vers_inverted_contains(const vers_inverted *index, uint64_t term, uint64_t document) {
+    return vers_asked(&index->handle, VERS_TERM_HAS, term, document, 0);
+}
+
+/** The first document of a term that is not below a number. VERS_ABSENT if there is none. */
+static inline vers_answer vers_inverted_next_at_least(const vers_inverted *index, uint64_t term, uint64_t number) {
+    return vers_asked(&index->handle, VERS_TERM_SUCCESSOR, term, number, 0);
+}
+
+/** Puts the documents of a term, ascending, into an empty other handle. VERS_REFUSED if the first holds nothing,
+ * VERS_OCCUPIED, VERS_NO_MEMORY. */
+static inline uint32_t vers_inverted_documents(const vers_inverted *index, uint64_t term, vers_numbers *into) {
+    return vers_documents(vers_held(&index->handle), term, &into->handle);
+}
+
+/** Puts the documents that have both terms, ascending, into an empty other handle. VERS_REFUSED if the first holds
+ * nothing, VERS_OCCUPIED, VERS_NO_MEMORY. */
+static inline uint32_t vers_inverted_intersection(const vers_inverted *index, uint64_t one, uint64_t other,
+                                                  vers_numbers *into) {
+    return vers_joined(vers_held(&index->handle), VERS_INTERSECTION, one, other, &into->handle);
+}
+
+/** Puts the documents that have one of two terms, or both, ascending, into an empty other handle. VERS_REFUSED if the
+ * first holds nothing, VERS_OCCUPIED, VERS_NO_MEMORY. */
+static inline uint32_t vers_inverted_union(const vers_inverted *index, uint64_t one, uint64_t other,
+                                           vers_numbers *into) {
+    return vers_joined(vers_held(&index->handle), VERS_UNION, one, other, &into->handle);
+}
+
+/** Puts the documents that have the first term and not the other, ascending, into an empty other handle. VERS_REFUSED if
+ * the first holds nothing, VERS_OCCUPIED, VERS_NO_MEMORY. */
+static inline uint32_t vers_inverted_difference(const vers_inverted *index, uint64_t one, uint64_t other,
+                                                vers_numbers *into) {
+    return vers_joined(vers_held(&index->handle), VERS_DIFFERENCE, one, other, &into->handle);
+}
+
+/** Replaces each number by the answer of a query of one number to it, `other` if there is no answer. VERS_UNKNOWN and
+ * VERS_VACANT leave the numbers as they were. */
+static inline uint32_t vers_inverted_each(const vers_inverted *index, enum vers_query query, uint64_t *numbers,
+                                          size_t count, uint64_t other) {
+    return vers_asked_each(&index->handle, query, numbers, count, 0, 0, other);
+}
+
+/** The same for queries of up to three numbers, a, b and c: the answer takes the place of a. */
+static inline uint32_t vers_inverted_rows(const vers_inverted *index, enum vers_query query, vers_row *rows,
+                                          size_t count, uint64_t other) {
+    return vers_asked_rows(&index->handle, query, rows, count, other);
 }
 
 /* A text of symbols, in which patterns are found. */

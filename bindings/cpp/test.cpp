@@ -344,6 +344,42 @@ static void test_tree() {
     test_owner(tree.clone());
 }
 
+/** Plain numbers as a vector. */
+static std::vector<std::uint64_t> listed(const vers::Numbers &numbers) {
+    return {numbers.begin(), numbers.end()};
+}
+
+static void test_inverted() {
+    const std::vector<std::uint64_t> terms{0, 0, 0, 2, 2, 3}, documents{0, 3, 9, 3, 4, 9};
+    const auto index = vers::InvertedIndex::from(4, 10, terms.data(), documents.data(), 6);
+    check("inverted", index && index->len() == 6 && index->terms() == 4 && index->universe() == 10);
+    if (!index) return;
+    check("refused", !vers::InvertedIndex::from(3, 10, terms, documents) && !vers::InvertedIndex::from(4, 9, terms, documents));
+    check("order", !vers::InvertedIndex::from(4, 10, {1, 0}, {2, 3}) && !vers::InvertedIndex::from(4, 10, {1, 1}, {2, 2}));
+    auto status = Status::done;
+    check("fewer documents", !vers::InvertedIndex::from(4, 10, {0, 1}, {2}, status) && status == Status::refused);
+    check("braces", index == vers::InvertedIndex::from(4, 10, {0, 0, 0, 2, 2, 3}, {0, 3, 9, 3, 4, 9}));
+    check("status", index == vers::InvertedIndex::from(4, 10, terms, documents, status) && status == Status::done);
+    check("other limits", index != vers::InvertedIndex::from(5, 10, terms, documents) &&
+                          index != vers::InvertedIndex::from(4, 11, terms, documents));
+    check("another pair", index != vers::InvertedIndex::from(4, 10, {0, 0, 0, 2, 2, 3}, {0, 3, 9, 3, 5, 9}));
+    check("numbers", index->pair_number(3) == 23 && !index->pair_number(6) && index->heap_size() > 0);
+    check("count", index->count(0) == 3 && index->count(1) == 0 && index->count(4) == 0);
+    check("get", index->get(0, 2) == 9 && !index->get(0, 3) && !index->get(1, 0));
+    check("rank", index->rank(0, 3) == 1 && index->rank(0, 4) == 2);
+    check("contains", index->contains(2, 4) && !index->contains(4, 2) && !index->contains(2, 9));
+    check("next", index->next_at_least(2, 4) == 4 && !index->next_at_least(2, 5));
+    check("documents", listed(index->documents(0)) == std::vector<std::uint64_t>{0, 3, 9} && index->documents(1).is_empty());
+    check("both", listed(index->intersection(0, 2)) == std::vector<std::uint64_t>{3});
+    check("either", listed(index->either(2, 3)) == std::vector<std::uint64_t>{3, 4, 9});
+    check("first", listed(index->difference(0, 2)) == std::vector<std::uint64_t>{0, 9} && index->difference(3, 0).is_empty());
+    const auto copy = index->clone();
+    check("copies", copy == *index && !index->saved_size());
+    const auto made = index->documents(2, status);
+    check("a status", made && status == Status::done && made->len() == 2);
+    check("statuses", index->intersection(0, 2, status) && index->either(0, 2, status) && index->difference(0, 2, status));
+}
+
 static void test_postings() {
     const Numbers documents = {2, 3, 5, 8}, costs = {4, 1, 1, 0}, others = {3, 4, 8, 9};
     const auto list = vers::Postings::from(documents.data(), costs.data(), 4);
@@ -682,6 +718,7 @@ int main() {
     test_symbols();
     test_minima();
     test_tree();
+    test_inverted();
     test_postings();
     test_narrow<std::uint8_t>(8, 255);
     test_narrow<std::uint16_t>(16, 65535);

@@ -275,7 +275,8 @@ public:
         return static_cast<Status>(vers_asked_rows(&raw_.handle, query, rows, count, other));
     }
 
-    /** How many bytes the saved form has. nullopt if there is none: of symbols without bits, and of Numbers. */
+    /** How many bytes the saved form has. nullopt if there is none: of symbols without bits, of
+     *  InvertedIndex and of Numbers. */
     std::optional<std::uint64_t> saved_size() const noexcept { return found(vers_saved_size(handle())); }
 
     /** Writes the saved form over `count` bytes, as many as `saved_size` says; Status::refused for another count. */
@@ -861,6 +862,7 @@ public:
 
 private:
     friend Owner;
+    friend class InvertedIndex;
     friend class Postings;
     friend class TextIndex;
     explicit Numbers(Nothing) noexcept {}
@@ -947,6 +949,114 @@ private:
     explicit Postings(Nothing) noexcept {}
     bool has_contents_of(const Postings &other) const noexcept {
         return agrees(other, VERS_GET, len()) && agrees(other, VERS_COST, len());
+    }
+};
+
+/** An inverted index: ascending documents for each term. `from(terms, universe, ..)` makes that of pairs of a term below
+ *  `terms` and a document below `universe`, which ascend strictly by term, and those of one term by document. It refuses
+ *  others, and limits whose product exceeds 64 bits. A term that the index doesn't have has no documents. */
+class InvertedIndex : public detail::Owner<InvertedIndex, vers_inverted> {
+    using Numbers64 = std::initializer_list<std::uint64_t>;
+
+public:
+    /** `count` terms and as many documents. */
+    static std::optional<InvertedIndex> from(std::uint64_t limit, std::uint64_t universe, const std::uint64_t *terms,
+                                             const std::uint64_t *documents, std::size_t count) {
+        Status status;
+        return wanted(from(limit, universe, terms, documents, count, status), status);
+    }
+    static std::optional<InvertedIndex> from(std::uint64_t limit, std::uint64_t universe, const std::uint64_t *terms,
+                                             const std::uint64_t *documents, std::size_t count,
+                                             Status &status) noexcept {
+        return made(status, [&](vers_inverted *raw) {
+            return vers_inverted_of(raw, limit, universe, terms, documents, count);
+        });
+    }
+    /** Terms and documents in a container or a range each. Refused if one has more. */
+    template <class Terms = Numbers64, class Documents = Numbers64, class = detail::Item<Terms>,
+              class = detail::Item<Documents>>
+    static std::optional<InvertedIndex> from(std::uint64_t limit, std::uint64_t universe, Terms &&terms,
+                                             Documents &&documents) {
+        Status status;
+        return wanted(from(limit, universe, terms, documents, status), status);
+    }
+    template <class Terms = Numbers64, class Documents = Numbers64, class = detail::Item<Terms>,
+              class = detail::Item<Documents>>
+    static std::optional<InvertedIndex> from(std::uint64_t limit, std::uint64_t universe, Terms &&terms,
+                                             Documents &&documents, Status &status) {
+        return detail::with_numbers(terms, status, [&](const std::uint64_t *numbers, std::size_t count) {
+            return detail::with_numbers(documents, status, [&](const std::uint64_t *more, std::size_t of_documents) {
+                if (count == of_documents) return from(limit, universe, numbers, more, count, status);
+                return status = Status::refused, std::optional<InvertedIndex>();
+            });
+        });
+    }
+
+    /** The number of terms. */
+    std::uint64_t terms() const noexcept { return ask(VERS_TERMS).value; }
+    /** The number that all documents are below. */
+    std::uint64_t universe() const noexcept { return ask(VERS_UNIVERSE).value; }
+    /** The pair at a place of all pairs as one number: the term times the universe, plus the document. */
+    std::optional<std::uint64_t> pair_number(std::uint64_t place) const noexcept { return find(VERS_GET, place); }
+    /** The number of documents of a term. */
+    std::uint64_t count(std::uint64_t term) const noexcept { return ask(VERS_COUNT, term).value; }
+    /** The document of a term at a place. */
+    std::optional<std::uint64_t> get(std::uint64_t term, std::uint64_t place) const noexcept {
+        return find(VERS_TERM_GET, term, place);
+    }
+    /** The number of documents of a term that are below a number. */
+    std::uint64_t rank(std::uint64_t term, std::uint64_t number) const noexcept {
+        return ask(VERS_TERM_RANK, term, number).value;
+    }
+    bool contains(std::uint64_t term, std::uint64_t document) const noexcept {
+        return ask(VERS_TERM_HAS, term, document).value == 1;
+    }
+    /** The first document of a term that is not below a number. */
+    std::optional<std::uint64_t> next_at_least(std::uint64_t term, std::uint64_t number) const noexcept {
+        return find(VERS_TERM_SUCCESSOR, term, number);
+    }
+    /** The documents of a term, ascending. Status::refused if the object owns nothing. */
+    Numbers documents(std::uint64_t term) const {
+        Status status;
+        return Numbers::needed(documents(term, status), status);
+    }
+    std::optional<Numbers> documents(std::uint64_t term, Status &status) const noexcept {
+        return Numbers::of(status, [&](vers_numbers *into) { return vers_inverted_documents(&raw_, term, into); });
+    }
+    /** The documents that have both terms, ascending. */
+    Numbers intersection(std::uint64_t one, std::uint64_t other) const {
+        Status status;
+        return Numbers::needed(intersection(one, other, status), status);
+    }
+    std::optional<Numbers> intersection(std::uint64_t one, std::uint64_t other, Status &status) const noexcept {
+        return Numbers::of(status, [&](vers_numbers *into) {
+            return vers_inverted_intersection(&raw_, one, other, into);
+        });
+    }
+    /** The documents that have one of two terms, or both, ascending. */
+    Numbers either(std::uint64_t one, std::uint64_t other) const {
+        Status status;
+        return Numbers::needed(either(one, other, status), status);
+    }
+    std::optional<Numbers> either(std::uint64_t one, std::uint64_t other, Status &status) const noexcept {
+        return Numbers::of(status, [&](vers_numbers *into) { return vers_inverted_union(&raw_, one, other, into); });
+    }
+    /** The documents that have the first term and not the other, ascending. */
+    Numbers difference(std::uint64_t one, std::uint64_t other) const {
+        Status status;
+        return Numbers::needed(difference(one, other, status), status);
+    }
+    std::optional<Numbers> difference(std::uint64_t one, std::uint64_t other, Status &status) const noexcept {
+        return Numbers::of(status, [&](vers_numbers *into) {
+            return vers_inverted_difference(&raw_, one, other, into);
+        });
+    }
+
+private:
+    friend Owner;
+    explicit InvertedIndex(Nothing) noexcept {}
+    bool has_contents_of(const InvertedIndex &other) const noexcept {
+        return terms() == other.terms() && universe() == other.universe() && agrees(other, VERS_GET, len());
     }
 };
 

@@ -71,6 +71,13 @@ pub const CHEAPEST: u32 = 49;
 pub const COST: u32 = 50;
 pub const HAS_NODE: u32 = 51;
 pub const STEP: u32 = 52;
+pub const TERMS: u32 = 53;
+pub const UNIVERSE: u32 = 54;
+pub const COUNT: u32 = 55;
+pub const TERM_GET: u32 = 56;
+pub const TERM_RANK: u32 = 57;
+pub const TERM_HAS: u32 = 58;
+pub const TERM_SUCCESSOR: u32 = 59;
 
 pub const KIND_GROWING: u32 = 0;
 pub const KIND_BITS: u32 = 1;
@@ -87,3 +94,7 @@ pub const PUSH: u32 = 0;
 pub const APPEND: u32 = 1;
 pub const SET: u32 = 2;
 pub const DROP_LAST: u32 = 3;
+
+pub const INTERSECTION: u32 = 0;
+pub const UNION: u32 = 1;
+pub const DIFFERENCE: u32 = 2;

@@ -9,6 +9,7 @@ use crate::batch::{Ask, Row, Rows};
 use crate::codes::{NO_MEMORY, OCCUPIED, REFUSED, VACANT};
 use crate::handle::Handle;
 use crate::kept::Kept;
+use crate::proved::inverted::{InvertedError, InvertedIndex, Pairs};
 use crate::proved::postings::Postings;
 use crate::proved::text_index::MAX_LEN as MAX_TEXT;
 use crate::proved::text_index::{TextError, TextIndex};
@@ -180,6 +181,16 @@ pub unsafe extern "C" fn vers_first_places(
 #[unsafe(no_mangle)]
 pub extern "C" fn vers_extract(handle: &Handle, start: usize, end: usize, into: &mut Handle) -> u32 {
     fill(into, || handle.kept().map_or(Ok(None), |kept| kept.extract(start, end)))
+}
+
+#[unsafe(no_mangle)]
+pub extern "C" fn vers_documents(handle: &Handle, term: u64, into: &mut Handle) -> u32 {
+    fill(into, || handle.kept().map_or(Ok(None), |kept| kept.documents(term)))
+}
+
+#[unsafe(no_mangle)]
+pub extern "C" fn vers_joined(handle: &Handle, joint: u32, one: u64, other: u64, into: &mut Handle) -> u32 {
+    fill(into, || handle.kept().map_or(Ok(None), |kept| kept.joined(joint, one, other)))
 }
 
 #[unsafe(no_mangle)]
@@ -387,6 +398,48 @@ pub unsafe extern "C" fn vers_postings_build(
         }
         let made = Postings::from_sorted(documents, Vec::from_slice(Global, costs)?);
         made.map(|posted| Some(Kept::Posted(posted))).map_err(|_| AllocError)
+    })
+}
+
+/// Pairs of a term and a document, in a slice each.
+#[derive(Clone, Copy)]
+struct Columns<'a> {
+    terms: &'a [u64],
+    documents: &'a [u64],
+}
+
+impl Pairs for Columns<'_> {
+    fn next(&mut self) -> Option<(u64, u64)> {
+        let (term, terms) = self.terms.split_first()?;
+        let (document, documents) = self.documents.split_first()?;
+        *self = Columns { terms, documents };
+        Some((*term, *document))
+    }
+}
+
+/// # Safety
+/// `terms` leads to `count` numbers, and `documents` to `document_count`.
+#[unsafe(no_mangle)]
+pub unsafe extern "C" fn vers_inverted_build(
+    limit: u64,
+    universe: u64,
+    terms: *const u64,
+    count: usize,
+    documents: *const u64,
+    document_count: usize,
+    handle: &mut Handle,
+) -> u32 {
+    // SAFETY: vers.h asks for arrays of as many numbers, which no other thread writes.
+    let (terms, documents) = unsafe { (elements(terms, count), elements(documents, document_count)) };
+    fill(handle, || {
+        if terms.len() != documents.len() {
+            return Ok(None);
+        }
+        match InvertedIndex::from_source(Global, limit, universe, Columns { terms, documents }) {
+            Ok(index) => Ok(Some(Kept::Inverted(index))),
+            Err(InvertedError::Memory) => Err(AllocError),
+            Err(_) => Ok(None),
+        }
     })
 }
 

@@ -4,6 +4,7 @@
 use crate::answer::Answer;
 use crate::batch::{Row, Rows};
 use crate::codes::*;
+use crate::proved::inverted::InvertedIndex;
 use crate::proved::postings::Postings;
 use crate::proved::text_index::TextIndex;
 use crate::proved::vers_bits::bit_vec::BitVec;
@@ -39,6 +40,7 @@ pub enum Kept {
     Fast(FastRmq<Global>),
     Binary(BinaryRmq<Global>),
     Posted(Postings<Global>),
+    Inverted(InvertedIndex<Global>),
     Text(TextIndex<Global>),
     Numbers(Vec<u64>),
 }
@@ -56,6 +58,7 @@ impl Kept {
             Kept::Fast(values) => values.answer(query, a, b, c),
             Kept::Binary(values) => values.answer(query, a, b, c),
             Kept::Posted(posted) => posted.answer(query, a, b, c),
+            Kept::Inverted(index) => index.answer(query, a, b, c),
             Kept::Text(text) => text.answer(query, a, b, c),
             Kept::Numbers(numbers) => numbers.as_slice().answer(query, a, b, c),
         }
@@ -77,6 +80,7 @@ impl Kept {
             Kept::Fast(values) => rows.answer_each(values, query),
             Kept::Binary(values) => rows.answer_each(values, query),
             Kept::Posted(posted) => rows.answer_each(posted, query),
+            Kept::Inverted(index) => rows.answer_each(index, query),
             Kept::Text(text) => rows.answer_each(text, query),
             Kept::Numbers(numbers) => rows.answer_each(numbers.as_slice(), query),
         }
@@ -107,6 +111,30 @@ impl Kept {
             (Kept::Posted(one), Kept::Posted(two)) => Ok(Some(Kept::Numbers(one.intersect(two)?))),
             _ => Ok(None),
         }
+    }
+
+    /// The documents of a term. None if this is no inverted index.
+    pub fn documents(&self, term: u64) -> Result<Option<Kept>, AllocError> {
+        let Kept::Inverted(index) = self else {
+            return Ok(None);
+        };
+        let mut found = Vec::with_capacity(Global, index.count(term) as usize)?;
+        found.extend(index.documents(term))?;
+        Ok(Some(Kept::Numbers(found)))
+    }
+
+    /// Documents of two terms, by a code. None if this is no inverted index, or there is no such code.
+    pub fn joined(&self, joint: u32, one: u64, other: u64) -> Result<Option<Kept>, AllocError> {
+        let Kept::Inverted(index) = self else {
+            return Ok(None);
+        };
+        let found = match joint {
+            INTERSECTION => index.intersection_numbers(Global, one, other)?,
+            UNION => index.union_numbers(Global, one, other)?,
+            DIFFERENCE => index.difference_numbers(Global, one, other)?,
+            _ => return Ok(None),
+        };
+        Ok(Some(Kept::Numbers(found)))
     }
 
     /// How many positions a pattern has in a text.
@@ -155,7 +183,7 @@ impl Kept {
             Kept::Binary(values) => saved_size(values),
             Kept::Posted(posted) => saved_size(posted),
             Kept::Text(text) => saved_size(text),
-            Kept::Numbers(_) => None,
+            Kept::Inverted(_) | Kept::Numbers(_) => None,
         }
     }
 
@@ -172,7 +200,7 @@ impl Kept {
             Kept::Binary(values) => form_of(values),
             Kept::Posted(posted) => form_of(posted),
             Kept::Text(text) => form_of(text),
-            Kept::Numbers(_) => Err(SaveError::NoForm),
+            Kept::Inverted(_) | Kept::Numbers(_) => Err(SaveError::NoForm),
         }
     }
 

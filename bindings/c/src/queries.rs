@@ -4,6 +4,7 @@
 use crate::answer::Answer;
 use crate::codes::*;
 use crate::kept::Parentheses;
+use crate::proved::inverted::InvertedIndex;
 use crate::proved::postings::Postings;
 use crate::proved::text_index::TextIndex;
 use crate::proved::vers_bits::bit_vec::BitVec;
@@ -199,6 +200,25 @@ impl Asked for Postings<Global> {
             HAS => self.contains(a).into(),
             SUCCESSOR => self.next_at_least(a).into(),
             CHEAPEST => self.cheapest(a, b).into(),
+            _ => Answer::UNKNOWN,
+        }
+    }
+}
+
+impl Asked for InvertedIndex<Global> {
+    #[inline(always)]
+    fn answer(&self, query: u32, a: u64, b: u64, _c: u64) -> Answer {
+        match query {
+            LEN => self.len().into(),
+            GET => self.pair_number(a as usize).into(),
+            HEAP_SIZE => self.heap_size().into(),
+            TERMS => self.terms().into(),
+            UNIVERSE => self.universe().into(),
+            COUNT => self.count(a).into(),
+            TERM_GET => self.get(a, b as usize).into(),
+            TERM_RANK => self.rank(a, b).into(),
+            TERM_HAS => self.contains(a, b).into(),
+            TERM_SUCCESSOR => self.next_at_least(a, b).into(),
             _ => Answer::UNKNOWN,
         }
     }

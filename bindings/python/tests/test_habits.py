@@ -33,7 +33,7 @@ NUMBER_MAKERS = (
 )
 LISTS = (
     vers.BitVec, vers.RsVec, vers.SparseRSVec, vers.EliasFanoVec, vers.WaveletMatrix, vers.FastRmq, vers.BinaryRmq,
-    vers.BpTree, vers.Postings, vers.PlainNumbers,
+    vers.BpTree, vers.Postings, vers.PlainNumbers, vers.InvertedIndex,
 )
 
 
@@ -43,7 +43,7 @@ def some_lists():
     return [
         vers.BitVec([1, 0] * 50), vers.RsVec([1, 0] * 50), vers.SparseRSVec([1], 3), vers.EliasFanoVec([1, 1, 9]),
         vers.WaveletMatrix([1, 0, 5], 3), vers.FastRmq([4, 2]), vers.BinaryRmq([4, 2]), vers.BpTree("(()())"), postings,
-        postings.intersect(postings), vers.TextIndex(b"abracadabra", 8),
+        postings.intersect(postings), vers.InvertedIndex([0, 0, 2], [3, 7, 3]), vers.TextIndex(b"abracadabra", 8),
     ]
 
 
@@ -347,7 +347,7 @@ class Habits(unittest.TestCase):
         for made in some_lists():
             items = made.tolist()
             self.assertEqual(len(items), len(made))
-            if isinstance(made, (vers.BpTree, vers.TextIndex)):
+            if isinstance(made, (vers.BpTree, vers.InvertedIndex, vers.TextIndex)):
                 continue
             self.assertIsInstance(made, collections.abc.Sequence)
             self.assertEqual((list(reversed(made)), made.index(items[1])), (items[::-1], items.index(items[1])))

@@ -207,6 +207,47 @@ class Lists(unittest.TestCase):
         with self.assertRaises(vers.Refused):
             vers.Postings([1, 2], [0])
 
+    def test_inverted_index(self):
+        lists = {term: sorted(RANDOM.sample(range(90), size)) for term, size in ((0, 40), (1, 0), (2, 90), (3, 7))}
+        pairs = [(term, document) for term, documents in lists.items() for document in documents]
+        index = vers.InvertedIndex(*zip(*pairs), 5, 100)
+        self.assertEqual((len(index), index.terms(), index.universe()), (137, 5, 100))
+        self.assertEqual((index.tolist(), index.pair_number(0)), (pairs, pairs[0][1]))
+        for term in range(6):
+            plain = lists.get(term, [])
+            self.assertEqual((index.count(term), list(index.documents(term))), (len(plain), plain))
+            self.assertEqual([index.get(term, k) for k in range(len(plain) + 1)], [*plain, None])
+            low = [bisect.bisect_left(plain, d) for d in range(102)]
+            self.assertEqual(index.rank(term, range(102)).tolist(), low)
+            self.assertEqual(index.contains(term, range(102)), [d in plain for d in range(102)])
+            self.assertEqual(index.next_at_least(term, range(102)), [([*plain, None])[k] for k in low])
+            for other in range(6):
+                one, two = set(plain), set(lists.get(other, []))
+                self.assertEqual(list(index.intersection(term, other)), sorted(one & two))
+                self.assertEqual(list(index.union(term, other)), sorted(one | two))
+                self.assertEqual(list(index.difference(term, other)), sorted(one - two))
+        self.assertEqual(index.count([0, 1, 2, 9]).tolist(), [40, 0, 90, 0])
+
+    def test_inverted_indexes_as_objects(self):
+        index = vers.InvertedIndex([0, 0, 2], [3, 7, 3])
+        self.assertEqual((index.terms(), index.universe()), (3, 8))
+        self.assertEqual(repr(index), "<vers.InvertedIndex of 3 pairs: [(0, 3), (0, 7), (2, 3)]>")
+        again = pickle.loads(pickle.dumps(index))
+        self.assertEqual((again, hash(again), again.tolist()), (index, hash(index), index.tolist()))
+        for other in ([0, 0, 2], [3, 7, 3], 4), ([0, 0, 2], [3, 7, 3], 3, 9), ([0, 0, 2], [3, 7, 4], 3, 8):
+            self.assertNotEqual(index, vers.InvertedIndex(*other))
+        empty = vers.InvertedIndex([], [])
+        self.assertEqual((len(empty), empty.terms(), empty.tolist(), list(empty.union(0, 1))), (0, 0, [], []))
+        for text, arguments in (
+            ("2 terms have 1 documents", ([0, 1], [2])), ("product of the limits", ([], [], 1 << 40, 1 << 40)),
+            ("term at position 1 is 4", ([0, 4], [2, 2], 4)), ("document at position 0 is 9", ([0], [9], 1, 9)),
+            ("above the one before", ([1, 0], [2, 2])), ("above the one before", ([1, 1], [2, 2])),
+        ):
+            with self.assertRaisesRegex(vers.Refused, text):
+                vers.InvertedIndex(*arguments)
+        with self.assertRaises(TypeError):
+            index.to_bytes()
+
     def test_sets_of_documents(self):
         for sizes in ((300, 300), (300, 3), (0, 40), (40, 0), (0, 0), (1000, 1000)):
             one, other = (dict(zip(sorted(RANDOM.sample(range(1000), size)), RANDOM.choices(range(9), k=size)))

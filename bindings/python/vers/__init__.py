@@ -16,14 +16,15 @@ from ._faults import (
 )
 from ._bases import NONE
 from ._lists import (
-    BinaryRmq, BitVec, BpTree, EliasFanoVec, FastRmq, PlainNumbers, Postings, RsVec, SparseRSVec, TextIndex,
-    WaveletMatrix,
+    BinaryRmq, BitVec, BpTree, EliasFanoVec, FastRmq, InvertedIndex, PlainNumbers, Postings, RsVec, SparseRSVec,
+    TextIndex, WaveletMatrix,
 )
 
 __version__ = "0.19.0"
 
 __all__ = [
-    "BadLength", "BadPadding", "BadSum", "BinaryRmq", "BitVec", "BpTree", "EliasFanoVec", "FastRmq", "NONE", "NoMemory",
-    "NotAText", "NotAscending", "NotOurs", "Occupied", "OtherKind", "OtherVersion", "PlainNumbers", "Postings",
-    "Refused", "RsVec", "Shared", "SparseRSVec", "TextIndex", "TooShort", "Unknown", "Vacant", "VersError", "WaveletMatrix",
+    "BadLength", "BadPadding", "BadSum", "BinaryRmq", "BitVec", "BpTree", "EliasFanoVec", "FastRmq", "InvertedIndex",
+    "NONE", "NoMemory", "NotAText", "NotAscending", "NotOurs", "Occupied", "OtherKind", "OtherVersion", "PlainNumbers",
+    "Postings", "Refused", "RsVec", "Shared", "SparseRSVec", "TextIndex", "TooShort", "Unknown", "Vacant", "VersError",
+    "WaveletMatrix",
 ]

@@ -55,6 +55,8 @@ count = _call(_locked, "vers_count", Answer, _AT, _POINTER, _SIZE)
 places = _call(_unlocked, "vers_places", _U32, _AT, _POINTER, _SIZE, _AT)
 first_places = _call(_unlocked, "vers_first_places", _U32, _AT, _POINTER, _SIZE, _SIZE, _AT)
 extract = _call(_unlocked, "vers_extract", _U32, _AT, _SIZE, _SIZE, _AT)
+documents = _call(_unlocked, "vers_documents", _U32, _AT, _U64, _AT)
+joined = _call(_unlocked, "vers_joined", _U32, _AT, _U32, _U64, _U64, _AT)
 free = _call(_locked, "vers_free", None, _AT)
 
 growing_build = _call(_unlocked, "vers_growing_build", _U32, _POINTER, _SIZE, _SIZE, _AT)
@@ -68,6 +70,7 @@ symbols_builds = {size: _call(_unlocked, f"vers_symbols_build{name}", _U32, _POI
 fast_rmq_build = _call(_unlocked, "vers_fast_rmq_build", _U32, _POINTER, _SIZE, _AT)
 binary_rmq_build = _call(_unlocked, "vers_binary_rmq_build", _U32, _POINTER, _SIZE, _AT)
 postings_build = _call(_unlocked, "vers_postings_build", _U32, _POINTER, _SIZE, _POINTER, _SIZE, _AT)
+inverted_build = _call(_unlocked, "vers_inverted_build", _U32, _U64, _U64, _POINTER, _SIZE, _POINTER, _SIZE, _AT)
 text_builds = {size: _call(_unlocked, f"vers_text_build{name}", _U32, _POINTER, _SIZE, _U32, _SIZE, _AT)
                for size, name in ((1, "_bytes"), (2, "_u16s"), (8, ""))}
 

@@ -31,6 +31,7 @@ _TreeQuery = Literal[
     "is_leaf", "depth", "subtree_size", "is_ancestor", "level_leftmost", "level_rightmost",
 ]
 _PostingsQuery = Literal["get", "rank", "cost", "contains", "next_at_least", "cheapest"]
+_InvertedQuery = Literal["pair_number", "count", "get", "rank", "contains", "next_at_least"]
 
 
 def _words(words: Numbers, length: Optional[int]) -> Tuple[Held, int]:
@@ -680,6 +681,123 @@ class Postings(Fixed[_PostingsQuery]):
         """A list of documents that this one has, with their costs."""
         made: Postings = Postings(documents, self._costs(documents))
         return made
+
+
+class InvertedIndex(Shared[_InvertedQuery]):
+    """An inverted index: ascending documents for each term, `InvertedIndex([0, 0, 2], [3, 7, 3])`. Pairs of a term and a
+    document ascend strictly by term, and those of one term by document; Refused if they don't. A term that the index
+    doesn't have has no documents."""
+
+    _items = "pairs"
+
+    def __new__(cls, terms: Numbers, documents: Numbers, limit: Optional[int] = None,
+                universe: Optional[int] = None) -> Any:
+        """The index of terms below `limit` and of as many documents below `universe`; without these, the limits are
+        the greatest term plus 1, and the greatest document plus 1."""
+        held, documents_held = _buffers.held(terms, "term"), _buffers.held(documents, "document")
+        below = _above_all(held) if limit is None else number(limit, "the limit of terms")
+        most = _above_all(documents_held) if universe is None else number(universe, "the limit of documents")
+
+        def why() -> str:
+            if held.size != documents_held.size:
+                return f"{held.size} terms have {documents_held.size} documents"
+            if below * most > NONE:
+                return f"the product of the limits {below} and {most} is above {NONE}"
+            return (_buffers.above("term", held, below - 1) or _buffers.above("document", documents_held, most - 1)
+                    or "a pair is not above the one before it")
+        return cls._made(library.inverted_build, below, most, held, documents_held, why=why)
+
+    def pairs(self) -> Tuple[Any, Any]:
+        """The terms of all pairs and their documents, in an array each."""
+        universe = self.universe()
+        numbers = self._part(0, len(self))
+        return array("Q", (it // universe for it in numbers)), array("Q", (it % universe for it in numbers))
+
+    def tolist(self) -> Any:
+        """The pairs of a term and a document, as a list of Python's."""
+        return list(zip(*self.pairs()))
+
+    def __reduce__(self) -> Any:
+        return InvertedIndex, (*self.pairs(), self.terms(), self.universe())
+
+    def _traits(self) -> Any:
+        return len(self), self.terms(), self.universe()
+
+    def _shown(self, items: Any, more: str) -> str:
+        return super()._shown([divmod(it, self.universe()) for it in items], more)
+
+    def terms(self) -> int:
+        """The number of terms."""
+        return self._number(codes.TERMS)
+
+    def universe(self) -> int:
+        """The number that all documents are below."""
+        return self._number(codes.UNIVERSE)
+
+    @query(codes.GET)
+    def pair_number(self, place: int) -> Optional[int]:
+        """The pair at a place of all pairs as one number: the term times the universe, plus the document. None past the
+        end."""
+        return self._find(codes.GET, place)
+
+    @query(codes.COUNT, True)
+    def count(self, term: int) -> int:
+        """The number of documents of a term."""
+        return self._number(codes.COUNT, term)
+
+    @query(codes.TERM_GET)
+    def get(self, term: int, place: int) -> Optional[int]:
+        """The document of a term at a place. None past the end."""
+        return self._find_by(codes.TERM_GET, term, place)
+
+    @query(codes.TERM_RANK, True)
+    def rank(self, term: int, number: int) -> int:
+        """The number of documents of a term that are below a number."""
+        found = self._find_by(codes.TERM_RANK, term, number)
+        assert found is not None, "the query finds a number"
+        return found
+
+    @query(codes.TERM_HAS)
+    def contains(self, term: int, document: int) -> bool:
+        """Whether a term has a document."""
+        return self._truth(codes.TERM_HAS, term, document)
+
+    @query(codes.TERM_SUCCESSOR)
+    def next_at_least(self, term: int, number: int) -> Optional[int]:
+        """The first document of a term that is not below a number. None if there is none."""
+        return self._find_by(codes.TERM_SUCCESSOR, term, number)
+
+    def documents(self, term: int) -> PlainNumbers:
+        """The documents of a term, ascending."""
+        own, at = self.__copy__(), number(term, "the term")
+        made: PlainNumbers = PlainNumbers._made(library.documents, own._at, at)
+        return made
+
+    def intersection(self, one: int, other: int) -> PlainNumbers:
+        """The documents that have both terms, ascending."""
+        return self._joined(codes.INTERSECTION, one, other)
+
+    def union(self, one: int, other: int) -> PlainNumbers:
+        """The documents that have one of two terms, or both, ascending."""
+        return self._joined(codes.UNION, one, other)
+
+    def difference(self, one: int, other: int) -> PlainNumbers:
+        """The documents that have the first term and not the other, ascending."""
+        return self._joined(codes.DIFFERENCE, one, other)
+
+    def _joined(self, joint: int, one: int, other: int) -> PlainNumbers:
+        own = self.__copy__()
+        made: PlainNumbers = PlainNumbers._made(
+            library.joined, own._at, joint, number(one, "the first term"), number(other, "the other term"))
+        return made
+
+
+def _above_all(held: Held) -> int:
+    """The least number that is above some numbers, at most 2**64 - 1."""
+    if held.size == 0:
+        return 0
+    greatest = held.keeper.max() if hasattr(held.keeper, "max") else max(held.keeper)
+    return min(int(greatest) + 1, NONE)
 
 
 class TextIndex(Shared[str]):

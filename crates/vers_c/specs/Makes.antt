@@ -1,11 +1,14 @@
 -- What a build leaves in a handle.
-use Rattle.std.specs.Prelude.{◌≡◌, ◌≢◌, ℕ, ◌==◌, ◌&&◌, nat_le, nat_lt, List, length, Option, Some, None, if◌then◌else◌}
+use Rattle.std.specs.Prelude.{◌≡◌, ◌≢◌, ℕ, ◌==◌, ◌&&◌, nat_le, nat_lt, List, length, zip, Option, Some, None, if◌then◌else◌}
 use Rattle.std.specs.List.{list_all}
+use Rattle.inverted.specs.Lists.{Lists}
+use Rattle.inverted.specs.Makers.{index_of, refusal_of}
+use Rattle.inverted.specs.declared.fault.InvertedError.{InvertedError}
 use Rattle.vers_sorted.specs.Ones.{ones_at}
 use Rattle.vers_sorted.specs.Sorted.{each_next}
 use Rattle.vers_wavelet.specs.Makers.{low_symbols}
 use Rattle.vers_c.specs.Answers.{IsToldAs}
-use Rattle.catalogue.specs.Contents.{Content, SparseBits, SortedMembers, SymbolList, Documents}
+use Rattle.catalogue.specs.Contents.{Content, SparseBits, SortedMembers, SymbolList, Documents, DocumentLists}
 
 -- of numbers, which have to ascend
 abbrev pub sorted_made : List ℕ → Option Content
@@ -25,6 +28,18 @@ abbrev pub posted_made : List ℕ → List ℕ → Option Content
 posted_made documents costs =
     if (length documents == length costs) && each_next nat_lt documents
     then Some (Documents (record { documents = documents; costs = costs }))
+    else None
+
+-- an index, unless there is a reason against it
+abbrev pub index_made : Option InvertedError → Lists → Option Content
+index_made None index = Some (DocumentLists index)
+index_made (Some reason) index = None
+
+-- of pairs of terms and as many documents, which have an index below these limits
+abbrev pub inverted_made : ℕ → ℕ → List ℕ → List ℕ → Option Content
+inverted_made limit universe terms documents =
+    if length terms == length documents
+    then index_made (refusal_of limit universe (zip terms documents)) (index_of limit universe (zip terms documents))
     else None
 
 -- the status of a build: for a handle that is not empty, and for what can't be made

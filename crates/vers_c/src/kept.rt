@@ -6,7 +6,7 @@ ghost use Rattle.vers_c.specs.Answers.{IsToldAs};
 ghost use Rattle.vers_c.specs.Batches.{told_row};
 ghost use Rattle.vers_c.specs.Changes.{IsChanged, changed_by_code, coded_status};
 ghost use Rattle.vers_c.specs.Codes.{batch_status, coded_answer, query_of};
-ghost use Rattle.vers_c.specs.Lists.{common_of};
+ghost use Rattle.vers_c.specs.Lists.{coded_joined, common_of, joined_of, listed_of};
 ghost use Rattle.vers_c.specs.Texts.{first_pattern_places, pattern_count, pattern_places, piece};
 ghost use Rattle.vers_c.specs.Structures.{content};
 
@@ -17,6 +17,7 @@ use crate::makes::Parentheses;
 use crate::status::{DONE, UNKNOWN};
 use crate::text::as_numbers;
 use catalogue::answer::Answer;
+use catalogue::documents::{Joint, documents_of, joined_documents};
 use catalogue::kind::Kind;
 use catalogue::query::Query;
 use catalogue::queryable::{Queryable, answer_once};
@@ -220,6 +221,59 @@ pub fn common(kept: &Kept, other: &Kept) -> Result<Option<Kept>, AllocError>
             Kept::Other(Structure::Postings(two)) => Ok(Some(numbers(one.intersect(two)?))),
             _ => Ok(None),
         },
+        _ => Ok(None),
+    }
+}
+
+/// Returns the documents of a term, as plain numbers. `None` if this is no inverted index. Errors: `AllocError` if the
+/// allocator refuses a request.
+pub fn listed(kept: &Kept, alloc: Global, term: u64) -> Result<Option<Kept>, AllocError>
+    ensures listed { IfOk result (λ made. option_map content made ≡ listed_of (content kept.now) term) }
+    ensures index { IsErr result → IsSome (listed_of (content kept.now) term) }
+{
+    match kept {
+        Kept::Other(Structure::Inverted(index)) => {
+            Ok(Some(numbers(documents_of(alloc, index, term)?)))
+        }
+        _ => Ok(None),
+    }
+}
+
+/// Returns documents of two terms, as plain numbers, by the code of a `Joint`. `None` if this is no inverted index, or
+/// there is no such code. Errors: `AllocError` if the allocator refuses a request.
+pub fn joined_coded(
+    kept: &Kept,
+    alloc: Global,
+    code: u32,
+    one: u64,
+    other: u64,
+) -> Result<Option<Kept>, AllocError>
+    ensures joined { IfOk result (λ made. option_map content made
+        ≡ coded_joined (content kept.now) code one other) }
+    ensures index { IsErr result → IsSome (coded_joined (content kept.now) code one other) }
+{
+    match Joint::of(code) {
+        Some(joint) => joined(kept, alloc, joint, one, other),
+        None => Ok(None),
+    }
+}
+
+// Returns documents of two terms, as plain numbers. `None` if this is no inverted index.
+fn joined(
+    kept: &Kept,
+    alloc: Global,
+    joint: Joint,
+    one: u64,
+    other: u64,
+) -> Result<Option<Kept>, AllocError>
+    ensures joined { IfOk result (λ made. option_map content made
+        ≡ joined_of (content kept.now) joint one other) }
+    ensures index { IsErr result → IsSome (joined_of (content kept.now) joint one other) }
+{
+    match kept {
+        Kept::Other(Structure::Inverted(index)) => {
+            Ok(Some(numbers(joined_documents(alloc, index, joint, one, other)?)))
+        }
         _ => Ok(None),
     }
 }

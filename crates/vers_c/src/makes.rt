@@ -1,5 +1,5 @@
 //! Structures made of plain lists.
-ghost use Rattle.std.specs.Prelude.{◌≡◌, ◌<◌, ◌*◌, ◌↔◌, ◌⊎◌, All, Err, IfOk, IfErr, IsErr, IsSome, length, option_map, take};
+ghost use Rattle.std.specs.Prelude.{◌≡◌, ◌<◌, ◌*◌, ◌↔◌, ◌⊎◌, All, Err, IfOk, IfErr, IsErr, IsSome, length, option_map, take, zip};
 ghost use Rattle.std.specs.List.Sorted.{IsStrictlyIncreasing};
 ghost use Rattle.vers_bits.specs.Bits.{pack};
 ghost use Rattle.vers_bits.specs.declared.bit_vec.TheConstants as list;
@@ -7,11 +7,12 @@ ghost use Rattle.vers_rmq.specs.declared.rmq.binary_rmq.TheConstants as table;
 ghost use Rattle.vers_rmq.specs.declared.rmq.fast_rmq.TheConstants as blocks;
 ghost use Rattle.vers_sorted.specs.Ones.{ones_at};
 ghost use Rattle.vers_trees.specs.declared.trees.bp.TheConstants as parentheses;
-ghost use Rattle.vers_c.specs.Makes.{posted_made};
+ghost use Rattle.vers_c.specs.Makes.{inverted_made, posted_made};
 ghost use Rattle.vers_c.specs.Structures.{content};
 
 use crate::kept::Kept;
 use catalogue::structure::Structure;
+use inverted::{InvertedError, InvertedIndex, Pairs};
 use postings::Postings;
 use std::alloc::{AllocError, Global};
 use vers_bits::bit_vec::{BitVec, GrowError};
@@ -146,5 +147,49 @@ pub fn posted(alloc: Global, documents: &[u64], costs: &[u64]) -> Result<Option<
     match Postings::from_sorted(documents, Vec::from_slice(alloc, costs)?) {
         Ok(made) => Ok(Some(Kept::Other(Structure::Postings(made)))),
         Err(_) => Err(AllocError),
+    }
+}
+
+// Pairs of a term and a document, in a slice each.
+#[derive(Clone, Copy, Drop)]
+struct Columns<'a> {
+    terms: &'a [u64],
+    documents: &'a [u64],
+}
+
+impl Pairs for Columns<'_> {
+    ghost left = { λ columns. zip columns.terms.now columns.documents.now };
+
+    #[inline]
+    fn next(&mut self) -> Option<(u64, u64)> {
+        let (term, terms) = self.terms.split_first()?;
+        let (document, documents) = self.documents.split_first()?;
+        self.terms = terms;
+        self.documents = documents;
+        Some((*term, *document))
+    }
+}
+
+/// Returns the index of pairs, whose terms and documents are slices. `None` if these have different lengths, or the
+/// pairs have no index below `limit` terms and `universe` documents. Errors: `AllocError` if the allocator refuses a
+/// request.
+pub fn inverted(
+    alloc: Global,
+    limit: u64,
+    universe: u64,
+    terms: &[u64],
+    documents: &[u64],
+) -> Result<Option<Kept>, AllocError>
+    ensures made { IfOk result (λ made. option_map content made
+        ≡ inverted_made limit universe terms.now documents.now) }
+    ensures some { IsErr result → IsSome (inverted_made limit universe terms.now documents.now) }
+{
+    if terms.len() != documents.len() {
+        return Ok(None);
+    }
+    match InvertedIndex::from_source(alloc, limit, universe, Columns { terms, documents }) {
+        Ok(made) => Ok(Some(Kept::Other(Structure::Inverted(made)))),
+        Err(InvertedError::Memory) => Err(AllocError),
+        Err(_) => Ok(None),
     }
 }

@@ -8,6 +8,7 @@ use crate::programs::vers_c::builds::{
     vers_sorted_build, vers_sparse_build, vers_symbols_build, vers_symbols_build_bytes, vers_symbols_build_u16s,
     vers_symbols_build_u32s, vers_tree_build,
 };
+use crate::programs::vers_c::documents::{vers_documents, vers_inverted_build, vers_joined};
 use crate::programs::vers_c::handle::VersHandle;
 use crate::programs::vers_c::held::Held;
 use crate::programs::vers_c::quick;
@@ -33,7 +34,7 @@ const NO_MEMORY: u32 = 6;
 const SHARED: u32 = 7;
 
 /// The code after the last query.
-const CODES: u32 = 53;
+const CODES: u32 = 60;
 
 /// A status and a number.
 type Told = (u32, u64);
@@ -388,6 +389,74 @@ fn documents_answer_as_their_list() {
     assert!(!none.is_built && handle.is_built && other.is_built);
     refused(REFUSED, |it| vers_postings_build(Global, &[3, 3], &[1, 1], it));
     refused(REFUSED, |it| vers_postings_build(Global, &[3, 4], &[1], it));
+}
+
+/// Terms, each with a document.
+const TERMS: [u64; 9] = [0, 0, 0, 2, 2, 2, 2, 3, 3];
+const DOCUMENTS: [u64; 9] = [0, 3, 9, 0, 4, 8, 9, 4, 5];
+
+/// The documents of a term for which a test of the document passes.
+fn documents_if(term: u64, test: impl Fn(u64) -> bool) -> Vec<u64> {
+    (0..10).filter(|it| TERMS.iter().zip(&DOCUMENTS).any(|pair| pair == (&term, it)) && test(*it)).collect()
+}
+
+#[test]
+fn inverted_indexes_answer_as_their_lists() {
+    let mut handle = made(|it| vers_inverted_build(Global, 5, 10, &TERMS, &DOCUMENTS, it));
+    let heap = heap_of(&mut handle);
+    let model = move |code, a: u64, b: u64, _| match code {
+        0 => found(9),
+        1 => found_if(item(&TERMS, a).zip(item(&DOCUMENTS, a)).map(|(term, document)| 10 * term + document)),
+        3 => found(heap),
+        53 => found(5),
+        54 => found(10),
+        55 => found(documents_if(a, |_| true).len() as u64),
+        56 => found_if(item(&documents_if(a, |_| true), b)),
+        57 => found(documents_if(a, |it| it < b).len() as u64),
+        58 => found(u64::from(documents_if(a, |_| true).contains(&b))),
+        59 => found_if(documents_if(a, |it| it >= b).first().copied()),
+        _ => (UNKNOWN, 0),
+    };
+    compare(&mut handle, &model, &[0, 1, 2, 3, 4, 5, 8, 9, 10, u64::MAX]);
+    for one in [0, 1, 2, 3, 7] {
+        let mut into = empty();
+        assert_eq!(vers_documents(Global, &mut handle, one, &mut into), DONE);
+        assert_eq!(vers_documents(Global, &mut handle, one, &mut into), OCCUPIED);
+        compare(&mut into, &numbers_model(documents_if(one, |_| true)), &[0, 1, 2, 3, 4]);
+        for other in [0, 1, 2, 3, 7] {
+            let has = |term, it| documents_if(term, |_| true).contains(&it);
+            let lists = [
+                documents_if(one, |it| has(other, it)),
+                (0..10).filter(|it| has(one, *it) || has(other, *it)).collect(),
+                documents_if(one, |it| !has(other, it)),
+            ];
+            for (code, list) in (0..3).zip(lists) {
+                let mut into = empty();
+                assert_eq!(vers_joined(Global, &mut handle, code, one, other, &mut into), DONE);
+                assert_eq!(vers_joined(Global, &mut handle, code, one, other, &mut into), OCCUPIED);
+                compare(&mut into, &numbers_model(list), &[0, 1, 2, 5, 6]);
+            }
+        }
+    }
+    let mut into = empty();
+    assert_eq!(vers_joined(Global, &mut handle, 3, 0, 2, &mut into), REFUSED);
+    let mut other = made(|it| vers_sorted_build(Global, &[1], it));
+    for handle in [&mut other, &mut empty()] {
+        assert_eq!(vers_joined(Global, handle, 0, 0, 2, &mut into), REFUSED);
+        assert_eq!(vers_documents(Global, handle, 0, &mut into), REFUSED);
+    }
+    assert!(!into.is_built && handle.is_built && other.is_built);
+    made(|it| vers_inverted_build(Global, 0, u64::MAX, &[], &[], it));
+    made(|it| vers_inverted_build(Global, 1, 9, &[0, 0], &[1, 3], it));
+    for (limit, universe) in [(3, 10), (4, 9), (0, 10), (1 << 62, 4)] {
+        refused(REFUSED, |it| vers_inverted_build(Global, limit, universe, &TERMS, &DOCUMENTS, it));
+    }
+    refused(REFUSED, |it| vers_inverted_build(Global, 5, 10, &TERMS, &DOCUMENTS[..8], it));
+    refused(REFUSED, |it| vers_inverted_build(Global, 5, 10, &TERMS[..8], &DOCUMENTS, it));
+    refused(REFUSED, |it| vers_inverted_build(Global, 5, 10, &[1, 1], &[3, 3], it));
+    refused(REFUSED, |it| vers_inverted_build(Global, 5, 10, &[1, 0], &[3, 4], it));
+    assert_eq!(vers_saved_size(Global, &mut handle).status, ABSENT);
+    assert_eq!(vers_save(Global, &mut handle, &mut [0; 8]), ABSENT);
 }
 
 /// What plain numbers answer.
