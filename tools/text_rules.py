@@ -140,7 +140,7 @@ def misnamed(texts):
             module: f"pub struct {name}<" in texts.get(path, ""),
             line: not line or any(f'(b"{line}", ' in text for path, text in texts.items() if path.endswith("/name.rt")),
             c_name: f"typedef struct {c_name} {{" in texts["bindings/c/vers.h"] and (not kind or kinds[kind] == c_name),
-            series: f'"{series}"' in texts["crates/vers_bench/src/main.rt"],
+            series: not series or f'"{series}"' in texts["crates/vers_bench/src/main.rt"],
         }
         yield from (f"{NAMED}: `{it}` is no name of `{name}`" for it, is_there in rooms.items() if not is_there)
     if lacking := set(kinds) - {row[4] for row in rows}:
