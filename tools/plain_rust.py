@@ -26,7 +26,7 @@ vers_rmq_tests vers_wavelet_tests vers_trees_tests postings_tests text_index_tes
 vers_saved_tests""".split()
 # The programs as libraries, the exports to C, and their tests: written only for the build of wrong bodies
 # (tools/mutants.py).
-PROGRAMS = "catalogue vers_words vers_engine vers_cli vers_texts vers_files vers_vecs vers_uses vers_c".split()
+PROGRAMS = "vers_io catalogue vers_words vers_engine vers_cli vers_texts vers_files vers_vecs vers_uses vers_c".split()
 PROGRAM_TESTS = "vers_cli_tests vers_texts_tests vers_files_tests vers_uses_tests".split()
 # The module that each belongs to, and the modules that are stored.
 MODULES = {"proved": CRATES, "proved_tests": TESTS, "programs": PROGRAMS, "program_tests": PROGRAM_TESTS}
@@ -55,8 +55,8 @@ USES = {
     "std::test::Fail": HERE + "testing::Fail",
     "std::process::Abort": HERE + "testing::Abort",
     "std::hash::FoldHasher": "std::collections::hash_map::DefaultHasher as FoldHasher",
-    "vers_engine::Sink": HERE + "io::Sink",
-    "vers_engine::Source": HERE + "io::Source",
+    "vers_io::Sink": HERE + "io::Sink",
+    "vers_io::Source": HERE + "io::Source",
 }
 # Paths that mean the same in both languages.
 SAME = """std::marker::PhantomData std::ops::Range std::ops::Bound std::mem std::mem::replace std::mem::size_of std::io
@@ -472,7 +472,7 @@ class Writer:
         text = re.sub(r"\s+", " ", "".join(it.written() for it in tokens))
         public, path = re.fullmatch(r"(pub(?:\([^)]*\))? )?use ([^;]*);", text).groups("")
         first = path.split("::")[0]
-        if first not in ("std", "core", "alloc") and (first != "vers_engine" or is_program(self.crate)):
+        if first not in ("std", "core", "alloc") and (first != "vers_io" or is_program(self.crate)):
             return self.code(tokens)
         whole = re.fullmatch(r"(.*::)\{(.*?),? ?\}", path)
         paths = [whole[1] + it.strip() for it in whole[2].split(",")] if whole else [path]
@@ -620,7 +620,7 @@ TRIED = {
     "#[repr(C)]\nstruct S;": None,
     "use std::collections::HashMap;": None,
     "use std::fs::File;": None,
-    "use vers_engine::Device;": None,
+    "use vers_io::Device;": None,
     "fn f(x: Box<u8, A>) {}": None,
     "fn f() { unsafe { g() } }": None,
     "fn f() { std::process::exit(1) }": None,
@@ -631,8 +631,8 @@ TRIED = {
 }
 # The same in programs.
 TRIED_IN_PROGRAMS = {
-    "use std::fs::File;\nuse vers_bits::c;\nuse vers_engine::Device;\n":
-        "use crate::rattle::fs::File;\nuse crate::proved::vers_bits::c;\nuse crate::programs::vers_engine::Device;\n",
+    "use std::fs::File;\nuse vers_io::Device;\nuse vers_bits::c;\n":
+        "use crate::rattle::fs::File;\nuse crate::programs::vers_io::Device;\nuse crate::proved::vers_bits::c;\n",
     "fn f() -> Box<u8, A> {\n    let Err(A { b }) = vec![in alloc; 0u8; N]? else { return; };\n    r.read_to_end(&mut b)\n}\n":
         "fn f() -> Box<u8, A> {\n    let Err(A { b }) = Vec::from_elem(alloc, 0u8, N)? else { return; };\n    r.read_all(&mut b)\n}\n",
     "macro_rules! m {\n    ($x:expr) => {\n        $x\n    };\n}\n\nfn f() -> u8 {\n    m!(1)\n}\n":

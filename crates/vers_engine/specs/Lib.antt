@@ -1,4 +1,3 @@
-pub mod Device
 pub mod Lines
 pub mod Answers
 pub mod Replies

@@ -1,15 +1,14 @@
 //! The engine: reads lines, and writes the answers of the lines of a read before the next read.
 ghost use Rattle.std.specs.Prelude.{◌≡◌, ◌<◌, ◌≤◌, ◌↔◌, ◌++◌, IsTrue, List, ℕ, [], length, false, OnOk, IfOk, IfErr};
 ghost use Rattle.std.specs.Io.KnownBytes.{Appends, Consumes};
-ghost use Rattle.vers_engine.specs.Device.{FollowsReadFault, FollowsWriteFault};
+ghost use Rattle.vers_io.specs.Device.{FollowsReadFault, FollowsWriteFault};
 ghost use Rattle.vers_engine.specs.Answers.{answers_of, AreLinesRead, WrittenOf, fault_text};
 ghost use Rattle.vers_engine.specs.inside.Session.{AnswersOrStays, TakesSome, TakesOrFails, FinishesOrFails, FailsAlong};
 
 use crate::answerer::Answerer;
-use crate::device::Device;
-use crate::once::{Sink, Source};
 use std::alloc::{AllocError, Allocator};
 use std::io::{Read, Write};
+use vers_io::{Device, Sink, Source};
 use vers_words::text::place_of;
 
 /// Why a run ended before the end of its input.

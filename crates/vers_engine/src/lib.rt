@@ -5,13 +5,9 @@
 #![tactic(auto)]
 
 mod answerer;
-mod device;
 mod engine;
-mod once;
 mod replier;
 
 pub use answerer::Answerer;
-pub use device::Device;
 pub use engine::{RunError, answer_lines, fault_line};
-pub use once::{Sink, Source};
 pub use replier::Replier;

@@ -1,6 +1,6 @@
 //! Query lines about the list of a file.
 ghost use Rattle.std.specs.Prelude.{◌≡◌, Some, ◌<◌, ◌↔◌, IsTrue, false, IfOk, IfErr, OnErr};
-ghost use Rattle.vers_engine.specs.Device.{FollowsReadFault, FollowsWriteFault};
+ghost use Rattle.vers_io.specs.Device.{FollowsReadFault, FollowsWriteFault};
 ghost use Rattle.catalogue.specs.Contents.{Content};
 ghost use Rattle.vers_cli.specs.Answers.{by_the_rules};
 ghost use Rattle.vers_files.specs.Forms.{IsFormOf, IsNoForm};

@@ -1,6 +1,6 @@
 //! Lines about the text of a file, which is saved as its index or as a list of symbols.
 ghost use Rattle.std.specs.Prelude.{◌≡◌, ◌<◌, ◌≤◌, ◌↔◌, ◌⊎◌, IsTrue, ℕ, List, length, Option, Some, false, IfOk, IfErr, OnErr};
-ghost use Rattle.vers_engine.specs.Device.{FollowsReadFault, FollowsWriteFault};
+ghost use Rattle.vers_io.specs.Device.{FollowsReadFault, FollowsWriteFault};
 ghost use Rattle.vers_wavelet.specs.Symbols.{Symbols};
 ghost use Rattle.text_index.specs.Makers.{IsSymbolWidth, symbols_of};
 ghost use Rattle.catalogue.specs.Contents.{Content, SymbolList, content_of};

@@ -4,7 +4,7 @@ ghost use Rattle.std.specs.Io.KnownBytes.{Consumes, IsAtEnd, prepend_known};
 ghost use Rattle.vers_saved.specs.Format.{bytes_of, bytes_word, saved};
 ghost use Rattle.vers_saved.specs.Faults.{at_version, first_failing, version_fault, head_tests, row_bits, row_words, rows_of, words_among, words_for, words_said};
 ghost use Rattle.vers_saved.specs.Kinds.{AreWords, IsWhole};
-ghost use Rattle.vers_engine.specs.Device.{FollowsReadFault};
+ghost use Rattle.vers_io.specs.Device.{FollowsReadFault};
 ghost use Rattle.vers_saved.specs.Streams.{IsRefused, IsRefusedAs};
 
 use crate::fault::LoadError;
@@ -14,7 +14,7 @@ use crate::numbers::are_words;
 use crate::words::{FRAME, TwoParts, word_of};
 use std::alloc::{AllocError, Allocator};
 use std::io;
-use vers_engine::Source;
+use vers_io::Source;
 
 /// The greatest number of bytes read or written at once.
 pub(crate) const BLOCK: usize = 65536;

@@ -4,7 +4,7 @@ ghost use Rattle.std.specs.Io.KnownBytes.{Appends, IsAtEnd, Keeps};
 ghost use Rattle.vers_saved.specs.Format.{saved};
 ghost use Rattle.vers_saved.specs.Faults.{packed_kind};
 ghost use Rattle.vers_saved.specs.Kinds.{IsForm, IsLoadedWhole, IsWhole, may_be_saved};
-ghost use Rattle.vers_engine.specs.Device.{FollowsReadFault, FollowsWriteFault};
+ghost use Rattle.vers_io.specs.Device.{FollowsReadFault, FollowsWriteFault};
 ghost use Rattle.vers_saved.specs.Streams.{Writes, IsRefused};
 
 use crate::fault::{LoadError, SaveError};
@@ -14,7 +14,7 @@ use crate::gather::{BLOCK, form_from};
 use crate::saved::{GROUP, Loaded, Saved, count_words, list_of, put_group};
 use crate::words::put_word;
 use std::alloc::Allocator;
-use vers_engine::{Sink, Source};
+use vers_io::{Sink, Source};
 
 // Writes a whole piece, or as much of it as the writer takes before an error.
 fn write_piece<W: Sink>(writer: &mut W, piece: &[u8]) -> Result<(), SaveError>

@@ -5,7 +5,7 @@ ghost use Rattle.vers_bits.specs.Bits.{limbs};
 ghost use Rattle.vers_saved.specs.Faults.{fault_of};
 ghost use Rattle.vers_saved.specs.Format.{saved_parentheses};
 ghost use Rattle.vers_saved.specs.Kinds.{IsWhole, tree_kind};
-ghost use Rattle.vers_engine.specs.Device.{FollowsReadFault};
+ghost use Rattle.vers_io.specs.Device.{FollowsReadFault};
 ghost use Rattle.vers_saved.specs.Streams.{IsRefused};
 
 use crate::VERSION;
@@ -17,7 +17,7 @@ use crate::kind::{Kind, Order, PARENTHESES};
 use crate::saved::{Loaded, Saved};
 use std::alloc::{AllocError, Allocator};
 use vers_bits::bit_vec::BitVec;
-use vers_engine::Source;
+use vers_io::Source;
 use vers_trees::trees::bp::{BpTree, MAX_BLOCK_SIZE, MAX_LEN};
 
 /// Returns the kind of the parentheses of trees with blocks of `size` bits.

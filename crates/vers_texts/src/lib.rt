@@ -15,4 +15,5 @@ mod store;
 pub use fasta::{FastaError, fasta_text};
 pub use program::{run, run_from};
 pub use store::Store;
-pub use vers_engine::{Device, RunError, Sink, Source, fault_line};
+pub use vers_engine::{RunError, fault_line};
+pub use vers_io::{Device, Sink, Source};

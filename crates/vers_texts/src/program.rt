@@ -1,13 +1,14 @@
 //! The line program over texts.
 ghost use Rattle.std.specs.Prelude.{◌≡◌, ◌<◌, ◌↔◌, IsTrue, List, ℕ, false};
 ghost use Rattle.std.specs.Io.KnownBytes.{Appends, Consumes};
-ghost use Rattle.vers_engine.specs.Device.{FollowsReadFault, FollowsWriteFault};
+ghost use Rattle.vers_io.specs.Device.{FollowsReadFault, FollowsWriteFault};
 ghost use Rattle.vers_engine.specs.Answers.{AreLinesRead};
 ghost use Rattle.vers_texts.specs.Answers.{WrittenAt, WrittenFrom};
 
 use crate::store::Store;
 use std::alloc::Allocator;
-use vers_engine::{Device, RunError, Sink, Source, answer_lines};
+use vers_engine::{RunError, answer_lines};
+use vers_io::{Device, Sink, Source};
 
 /// Reads lines to the end of the input and writes the answer of each, every whole line before the next read.
 /// There is no text before the first line.

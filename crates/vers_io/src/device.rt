@@ -2,7 +2,7 @@
 ghost use Rattle.std.specs.Prelude.{◌≡◌, ◌||◌, ◌+◌, ◌-◌, ◌<◌, ◌^◌, true, false, is_err, IsErr};
 ghost use Rattle.std.specs.Io.{ReadsAtMost, WritesAtMost};
 ghost use Rattle.std.specs.Io.KnownBytes.{Keeps, Appends, ReadConsumes, WriteAppends};
-ghost use Rattle.vers_engine.specs.Device.{is_write_fault, given_some};
+ghost use Rattle.vers_io.specs.Device.{is_write_fault, given_some};
 
 use crate::once::{Sink, Source};
 use std::io;
@@ -20,7 +20,7 @@ pub struct Device<D> {
 }
 
 impl<D> Model for Device<D> {
-    ghost use Rattle.vers_engine.specs.Device.{DeviceState};
+    ghost use Rattle.vers_io.specs.Device.{DeviceState};
 
     ghost Value = { DeviceState D };
 
