@@ -6,7 +6,7 @@ pub use Rattle.std.proofs.Math.Seq.{drop-cons, drop-length}
 pub use Rattle.std.proofs.lemmas.Bool.{and_from, and_left, and_parts, and_right, cases_Bool, cases_eq, cases_lt, cases_order, eq-eqb, eqb-false, eqb-true, false_from_ne_true, false≢true, le-leb, le-ltb, leb-true, lt-leb, lt-ltb, ltb-false, ltb-true, ne_eqb}
 pub use Rattle.std.proofs.lemmas.Bool.Decides.{Decides-eqb, nat_tests}
 pub use Rattle.std.proofs.lemmas.Grind.{div_ceil_times}
-pub use Rattle.std.proofs.lemmas.List.{drop-drop, drop-take, drop_min, flat_map_more, get_or-drop, get_or-map, get_or-set_other, get_or-set_same, get_or_append_left, get_or_at, get_or_default, get_or_push, length-append, length-drop, length-map, length-set, length-take, map-append, map-id, nil_from_length, reverse-append, reverse-reverse, take-append-drop, take-map, take-take, take_all, take_at, take_more}
+pub use Rattle.std.proofs.lemmas.List.{drop-drop, drop-take, drop_min, flat_map_more, get_or-drop, get_or-map, get_or-set_other, get_or-set_same, get_or_append_left, get_or_at, get_or_default, get_or_push, length-append, length-drop, length-map, length-set, length-take, map-append, map-id, nil_from_length, reverse-append, reverse-reverse, same_lists, take-append-drop, take-map, take-take, take_all, take_at, take_more}
 pub use Rattle.std.proofs.lemmas.List.Elements.{All-map, All-push, filter-append}
 pub use Rattle.std.proofs.lemmas.List.FromFn.{fill_by_all, get_or-map-range_with_len, get_or-range_with_len, length-map-range_with_len, length-range_with_len, map-range_with_len_more}
 pub use Rattle.std.proofs.lemmas.List.Kept.{AllPairs-from_increasing, IsNonDecreasingBy-filter}
@@ -22,24 +22,25 @@ pub use Rattle.std.specs.List.{AllPairs, count_by, insert, position_or_len, pref
 pub use Rattle.std.specs.List.Sorted.{IsNonDecreasing, IsNonDecreasingBy, IsPermutation, IsStrictlyIncreasing}
 pub use Rattle.std.specs.Prelude.{All, Contains, filter, slice_get, slice_index_or, slice_range, ◌↔◌, ◌⊎◌}
 pub use Rattle.text_index.specs.Columns.{HasColumn, IsIndexable}
-pub use Rattle.text_index.specs.Makers.{count_reads, pattern_reads, place_reads, step_reads, symbols_of}
-pub use Rattle.text_index.specs.Sizes.{column_of, greatest, kept_rows, number_width, packed_size}
+pub use Rattle.text_index.specs.Makers.{count_reads, kept_reads, pattern_reads, place_reads, step_reads, symbols_of}
+pub use Rattle.text_index.specs.Sizes.{column_of, greatest, kept_marks, kept_rows, number_width, packed_size}
 pub use Rattle.text_index.specs.Texts.{IsSuffixOrder, is_kept, row_of, symbols_before}
+unfoldable pub use Rattle.text_index.specs.Sizes.{kept_ranks}
 unfoldable pub use Rattle.text_index.specs.Texts.{begins_with, below, by_suffix, comes_before, places_in_order, places_of, stands_at}
 pub use Rattle.text_index.specs.inside.Building.{OrdersBy, PairedUpTo, RankedUpTo, SameOrder, rank_of}
 pub use Rattle.text_index.specs.inside.Checking.{CheckedUpTo, HeadsAt, HeadsUpTo, LeadsBack, follows, led}
 pub use Rattle.text_index.specs.inside.Paths.{AreLinked, HasCome, HaveCome, IsKeptPath, IsNext, IsOnePath, IsWalk, NextUpTo, SteppedUpTo, led_by}
 unfoldable pub use Rattle.text_index.specs.inside.Paths.{walked, walked_on}
-pub use Rattle.text_index.specs.inside.Samples.{AreNumbers, AreSamplesOf, HoldRows, IsPacked, PutRows, Walked, between, unpacked}
+pub use Rattle.text_index.specs.inside.Samples.{AreNumbers, AreSamplesOf, HoldRanks, HoldRows, IsPacked, PutRows, Walked, between, unpacked}
 pub use Rattle.text_index.specs.inside.Suffixes.{Found, IsIndexOf, StepsBack, back, column_place, is_not_after, lesser, passing, preceding, seen, text_in}
 unfoldable pub use Rattle.text_index.specs.inside.Suffixes.{not_above, spelled, text_of}
-pub use Rattle.vers_bits.proofs.PublicLaws.{length-packed, passes_first}
-pub use Rattle.vers_bits.specs.Bits.{is_bit, limb_count, low_bits, number, pack, part}
+pub use Rattle.vers_bits.proofs.PublicLaws.{length-packed, passes_first, select_at}
+pub use Rattle.vers_bits.specs.Bits.{is_bit, limb_count, low_bits, number, pack, part, select}
 unfoldable pub use Rattle.vers_bits.specs.Bits.{count, part_number}
 pub use Rattle.vers_bits.specs.Laws.{PackedElementsAreItems}
-pub use Rattle.vers_rank.specs.Queries.{get_reads, index_size}
+pub use Rattle.vers_rank.specs.Queries.{get_reads, index_size, select_reads, superblock_count}
 pub use Rattle.vers_tally.proofs.PublicLaws.{adds_nothing, adds_then, adds_weaker, digits-le, digits_is, digits_pow, digits_up, pow_next, within_itself}
-pub use Rattle.vers_tally.specs.Reads.{AddsAtMost, IsWithin, Reads, digits, only_items, plus, times}
+pub use Rattle.vers_tally.specs.Reads.{AddsAtMost, IsWithin, Reads, digits, only_items, only_low_parts, plus, times}
 pub use Rattle.vers_wavelet.proofs.PublicLaws.{quantiles_ascend}
 pub use Rattle.vers_wavelet.specs.Symbols.{IsKth, Symbols}
 pub use Rattle.wavelet_tree.proofs.PublicLaws.{depth-le-height}

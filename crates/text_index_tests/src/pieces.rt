@@ -94,7 +94,9 @@ fn reads_of_pieces(alloc: Global) -> Result<(u64, u64, u64), TextError> {
 fn a_piece_reads_within_its_bound(rt: HostRuntime) {
     match reads_of_pieces(rt.alloc()) {
         Ok((nodes, data_words, low_parts)) => {
-            assert!(rt; nodes <= (32 + 10) * 3 && data_words <= (32 + 10) * 3 && low_parts == 1);
+            assert!(rt;
+                nodes <= (32 + 10) * 3 && data_words <= (32 + 10) * 3 + 8 && low_parts == 1
+            );
         }
         Err(_) => assert!(rt; false),
     }

