@@ -1,5 +1,6 @@
 //! Structures in files.
 use crate::lines::{fail, say_waiting, status};
+use crate::progress::Progress;
 use catalogue::kind::Kind;
 use std::alloc::AllocError;
 use std::fs::{self, File};
@@ -93,36 +94,38 @@ fn target_of(rt: &HostRuntime, path: &str) -> Result<Target, AllocError> {
 
 /// Saves the index of the bytes of a file to another file.
 pub fn index(rt: &HostRuntime, path: &str, index: &str) -> ExitCode {
-    let Ok(mut file) = File::open(rt, path) else {
+    let Ok(file) = File::open(rt, path) else {
         return fail_about(rt, path, CANNOT_OPEN);
     };
     let Ok(target) = target_of(rt, index) else {
         return fail(rt, "out of memory");
     };
+    let mut file = Progress::new(rt, path, file);
     let mut place = FilePlace {
         files: rt,
         path: target.file.as_str(),
         beside: target.beside.as_str(),
     };
     let saved = index_to(rt.alloc(), &mut file, &mut place);
-    status_of_index(rt, path, index, saved)
+    status_of_index(&file, index, saved)
 }
 
 /// Saves the index of a FASTA file to another file.
 pub fn index_fasta(rt: &HostRuntime, path: &str, index: &str) -> ExitCode {
-    let Ok(mut file) = File::open(rt, path) else {
+    let Ok(file) = File::open(rt, path) else {
         return fail_about(rt, path, CANNOT_OPEN);
     };
     let Ok(target) = target_of(rt, index) else {
         return fail(rt, "out of memory");
     };
+    let mut file = Progress::new(rt, path, file);
     let mut place = FilePlace {
         files: rt,
         path: target.file.as_str(),
         beside: target.beside.as_str(),
     };
     match index_fasta_to(rt.alloc(), &mut file, &mut place) {
-        Ok(saved) => status_of_index(rt, path, index, saved),
+        Ok(saved) => status_of_index(&file, index, saved),
         Err(WrongLine { number }) => {
             let _ = eprintln!(rt;
                 "vers: {path}: line {number} is no header with a name, nor residues after a header"
@@ -134,13 +137,16 @@ pub fn index_fasta(rt: &HostRuntime, path: &str, index: &str) -> ExitCode {
 
 // Returns the status of an index that was saved or not, and prints why not.
 fn status_of_index(
-    rt: &HostRuntime,
-    path: &str,
+    file: &Progress<'_, File>,
     index: &str,
     saved: Result<(), SaveFault>,
 ) -> ExitCode {
+    let (rt, path) = (file.rt, file.path);
     match saved {
-        Ok(()) => ExitCode::SUCCESS,
+        Ok(()) => {
+            file.report_saved(index);
+            ExitCode::SUCCESS
+        }
         Err(SaveFault::Read) => fail_about(rt, path, "the file can't be read"),
         Err(SaveFault::TooLong) => fail_about(rt, path, "a text has at most 4294967294 bytes"),
         Err(fault) => fail_about(rt, index, why_not_saved(fault)),

@@ -6,6 +6,7 @@ mod command;
 mod files;
 mod help;
 mod lines;
+mod progress;
 
 use command::{Command, command_of};
 use std::alloc::AllocError;
