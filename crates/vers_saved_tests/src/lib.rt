@@ -2,6 +2,8 @@
 #![tactic(auto)]
 
 #[cfg(test)]
+mod ascending;
+#[cfg(test)]
 mod devices;
 #[cfg(test)]
 mod levels;

@@ -3,6 +3,8 @@
 use crate::rattle::prelude::*;
 
 #[cfg(test)]
+mod ascending;
+#[cfg(test)]
 mod devices;
 #[cfg(test)]
 mod levels;
