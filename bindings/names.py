@@ -75,8 +75,7 @@ LEFT_OUT = {
         EliasFanoVec.from_numbers InvertedIndex.from_source TextIndex.from_* TextIndex.*_with_step""",
     "Documents of terms are combined two terms at a time, into plain numbers.": "InvertedIndex.*_of InvertedIndex.*_numbers",
     "They serve saved forms, which C, C++ and Python load and save whole.":
-        """TextIndex.column TextIndex.whole_row TextIndex.kept_len TextIndex.kept_row WaveletMatrix.level
-        EliasFanoVec.ends EliasFanoVec.low_parts EliasFanoVec.high_parts EliasFanoVec.from_parts SparseRSVec.ones""",
+        "TextIndex.column TextIndex.whole_row TextIndex.kept_len TextIndex.kept_row WaveletMatrix.level",
     "Symbols are numbers of at most 64 bits, and not lists of bits.":
         """WaveletMatrix.bit_len WaveletMatrix.from_* WaveletMatrix.get_value WaveletMatrix.get_sorted
         WaveletMatrix.iter WaveletMatrix.iter_sorted WaveletMatrix.into_iter WaveletMatrix.into_iter_sorted

@@ -7,8 +7,8 @@ use Rattle.vers_trees.specs.declared.trees.bp.TheConstants.{MAX_BLOCK_SIZE}
 use Rattle.postings.specs.Posted.{ArePaired}
 use Rattle.vers_saved.specs.declared.kind.Kind.{Kind}
 use Rattle.vers_saved.specs.declared.kind.TheConstants.{GREATEST_WORDS, BIT_LISTS, SORTED_LISTS, SYMBOL_LISTS, PACKED_SYMBOLS, SPARSE_LISTS, TABLE_VALUES, BLOCK_VALUES, POSTING_LISTS}
-use Rattle.vers_saved.specs.Format.{check_sum, saved_bits, saved_sorted, sorted_words, listed_form, saved_symbols, packed_form, saved_sparse, sparse_words, places_form, saved_values, saved_parentheses, saved_postings}
-use Rattle.vers_saved.specs.Faults.{fault_of, packed_kind}
+use Rattle.vers_saved.specs.Format.{check_sum, saved_bits, saved_sorted, saved_symbols, packed_form, saved_sparse, saved_values, saved_parentheses, saved_postings}
+use Rattle.vers_saved.specs.Faults.{fault_of}
 use Rattle.vers_saved.specs.Kinds.{AreWords, tree_kind}
 
 -- lists of words that differ in exactly one word have different sums
@@ -26,11 +26,7 @@ BitsGoRound = GoesRound BIT_LISTS (λ bits. length bits ≤ BIT_LISTS.greatest_c
 
 -- a saved ascending list of 64-bit numbers loads as the same list
 abbrev pub SortedGoRound : Type 0
-SortedGoRound = GoesRound SORTED_LISTS (λ members. (length (sorted_words members) ≤ GREATEST_WORDS) × AreWords members × IsNonDecreasing members) saved_sorted
-
--- and so does one that was saved in the first version
-abbrev pub ListedSortedGoRound : Type 0
-ListedSortedGoRound = GoesRound (packed_kind SORTED_LISTS) (λ members. (length members ≤ GREATEST_WORDS) × AreWords members × IsNonDecreasing members) listed_form
+SortedGoRound = GoesRound SORTED_LISTS (λ members. (length members ≤ SORTED_LISTS.greatest_count) × AreWords members × IsNonDecreasing members) saved_sorted
 
 -- a saved list of symbols of 1 to 64 bits loads as the same list
 abbrev pub SymbolsGoRound : Type 0
@@ -46,11 +42,7 @@ PackedSymbolsGoRound =
 
 -- a saved sparse list of bits loads as the same list
 abbrev pub SparseGoRound : Type 0
-SparseGoRound = GoesRound SPARSE_LISTS (λ bits. (length bits < 2 ^ 64) × (length (sparse_words bits) ≤ GREATEST_WORDS)) saved_sparse
-
--- and so does one that was saved in the first version
-abbrev pub ListedSparseGoRound : Type 0
-ListedSparseGoRound = GoesRound (packed_kind SPARSE_LISTS) (λ bits. (length bits < 2 ^ 64) × (count true bits (length bits) < GREATEST_WORDS)) places_form
+SparseGoRound = GoesRound SPARSE_LISTS (λ bits. (length bits < 2 ^ 64) × (count true bits (length bits) < GREATEST_WORDS)) saved_sparse
 
 -- saved 64-bit numbers, up to the length limit of a sparse table, load as the same list
 abbrev pub TableValuesGoRound : Type 0

@@ -1,5 +1,4 @@
 -- What only proofs and private functions need: no contract of a public function cites a word of it.
 pub mod Telling
 pub mod Groups
-pub mod SortedParts
 pub mod TextParts

@@ -1,8 +1,8 @@
 //! Kinds of lists that can be saved.
 ghost use Rattle.std.specs.Prelude.{◌≡◌, ◌<◌, ◌≤◌, ◌*◌, ◌&&◌, ℕ, true, IfSome, None};
-ghost use Rattle.vers_saved.specs.Faults.{at_version, first_order, has_first, takes_width, takes_count, item_bits, row_bits, row_words, rows_of, words_for};
+ghost use Rattle.vers_saved.specs.Faults.{at_version, takes_width, takes_count, item_bits, row_bits, row_words, rows_of, words_for};
 
-use crate::{LEVELS_VERSION, PARTS_VERSION, VERSION};
+use crate::{LEVELS_VERSION, VERSION};
 use vers_bits::bit_vec::MAX_LEN;
 use vers_rmq::rmq::{binary_rmq, fast_rmq};
 
@@ -17,23 +17,6 @@ pub enum Order {
     Rising,
     /// Each word of the first half is above the previous one.
     HalfRising,
-    /// The words are the ends and the parts of an ascending list.
-    Parts,
-    /// A length, and then the ends and the parts of a list that ascends strictly and is below it.
-    RisingParts,
-}
-
-impl Order {
-    // Returns the order of the words of the first version.
-    fn first(self) -> Order
-        ensures { result ≡ first_order self }
-    {
-        match self {
-            Order::Parts => Order::Ascending,
-            Order::RisingParts => Order::Rising,
-            other => other,
-        }
-    }
 }
 
 /// A kind of lists: the requirements on its saved forms.
@@ -103,18 +86,11 @@ impl Rows {
 }
 
 impl Kind {
-    // Returns true if a later version of the kind has another form than the first.
-    pub(crate) fn has_first(&self) -> bool
-        ensures { result ≡ has_first self.now }
-    {
-        VERSION < self.version
-    }
-
-    // Returns the kind in a version: the first may have the items one after another.
+    // Returns the kind in a version: that of lists by levels has a first version, with the items one after another.
     pub(crate) fn at_version(&self, version: u64) -> Kind
         ensures { result ≡ at_version self.now version }
     {
-        if self.has_first() && version == VERSION {
+        if self.by_levels && version == VERSION {
             return Kind {
                 number: self.number,
                 version: VERSION,
@@ -124,7 +100,7 @@ impl Kind {
                 by_levels: false,
                 least_count: self.least_count,
                 greatest_count: self.greatest_count,
-                order: self.order.first(),
+                order: self.order,
             };
         }
         *self
@@ -210,30 +186,30 @@ pub const BIT_LISTS: Kind = Kind {
     order: Order::Any,
 };
 
-/// Ascending lists of numbers, by their parts.
+/// Ascending lists of numbers.
 pub const SORTED_LISTS: Kind = Kind {
     number: SORTED,
-    version: PARTS_VERSION,
+    version: VERSION,
     least_width: 64,
     greatest_width: 64,
     item_bits: 64,
     by_levels: false,
     least_count: 0,
     greatest_count: GREATEST_WORDS,
-    order: Order::Parts,
+    order: Order::Ascending,
 };
 
-/// Lists of bits with few ones: the length, and the positions of the ones by their parts.
+/// Lists of bits with few ones: the positions of the ones, and the length.
 pub const SPARSE_LISTS: Kind = Kind {
     number: SPARSE,
-    version: PARTS_VERSION,
+    version: VERSION,
     least_width: 64,
     greatest_width: 64,
     item_bits: 64,
     by_levels: false,
     least_count: 1,
     greatest_count: GREATEST_WORDS,
-    order: Order::RisingParts,
+    order: Order::Rising,
 };
 
 /// Lists of numbers in any order, with range minima from a sparse table.

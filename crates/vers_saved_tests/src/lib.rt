@@ -2,8 +2,6 @@
 #![tactic(auto)]
 
 #[cfg(test)]
-mod ascending;
-#[cfg(test)]
 mod devices;
 #[cfg(test)]
 mod levels;

@@ -22,7 +22,4 @@ pub mod Aheads
 pub mod Besides
 pub mod Members
 pub mod Marks
-pub mod Chunks
-pub mod Said
 pub mod PublicLaws
-pub mod Parted

@@ -5,4 +5,3 @@ pub mod Begun
 pub mod Ahead
 pub mod Passed
 pub mod Gathered
-pub mod Said

@@ -7,7 +7,6 @@ mod bits;
 mod iterators;
 mod lists;
 mod memory;
-mod parts;
 mod sparse;
 mod successors;
 mod walks;

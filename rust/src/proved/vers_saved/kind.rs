@@ -2,7 +2,7 @@
 
 use crate::rattle::prelude::*;
 
-use crate::proved::vers_saved::{LEVELS_VERSION, PARTS_VERSION, VERSION};
+use crate::proved::vers_saved::{LEVELS_VERSION, VERSION};
 use crate::proved::vers_bits::bit_vec::MAX_LEN;
 use crate::proved::vers_rmq::rmq::{binary_rmq, fast_rmq};
 
@@ -17,21 +17,6 @@ pub enum Order {
     Rising,
     /// Each word of the first half is above the previous one.
     HalfRising,
-    /// The words are the ends and the parts of an ascending list.
-    Parts,
-    /// A length, and then the ends and the parts of a list that ascends strictly and is below it.
-    RisingParts,
-}
-
-impl Order {
-    // Returns the order of the words of the first version.
-    fn first(self) -> Order {
-        match self {
-            Order::Parts => Order::Ascending,
-            Order::RisingParts => Order::Rising,
-            other => other,
-        }
-    }
 }
 
 /// A kind of lists: the requirements on its saved forms.
@@ -97,14 +82,9 @@ impl Rows {
 }
 
 impl Kind {
-    // Returns true if a later version of the kind has another form than the first.
-    pub(crate) fn has_first(&self) -> bool {
-        VERSION < self.version
-    }
-
-    // Returns the kind in a version: the first may have the items one after another.
+    // Returns the kind in a version: that of lists by levels has a first version, with the items one after another.
     pub(crate) fn at_version(&self, version: u64) -> Kind {
-        if self.has_first() && version == VERSION {
+        if self.by_levels && version == VERSION {
             return Kind {
                 number: self.number,
                 version: VERSION,
@@ -114,7 +94,7 @@ impl Kind {
                 by_levels: false,
                 least_count: self.least_count,
                 greatest_count: self.greatest_count,
-                order: self.order.first(),
+                order: self.order,
             };
         }
         *self
@@ -182,30 +162,30 @@ pub const BIT_LISTS: Kind = Kind {
     order: Order::Any,
 };
 
-/// Ascending lists of numbers, by their parts.
+/// Ascending lists of numbers.
 pub const SORTED_LISTS: Kind = Kind {
     number: SORTED,
-    version: PARTS_VERSION,
+    version: VERSION,
     least_width: 64,
     greatest_width: 64,
     item_bits: 64,
     by_levels: false,
     least_count: 0,
     greatest_count: GREATEST_WORDS,
-    order: Order::Parts,
+    order: Order::Ascending,
 };
 
-/// Lists of bits with few ones: the length, and the positions of the ones by their parts.
+/// Lists of bits with few ones: the positions of the ones, and the length.
 pub const SPARSE_LISTS: Kind = Kind {
     number: SPARSE,
-    version: PARTS_VERSION,
+    version: VERSION,
     least_width: 64,
     greatest_width: 64,
     item_bits: 64,
     by_levels: false,
     least_count: 1,
     greatest_count: GREATEST_WORDS,
-    order: Order::RisingParts,
+    order: Order::Rising,
 };
 
 /// Lists of numbers in any order, with range minima from a sparse table.

@@ -1,11 +1,10 @@
-//! Lists of bits with few ones, saved by the length and the parts of the positions of the ones.
+//! Lists of bits with few ones, saved by the positions of the ones and the length.
 
 use crate::rattle::prelude::*;
 
 use crate::proved::vers_saved::form::Shape;
 use crate::proved::vers_saved::kind::{GREATEST_WORDS, Kind, SPARSE_LISTS};
-use crate::proved::vers_saved::numbers::words_shape;
-use crate::proved::vers_saved::parts::{count_list, list_in, list_word};
+use crate::proved::vers_saved::numbers::{copy_members, words_shape};
 use crate::proved::vers_saved::saved::{Loaded, Saved};
 use crate::rattle::AllocError;
 use crate::rattle::Allocator;
@@ -17,32 +16,25 @@ impl<A: Allocator + Copy> Saved for SparseRSVec<A> {
     }
 
     fn shape(&self) -> Option<Shape> {
-        let _ = self.len();
-        let count = count_list(self.ones()) + 1;
-        if count as u64 > GREATEST_WORDS {
+        let ones = self.rank1(self.len());
+        if ones >= GREATEST_WORDS {
             return None;
         }
-        Some(words_shape(count))
+        Some(words_shape(ones as usize + 1))
     }
 
     #[inline]
     fn word(&self, k: usize) -> u64 {
-        if k == 0 {
-            return self.len();
-        }
-        list_word(self.ones(), k - 1)
+        self.select1(k)
+    }
+
+    fn copy_words(&self, from: usize, out: &mut [u64]) {
+        copy_members(self.iter1(), &[self.len()], from, out)
     }
 }
 
 impl<A: Allocator + Copy> Loaded<A> for SparseRSVec<A> {
     fn make(of: Shape, held: &mut Vec<u64, A>) -> Result<Self, AllocError> {
-        let alloc = *held.allocator();
-        let words = held.as_slice();
-        let ones = list_in(alloc, &words[1..])?;
-        Ok(SparseRSVec::from_sorted(ones, words[0]))
-    }
-
-    fn make_packed(of: Shape, held: &mut Vec<u64, A>) -> Result<Self, AllocError> {
         let alloc = *held.allocator();
         let words = held.as_slice();
         let last = words.len() - 1;

@@ -3,8 +3,6 @@
 use crate::rattle::prelude::*;
 
 #[cfg(test)]
-mod ascending;
-#[cfg(test)]
 mod devices;
 #[cfg(test)]
 mod levels;

@@ -1,15 +1,54 @@
-//! Select: the positions of zeros and ones, by superblock, block and limb.
+//! Select: the positions of zeros and ones.
 
 use crate::rattle::prelude::*;
 
-mod block;
-mod limb;
-mod superblock;
-
-use super::{BLOCKS, LIMB, RsVec, SUPERBLOCK};
-pub(crate) use limb::{InLimb, InWord};
+use super::{BLOCK, BLOCKS, LIMB, RsVec, SUPERBLOCK};
+use crate::proved::vers_rank::lanes::{FAR_BELOW, FoundBlock, last_up_to};
+use crate::proved::vers_rank::word::{held_in_word, held_of, place_in_word};
 use crate::rattle::Allocator;
-use crate::proved::vers_tally::tally::Tally;
+use crate::proved::vers_tally::tally::{SuperblockEntries, Tally};
+
+/// The number of superblocks up to which a search takes exactly two halvings.
+const FEW: usize = 4;
+
+/// The number of superblocks from the guessed one that a search tries before it bisects.
+const STEPS: usize = 4;
+
+// A limb, and the number of positions of its block before it that have a bit.
+#[derive(Clone, Copy)]
+struct FoundLimb {
+    limb: usize,
+    before: usize,
+}
+
+// Half of a block by its first limb, and the ones of its first two limbs.
+#[derive(Clone, Copy)]
+struct FoundHalf {
+    found: FoundLimb,
+    ones: usize,
+}
+
+// A limb, and the number within it of a number in a block.
+#[derive(Clone, Copy)]
+pub(super) struct InLimb {
+    pub(super) limb: usize,
+    pub(super) rest: usize,
+}
+
+// A location: the limb, its word, and the position in the word.
+#[derive(Clone, Copy)]
+pub(super) struct InWord {
+    pub(super) limb: usize,
+    pub(super) word: u64,
+    pub(super) place: usize,
+}
+
+// Returns which of the `n` superblocks between two samples contains number `r`, if each of them contains
+// equally many.
+#[inline(always)]
+fn guessed(r: usize, n: usize) -> usize {
+    (r % SUPERBLOCK * (n - 1) + SUPERBLOCK / 2) / SUPERBLOCK
+}
 
 impl<A: Allocator + Copy> RsVec<A> {
     /// Returns the position of zero `r` (from 0), or the length if there are fewer.
@@ -93,5 +132,345 @@ impl<A: Allocator + Copy> RsVec<A> {
     #[inline(always)]
     pub(super) fn total(&self, bit: bool) -> usize {
         if bit { self.ones() } else { self.zeros() }
+    }
+
+    // Returns the number of positions before a superblock that have the bit.
+    #[inline(always)]
+    fn count_at_superblock(&self, bit: bool, s: usize, tally: &mut Tally) -> usize {
+        let zeros = self.superblocks.read(s, tally) as usize;
+        if bit { SUPERBLOCK * s - zeros } else { zeros }
+    }
+
+    // Returns the number of positions of a superblock before its block `j` that have the bit.
+    #[inline(always)]
+    fn count_in_superblock(&self, bit: bool, s: usize, j: u16, tally: &mut Tally) -> u16 {
+        let _ = &self.bits;
+        let zeros = self.blocks.read(BLOCKS * s + j as usize, tally);
+        if bit { BLOCK as u16 * j - zeros } else { zeros }
+    }
+
+    // Returns the number of positions before a block that have the bit, or of all such positions if the list
+    // ends before it.
+    #[inline(always)]
+    pub(super) fn count_at_block(&self, bit: bool, block: usize, tally: &mut Tally) -> usize {
+        if block >= self.blocks.len() {
+            return self.total(bit);
+        }
+        let zeros = self.zeros_before(block, tally);
+        if bit { BLOCK * block - zeros } else { zeros }
+    }
+
+    // Returns the superblock that sample `j` names.
+    #[inline(always)]
+    fn sample(&self, bit: bool, j: usize, tally: &mut Tally) -> usize {
+        self.samples(bit).read(j, tally) as usize
+    }
+
+    // Returns the samples of the zeros or of the ones.
+    #[inline(always)]
+    fn samples(&self, bit: bool) -> &SuperblockEntries<A> {
+        let _ = &self.bits;
+        if bit {
+            &self.one_samples
+        } else {
+            &self.zero_samples
+        }
+    }
+
+    // Returns the superblock of number `r`.
+    #[inline(always)]
+    pub(super) fn superblock_with(&self, bit: bool, r: usize, tally: &mut Tally) -> usize {
+        let _ = self.len();
+        // The last first, so that a single bounds check covers both.
+        let last = self.sample(bit, r / SUPERBLOCK + 1, tally);
+        let first = self.sample(bit, r / SUPERBLOCK, tally);
+        let n = last + 1 - first;
+        if n == 1 {
+            return first;
+        }
+        self.superblock_guessed(bit, r, first, n, tally)
+    }
+
+    // Returns the superblock of number `r` among the `n` from `first` on: if there are many, it interpolates,
+    // and searches near the guess.
+    #[inline(always)]
+    fn superblock_guessed(
+        &self,
+        bit: bool,
+        r: usize,
+        first: usize,
+        n: usize,
+        tally: &mut Tally,
+    ) -> usize {
+        let _ = self.len();
+        if n <= FEW {
+            return self.superblock_among(bit, r, first, n, tally);
+        }
+        let guess = guessed(r, n);
+        if self.count_at_superblock(bit, first + guess, tally) <= r {
+            return self.superblock_from(bit, r, first + guess, n - guess, tally);
+        }
+        self.superblock_before(bit, r, first, guess, tally)
+    }
+
+    // Returns the superblock of number `r` among the `n` from `first` on, searching near the first.
+    #[inline(always)]
+    fn superblock_from(
+        &self,
+        bit: bool,
+        r: usize,
+        first: usize,
+        n: usize,
+        tally: &mut Tally,
+    ) -> usize {
+        let _ = self.len();
+        for step in 1..STEPS + 1 {
+            if step >= n || self.count_at_superblock(bit, first + step, tally) > r {
+                return first + step - 1;
+            }
+        }
+        self.superblock_among(bit, r, first + STEPS, n - STEPS, tally)
+    }
+
+    // Returns the superblock of number `r` among the `n` from `first` on, searching near the last.
+    #[inline(always)]
+    fn superblock_before(
+        &self,
+        bit: bool,
+        r: usize,
+        first: usize,
+        n: usize,
+        tally: &mut Tally,
+    ) -> usize {
+        let _ = self.len();
+        for step in 1..STEPS + 1 {
+            if step >= n || self.count_at_superblock(bit, first + n - step, tally) <= r {
+                return first + n - step;
+            }
+        }
+        self.superblock_among(bit, r, first, n - STEPS, tally)
+    }
+
+    // Returns the superblock of number `r` among the `n` from `first` on, by bisection.
+    #[inline(always)]
+    fn superblock_among(
+        &self,
+        bit: bool,
+        r: usize,
+        first: usize,
+        n: usize,
+        tally: &mut Tally,
+    ) -> usize {
+        let _ = self.len();
+        let mut start = first;
+        let mut left = n;
+        while left > FEW {
+            start = self.superblock_half(bit, r, start, left, tally);
+            left -= left / 2;
+        }
+        // Two more halvings of at most four, whatever is left, so that no branch depends on it.
+        start = self.superblock_half(bit, r, start, left, tally);
+        left -= left / 2;
+        self.superblock_half(bit, r, start, left, tally)
+    }
+
+    // Returns the start of the half of `n` superblocks from `first` on that contains number `r`. It selects a
+    // value without a branch.
+    #[inline(always)]
+    fn superblock_half(
+        &self,
+        bit: bool,
+        r: usize,
+        first: usize,
+        n: usize,
+        tally: &mut Tally,
+    ) -> usize {
+        let _ = self.len();
+        let middle = first + n / 2;
+        if self.count_at_superblock(bit, middle, tally) <= r {
+            middle
+        } else {
+            first
+        }
+    }
+
+    // Returns the block of number `r` of a superblock.
+    #[inline(always)]
+    pub(super) fn block_with(
+        &self,
+        bit: bool,
+        r: u16,
+        s: usize,
+        is_whole: bool,
+        tally: &mut Tally,
+    ) -> FoundBlock {
+        if is_whole {
+            return self.block_among(bit, r, s, tally);
+        }
+        let blocks = self.blocks.len() - BLOCKS * s;
+        self.block_up_to(bit, r, s, blocks as u16, tally)
+    }
+
+    // Returns the block of number `r` among the 16 of a superblock, or the last of them: all their entries are
+    // read and compared at once, by lanes.
+    #[inline(always)]
+    fn block_among(&self, bit: bool, r: u16, s: usize, tally: &mut Tally) -> FoundBlock {
+        let _ = &self.bits;
+        let zeros = self.blocks.read_16(BLOCKS * s, tally);
+        last_up_to(zeros, bit, r)
+    }
+
+    // Returns the block of number `r` among the first `n` of a superblock, or the last of them: one after the
+    // other, up to the first whose entry passes `r`.
+    #[inline(always)]
+    fn block_up_to(&self, bit: bool, r: u16, s: usize, n: u16, tally: &mut Tally) -> FoundBlock {
+        let mut rest = r;
+        for j in 1..n {
+            let below = r.wrapping_sub(self.count_in_superblock(bit, s, j, tally));
+            if below >= FAR_BELOW {
+                return FoundBlock { block: j - 1, rest };
+            }
+            rest = below;
+        }
+        FoundBlock { block: n - 1, rest }
+    }
+
+    // Returns the limb of number `r` of a block, and the number in it.
+    #[inline(always)]
+    pub(super) fn limb_in_block(
+        &self,
+        bit: bool,
+        r: usize,
+        block: usize,
+        is_whole: bool,
+        tally: &mut Tally,
+    ) -> InLimb {
+        let _ = self.len();
+        let found = self.limb_with(bit, r, block, is_whole, tally);
+        InLimb {
+            limb: found.limb,
+            rest: r - found.before,
+        }
+    }
+
+    // Returns the location of a number in a limb.
+    #[inline(always)]
+    pub(super) fn place_in_limb(&self, bit: bool, at: InLimb, tally: &mut Tally) -> InWord {
+        let word = self.bits.limb(at.limb, tally);
+        let place = place_in_word(word, bit, at.rest);
+        InWord {
+            limb: at.limb,
+            word,
+            place,
+        }
+    }
+
+    // Returns the limb of number `r` of a block.
+    #[inline(always)]
+    fn limb_with(
+        &self,
+        bit: bool,
+        r: usize,
+        block: usize,
+        is_whole: bool,
+        tally: &mut Tally,
+    ) -> FoundLimb {
+        if is_whole {
+            return self.limb_by_halves(bit, r, block, tally);
+        }
+        let last = (self.len() - 1) / LIMB;
+        self.limb_up_to(bit, r, block, (8 * block + 7).min(last), tally)
+    }
+
+    // Returns the limb of number `r` among the 8 of a block, or the last of them: by halves, with no branch on
+    // their bits, which would be mispredicted.
+    #[inline(always)]
+    fn limb_by_halves(&self, bit: bool, r: usize, block: usize, tally: &mut Tally) -> FoundLimb {
+        let _ = self.len();
+        let limb = 8 * block;
+        // The last first, so that a test of its place serves all.
+        let third = self.ones_of_two(limb + 4, tally);
+        let second = self.ones_of_two(limb + 2, tally);
+        let first = self.ones_of_two(limb, tally);
+        let two = first + second;
+        let half = self.half_of_block(bit, r, block, first, two, third);
+        let quarter = self.half_of(bit, r, block, half.found, 2, half.ones);
+        let ones = self.ones_of_whole(quarter.limb, tally);
+        self.half_of(bit, r, block, quarter, 1, ones)
+    }
+
+    // Returns the half of a block that contains number `r`, by the ones of its first pair of limbs, of its
+    // first two pairs, and of its third pair. It selects a value without a branch.
+    #[inline(always)]
+    fn half_of_block(
+        &self,
+        bit: bool,
+        r: usize,
+        block: usize,
+        first: usize,
+        two: usize,
+        third: usize,
+    ) -> FoundHalf {
+        let _ = self.len();
+        let limb = 8 * block;
+        let before = held_of(bit, two, BLOCK / 2);
+        if before <= r {
+            FoundHalf {
+                found: FoundLimb {
+                    limb: limb + 4,
+                    before,
+                },
+                ones: third,
+            }
+        } else {
+            FoundHalf {
+                found: FoundLimb { limb, before: 0 },
+                ones: first,
+            }
+        }
+    }
+
+    // Returns the half of number `r` among twice `n` limbs: the second if the first, of which `ones` positions
+    // are ones, doesn't pass the number. It selects a value without a branch.
+    #[inline(always)]
+    fn half_of(
+        &self,
+        bit: bool,
+        r: usize,
+        block: usize,
+        all: FoundLimb,
+        n: usize,
+        ones: usize,
+    ) -> FoundLimb {
+        let _ = self.len();
+        let limb = all.limb + n;
+        let before = all.before + held_of(bit, ones, LIMB * n);
+        if before <= r {
+            FoundLimb { limb, before }
+        } else {
+            all
+        }
+    }
+
+    // Returns the limb of number `r` among those of a block up to the one before `last`, or `last` itself: one
+    // after the other.
+    #[inline(always)]
+    fn limb_up_to(
+        &self,
+        bit: bool,
+        r: usize,
+        block: usize,
+        last: usize,
+        tally: &mut Tally,
+    ) -> FoundLimb {
+        let mut before = 0;
+        for k in 8 * block..last {
+            let seen = before + held_in_word(self.bits.limb(k, tally), bit);
+            if r < seen {
+                return FoundLimb { limb: k, before };
+            }
+            before = seen;
+        }
+        FoundLimb { limb: last, before }
     }
 }
