@@ -3,7 +3,7 @@ use Rattle.vers_sorted.proofs.Names.{◌≡◌, ℕ, ◌+◌, ◌-◌, ◌*◌, 
 use Rattle.std.specs.Int.Bits.{or_shifted_r}
 
 -- the lowest digits of the lowest digits
-rest_of_rest : (v k m : ℕ) → m ≤ k → v % 2 ^ k % 2 ^ m ≡ v % 2 ^ m
+pub rest_of_rest : (v k m : ℕ) → m ≤ k → v % 2 ^ k % 2 ^ m ≡ v % 2 ^ m
 rest_of_rest v k m few =
     let whole : k - m + m ≡ k = omega arith in
     grind (arith, mod-pow-add, mod_low, mod_below, pow_pos)
@@ -12,7 +12,7 @@ first_digits : (v k m : ℕ) → m ≤ k → low_bits (v % 2 ^ k) m ≡ low_bits
 first_digits v k m few = sym (low_bits_of_rest (v % 2 ^ k) m) ∙ ap (λ r. low_bits r m) (rest_of_rest v k m few) ∙ low_bits_of_rest v m
 
 -- a number put above n digits of a word loses those that don't fit
-shifted : (part n : ℕ) → n ≤ 64 → part * 2 ^ n % 18446744073709551616 ≡ part % 2 ^ (64 - n) * 2 ^ n
+pub shifted : (part n : ℕ) → n ≤ 64 → part * 2 ^ n % 18446744073709551616 ≡ part % 2 ^ (64 - n) * 2 ^ n
 shifted part n few =
     let whole : 18446744073709551616 ≡ 2 ^ (64 - n + n) = grind arith in
     rw (whole, mod-pow-add, shl-shr, mul-mod_left) (omega arith)

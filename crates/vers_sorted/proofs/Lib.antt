@@ -22,4 +22,7 @@ pub mod Aheads
 pub mod Besides
 pub mod Members
 pub mod Marks
+pub mod Chunks
+pub mod Decoding
 pub mod PublicLaws
+pub mod Parted

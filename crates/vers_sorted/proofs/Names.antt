@@ -26,17 +26,17 @@ pub use Rattle.vers_rank.proofs.PublicLaws.{adds_times, changed_all, changed_on}
 pub use Rattle.vers_rank.specs.Batches.{Changed}
 pub use Rattle.vers_rank.specs.Queries.{index_size}
 unfoldable pub use Rattle.vers_rank.specs.Queries.{part_number_or_zero}
-pub use Rattle.vers_sorted.specs.Layout.{clog, first_of, heap_size_of, high_place, last_of, member_reads, search_reads}
-unfoldable pub use Rattle.vers_sorted.specs.Layout.{high_length, high_of, high_parts, low_of, low_parts, low_width, width}
+pub use Rattle.vers_sorted.specs.Layout.{ArePartsOf, clog, first_of, heap_size_of, high_place, high_count, last_of, low_count, member, member_reads, search_reads}
+unfoldable pub use Rattle.vers_sorted.specs.Layout.{high_length, high_of, high_parts, low_of, low_parts, low_width, members, width}
 pub use Rattle.vers_sorted.specs.Ones.{AreMarked, AreSparse}
 unfoldable pub use Rattle.vers_sorted.specs.Ones.{ones_at}
-pub use Rattle.vers_sorted.specs.Sorted.{each_next}
+pub use Rattle.vers_sorted.specs.Sorted.{each_next, order_of}
 unfoldable pub use Rattle.vers_sorted.specs.Sorted.{below, delta, greatest_not_above, least_not_below}
 pub use Rattle.vers_sorted.specs.declared.elias_fano.search.Bucket.{Bucket}
 pub use Rattle.vers_sorted.specs.inside.Begun.{IsBegun, IsInside}
 pub use Rattle.vers_sorted.specs.inside.Buckets.{IsBetween, IsBucket}
-pub use Rattle.vers_sorted.specs.inside.Parts.{HoldHigh, HoldLow, IsPacked, IsStart, member, reads}
-unfoldable pub use Rattle.vers_sorted.specs.inside.Parts.{AreHighParts, first_high_parts, first_low_parts, members}
+pub use Rattle.vers_sorted.specs.inside.Parts.{HoldHigh, HoldLow, IsPacked, IsStart, reads}
+unfoldable pub use Rattle.vers_sorted.specs.inside.Parts.{AreHighParts, first_high_parts, first_low_parts}
 pub use Rattle.vers_tally.proofs.PublicLaws.{adds_then, adds_weaker, clog_is_least, clog_least, clog_most, digits-le, digits_half, digits_halved, digits_is, digits_up}
 pub use Rattle.vers_tally.specs.Reads.{AddsAtMost, IsWithin, Reads, digits, only_low_parts, plus, times}
 pub use mir.Syntax.{w64}

@@ -7,7 +7,7 @@ abbrev pair_at : (ℕ → ℕ → Bool) → List ℕ → ℕ → Bool
 pair_at order xs k = order (get_or xs k 0) (get_or xs (suc k) 0)
 
 -- all neighbours stand in the order
-each_next-true : (order : ℕ → ℕ → Bool) (xs : List ℕ) → ((k : ℕ) → suc k < length xs → pair_at order xs k ≡ true) → each_next order xs ≡ true
+pub each_next-true : (order : ℕ → ℕ → Bool) (xs : List ℕ) → ((k : ℕ) → suc k < length xs → pair_at order xs k ≡ true) → each_next order xs ≡ true
 each_next-true order [] h = refl
 each_next-true order (x ∷ []) h = refl
 each_next-true order (x ∷ y ∷ xs) h =
@@ -26,16 +26,16 @@ each_next-answer order xs true h = grind (arith, each_next-true, add-one)
 each_next-answer order xs false h = sym (each_next-false order xs h.0 (omega (arith, h.1)) (rw (← add-one h.0) (sym (h.2 0))))
 
 -- two neighbours, where all stand in the order
-each_next-at : (order : ℕ → ℕ → Bool) (xs : List ℕ) (k : ℕ) → suc k < length xs → each_next order xs ≡ true → pair_at order xs k ≡ true
+pub each_next-at : (order : ℕ → ℕ → Bool) (xs : List ℕ) (k : ℕ) → suc k < length xs → each_next order xs ≡ true → pair_at order xs k ≡ true
 each_next-at order [] k l h = absurd (omega arith)
 each_next-at order (x ∷ []) k l h = absurd (omega arith)
 each_next-at order (x ∷ y ∷ xs) zero l h = (and_parts _ _ h).0
 each_next-at order (x ∷ y ∷ xs) (suc k) l h = each_next-at order (y ∷ xs) k (omega arith) (and_parts (order x y) _ h).1
 
-rising : (xs : List ℕ) → each_next nat_lt xs ≡ true → IsStrictlyIncreasing xs
+pub rising : (xs : List ℕ) → each_next nat_lt xs ≡ true → IsStrictlyIncreasing xs
 rising xs h k l = rw (add-one k) (ltb-true _ _ (each_next-at nat_lt xs k (omega arith) h))
 
-ascending : (xs : List ℕ) → each_next nat_le xs ≡ true → IsNonDecreasing xs
+pub ascending : (xs : List ℕ) → each_next nat_le xs ≡ true → IsNonDecreasing xs
 ascending xs h = IsNonDecreasingBy-from_all_adjacent (λ x. x) xs (λ k d l.
     rw (add-one k, get_or_default xs k d 0 (omega arith), get_or_default xs (suc k) d 0 (omega arith))
     (grind (arith, leb-true, each_next-at)))

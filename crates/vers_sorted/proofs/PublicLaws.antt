@@ -1,9 +1,11 @@
 -- The laws that proofs of other crates may cite. A crate above imports this file and no other of this folder.
-use Rattle.vers_sorted.proofs.Names.{◌≡◌, ℕ, ◌+◌, ◌-◌, ◌<◌, ◌≤◌, Bool, true, List, length, slice_get, None, refl, ◌↔◌, IsTrue, slice_index, map, nat_le, nat_lt, IsNonDecreasing, IsStrictlyIncreasing, is_bit, places, ones_at, each_next, below, greatest_not_above, least_not_below}
+use Rattle.vers_sorted.proofs.Names.{◌≡◌, ℕ, ◌+◌, ◌-◌, ◌<◌, ◌≤◌, Bool, true, List, length, slice_get, None, refl, ◌↔◌, IsTrue, slice_index, map, nat_le, nat_lt, IsNonDecreasing, IsStrictlyIncreasing, ArePartsOf, first_of, high_count, high_parts, low_count, low_parts, low_width, members, order_of, is_bit, places, ones_at, each_next, below, greatest_not_above, least_not_below}
 use Rattle.vers_sorted.proofs.Below as Below
 use Rattle.vers_sorted.proofs.Neighbours as Neighbours
 use Rattle.vers_sorted.proofs.Ones as Ones
+use Rattle.vers_sorted.proofs.Holds as Holds
 use Rattle.vers_sorted.proofs.Orders as Orders
+use Rattle.vers_sorted.proofs.Parted as Parted
 
 -- ---- numbers in order
 
@@ -53,3 +55,21 @@ ones_at-places = Ones.ones_at-places
 -- the list of so many bits whose ones stand at these places is one
 pub ones_at-same : (bits : List Bool) (n : ℕ) (ones : List ℕ) → length bits ≡ n → places true bits ≡ ones → bits ≡ ones_at ones n
 ones_at-same = Ones.ones_at-same
+
+-- ---- parts
+
+-- a list in one of both orders ascends
+pub in_order_up : (rising : Bool) (s : List ℕ) → each_next (order_of rising) s ≡ true → IsNonDecreasing s
+in_order_up = Parted.in_order_up
+
+-- the parts of an ascending list say its members
+pub parts_say : (s : List ℕ) → IsNonDecreasing s → members (high_parts s) (low_parts s) (first_of s) (low_width s) (length s) ≡ s
+parts_say = Holds.packs
+
+-- how many bits they have
+pub counted_parts : (s : List ℕ) (n first last : ℕ) (low high : List Bool) → ArePartsOf s n first last low high → (length low ≡ low_count n (last - first)) × (length high ≡ high_count n (last - first))
+counted_parts = Parted.counted_of
+
+-- two ascending lists with the same ends and parts are one
+pub parts_tell : (s t : List ℕ) (n first last : ℕ) (low high : List Bool) → IsNonDecreasing s → IsNonDecreasing t → ArePartsOf s n first last low high → ArePartsOf t n first last low high → s ≡ t
+parts_tell = Parted.parts_tell

@@ -1,8 +1,8 @@
 -- The laws of ascending lists, as statements.
-use Rattle.std.specs.Prelude.{◌≡◌, ℕ, ◌+◌, ◌-◌, ◌^◌, ◌<◌, ◌≤◌, max, List, length, slice_index, slice_get, None, Some}
+use Rattle.std.specs.Prelude.{◌≡◌, ℕ, ◌+◌, ◌-◌, ◌^◌, ◌<◌, ◌≤◌, max, Bool, List, length, slice_index, slice_get, None, Some}
 use Rattle.std.specs.List.Sorted.{IsNonDecreasing}
 use Rattle.vers_sorted.specs.Sorted.{below, greatest_not_above, least_not_below}
-use Rattle.vers_sorted.specs.Layout.{clog, high_parts}
+use Rattle.vers_sorted.specs.Layout.{ArePartsOf, clog, first_of, high_parts, low_parts, low_width, members}
 pub use Rattle.vers_tally.specs.Laws.{ClogIsLeast}
 
 -- `below` is at most the number of elements
@@ -64,3 +64,12 @@ LeastNotBelowIsLeast = (members : List ℕ) (v x : ℕ) → IsNonDecreasing memb
 abbrev pub HighPartsAreFew : Type 0
 HighPartsAreFew = (members : List ℕ)
     → length (high_parts members) ≤ 2 + length members + 2 ^ clog (max (length members) 2)
+
+-- the parts of an ascending list say its elements
+abbrev pub PartsSayMembers : Type 0
+PartsSayMembers = (s : List ℕ) → IsNonDecreasing s → members (high_parts s) (low_parts s) (first_of s) (low_width s) (length s) ≡ s
+
+-- two ascending lists with the same ends and parts are equal
+abbrev pub PartsDetermineList : Type 0
+PartsDetermineList = (s t : List ℕ) (n first last : ℕ) (low high : List Bool) → IsNonDecreasing s → IsNonDecreasing t
+    → ArePartsOf s n first last low high → ArePartsOf t n first last low high → s ≡ t

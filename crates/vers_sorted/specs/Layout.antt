@@ -1,7 +1,7 @@
 -- How an ascending list is split into high and low parts, how much memory these take, and how much a query reads of them.
-use Rattle.std.specs.Prelude.{ℕ, ◌+◌, ◌-◌, ◌*◌, ◌/◌, ◌%◌, ◌^◌, ◌==◌, max, Bool, List, map, length, slice_index, if◌then◌else◌}
+use Rattle.std.specs.Prelude.{ℕ, ◌+◌, ◌-◌, ◌*◌, ◌/◌, ◌%◌, ◌^◌, ◌==◌, ◌≡◌, max, Bool, true, List, map, length, slice_index, if◌then◌else◌}
 use Rattle.std.specs.List.{range_with_len}
-use Rattle.vers_bits.specs.Bits.{pack, limb_count}
+use Rattle.vers_bits.specs.Bits.{pack, limb_count, number, part, select}
 use Rattle.vers_rank.specs.Queries.{index_size, select_reads, superblock_count}
 use Rattle.vers_sorted.specs.Ones.{ones_at}
 use Rattle.vers_tally.specs.Reads.{Reads, plus, times, digits}
@@ -45,6 +45,30 @@ high_parts members = ones_at (map (high_place members) (range_with_len 0 (length
 -- the low parts, one after another: the low digits of each element less the first
 unfoldable pub low_parts : List ℕ → List Bool
 low_parts members = pack (map (λ m. m - first_of members) members) (low_width members)
+
+-- how many bits the low parts of n elements take, the last of which is u above the first
+abbrev pub low_count : ℕ → ℕ → ℕ
+low_count n u = n * width n u
+
+-- and how many the high parts
+abbrev pub high_count : ℕ → ℕ → ℕ
+high_count n u = if n == 0 then 0 else 2 + n + u / 2 ^ width n u
+
+-- a list's length, its first and last element, its low and its high parts
+pub record ArePartsOf (members : List ℕ) (n first last : ℕ) (low high : List Bool) : Type 0 where
+  pub len_is : n ≡ length members
+  pub first_is : first ≡ first_of members
+  pub last_is : last ≡ last_of members
+  pub low_is : low ≡ low_parts members
+  pub high_is : high ≡ high_parts members
+
+-- the element that parts say at position i: as far above the first as its high part, the zeros before its one but the first, and its low part
+abbrev pub member : List Bool → List Bool → ℕ → ℕ → ℕ → ℕ
+member high low first width i = first + (2 ^ width * (select true high i - i - 1) + number (part low (width * i) width))
+
+-- the n elements that parts say
+unfoldable pub members : List Bool → List Bool → ℕ → ℕ → ℕ → List ℕ
+members high low first width n = map (member high low first width) (range_with_len 0 n)
 
 -- the bytes of the high parts with their index, and of the limbs of the low parts
 abbrev pub heap_size_of : List ℕ → ℕ

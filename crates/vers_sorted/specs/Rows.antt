@@ -1,10 +1,10 @@
 -- Worked rows of the definitions, which compute.
 use Rattle.std.specs.Prelude.{◌≡◌, ℕ, false, true, List, [], ◌∷◌, Some, None, nat_le, nat_lt, refl}
-use Rattle.vers_bits.specs.Bits.{count, low_bits}
+use Rattle.vers_bits.specs.Bits.{count, low_bits, places, select}
 use Rattle.vers_tally.specs.Reads.{digits}
 use Rattle.vers_sorted.specs.Sorted.{each_next, below, greatest_not_above, least_not_below, delta}
 use Rattle.vers_sorted.specs.Ones.{ones_at}
-use Rattle.vers_sorted.specs.Layout.{width, low_width, high_of, high_length, high_parts, low_parts, heap_size_of}
+use Rattle.vers_sorted.specs.Layout.{width, low_width, high_of, high_length, high_parts, low_parts, heap_size_of, members, low_count, high_count}
 
 -- an ascending list with equal members
 abbrev members_2449 : List ℕ
@@ -80,6 +80,19 @@ low_parts-0147 = refl
 pub heap_size-0147 : heap_size_of members_0147 ≡ 58
 unfolding high_parts high_length high_of ones_at low_parts low_width width digits low_bits count
 heap_size-0147 = refl
+
+-- which say the members
+pub members-0147 : members (false ∷ true ∷ true ∷ false ∷ false ∷ true ∷ false ∷ true ∷ false ∷ []) (false ∷ true ∷ false ∷ true ∷ []) 0 1 4 ≡ members_0147
+unfolding members select places
+members-0147 = refl
+
+pub low_count-0147 : low_count 4 7 ≡ 4
+unfolding width digits
+low_count-0147 = refl
+
+pub high_count-0147 : high_count 4 7 ≡ 9
+unfolding width digits
+high_count-0147 = refl
 
 -- no members have no bits
 pub high_parts-nothing : high_parts [] ≡ []

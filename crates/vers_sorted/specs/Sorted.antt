@@ -8,6 +8,10 @@ each_next order [] = true
 each_next order (n ∷ []) = true
 each_next order (n ∷ next ∷ more) = order n next && each_next order (next ∷ more)
 
+-- `at most`, or `less than` if strictly
+abbrev pub order_of : Bool → (ℕ → ℕ → Bool)
+order_of strictly = if strictly then nat_lt else nat_le
+
 -- how many elements are less than v
 unfoldable pub below : List ℕ → ℕ → ℕ
 below members v = count_by (λ m. nat_lt m v) members

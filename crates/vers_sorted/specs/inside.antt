@@ -5,3 +5,4 @@ pub mod Begun
 pub mod Ahead
 pub mod Passed
 pub mod Gathered
+pub mod Decoding

@@ -13,12 +13,14 @@ mod low;
 mod make;
 mod narrow;
 mod neighbours;
+mod parts;
 mod scan;
 mod search;
 mod successors;
 
 pub use iter::{EliasFanoIter, EliasFanoRefIter};
 pub use make::{MAX_LEN, Numbers};
+pub use parts::{Ends, Limbs, PartLengths, are_parts};
 use std::alloc::{AllocError, Allocator};
 use std::marker::Model;
 pub use successors::Successors;
@@ -43,7 +45,8 @@ pub struct EliasFanoVec<A: Allocator + Copy> {
 
 impl<A: Allocator + Copy> Model for EliasFanoVec<A> {
     ghost use Rattle.std.specs.Prelude.{List, ℕ};
-    ghost use Rattle.vers_sorted.specs.inside.Parts.{members, IsPacked};
+    ghost use Rattle.vers_sorted.specs.Layout.{members};
+    ghost use Rattle.vers_sorted.specs.inside.Parts.{IsPacked};
 
     ghost Value = { List ℕ };
 

@@ -1,6 +1,6 @@
 //! Laws of ascending lists. Each function does nothing: its contract is the law, and its proof is
 //! checked with the crate.
-ghost use Rattle.vers_sorted.specs.Laws.{BelowIsAtMostAll, BelowRises, FirstMembersAreBelow, OtherMembersAreNotBelow, LeastNotBelowIsNext, GreatestNotAboveIsLast, GreatestNotAboveIsGreatest, LeastNotBelowIsLeast, NoneBelowNoneNotAbove, ClogIsLeast, HighPartsAreFew};
+ghost use Rattle.vers_sorted.specs.Laws.{BelowIsAtMostAll, BelowRises, FirstMembersAreBelow, OtherMembersAreNotBelow, LeastNotBelowIsNext, GreatestNotAboveIsLast, GreatestNotAboveIsGreatest, LeastNotBelowIsLeast, NoneBelowNoneNotAbove, ClogIsLeast, HighPartsAreFew, PartsDetermineList, PartsSayMembers};
 
 /// At most all members are below a number.
 #[tactic(auto, using(crate::proofs::Neighbours::laws))]
@@ -68,4 +68,16 @@ pub fn clog_is_least()
 #[tactic(auto, using(crate::proofs::Lengths::laws))]
 pub fn high_parts_are_few()
     ensures { HighPartsAreFew }
+{}
+
+/// The parts of an ascending list say its members.
+#[tactic(auto, using(crate::proofs::Parted::laws))]
+pub fn parts_say_members()
+    ensures { PartsSayMembers }
+{}
+
+/// Two ascending lists with the same ends and parts are equal.
+#[tactic(auto, using(crate::proofs::Parted::laws))]
+pub fn parts_determine_list()
+    ensures { PartsDetermineList }
 {}

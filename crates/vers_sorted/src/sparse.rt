@@ -258,6 +258,14 @@ impl<A: Allocator + Copy> SparseRSVec<A> {
         place.min(self.len()) - ones
     }
 
+    /// Returns the positions of the ones, an ascending list.
+    pub fn ones(&self) -> &EliasFanoVec<A>
+        ensures { result.now ≡ places true self.now }
+    {
+        let _ = &self.len;
+        &self.ones
+    }
+
     /// Returns an iterator over the positions of the ones.
     pub fn iter1(&self) -> EliasFanoRefIter<'_, A>
         ensures { result ≡ record {

@@ -1,5 +1,5 @@
 -- What the high and low parts hold.
-use Rattle.std.specs.Prelude.{◌≡◌, ℕ, ◌+◌, ◌-◌, ◌*◌, ◌^◌, ◌<◌, ◌≤◌, Bool, true, List, map, length, take, drop, slice_index}
+use Rattle.std.specs.Prelude.{◌≡◌, ℕ, ◌+◌, ◌-◌, ◌*◌, ◌<◌, ◌≤◌, Bool, true, List, map, length, take, drop, slice_index}
 use Rattle.std.specs.List.{range_with_len}
 use Rattle.std.specs.List.Sorted.{IsNonDecreasing}
 use Rattle.vers_bits.specs.Bits.{number, count, select, pack}
@@ -7,13 +7,6 @@ use Rattle.vers_tally.specs.Reads.{Reads, no_reads, digits}
 use Rattle.vers_rank.specs.Queries.{superblock_count}
 use Rattle.vers_sorted.specs.Layout.{first_of, last_of, low_width, high_of, low_of, high_length, high_place, high_parts}
 use Rattle.vers_sorted.specs.Ones.{ones_at}
-
--- the member that the parts hold at place i
-abbrev pub member : List Bool → List Bool → ℕ → ℕ → ℕ → ℕ
-member high low first width i = first + (2 ^ width * (select true high i - i - 1) + number (take width (drop (width * i) low)))
-
-unfoldable pub members : List Bool → List Bool → ℕ → ℕ → ℕ → List ℕ
-members high low first width n = map (member high low first width) (range_with_len 0 n)
 
 -- what the high parts of s say: a one for each member
 pub record HoldHigh (s : List ℕ) (high : List Bool) : Type 0 where

@@ -106,7 +106,7 @@ fn last_of(numbers: &[u64]) -> u64
 
 // Returns the number of bits of a low part, for `n` numbers that span `u`.
 #[tactic(auto, using(crate::proofs::Widths::widths), unfolding(crate::specs::Layout::width))]
-fn width_of(n: usize, u: u64) -> usize
+pub(super) fn width_of(n: usize, u: u64) -> usize
     ensures value { result ≡ width n u }
     ensures narrow { result < 64 }
 {

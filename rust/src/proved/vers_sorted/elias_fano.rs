@@ -10,12 +10,14 @@ mod low;
 mod make;
 mod narrow;
 mod neighbours;
+mod parts;
 mod scan;
 mod search;
 mod successors;
 
 pub use iter::{EliasFanoIter, EliasFanoRefIter};
 pub use make::{MAX_LEN, Numbers};
+pub use parts::{Ends, Limbs, PartLengths, are_parts};
 use crate::rattle::AllocError;
 use crate::rattle::Allocator;
 pub use successors::Successors;

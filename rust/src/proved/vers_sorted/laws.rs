@@ -37,3 +37,9 @@ pub fn clog_is_least() {}
 /// The high parts of `n` members have at most `2 + n + p` bits, where `p` is the least power of two that is at
 /// least `n` and at least 2.
 pub fn high_parts_are_few() {}
+
+/// The parts of an ascending list say its members.
+pub fn parts_say_members() {}
+
+/// Two ascending lists with the same ends and parts are equal.
+pub fn parts_determine_list() {}

@@ -174,6 +174,12 @@ impl<A: Allocator + Copy> SparseRSVec<A> {
         place.min(self.len()) - ones
     }
 
+    /// Returns the positions of the ones, an ascending list.
+    pub fn ones(&self) -> &EliasFanoVec<A> {
+        let _ = &self.len;
+        &self.ones
+    }
+
     /// Returns an iterator over the positions of the ones.
     pub fn iter1(&self) -> EliasFanoRefIter<'_, A> {
         let _ = &self.len;

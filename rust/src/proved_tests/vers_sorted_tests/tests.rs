@@ -9,6 +9,7 @@ mod bits;
 mod iterators;
 mod lists;
 mod memory;
+mod parts;
 mod sparse;
 mod successors;
 mod walks;

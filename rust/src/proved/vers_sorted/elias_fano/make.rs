@@ -78,7 +78,7 @@ fn last_of(numbers: &[u64]) -> u64 {
 }
 
 // Returns the number of bits of a low part, for `n` numbers that span `u`.
-fn width_of(n: usize, u: u64) -> usize {
+pub(super) fn width_of(n: usize, u: u64) -> usize {
     let bits = clog_of(u.max(2) as u128).max(clog_of(n as u128 + 2));
     bits - clog_of(n.max(2) as u128)
 }
