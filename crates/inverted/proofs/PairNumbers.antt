@@ -1,6 +1,6 @@
 -- The numbers of pairs.
-use Rattle.std.proofs.Common.{◌≡◌, ℕ, ◌+◌, ◌-◌, ◌*◌, ◌<◌, ◌≤◌, All, Bool, false, true, List, [], ◌∷◌, Option, None, Some, refl, sym, ap, ◌∙◌, inl, inr, arith}
-use Rattle.std.specs.Prelude.{◌&&◌, ◌++◌, drop, if◌then◌else◌, map, nat_lt, not, slice_get}
+use Rattle.std.proofs.Common.{◌≡◌, ℕ, ◌+◌, ◌-◌, ◌*◌, ◌<◌, ◌≤◌, All, Bool, false, true, List, [], ◌∷◌, None, Some, refl, sym, ap, ◌∙◌, inl, inr, arith}
+use Rattle.std.specs.Prelude.{◌++◌, drop, if◌then◌else◌, map, nat_lt, not, slice_get}
 use Rattle.std.specs.List.{list_all, range_with_len}
 use Rattle.std.specs.List.Sorted.{IsStrictlyIncreasing}
 use Rattle.std.proofs.lemmas.Bool.{and_parts, cases_lt, eq-eqb, lt-ltb, ltb-true, ne_eqb}
@@ -8,13 +8,12 @@ use Rattle.std.proofs.Math.Nat.{mul-le-mul_right}
 use Rattle.std.proofs.lemmas.List.{append_assoc}
 use Rattle.std.proofs.lemmas.Option.{same_Some}
 use Rattle.vers_bits.specs.Walk.{TakesFirst}
-use Rattle.std.proofs.lemmas.List.Elements.{All-head, All-tail, All-weaker}
+use Rattle.std.proofs.lemmas.List.Elements.{All-head, All-map, All-tail, All-weaker}
 use Rattle.std.proofs.lemmas.List.Sums.{AllPass-from_list_all}
 use Rattle.std.proofs.lemmas.Bool.Decides.{nat_tests}
 use Rattle.inverted.specs.inside.Windows.{documents_of, lists_of}
 use Rattle.vers_sorted.proofs.PublicLaws.{each_next-rising}
 use Rattle.vers_sorted.specs.Sorted.{each_next}
-use Rattle.inverted.specs.declared.fault.InvertedError.{InvertedError}
 use Rattle.inverted.specs.declared.fault.InvertedError.TheVariants.{TooLarge, OutOfRange, NotAscending}
 use Rattle.inverted.specs.Makers.{do_ascend, is_before, is_in_range, lists_from, number_of, paired_with, refusal_of}
 use Rattle.inverted.proofs.Windows.{after_window, before_window, in_window, no_documents}
@@ -36,7 +35,8 @@ pub record HasIndex (terms universe : ℕ) (pairs : List (ℕ × ℕ)) : Type 0 
   pub in_range : All (IsInRange terms universe) pairs
   pub ascend : do_ascend pairs ≡ true
 
-no_reason : (large within ascend : Bool) → (if large then Some TooLarge else (if not within then Some OutOfRange else (if not ascend then Some NotAscending else None))) ≡ None
+-- there is no reason only if each test passes
+pub no_reason : (large within ascend : Bool) → (if large then Some TooLarge else (if not within then Some OutOfRange else (if not ascend then Some NotAscending else None))) ≡ None
     → (large ≡ false) × (within ≡ true) × (ascend ≡ true)
 no_reason true within ascend h = cc
 no_reason false false ascend h = cc
@@ -120,6 +120,12 @@ ascend terms universe (p ∷ q ∷ pairs) within h =
 -- the numbers rise where the pairs ascend
 pub numbers_rise : (terms universe : ℕ) (pairs : List (ℕ × ℕ)) → HasIndex terms universe pairs → IsStrictlyIncreasing (map (number_of universe) pairs)
 numbers_rise terms universe pairs has = (each_next-rising (map (number_of universe) pairs)).0 (ascend terms universe pairs has.in_range has.ascend)
+
+-- the numbers are below the end of the last term
+pub numbers_within : (terms universe : ℕ) (pairs : List (ℕ × ℕ)) → HasIndex terms universe pairs → All (λ n. n < terms * universe) (map (number_of universe) pairs)
+numbers_within terms universe pairs has =
+    All-map (λ n. n < terms * universe) (number_of universe) pairs
+    (All-weaker (IsInRange terms universe) (λ p. number_of universe p < terms * universe) (λ p within. omega (arith, later_term p.0 terms universe within.0, within.1)) pairs has.in_range)
 
 -- the number of a pair in range has 64 bits
 pub number_fits : (terms universe : ℕ) (p : ℕ × ℕ) → terms * universe ≤ 18446744073709551615 → IsInRange terms universe p → (p.0 * universe ≤ 18446744073709551615) × (number_of universe p ≤ 18446744073709551615)

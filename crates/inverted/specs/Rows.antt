@@ -3,6 +3,7 @@ use Rattle.std.specs.Prelude.{◌≡◌, ℕ, false, true, List, [], ◌∷◌, 
 use Rattle.inverted.specs.Lists.{Lists, list_of}
 use Rattle.inverted.specs.declared.fault.InvertedError.TheVariants.{TooLarge, OutOfRange, NotAscending}
 use Rattle.inverted.specs.Makers.{is_before, lists_from, number_of, refusal_of}
+use Rattle.inverted.specs.Numbers.{index_of_numbers, refusal_of_numbers}
 
 -- three pairs of terms below 3 and documents below 10
 abbrev three : List (ℕ × ℕ)
@@ -50,3 +51,20 @@ refusal_of-document = refl
 
 pub refusal_of-twice : refusal_of 2 10 ((0, 3) ∷ (0, 3) ∷ []) ≡ Some NotAscending
 refusal_of-twice = refl
+
+-- and so have their numbers
+pub index_of_numbers-three : index_of_numbers 3 10 (3 ∷ 7 ∷ 21 ∷ []) ≡ index
+unfolding lists_from
+index_of_numbers-three = refl
+
+pub refusal_of_numbers-three : refusal_of_numbers 3 10 (3 ∷ 7 ∷ 21 ∷ []) ≡ None
+refusal_of_numbers-three = refl
+
+pub refusal_of_numbers-large : refusal_of_numbers 18446744073709551615 2 (9 ∷ []) ≡ Some TooLarge
+refusal_of_numbers-large = refl
+
+pub refusal_of_numbers-end : refusal_of_numbers 2 10 (3 ∷ 20 ∷ []) ≡ Some OutOfRange
+refusal_of_numbers-end = refl
+
+pub refusal_of_numbers-twice : refusal_of_numbers 2 10 (3 ∷ 3 ∷ []) ≡ Some NotAscending
+refusal_of_numbers-twice = refl

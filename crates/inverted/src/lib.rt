@@ -4,8 +4,10 @@
 mod documents;
 mod fault;
 mod inverted_index;
+pub mod laws;
 mod list;
 mod make;
+mod numbers;
 mod operations;
 mod queries;
 

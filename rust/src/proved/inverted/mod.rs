@@ -5,8 +5,10 @@ use crate::rattle::prelude::*;
 mod documents;
 mod fault;
 mod inverted_index;
+pub mod laws;
 mod list;
 mod make;
+mod numbers;
 mod operations;
 mod queries;
 

@@ -2,7 +2,7 @@ use Rattle.std.proofs.Common.{refl, sym, ◌∙◌}
 use Rattle.std.specs.Prelude.{map}
 use Rattle.std.proofs.lemmas.Map.Keys.{non_decreasing_from_sorted, sorted_from_strictly_increasing}
 use Rattle.inverted.specs.Makers.{number_of}
-use Rattle.inverted.proofs.PairNumbers.{has_index, lists_are, numbers_rise}
+use Rattle.inverted.proofs.PairNumbers.{has_index, lists_are, numbers_rise, numbers_within}
 use Rattle.inverted.proofs.Windows.{lists_ascend}
 use Rattle.inverted.proofs.inverted_index.InvertedIndex.from_source.Goals as goal
 
@@ -15,7 +15,13 @@ pub invariant_of-result : goal.invariant_of-result
 invariant_of-result g c =
     let has = has_index c.args.terms c.args.universe (g.P.Pairs.left c.args.pairs) (sym c.refusal.ensures ∙ c.in_default.is) in
     rw (c.in_ok-numbers-2.ensures, c.as_slice.ensures.value, c.in_ok-numbers.ensures)
-    (record { ascending = numbers_rise c.args.terms c.args.universe (g.P.Pairs.left c.args.pairs) has; fits = has.fits })
+    (record {
+      ascending = numbers_rise c.args.terms c.args.universe (g.P.Pairs.left c.args.pairs) has;
+      within = numbers_within c.args.terms c.args.universe (g.P.Pairs.left c.args.pairs) has;
+      fits = has.fits;
+      terms_fit = c.ranges.terms.fits;
+      universe_fits = c.ranges.universe.fits;
+    })
 
 pub returns-clause-made : goal.returns-clause-made
 returns-clause-made g c =

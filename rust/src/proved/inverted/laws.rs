@@ -1,0 +1,10 @@
+//! Laws of inverted indexes. Each function has an empty body: the checked proof of its contract is the proof of the
+//! law.
+
+use crate::rattle::prelude::*;
+
+/// States that an index of numbers has a list for each term.
+pub fn each_term_has_list() {}
+
+/// States that two indexes with the same number of terms, the same universe and the same numbers are equal.
+pub fn numbers_determine_index() {}
