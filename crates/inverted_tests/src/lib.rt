@@ -9,6 +9,8 @@ mod engine;
 #[cfg(test)]
 mod memory;
 #[cfg(test)]
+mod numbers;
+#[cfg(test)]
 mod plain;
 #[cfg(test)]
 mod rows;

@@ -1,18 +1,19 @@
 //! The calls that allocate, each of their requests refused in turn.
-use crate::shared::{Answers, OPERATIONS, Operation, combined, has_list, has_members, is_answered};
+use crate::shared::{Answers, combined, has_list, has_members, is_answered, listed};
 use inverted::{InvertedError, InvertedIndex, ListOf};
 use sets::Walk;
 use std::alloc::{AllocError, Allocator, Global};
 use test_alloc::{
-    Check, Ending, LENGTHS, Making, Refusing, Trial, first_wrong_trial, try_clone_checked,
-    try_making, try_use_checked,
+    Check, Conversion, Ending, LENGTHS, Making, OPERATIONS, Operation, Refusing, Trial, evens,
+    first_wrong_trial, result_with_half, try_clone_checked, try_conversion, try_making,
+    try_use_checked,
 };
 use vers_sorted::elias_fano::EliasFanoVec;
 
 type Heap = Refusing<Global>;
 
 // Returns pairs of terms 0 and 2: the first `n` even documents, and the second half of these.
-fn evens<A: Allocator + Copy>(alloc: A, n: usize) -> Result<Vec<(u64, u64), A>, AllocError> {
+fn pairs_of<A: Allocator + Copy>(alloc: A, n: usize) -> Result<Vec<(u64, u64), A>, AllocError> {
     let mut pairs = Vec::new(alloc);
     for k in 0..n as u64 {
         pairs.push((0, k.wrapping_mul(2)))?;
@@ -21,15 +22,6 @@ fn evens<A: Allocator + Copy>(alloc: A, n: usize) -> Result<Vec<(u64, u64), A>, 
         pairs.push((2, k.wrapping_mul(2)))?;
     }
     Ok(pairs)
-}
-
-// Returns the documents of term 0.
-fn documents<A: Allocator + Copy>(alloc: A, n: usize) -> Result<Vec<u64, A>, AllocError> {
-    let mut found = Vec::new(alloc);
-    for k in 0..n as u64 {
-        found.push(k.wrapping_mul(2))?;
-    }
-    Ok(found)
 }
 
 // The limit of documents.
@@ -91,6 +83,34 @@ impl<'a, A: Allocator + Copy> Making for Indexing<'a, A> {
     }
 }
 
+// Returns the numbers of pairs.
+fn numbers<A: Allocator + Copy>(alloc: A, pairs: &[(u64, u64)]) -> Result<Vec<u64, A>, AllocError> {
+    let mut numbers = Vec::new(alloc);
+    for pair in pairs {
+        numbers.push(pair.0.wrapping_mul(UNIVERSE).wrapping_add(pair.1))?;
+    }
+    Ok(numbers)
+}
+
+// Makes an index from the list of its numbers.
+impl<'a, A: Allocator + Copy> Conversion<EliasFanoVec<A>> for Wanted<'a> {
+    type Made = InvertedIndex<A>;
+
+    type Refused = InvertedError;
+
+    fn convert(&self, list: EliasFanoVec<A>) -> Result<InvertedIndex<A>, InvertedError> {
+        InvertedIndex::from_numbers(3, UNIVERSE, list)
+    }
+
+    fn is_right(&self, index: &InvertedIndex<A>) -> bool {
+        is_index(index, self.documents)
+    }
+
+    fn is_kept(&self, refused: InvertedError) -> bool {
+        refused == InvertedError::Memory
+    }
+}
+
 // An operation on terms 0 and 2, and its result.
 #[derive(Drop)]
 struct Combining<'a, A: Allocator + Copy> {
@@ -118,19 +138,10 @@ impl<'a, A: Allocator + Copy> Making for Combining<'a, A> {
 #[derive(Clone, Copy, Drop)]
 enum Call {
     Make,
+    FromNumbers,
     Clone,
     Query,
     Combine(Operation),
-}
-
-// Returns the result of an operation on terms 0 and 2.
-fn wanted_of<'a>(operation: Operation, documents: &'a [u64]) -> &'a [u64] {
-    let half = documents.len() / 2;
-    match operation {
-        Operation::Union | Operation::UnionOf => documents,
-        Operation::Difference => &documents[..half],
-        Operation::Intersection | Operation::IntersectionOf => &documents[half..],
-    }
 }
 
 // Tries an operation on an index that is made. The memory of the index is refused throughout.
@@ -146,7 +157,7 @@ fn tried_operation<'a>(
         alloc: heap,
         operation,
         index,
-        wanted: wanted_of(operation, documents),
+        wanted: result_with_half(operation, documents),
     };
     try_making(heap, &combining)
 }
@@ -163,6 +174,17 @@ fn tried_on<'a>(
         Ok(index) => tried_operation(heap, others, operation, &index, documents),
         Err(_) => Ending::Wrong,
     }
+}
+
+// Tries to make an index from the list of the numbers of pairs.
+fn tried_numbers(
+    heap: &Heap,
+    alloc: Global,
+    pairs: &[(u64, u64)],
+    wanted: &Wanted<'_>,
+) -> Result<Ending, AllocError> {
+    let numbers = numbers(alloc, pairs)?;
+    Ok(try_conversion(heap, listed(heap, numbers.as_slice()), wanted))
 }
 
 // Tries a call on pairs and the documents of term 0.
@@ -183,6 +205,7 @@ fn tried(
             };
             try_making(heap, &indexing)
         }
+        Call::FromNumbers => { tried_numbers(heap, alloc, pairs, &wanted).unwrap_or(Ending::Wrong) }
         Call::Clone => {
             try_clone_checked(
                 heap,
@@ -205,8 +228,8 @@ fn tried(
 
 // Tries a call on the first `len` even documents.
 fn tried_at(heap: &Heap, alloc: Global, call: Call, len: usize) -> Result<Ending, AllocError> {
-    let pairs = evens(alloc, len)?;
-    let documents = documents(alloc, len)?;
+    let pairs = pairs_of(alloc, len)?;
+    let documents = evens(alloc, len)?;
     Ok(tried(heap, alloc, call, pairs.as_slice(), documents.as_slice()))
 }
 
@@ -223,7 +246,7 @@ impl Trial<Global> for CallIn {
     }
 
     fn takes_memory(self, _: usize) -> bool {
-        !matches!(self.call, Call::Query)
+        !matches!(self.call, Call::FromNumbers | Call::Query)
     }
 }
 
@@ -232,6 +255,10 @@ fn first_wrong(alloc: Global) -> Option<(usize, usize)> {
     let calls = [
         CallIn {
             call: Call::Make,
+            alloc,
+        },
+        CallIn {
+            call: Call::FromNumbers,
             alloc,
         },
         CallIn {

@@ -1,8 +1,8 @@
 //! Indexes compared with a plain model, which tests each pair.
-use crate::shared::{Answers, OPERATIONS, Operation, combined, has_list, is_answered, is_list};
+use crate::shared::{Answers, combined, has_list, has_members, is_answered, is_list, numbered};
 use inverted::InvertedIndex;
 use std::alloc::{AllocError, Allocator, Global};
-use test_alloc::asked;
+use test_alloc::{OPERATIONS, Operation, asked, is_in_result};
 
 type Index = InvertedIndex<Global>;
 
@@ -79,11 +79,7 @@ fn is_term_right(
 // Returns true if a document is in the result of an operation.
 fn is_in(operation: Operation, plain: Plain<'_>, one: u64, other: u64, document: u64) -> bool {
     let (one, other) = (has(plain, one, document), has(plain, other, document));
-    match operation {
-        Operation::Intersection | Operation::IntersectionOf => one && other,
-        Operation::Union | Operation::UnionOf => one || other,
-        Operation::Difference => one && !other,
-    }
+    is_in_result(operation, one, other)
 }
 
 // Returns true if an operation on two terms is right.
@@ -123,13 +119,34 @@ fn is_right(alloc: Global, index: &Index, plain: Plain<'_>) -> Result<bool, Allo
     Ok(true)
 }
 
-// Returns true if the index of a plain one is made, and is right.
-fn is_made_right(alloc: Global, plain: Plain<'_>) -> bool {
-    let is_wanted = asked(
-        InvertedIndex::from_pairs(alloc, plain.terms, plain.universe, plain.pairs),
+// Returns the numbers of the pairs.
+fn numbers<A: Allocator + Copy>(alloc: A, plain: Plain<'_>) -> Result<Vec<u64, A>, AllocError> {
+    let mut numbers = Vec::new(alloc);
+    for (term, document) in plain.pairs {
+        numbers.push(term.wrapping_mul(plain.universe).wrapping_add(*document))?;
+    }
+    Ok(numbers)
+}
+
+// Returns true if an index is right, and has these numbers, of which it is made again.
+fn is_right_again(alloc: Global, index: &Index, plain: Plain<'_>, numbers: &[u64]) -> bool {
+    let is_again = asked(
+        numbered(alloc, plain.terms, plain.universe, numbers),
         |index: &Index| is_right(alloc, index, plain) == Ok(true),
     );
-    is_wanted == Ok(true)
+    is_again == Ok(true)
+        && has_members(index.pair_numbers(), numbers)
+        && is_right(alloc, index, plain) == Ok(true)
+}
+
+// Returns true if the index of a plain one is made, from its pairs and from its numbers, and is right.
+fn is_made_right(alloc: Global, plain: Plain<'_>) -> Result<bool, AllocError> {
+    let numbers = numbers(alloc, plain)?;
+    let is_wanted = asked(
+        InvertedIndex::from_pairs(alloc, plain.terms, plain.universe, plain.pairs),
+        |index: &Index| is_right_again(alloc, index, plain, numbers.as_slice()),
+    );
+    Ok(is_wanted == Ok(true))
 }
 
 // Returns those of 12 pairs of 3 terms and 4 documents that a number's bits choose.
@@ -154,7 +171,7 @@ fn wrong_choice(alloc: Global) -> Result<Option<u64>, AllocError> {
             universe: 4,
             pairs: pairs.as_slice(),
         };
-        if !is_made_right(alloc, plain) {
+        if !is_made_right(alloc, plain)? {
             return Ok(Some(chosen));
         }
     }
@@ -206,7 +223,7 @@ fn wrong_row(alloc: Global) -> Result<Option<usize>, AllocError> {
             universe: *universe,
             pairs: pairs.as_slice(),
         };
-        if !is_made_right(alloc, plain) {
+        if !is_made_right(alloc, plain)? {
             return Ok(Some(row));
         }
     }

@@ -1,7 +1,7 @@
 //! Indexes, queries and operations, as tests need them.
-use inverted::InvertedIndex;
+use inverted::{InvertedError, InvertedIndex};
 use std::alloc::{AllocError, Allocator};
-use test_alloc::asked;
+use test_alloc::{Operation, asked};
 use vers_sorted::elias_fano::EliasFanoVec;
 use vers_sorted::order::is_ascending;
 use vers_tally::tally::Tally;
@@ -15,6 +15,17 @@ pub fn listed<A: Allocator + Copy>(
         return Err(AllocError);
     }
     EliasFanoVec::from_slice(alloc, numbers)
+}
+
+/// Returns the index of these numbers, which ascend.
+pub fn numbered<A: Allocator + Copy>(
+    alloc: A,
+    terms: u64,
+    universe: u64,
+    numbers: &[u64],
+) -> Result<InvertedIndex<A>, InvertedError> {
+    let list = listed(alloc, numbers)?;
+    InvertedIndex::from_numbers(terms, universe, list)
 }
 
 /// Returns true if a list has these members.
@@ -86,25 +97,6 @@ pub fn has_list<A: Allocator + Copy>(index: &InvertedIndex<A>, term: u64, wanted
         && index.count_counted(term, &mut tally) == wanted.len() as u64
         && index.get(term, wanted.len()).is_none()
 }
-
-/// An operation on two terms.
-#[derive(Clone, Copy, Drop)]
-pub enum Operation {
-    Intersection,
-    Union,
-    Difference,
-    IntersectionOf,
-    UnionOf,
-}
-
-/// All operations.
-pub const OPERATIONS: [Operation; 5] = [
-    Operation::Intersection,
-    Operation::Union,
-    Operation::Difference,
-    Operation::IntersectionOf,
-    Operation::UnionOf,
-];
 
 /// Returns the result of an operation on two terms.
 pub fn combined<A: Allocator + Copy>(

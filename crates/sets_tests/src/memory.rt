@@ -1,21 +1,15 @@
 //! The calls that allocate, each of their requests refused in turn.
-use crate::shared::{OPERATIONS, Operation, combined, counted, has_members, listed};
+use crate::shared::{combined, counted, has_members, listed};
 use sets::{Cursor, collect};
 use std::alloc::{AllocError, Allocator, Global};
-use test_alloc::{Ending, LENGTHS, Making, Refusing, Trial, first_wrong_trial, try_making};
+use test_alloc::{
+    Ending, LENGTHS, Making, OPERATIONS, Operation, Refusing, Trial, evens, first_wrong_trial,
+    result_with_half, try_making,
+};
 use vers_sorted::elias_fano::EliasFanoVec;
 use vers_tally::tally::Tally;
 
 type Heap = Refusing<Global>;
-
-// Returns the first `n` even numbers.
-fn evens<A: Allocator + Copy>(alloc: A, n: usize) -> Result<Vec<u64, A>, AllocError> {
-    let mut numbers = Vec::new(alloc);
-    for k in 0..n as u64 {
-        numbers.push(k.wrapping_mul(2))?;
-    }
-    Ok(numbers)
-}
 
 // A call that makes a list.
 #[derive(Clone, Copy, Drop)]
@@ -78,14 +72,9 @@ impl<A: Allocator + Copy> Making for Combining<'_, A> {
 
 // Returns the members that a call makes of even numbers and of the second half of these.
 fn wanted_of<'a>(call: Call, evens: &'a [u64]) -> &'a [u64] {
-    let half = evens.len() / 2;
     match call {
         Call::Collect => evens,
-        Call::Plain(operation) | Call::Counted(operation) => match operation {
-            Operation::Union | Operation::UnionOf => evens,
-            Operation::Difference => &evens[..half],
-            Operation::Intersection | Operation::IntersectionOf => &evens[half..],
-        },
+        Call::Plain(operation) | Call::Counted(operation) => result_with_half(operation, evens),
     }
 }
 

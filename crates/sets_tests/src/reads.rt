@@ -1,7 +1,7 @@
 //! The reads of operations, which are within their bounds.
-use crate::shared::{Operation, counted, multiples};
+use crate::shared::{counted, multiples};
 use std::alloc::Global;
-use test_alloc::{asked, asked_both};
+use test_alloc::{Operation, asked, asked_both};
 use vers_sorted::elias_fano::EliasFanoVec;
 use vers_tally::tally::Tally;
 

@@ -1,8 +1,8 @@
 //! Rows that were worked out by hand.
-use crate::shared::{Operation, given, has_members, listed};
+use crate::shared::{given, has_members, listed};
 use sets::{intersection_of, union_of};
 use std::alloc::{AllocError, Global};
-use test_alloc::{asked, asked_both};
+use test_alloc::{Operation, asked, asked_both};
 use vers_sorted::elias_fano::EliasFanoVec;
 
 // Two lists, their intersection, union and difference, and the difference of the second and the first.

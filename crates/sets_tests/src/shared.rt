@@ -5,7 +5,7 @@ use sets::{
     union_of_numbers_counted,
 };
 use std::alloc::{AllocError, Allocator};
-use test_alloc::asked;
+use test_alloc::{Operation, asked};
 use vers_sorted::elias_fano::EliasFanoVec;
 use vers_sorted::order::is_ascending;
 use vers_tally::tally::Tally;
@@ -43,25 +43,6 @@ pub fn has_members<A: Allocator + Copy>(list: &EliasFanoVec<A>, wanted: &[u64]) 
     }
     list.len() == wanted.len()
 }
-
-/// An operation on two lists.
-#[derive(Clone, Copy, Drop)]
-pub enum Operation {
-    Intersection,
-    Union,
-    Difference,
-    IntersectionOf,
-    UnionOf,
-}
-
-/// All operations.
-pub const OPERATIONS: [Operation; 5] = [
-    Operation::Intersection,
-    Operation::Union,
-    Operation::Difference,
-    Operation::IntersectionOf,
-    Operation::UnionOf,
-];
 
 /// Returns the result of an operation on two lists.
 pub fn combined<A: Allocator + Copy>(

@@ -2,11 +2,17 @@
 #![tactic(auto)]
 
 mod asking;
+mod forms;
+mod looks;
+mod operations;
 mod rows;
 mod sizes;
 mod trials;
 
 pub use asking::{Step, asked, asked_both, asked_mut, first_wrong, first_wrong_step};
+pub use forms::{BITS, INVERTED, PACKED_SYMBOLS, POSTINGS, SYMBOLS, VALUES};
+pub use looks::{Look, bit_of};
+pub use operations::{OPERATIONS, Operation, evens, is_in_result, result_with_half};
 pub use rows::{WrongRow, answers_of, lines_of, wrong_row};
 pub use sizes::{SIZES, Size, Sizing, Spare, first_wrong_size, spare_of};
 use std::alloc::{AllocError, Allocator};

@@ -1,5 +1,6 @@
 //! Lists of bits that the tests run over.
 use std::alloc::{AllocError, Allocator};
+use test_alloc::{Look, bit_of};
 use vers_bits::bit_vec::{BitVec, GrowError};
 use word_rank::WordRank;
 
@@ -33,23 +34,6 @@ pub fn runs<A: Allocator + Copy>(
     runs: &[(bool, usize)],
 ) -> Result<WordRank<A>, AllocError> {
     ranked(bits_of_runs(alloc, runs))
-}
-
-/// The look of a list.
-#[derive(Clone, Copy, Drop)]
-pub enum Look {
-    Zeros,
-    Ones,
-    Mixed,
-}
-
-/// Returns the bit at a position.
-pub fn bit_of(look: Look, place: usize) -> bool {
-    match look {
-        Look::Zeros => false,
-        Look::Ones => true,
-        Look::Mixed => (place as u64).wrapping_mul(0x9E37_79B9_7F4A_7C15) >> 63 == 1,
-    }
 }
 
 /// Returns `len` bits of a look.

@@ -1,8 +1,8 @@
 //! The calls that allocate, each of their requests refused in turn, and the memory that a list takes.
-use crate::lists::{Look, bit_of, bits_of, ranked};
+use crate::lists::{bits_of, ranked};
 use std::alloc::{AllocError, Allocator, Global};
 use test_alloc::{
-    Check, Conversion, Ending, LENGTHS, Refusing, SIZES, Size, Sizing, Spare, Trial,
+    Check, Conversion, Ending, LENGTHS, Look, Refusing, SIZES, Size, Sizing, Spare, Trial, bit_of,
     first_wrong_size, first_wrong_trial, requests, spare_of, try_clone_checked, try_conversion,
 };
 use vers_bits::bit_vec::BitVec;

@@ -1,8 +1,8 @@
 //! Queries and their answers, by hand and by a count of the bits.
-use crate::lists::{Look, bit_of, bits_of, ranked, runs};
+use crate::lists::{bits_of, ranked, runs};
 use std::alloc::{AllocError, Allocator, Global};
 use std::test::Fail;
-use test_alloc::asked;
+use test_alloc::{Look, asked, bit_of};
 use vers_tally::tally::Tally;
 use word_rank::WordRank;
 

@@ -1,16 +1,12 @@
 //! Every query at every position compared with a plain list, around the ends of limbs, blocks and superblocks.
-use crate::tests::lists::{Look, bits_of, list_of, turned_at};
+use crate::tests::lists::{bits_of, list_of, turned_at};
 use crate::tests::plain::PlainList;
 use crate::tests::queries::{Query, is_right, queries_at};
 use std::alloc::{Allocator, Global};
 use std::test::Fail;
-use test_alloc::{asked, asked_both};
+use test_alloc::{Look, SIZES, asked, asked_both};
 use vers_bits::bit_vec::GrowError;
 use vers_rank::fast_rs_vec::{BitSetIter, RsVec};
-
-const LENGTHS: [usize; 15] = [
-    0, 1, 15, 16, 17, 63, 64, 65, 511, 512, 513, 8191, 8192, 8193, 16385,
-];
 
 const LOOKS: [Look; 4] = [Look::Zeros, Look::Ones, Look::Mixed, Look::Sparse];
 
@@ -183,7 +179,7 @@ fn chunks_are_right(alloc: Global, look: Look, len: usize) -> bool {
 
 // Returns the first length, and the row of the look, of which the walks by chunks miss a position.
 fn first_wrong_chunks(alloc: Global) -> Option<(usize, usize)> {
-    for len in LENGTHS.iter() {
+    for len in SIZES.iter() {
         for (row, look) in LOOKS.iter().enumerate() {
             if !chunks_are_right(alloc, *look, *len) {
                 return Some((*len, row));
@@ -225,7 +221,7 @@ fn first_unseen(alloc: Global, len: usize) -> Option<usize> {
 }
 
 fn first_unseen_of_all(alloc: Global) -> Option<(usize, usize)> {
-    for len in LENGTHS.iter() {
+    for len in SIZES.iter() {
         if let Some(place) = first_unseen(alloc, *len) {
             return Some((*len, place));
         }

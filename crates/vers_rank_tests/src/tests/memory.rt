@@ -1,12 +1,12 @@
 //! Every call that allocates, each of its requests refused in turn, and the calls that take none, of lists of
 //! every length.
 use crate::tests::iterators::Walk;
-use crate::tests::lists::{Look, Over, bit_of, bits_of, item_at, list_of};
+use crate::tests::lists::{Over, bits_of, item_at, list_of};
 use crate::tests::queries::{Query, answer, counted, queries_at};
 use std::alloc::{AllocError, Allocator, Global};
 use test_alloc::{
-    Check, Conversion, Ending, LENGTHS, Refusing, Step, Trial, first_wrong_trial, requests,
-    try_clone_checked, try_conversion, try_use_checked,
+    Check, Conversion, Ending, LENGTHS, Look, Refusing, Step, Trial, bit_of, first_wrong_trial,
+    requests, try_clone_checked, try_conversion, try_use_checked,
 };
 use vers_bits::bit_vec::{BitVec, GrowError};
 use vers_rank::fast_rs_vec::{RsVec, RsVecIter, SelectIntoIter};

@@ -1,8 +1,8 @@
 //! Mixtures of steps from both ends, over short lists and over lists longer than a limb, a block and a superblock.
 use crate::tests::iterators::wrong_walk;
-use crate::tests::lists::{Look, Over, item_at, list_of};
+use crate::tests::lists::{Over, item_at, list_of};
 use std::alloc::{AllocError, Allocator, Global};
-use test_alloc::{Step, asked};
+use test_alloc::{Look, Step, asked};
 use vers_rank::fast_rs_vec::RsVec;
 
 // Steps that are taken over and over, to the end and past it.

@@ -1,10 +1,11 @@
 //! Operations compared with a plain model, which tests each number.
 
 use crate::rattle::prelude::*;
-use crate::proved_tests::sets_tests::shared::{OPERATIONS, Operation, given};
+use crate::proved_tests::sets_tests::shared::given;
 use crate::rattle::AllocError;
 use crate::rattle::Allocator;
 use crate::rattle::Global;
+use crate::proved_tests::test_alloc::{OPERATIONS, Operation, is_in_result};
 
 // Numbers at both ends of the range, next to each other and apart.
 const NUMBERS: [u64; 6] = [0, 1, 7, 300, u64::MAX - 1, u64::MAX];
@@ -29,11 +30,7 @@ fn has(list: &[u64], x: u64) -> bool {
 // Returns true if x is in the result of an operation on two plain lists.
 fn is_in(operation: Operation, one: &[u64], other: &[u64], x: u64) -> bool {
     let (one, other) = (has(one, x), has(other, x));
-    match operation {
-        Operation::Intersection | Operation::IntersectionOf => one && other,
-        Operation::Union | Operation::UnionOf => one || other,
-        Operation::Difference => one && !other,
-    }
+    is_in_result(operation, one, other)
 }
 
 // Returns those of some ascending numbers that are in the result of an operation on two plain lists.

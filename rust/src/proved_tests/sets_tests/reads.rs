@@ -1,9 +1,9 @@
 //! The reads of operations, which are within their bounds.
 
 use crate::rattle::prelude::*;
-use crate::proved_tests::sets_tests::shared::{Operation, counted, multiples};
+use crate::proved_tests::sets_tests::shared::{counted, multiples};
 use crate::rattle::Global;
-use crate::proved_tests::test_alloc::{asked, asked_both};
+use crate::proved_tests::test_alloc::{Operation, asked, asked_both};
 use crate::proved::vers_sorted::elias_fano::EliasFanoVec;
 use crate::proved::vers_tally::tally::Tally;
 

@@ -1,11 +1,11 @@
 //! Rows that were worked out by hand.
 
 use crate::rattle::prelude::*;
-use crate::proved_tests::sets_tests::shared::{Operation, given, has_members, listed};
+use crate::proved_tests::sets_tests::shared::{given, has_members, listed};
 use crate::proved::sets::{intersection_of, union_of};
 use crate::rattle::AllocError;
 use crate::rattle::Global;
-use crate::proved_tests::test_alloc::{asked, asked_both};
+use crate::proved_tests::test_alloc::{Operation, asked, asked_both};
 use crate::proved::vers_sorted::elias_fano::EliasFanoVec;
 
 // Two lists, their intersection, union and difference, and the difference of the second and the first.

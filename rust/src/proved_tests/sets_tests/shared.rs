@@ -8,7 +8,7 @@ use crate::proved::sets::{
 };
 use crate::rattle::AllocError;
 use crate::rattle::Allocator;
-use crate::proved_tests::test_alloc::asked;
+use crate::proved_tests::test_alloc::{Operation, asked};
 use crate::proved::vers_sorted::elias_fano::EliasFanoVec;
 use crate::proved::vers_sorted::order::is_ascending;
 use crate::proved::vers_tally::tally::Tally;
@@ -46,25 +46,6 @@ pub fn has_members<A: Allocator + Copy>(list: &EliasFanoVec<A>, wanted: &[u64]) 
     }
     list.len() == wanted.len()
 }
-
-/// An operation on two lists.
-#[derive(Clone, Copy)]
-pub enum Operation {
-    Intersection,
-    Union,
-    Difference,
-    IntersectionOf,
-    UnionOf,
-}
-
-/// All operations.
-pub const OPERATIONS: [Operation; 5] = [
-    Operation::Intersection,
-    Operation::Union,
-    Operation::Difference,
-    Operation::IntersectionOf,
-    Operation::UnionOf,
-];
 
 /// Returns the result of an operation on two lists.
 pub fn combined<A: Allocator + Copy>(

@@ -3,6 +3,7 @@
 use crate::rattle::prelude::*;
 use crate::rattle::AllocError;
 use crate::rattle::Allocator;
+use crate::proved_tests::test_alloc::{Look, bit_of};
 use crate::proved::vers_bits::bit_vec::{BitVec, GrowError};
 use crate::proved::word_rank::WordRank;
 
@@ -36,23 +37,6 @@ pub fn runs<A: Allocator + Copy>(
     runs: &[(bool, usize)],
 ) -> Result<WordRank<A>, AllocError> {
     ranked(bits_of_runs(alloc, runs))
-}
-
-/// The look of a list.
-#[derive(Clone, Copy)]
-pub enum Look {
-    Zeros,
-    Ones,
-    Mixed,
-}
-
-/// Returns the bit at a position.
-pub fn bit_of(look: Look, place: usize) -> bool {
-    match look {
-        Look::Zeros => false,
-        Look::Ones => true,
-        Look::Mixed => (place as u64).wrapping_mul(0x9E37_79B9_7F4A_7C15) >> 63 == 1,
-    }
 }
 
 /// Returns `len` bits of a look.

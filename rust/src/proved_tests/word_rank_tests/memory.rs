@@ -1,12 +1,12 @@
 //! The calls that allocate, each of their requests refused in turn, and the memory that a list takes.
 
 use crate::rattle::prelude::*;
-use crate::proved_tests::word_rank_tests::lists::{Look, bit_of, bits_of, ranked};
+use crate::proved_tests::word_rank_tests::lists::{bits_of, ranked};
 use crate::rattle::AllocError;
 use crate::rattle::Allocator;
 use crate::rattle::Global;
 use crate::proved_tests::test_alloc::{
-    Check, Conversion, Ending, LENGTHS, Refusing, SIZES, Size, Sizing, Spare, Trial,
+    Check, Conversion, Ending, LENGTHS, Look, Refusing, SIZES, Size, Sizing, Spare, Trial, bit_of,
     first_wrong_size, first_wrong_trial, requests, spare_of, try_clone_checked, try_conversion,
 };
 use crate::proved::vers_bits::bit_vec::BitVec;

@@ -1,12 +1,12 @@
 //! Queries and their answers, by hand and by a count of the bits.
 
 use crate::rattle::prelude::*;
-use crate::proved_tests::word_rank_tests::lists::{Look, bit_of, bits_of, ranked, runs};
+use crate::proved_tests::word_rank_tests::lists::{bits_of, ranked, runs};
 use crate::rattle::AllocError;
 use crate::rattle::Allocator;
 use crate::rattle::Global;
 use crate::rattle::testing::Fail;
-use crate::proved_tests::test_alloc::asked;
+use crate::proved_tests::test_alloc::{Look, asked, bit_of};
 use crate::proved::vers_tally::tally::Tally;
 use crate::proved::word_rank::WordRank;
 

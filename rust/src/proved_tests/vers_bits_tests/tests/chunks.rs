@@ -6,11 +6,8 @@ use crate::proved_tests::vers_bits_tests::tests::assert_none_wrong;
 use crate::proved_tests::vers_bits_tests::tests::pattern::{bit, pattern};
 use crate::proved_tests::vers_bits_tests::tests::queries::{Change, is_made};
 use crate::rattle::Global;
+use crate::proved_tests::test_alloc::SIZES;
 use crate::proved::vers_bits::bit_vec::{BitVec, GrowError};
-
-const LENGTHS: [usize; 15] = [
-    0, 1, 15, 16, 17, 63, 64, 65, 511, 512, 513, 8191, 8192, 8193, 16385,
-];
 
 // Returns how many of the first positions of the pattern are ones.
 fn ones_of_pattern(len: usize) -> u64 {
@@ -65,7 +62,7 @@ fn is_right(made: Result<BitVec<Global>, GrowError>, len: usize) -> bool {
 
 // Returns the first length at which a list of the pattern is counted or compared wrongly.
 fn first_wrong_length(alloc: Global) -> Option<(usize, usize)> {
-    for len in &LENGTHS {
+    for len in &SIZES {
         if !is_right(pattern(alloc, 0, *len), *len) {
             return Some((*len, 0));
         }

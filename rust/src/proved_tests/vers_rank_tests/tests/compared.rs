@@ -1,19 +1,15 @@
 //! Every query at every position compared with a plain list, around the ends of limbs, blocks and superblocks.
 
 use crate::rattle::prelude::*;
-use crate::proved_tests::vers_rank_tests::tests::lists::{Look, bits_of, list_of, turned_at};
+use crate::proved_tests::vers_rank_tests::tests::lists::{bits_of, list_of, turned_at};
 use crate::proved_tests::vers_rank_tests::tests::plain::PlainList;
 use crate::proved_tests::vers_rank_tests::tests::queries::{Query, is_right, queries_at};
 use crate::rattle::Allocator;
 use crate::rattle::Global;
 use crate::rattle::testing::Fail;
-use crate::proved_tests::test_alloc::{asked, asked_both};
+use crate::proved_tests::test_alloc::{Look, SIZES, asked, asked_both};
 use crate::proved::vers_bits::bit_vec::GrowError;
 use crate::proved::vers_rank::fast_rs_vec::{BitSetIter, RsVec};
-
-const LENGTHS: [usize; 15] = [
-    0, 1, 15, 16, 17, 63, 64, 65, 511, 512, 513, 8191, 8192, 8193, 16385,
-];
 
 const LOOKS: [Look; 4] = [Look::Zeros, Look::Ones, Look::Mixed, Look::Sparse];
 
@@ -192,7 +188,7 @@ fn chunks_are_right(alloc: Global, look: Look, len: usize) -> bool {
 
 // Returns the first length, and the row of the look, of which the walks by chunks miss a position.
 fn first_wrong_chunks(alloc: Global) -> Option<(usize, usize)> {
-    for len in LENGTHS.iter() {
+    for len in SIZES.iter() {
         for (row, look) in LOOKS.iter().enumerate() {
             if !chunks_are_right(alloc, *look, *len) {
                 return Some((*len, row));
@@ -235,7 +231,7 @@ fn first_unseen(alloc: Global, len: usize) -> Option<usize> {
 }
 
 fn first_unseen_of_all(alloc: Global) -> Option<(usize, usize)> {
-    for len in LENGTHS.iter() {
+    for len in SIZES.iter() {
         if let Some(place) = first_unseen(alloc, *len) {
             return Some((*len, place));
         }

@@ -2,6 +2,7 @@
 
 use crate::rattle::prelude::*;
 use crate::rattle::Allocator;
+use crate::proved_tests::test_alloc::{Look, bit_of};
 use crate::proved::vers_bits::bit_vec::{BitVec, GrowError};
 use crate::proved::vers_rank::fast_rs_vec::RsVec;
 
@@ -43,25 +44,6 @@ pub fn spread<A: Allocator + Copy>(
 /// Returns the bits 10110, indexed.
 pub fn list_10110<A: Allocator + Copy>(alloc: A) -> Result<RsVec<A>, GrowError> {
     runs(alloc, &[(true, 1), (false, 1), (true, 2), (false, 1)])
-}
-
-/// The look of a list.
-#[derive(Clone, Copy)]
-pub enum Look {
-    Zeros,
-    Ones,
-    Mixed,
-    Sparse,
-}
-
-/// Returns the bit at a position.
-pub fn bit_of(look: Look, place: usize) -> bool {
-    match look {
-        Look::Zeros => false,
-        Look::Ones => true,
-        Look::Mixed => (place as u64).wrapping_mul(0x9E37_79B9_7F4A_7C15) >> 63 == 1,
-        Look::Sparse => place % 1000 == 999,
-    }
 }
 
 /// Returns `len` bits of a look.

@@ -3,14 +3,14 @@
 
 use crate::rattle::prelude::*;
 use crate::proved_tests::vers_rank_tests::tests::iterators::Walk;
-use crate::proved_tests::vers_rank_tests::tests::lists::{Look, Over, bit_of, bits_of, item_at, list_of};
+use crate::proved_tests::vers_rank_tests::tests::lists::{Over, bits_of, item_at, list_of};
 use crate::proved_tests::vers_rank_tests::tests::queries::{Query, answer, counted, queries_at};
 use crate::rattle::AllocError;
 use crate::rattle::Allocator;
 use crate::rattle::Global;
 use crate::proved_tests::test_alloc::{
-    Check, Conversion, Ending, LENGTHS, Refusing, Step, Trial, first_wrong_trial, requests,
-    try_clone_checked, try_conversion, try_use_checked,
+    Check, Conversion, Ending, LENGTHS, Look, Refusing, Step, Trial, bit_of, first_wrong_trial,
+    requests, try_clone_checked, try_conversion, try_use_checked,
 };
 use crate::proved::vers_bits::bit_vec::{BitVec, GrowError};
 use crate::proved::vers_rank::fast_rs_vec::{RsVec, RsVecIter, SelectIntoIter};

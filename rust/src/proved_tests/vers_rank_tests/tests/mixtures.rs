@@ -2,11 +2,11 @@
 
 use crate::rattle::prelude::*;
 use crate::proved_tests::vers_rank_tests::tests::iterators::wrong_walk;
-use crate::proved_tests::vers_rank_tests::tests::lists::{Look, Over, item_at, list_of};
+use crate::proved_tests::vers_rank_tests::tests::lists::{Over, item_at, list_of};
 use crate::rattle::AllocError;
 use crate::rattle::Allocator;
 use crate::rattle::Global;
-use crate::proved_tests::test_alloc::{Step, asked};
+use crate::proved_tests::test_alloc::{Look, Step, asked};
 use crate::proved::vers_rank::fast_rs_vec::RsVec;
 
 // Steps that are taken over and over, to the end and past it.
