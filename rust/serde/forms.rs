@@ -1,6 +1,7 @@
 //! Structures that are serialized come back as they were, and other bytes are refused by name.
 use serde::de::DeserializeOwned;
 use serde::Serialize;
+use vers_vecs::inverted::InvertedIndex;
 use vers_vecs::postings::Postings;
 use vers_vecs::saved::Saved;
 use vers_vecs::{BinaryRmq, BitVec, BpTree, EliasFanoVec, FastRmq, RsVec, SparseRSVec, WaveletMatrix};
@@ -32,6 +33,14 @@ fn all_structures_come_back() {
     comes_back(FastRmq::from_vec(vec![4, 2, 9]));
     comes_back(BpTree::<512>::from_bit_vector(BitVec::from_bits(&[1, 1, 0, 0])));
     comes_back(Postings::from_sorted(&[3, 8], &[1, 0]).unwrap());
+}
+
+#[test]
+fn an_inverted_index_comes_back() {
+    let index = InvertedIndex::from_pairs(3, 10, &[(0, 3), (0, 7), (2, 1)]).unwrap();
+    let bytes = bincode::serialize(&index).unwrap();
+    assert_eq!(bincode::deserialize::<InvertedIndex>(&bytes).unwrap().save(), index.save());
+    assert!(bincode::deserialize::<InvertedIndex>(&bytes[..bytes.len() - 1]).is_err());
 }
 
 #[test]

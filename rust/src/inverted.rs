@@ -33,6 +33,7 @@ use crate::error::{granted, BuildError};
 use crate::items::{clones, counted};
 use crate::proved::inverted as proved;
 use crate::rattle::Global;
+use crate::saved::saved;
 use std::fmt;
 
 /// Ascending lists of documents, one for each term. Terms and documents are numbers, and no list has an equal document
@@ -207,6 +208,7 @@ counted! { InvertedIndex, index:
 }
 
 clones!(InvertedIndex, index);
+saved!(InvertedIndex, index);
 
 impl fmt::Debug for InvertedIndex {
     fn fmt(&self, f: &mut fmt::Formatter<'_>) -> fmt::Result {

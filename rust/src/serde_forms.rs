@@ -1,5 +1,6 @@
 //! Serialization as saved forms, so that bytes from strangers are tested as [`Saved::load`] tests them.
 
+use crate::inverted::InvertedIndex;
 use crate::postings::Postings;
 use crate::saved::Saved;
 use crate::{BinaryRmq, BitVec, BpTree, EliasFanoVec, FastRmq, RsVec, SparseRSVec, WaveletMatrix};
@@ -64,5 +65,6 @@ forms! {
     [] BinaryRmq;
     [] FastRmq;
     [] Postings;
+    [] InvertedIndex;
     [const BLOCK_SIZE: usize] BpTree<BLOCK_SIZE>;
 }

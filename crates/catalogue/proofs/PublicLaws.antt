@@ -17,5 +17,5 @@ formed_has_kind (BlockValues values) other whole = refl
 formed_has_kind (TableValues values) other whole = refl
 formed_has_kind (Documents posted) other whole = refl
 formed_has_kind (IndexedText text) other whole = refl
-formed_has_kind (DocumentLists index) other whole = absurd whole
+formed_has_kind (DocumentLists index) other whole = refl
 formed_has_kind (PlainNumbers numbers) other whole = absurd whole

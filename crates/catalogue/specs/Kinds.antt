@@ -16,6 +16,7 @@ name_of kind.Tree = codes "tree"
 name_of kind.Postings = codes "postings"
 name_of kind.Binary = codes "binary"
 name_of kind.Text = codes "text"
+name_of kind.Inverted = codes "inverted"
 
 -- how many bits an item has in a saved form; for a tree, how many bits a block has
 abbrev pub width_of : Content → ℕ

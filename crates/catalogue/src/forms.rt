@@ -68,8 +68,9 @@ impl<A: Allocator + Copy> Structure<'_, A> {
             Structure::Fast(_) => Some(Kind::Fast),
             Structure::Binary(_) => Some(Kind::Binary),
             Structure::Postings(_) => Some(Kind::Postings),
+            Structure::Inverted(_) => Some(Kind::Inverted),
             Structure::Text(_) => Some(Kind::Text),
-            Structure::Inverted(_) | Structure::Numbers(_) => None,
+            Structure::Numbers(_) => None,
         }
     }
 
@@ -108,8 +109,9 @@ impl<A: Allocator + Copy> Structure<'_, A> {
             Structure::Fast(values) => saved_size(values),
             Structure::Binary(values) => saved_size(values),
             Structure::Postings(posted) => saved_size(posted),
+            Structure::Inverted(index) => saved_size(index),
             Structure::Text(text) => saved_size(text),
-            Structure::Inverted(_) | Structure::Numbers(_) => None,
+            Structure::Numbers(_) => None,
         }
     }
 
@@ -135,8 +137,9 @@ impl<A: Allocator + Copy> Structure<'_, A> {
             Structure::Fast(values) => bytes_of(alloc, values),
             Structure::Binary(values) => bytes_of(alloc, values),
             Structure::Postings(posted) => bytes_of(alloc, posted),
+            Structure::Inverted(index) => bytes_of(alloc, index),
             Structure::Text(text) => bytes_of(alloc, text),
-            Structure::Inverted(_) | Structure::Numbers(_) => Err(SaveError::NoForm),
+            Structure::Numbers(_) => Err(SaveError::NoForm),
         }
     }
 
@@ -165,8 +168,9 @@ impl<A: Allocator + Copy> Structure<'_, A> {
             Structure::Fast(values) => write_form(alloc, values, writer),
             Structure::Binary(values) => write_form(alloc, values, writer),
             Structure::Postings(posted) => write_form(alloc, posted, writer),
+            Structure::Inverted(index) => write_form(alloc, index, writer),
             Structure::Text(text) => write_form(alloc, text, writer),
-            Structure::Inverted(_) | Structure::Numbers(_) => Err(SaveError::NoForm),
+            Structure::Numbers(_) => Err(SaveError::NoForm),
         }
     }
 }

@@ -25,11 +25,13 @@ pub enum Kind {
     Binary,
     /// A text index.
     Text,
+    /// A list of documents for each term.
+    Inverted,
 }
 
 /// The kind of each code, which is its index here. From 1 to 7, and from 9 on, the codes are the numbers of saved
 /// forms; the two types that share the form of another one have 0 and 8.
-pub const KINDS: [Kind; 10] = [
+pub const KINDS: [Kind; 11] = [
     Kind::Growing,
     Kind::Bits,
     Kind::Sorted,
@@ -40,6 +42,7 @@ pub const KINDS: [Kind; 10] = [
     Kind::Postings,
     Kind::Binary,
     Kind::Text,
+    Kind::Inverted,
 ];
 
 impl Kind {
@@ -72,6 +75,7 @@ impl Kind {
             Kind::Postings => "postings",
             Kind::Binary => "binary",
             Kind::Text => "text",
+            Kind::Inverted => "inverted",
         }
     }
 }

@@ -1,6 +1,6 @@
 //! The structures of handles.
 ghost use Rattle.std.specs.Prelude.{◌≡◌, ◌≢◌, map, Some, None, IfOk, IfSome, IsErr, IsSome, option_map};
-ghost use Rattle.catalogue.specs.Contents.{PlainNumbers, content_of, length_of};
+ghost use Rattle.catalogue.specs.Contents.{PlainNumbers, content_of};
 ghost use Rattle.catalogue.specs.Queries.{answer as answer_of};
 ghost use Rattle.vers_c.specs.Answers.{IsToldAs};
 ghost use Rattle.vers_c.specs.Batches.{told_row};
@@ -35,16 +35,6 @@ pub enum Kept {
 }
 
 impl Kept {
-    /// Returns the number of items.
-    pub fn len(&self) -> u64
-        ensures { result ≡ length_of (content self.now) }
-    {
-        match self {
-            Kept::Tree(tree) => tree.len() as u64,
-            Kept::Other(structure) => structure.len(),
-        }
-    }
-
     /// Returns the answer to a query with three numbers.
     pub fn answer(&self, query: Query, a: u64, b: u64, c: u64) -> Answer
         ensures { result ≡ answer_of (content self.now) query a b c }

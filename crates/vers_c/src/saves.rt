@@ -182,6 +182,7 @@ fn load(alloc: Global, kind: Kind, bytes: &[u8]) -> Result<Kept, LoadError>
         Kind::Binary => loaded_as!(load_from_slice(alloc, bytes), Structure::Binary),
         Kind::Postings => loaded_as!(load_from_slice(alloc, bytes), Structure::Postings),
         Kind::Text => loaded_as!(load_text_from_slice(alloc, bytes), Structure::Text),
+        Kind::Inverted => loaded_as!(load_from_slice(alloc, bytes), Structure::Inverted),
     }
 }
 

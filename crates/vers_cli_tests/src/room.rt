@@ -56,7 +56,7 @@ struct Line {
     times: usize,
 }
 
-const LINES: [Line; 10] = [
+const LINES: [Line; 11] = [
     Line {
         start: b"bits ",
         below: 0,
@@ -115,6 +115,12 @@ const LINES: [Line; 10] = [
         start: b"postings",
         below: 10000000,
         text: b" 7",
+        times: 30000,
+    },
+    Line {
+        start: b"inverted 10000000 5",
+        below: 10000000,
+        text: b" 4",
         times: 30000,
     },
 ];

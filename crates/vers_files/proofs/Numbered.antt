@@ -1,6 +1,6 @@
 -- The kind that a number names.
 use Rattle.std.proofs.Common.{◌≡◌, ℕ, refl}
-use Rattle.vers_saved.specs.declared.kind.TheConstants.{SORTED_LISTS, SYMBOL_LISTS, SPARSE_LISTS, BLOCK_VALUES, POSTING_LISTS}
+use Rattle.vers_saved.specs.declared.kind.TheConstants.{SORTED_LISTS, SYMBOL_LISTS, SPARSE_LISTS, BLOCK_VALUES, POSTING_LISTS, INVERTED_LISTS}
 use Rattle.vers_saved.specs.Kinds.{tree_kind}
 use Rattle.vers_files.specs.Forms.{kind_numbered}
 
@@ -22,4 +22,7 @@ of_parentheses n e = rw e refl
 pub of_postings : (n : ℕ) → n ≡ 7 → kind_numbered n ≡ POSTING_LISTS
 of_postings n e = rw e refl
 
-pub ruleset kinds = (of_sorted, of_symbols, of_sparse, of_values, of_parentheses, of_postings)
+pub of_inverted : (n : ℕ) → n ≡ 10 → kind_numbered n ≡ INVERTED_LISTS
+of_inverted n e = rw e refl
+
+pub ruleset kinds = (of_sorted, of_symbols, of_sparse, of_values, of_parentheses, of_postings, of_inverted)

@@ -3,7 +3,7 @@ use Rattle.std.specs.Prelude.{ℕ, ◌==◌, ◌≡◌, ⊤, List, codes, slice_
 use Rattle.catalogue.specs.Contents.{Content, GrowingBits, TableValues, IndexedText}
 use Rattle.catalogue.specs.Forms.{Fits, HasSomeForm, IsSomeForm}
 use Rattle.vers_saved.specs.declared.kind.Kind.{Kind}
-use Rattle.vers_saved.specs.declared.kind.TheConstants.{SORTED, SYMBOLS, SPARSE, VALUES, PARENTHESES, POSTINGS, BIT_LISTS, SORTED_LISTS, SYMBOL_LISTS, SPARSE_LISTS, BLOCK_VALUES, POSTING_LISTS}
+use Rattle.vers_saved.specs.declared.kind.TheConstants.{SORTED, SYMBOLS, SPARSE, VALUES, PARENTHESES, POSTINGS, INVERTED, BIT_LISTS, SORTED_LISTS, SYMBOL_LISTS, SPARSE_LISTS, BLOCK_VALUES, POSTING_LISTS, INVERTED_LISTS}
 use Rattle.vers_saved.specs.declared.fault.LoadError.{LoadError}
 use Rattle.vers_saved.specs.declared.fault.LoadError.TheVariants.{TooShort, NotOurs, OtherVersion, OtherKind, BadLength, BadSum, BadPadding, NotAscending, NotAText, Memory, Read}
 use Rattle.vers_saved.specs.Format.{words_of}
@@ -26,6 +26,7 @@ kind_numbered number =
     else if number == VALUES then BLOCK_VALUES
     else if number == PARENTHESES then tree_kind 512
     else if number == POSTINGS then POSTING_LISTS
+    else if number == INVERTED then INVERTED_LISTS
     else BIT_LISTS
 
 -- the number of the kind that bytes name: their third word

@@ -12,7 +12,7 @@ use std::alloc::Allocator;
 use std::io::{ErrorKind, Read};
 use vers_cli::Source;
 use vers_saved::fault::LoadError;
-use vers_saved::kind::{PARENTHESES, POSTINGS, SORTED, SPARSE, SYMBOLS, VALUES};
+use vers_saved::kind::{INVERTED, PARENTHESES, POSTINGS, SORTED, SPARSE, SYMBOLS, VALUES};
 use vers_saved::stream::{fill, load as load_list};
 use vers_saved::trees::load_tree;
 
@@ -96,6 +96,7 @@ fn load_numbered<'a, A: Allocator + Copy, R: Source>(
         VALUES => loaded_as!(load_list(*alloc, reader), Structure::Fast),
         PARENTHESES => tree_of_reader(alloc, reader),
         POSTINGS => loaded_as!(load_list(*alloc, reader), Structure::Postings),
+        INVERTED => loaded_as!(load_list(*alloc, reader), Structure::Inverted),
         _ => loaded_as!(load_list(*alloc, reader), Structure::Bits),
     }
 }

@@ -26,8 +26,7 @@ pub enum SaveFault {
     Refused,
     /// The list is one of symbols of no bits, which have no saved form.
     NoBits,
-    /// The structure is an inverted index, which has no saved form, or has too many elements for one; or the text has
-    /// too many for an index.
+    /// The structure has too many elements for a saved form, or the text for an index.
     TooLong,
     /// The allocator refused a request.
     OutOfMemory,

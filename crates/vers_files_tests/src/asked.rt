@@ -1,6 +1,7 @@
 //! Lines about the list of a file, and files that are refused.
 use crate::files::{
-    BITS, OTHER_BLOCKS, OTHER_KIND, PACKED_SYMBOLS, POSTINGS, SORTED, SPARSE, SYMBOLS, TREE, VALUES,
+    BITS, INVERTED, OTHER_BLOCKS, OTHER_KIND, PACKED_SYMBOLS, POSTINGS, SORTED, SPARSE, SYMBOLS,
+    TREE, VALUES,
 };
 use std::alloc::Global;
 use std::process::Abort;
@@ -54,7 +55,7 @@ fn assert_answered(rt: &impl Abort, alloc: Global, file: &[u8], rows: &str) -> R
 
 #[test]
 fn a_list_is_held_before_the_first_line(rt: HostRuntime) -> Result<(), Fail> {
-    let cases: [(&[u8], &str); 8] = [
+    let cases: [(&[u8], &str); 9] = [
         (&BITS, "len -> 4; rank1 3 -> 2; select1 1 -> 2"),
         (&SORTED, "iter -> 4 4 9; rank 5 -> 2; get 9 -> none"),
         (&SPARSE, "len -> 12; iter1 -> 1 3 5; rank0 4 -> 2"),
@@ -63,6 +64,10 @@ fn a_list_is_held_before_the_first_line(rt: HostRuntime) -> Result<(), Fail> {
         (&PACKED_SYMBOLS, "iter_u64 -> 1 5 3; rank_u64 3 3 -> 1"),
         (&TREE, "size -> 3; close 0 -> 5; children 0 -> 1 3"),
         (&POSTINGS, "len -> 3; next 3 -> 5; cheapest 2 9 -> 5"),
+        (
+            &INVERTED,
+            "len -> 3; count 0 -> 2; next 2 0 -> 1; documents 0 -> 3 7; or 0 2 -> 1 3 7",
+        ),
     ];
     for (file, rows) in cases {
         assert_answered(&rt, rt.alloc(), file, rows)?;
@@ -112,7 +117,7 @@ fn flips_and_cuts_are_told(alloc: Global, file: &[u8]) -> bool {
 
 #[test]
 fn each_flip_and_each_cut_is_told(rt: HostRuntime) {
-    let files: [&[u8]; 8] = [
+    let files: [&[u8]; 9] = [
         &BITS,
         &SORTED,
         &SPARSE,
@@ -121,6 +126,7 @@ fn each_flip_and_each_cut_is_told(rt: HostRuntime) {
         &PACKED_SYMBOLS,
         &TREE,
         &POSTINGS,
+        &INVERTED,
     ];
     for file in files {
         assert!(rt; flips_and_cuts_are_told(rt.alloc(), file));

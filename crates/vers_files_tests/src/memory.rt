@@ -1,5 +1,5 @@
 //! Each request for memory refused in turn, and the memory of a file.
-use crate::files::{BITS, POSTINGS, SORTED, SPARSE, SYMBOLS, TREE, VALUES};
+use crate::files::{BITS, INVERTED, POSTINGS, SORTED, SPARSE, SYMBOLS, TREE, VALUES};
 use crate::places::holding;
 use std::alloc::{AllocError, Global};
 use std::test::Fail;
@@ -77,6 +77,7 @@ fn each_request_of_lines_refused(rt: HostRuntime) -> Result<(), Fail> {
     assert!(rt; are_asked_well(alloc, &SYMBOLS, "iter_u64 -> 1 5 3")?);
     assert!(rt; are_asked_well(alloc, &TREE, "size -> 3; children 0 -> 1 3")?);
     assert!(rt; are_asked_well(alloc, &POSTINGS, "cheapest 2 9 -> 5")?);
+    assert!(rt; are_asked_well(alloc, &INVERTED, "next 2 0 -> 1; documents 0 -> 3 7")?);
     Ok(())
 }
 
@@ -114,6 +115,7 @@ fn each_request_of_a_save_refused(rt: HostRuntime) {
     assert!(rt; is_saved_well(alloc, b"symbols 3 1 5 3", &SYMBOLS));
     assert!(rt; is_saved_well(alloc, b"tree 110100", &TREE));
     assert!(rt; is_saved_well(alloc, b"postings 2 7 5 3 9 3", &POSTINGS));
+    assert!(rt; is_saved_well(alloc, b"inverted 3 10 0 3 0 7 2 1", &INVERTED));
 }
 
 /// The number of bytes read at once.

@@ -1,7 +1,7 @@
 //! Load lines that are saved to a writer, and to a place of which each call fails in turn.
 ghost use Rattle.std.specs.Prelude.{[], IsErr, Some};
 
-use crate::files::{BITS, POSTINGS, SORTED, SPARSE, SYMBOLS, TREE, VALUES};
+use crate::files::{BITS, INVERTED, POSTINGS, SORTED, SPARSE, SYMBOLS, TREE, VALUES};
 use std::alloc::{AllocError, Global};
 use std::io;
 use std::io::Write;
@@ -23,6 +23,7 @@ fn load_lines_are_saved(rt: HostRuntime) {
     assert!(rt; is_saved_as(alloc, b"symbols 3 1 5 3", &SYMBOLS));
     assert!(rt; is_saved_as(alloc, b"tree 110100", &TREE));
     assert!(rt; is_saved_as(alloc, b"postings 2 7 5 3 9 3", &POSTINGS));
+    assert!(rt; is_saved_as(alloc, b"inverted 3 10 0 3 0 7 2 1", &INVERTED));
 }
 
 // Returns true if a line has this error, and nothing is written.

@@ -1,6 +1,7 @@
 //! The descriptions of files.
 use crate::files::{
-    BITS, INDEX, OTHER_KIND, PACKED_SYMBOLS, POSTINGS, SORTED, SPARSE, SYMBOLS, TREE, VALUES,
+    BITS, INDEX, INVERTED, OTHER_KIND, PACKED_SYMBOLS, POSTINGS, SORTED, SPARSE, SYMBOLS, TREE,
+    VALUES,
 };
 use std::alloc::Global;
 use vers_files::show;
@@ -36,6 +37,7 @@ fn files_are_shown(rt: HostRuntime) {
     assert!(rt; is_shown_as(alloc, &PACKED_SYMBOLS, "symbols", 3, 3, &SYMBOLS));
     assert!(rt; is_shown(alloc, &TREE, "tree", 6, 512));
     assert!(rt; is_shown(alloc, &POSTINGS, "postings", 3, 128));
+    assert!(rt; is_shown(alloc, &INVERTED, "inverted", 3, 64));
     assert!(rt; is_shown(alloc, &INDEX, "text", 2, 8));
 }
 

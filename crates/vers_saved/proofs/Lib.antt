@@ -10,10 +10,13 @@ pub mod SavedForms
 pub mod LimbLists
 pub mod RoundTrips
 pub mod Versions
+pub mod SortedParts
 pub mod SumTells
 pub mod WordLists
 pub mod Parentheses
 pub mod SparseLists
+pub mod SortedForms
+pub mod InvertedForms
 pub mod PostingLists
 pub mod SymbolLists
 pub mod SymbolLevels

@@ -17,7 +17,7 @@ first_limb w r bits begin h small =
     ]
 
 -- limb k of the first n bits of words
-limb-first : (ws : List ℕ) (n k : ℕ) → k < length ws → 64 * k ≤ n → get_or ws k 0 < 2 ^ 64 → (n - 64 * k < 64 → get_or ws k 0 < 2 ^ (n - 64 * k))
+pub limb-first : (ws : List ℕ) (n k : ℕ) → k < length ws → 64 * k ≤ n → get_or ws k 0 < 2 ^ 64 → (n - 64 * k < 64 → get_or ws k 0 < 2 ^ (n - 64 * k))
     → limb (take n (pack ws 64)) k ≡ get_or ws k 0
 unfolding limb
 limb-first ws n k inside from h small =
@@ -26,7 +26,7 @@ limb-first ws n k inside from h small =
     ap (λ l. number (take 64 l)) (sym (ap (λ m. drop (64 * k) (take m (pack ws 64))) whole) ∙ drop-take (64 * k) (n - 64 * k) (pack ws 64))
     ∙ first_limb (get_or ws k 0) (n - 64 * k) (drop (64 * k) (pack ws 64)) (rw place at (element ws 64 k inside)) h small
 
-ends_small : (ws : List ℕ) (n k : ℕ) → k < limb_count n → EndsPadded n ws → n - 64 * k < 64 → get_or ws k 0 < 2 ^ (n - 64 * k)
+pub ends_small : (ws : List ℕ) (n k : ℕ) → k < limb_count n → EndsPadded n ws → n - 64 * k < 64 → get_or ws k 0 < 2 ^ (n - 64 * k)
 ends_small ws n k h (inl whole) few = absurd (omega arith)
 ends_small ws n k h (inr small) few =
     let last : limb_count n - 1 ≡ k = omega arith in

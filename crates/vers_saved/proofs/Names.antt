@@ -20,13 +20,13 @@ pub use Rattle.std.specs.Simd.{first_chunks}
 pub use Rattle.vers_bits.proofs.PublicLaws.{any_default, count_at_select, element, equal_limbs, get_or-limbs, length-limbs, length-low_bits, length-packed, length-places, low_bits-add, low_bits_of_part, number-drop, number-low_bits, number-take, number_below, select_past, select_up}
 pub use Rattle.vers_bits.specs.Bits.{count, limb_count, limbs, low_bits, number, pack, part}
 unfoldable pub use Rattle.vers_bits.specs.Bits.{limb}
-pub use Rattle.vers_saved.specs.Faults.{at_version, packed_kind, words_in, version_said, fault_of, words_said, rows_of, row_bits, row_padded, said_tests, words_for, body_tests, first_failing, head_tests, in_order, item_bits, ordered_words, stands, takes_count, takes_width, tests_of, words_among}
-unfoldable pub use Rattle.vers_saved.specs.Faults.{version_fault, is_padded, is_summed, row_words}
-pub use Rattle.vers_saved.specs.Format.{bytes_of, head, level_words, posting_words, saved_size, sparse_words}
-unfoldable pub use Rattle.vers_saved.specs.Format.{bytes_word, check_sum, mix, saved, with_sum, word_bytes, words_of}
+pub use Rattle.vers_saved.specs.Faults.{are_of_sparse, at_version, count_in, first_count, has_first, in_steps, packed_kind, words_in, version_said, fault_of, words_said, rows_of, row_bits, row_padded, said_tests, words_for, body_tests, first_failing, head_tests, in_order, item_bits, ordered_words, stands, takes_count, takes_width, tests_of, words_among}
+unfoldable pub use Rattle.vers_saved.specs.Faults.{are_of_list, version_fault, is_padded, is_summed, row_words}
+pub use Rattle.vers_saved.specs.Format.{bits_in, bytes_of, head, level_words, posting_words, place_words, decoded_high, decoded_low, decoded_span, saved_size, sorted_words, sparse_words}
+unfoldable pub use Rattle.vers_saved.specs.Format.{bytes_word, check_sum, mix, decoded_members, saved, with_sum, word_bytes, words_of}
 pub use Rattle.vers_saved.specs.Kinds.{AreWords, ArePadded, EndsPadded, IsWhole, may_be_saved, tree_kind}
 pub use Rattle.vers_saved.specs.Streams.{IsRefused, IsRefusedAs}
-pub use Rattle.vers_saved.specs.declared.TheConstants.{FACTOR, LEVELS_VERSION, MAGIC, START, VERSION}
+pub use Rattle.vers_saved.specs.declared.TheConstants.{FACTOR, LEVELS_VERSION, PARTS_VERSION, MAGIC, START, VERSION}
 pub use Rattle.vers_saved.specs.declared.fault.LoadError.TheVariants.{BadLength, Memory, Read, TooShort}
 pub use Rattle.vers_saved.specs.declared.fault.LoadError.{LoadError}
 pub use Rattle.vers_saved.specs.declared.kind.Kind.{Kind}

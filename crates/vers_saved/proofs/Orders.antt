@@ -1,5 +1,5 @@
 -- Words in an order.
-use Rattle.vers_saved.proofs.Names.{◌≡◌, ℕ, zero, suc, ◌+◌, ◌-◌, ◌/◌, ◌<◌, ◌&&◌, Bool, true, List, [], ◌∷◌, ◌++◌, length, get_or, take, drop, refl, sym, ap, ◌∙◌, arith, take_more, get_or-take, get_or-drop, length-take, length-drop, take_all, each_next, words_among, stands, in_order, ordered_words}
+use Rattle.vers_saved.proofs.Names.{◌≡◌, ℕ, zero, suc, ◌+◌, ◌-◌, ◌/◌, ◌<◌, ◌&&◌, Bool, true, List, [], ◌∷◌, ◌++◌, length, get_or, take, drop, refl, sym, ap, ◌∙◌, arith, take_more, get_or-take, get_or-drop, length-take, length-drop, take_all, each_next, words_among, stands, in_steps, ordered_words}
 use Rattle.std.proofs.Math.Bool.{and_assoc, and_comm}
 use Rattle.vers_saved.specs.declared.kind.Order.{Order}
 
@@ -44,7 +44,7 @@ ordered_more o n words k holds before next long h so_far is_before is_next =
 
 -- the words that have to stand in an order
 pub ordered_end : (order : Order) (words : List ℕ) (end k : ℕ) → take end words ≡ ordered_words order words → k ≡ end - 1
-    → each_next (stands order) (take (suc k) words) ≡ in_order order words
+    → each_next (stands order) (take (suc k) words) ≡ in_steps order words
 ordered_end order words zero k is e = rw e (each_next-one (stands order) words ∙ ap (each_next (stands order)) is)
 ordered_end order words (suc end) k is e = let all : suc k ≡ suc end = omega (arith, e) in rw all (ap (each_next (stands order)) is)
 

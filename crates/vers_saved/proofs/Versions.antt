@@ -1,5 +1,6 @@
 -- Forms in the version that they name.
-use Rattle.vers_saved.proofs.Names.{if◌then◌else◌, ◌≡◌, ◌≢◌, ℕ, ◌&&◌, Bool, true, false, List, get_or, refl, sym, ap, subst, ◌∙◌, inl, inr, arith, None, eqb, cases_Bool, ne_eqb, eqb-true, words_of, saved, with_sum, Kind, first_failing, head_tests, at_version, packed_kind, version_said, words_in, fault_of, version_fault, IsWhole, VERSION}
+use Rattle.vers_saved.proofs.Names.{if◌then◌else◌, ◌≡◌, ◌≢◌, ℕ, ◌&&◌, Bool, true, false, List, get_or, refl, sym, ap, subst, ◌∙◌, inl, inr, arith, None, eqb, cases_Bool, ne_eqb, eqb-true, words_of, saved, with_sum, Kind, first_failing, head_tests, at_version, count_in, first_count, has_first, packed_kind, version_said, words_in, fault_of, version_fault, IsWhole, VERSION}
+use Rattle.std.proofs.Common.{ltb-true}
 use Rattle.vers_saved.specs.Kinds.{FormBy, IsForm, IsLoadedWhole, WholeBy}
 use Rattle.vers_saved.proofs.Forms.{all_passed}
 use Rattle.vers_saved.proofs.WordBytes.{words_of-bytes_of}
@@ -16,7 +17,7 @@ bounds_by true false kind h = h
 bounds_by true true kind h = (omega arith, h.1, h.2, h.3)
 
 pub bounds_at : (kind : Kind) (version : ℕ) → AreBounds kind → AreBounds (at_version kind version)
-bounds_at kind version h = bounds_by kind.by_levels (eqb version VERSION) kind h
+bounds_at kind version h = bounds_by (has_first kind) (eqb version VERSION) kind h
 
 number_by : (b first : Bool) (kind : Kind) → (at_by b first kind).number ≡ kind.number
 number_by false first kind = refl
@@ -24,7 +25,7 @@ number_by true false kind = refl
 number_by true true kind = refl
 
 pub number_at : (kind : Kind) (version : ℕ) → (at_version kind version).number ≡ kind.number
-number_at kind version = number_by kind.by_levels (eqb version VERSION) kind
+number_at kind version = number_by (has_first kind) (eqb version VERSION) kind
 
 -- a form names its version
 pub said_version : (kind : Kind) (count width : ℕ) (words bytes : List ℕ) → AreBounds kind → IsWhole kind count width words → bytes ≡ saved kind.version kind.number count width words → version_said bytes ≡ kind.version
@@ -61,37 +62,43 @@ form_named kind used version count width words bytes bounds is is_version form w
     )
 
 -- what is loaded of a form
-form_by : (b first : Bool) (kind : Kind) (count width : ℕ) (words packed bytes : List ℕ) → bytes ≡ saved (at_by b first kind).version kind.number count width (if b && first then packed else words)
-    → IsWhole (at_by b first kind) count width (if b && first then packed else words) → FormBy b kind count width words packed bytes × WholeBy b kind count width words packed
+form_by : (b first : Bool) (kind : Kind) (count width : ℕ) (words packed bytes : List ℕ)
+    → bytes ≡ saved (at_by b first kind).version kind.number (if b && first then first_count kind count packed else count) width (if b && first then packed else words)
+    → IsWhole (at_by b first kind) (if b && first then first_count kind count packed else count) width (if b && first then packed else words)
+    → FormBy b kind count width words packed bytes × WholeBy b kind count width words packed
 form_by false first kind count width words packed bytes form whole = (form, whole)
 form_by true false kind count width words packed bytes form whole = (inl (form, whole), inl whole)
 form_by true true kind count width words packed bytes form whole = (inr (form, whole), inr whole)
 
-pub form_is : (kind : Kind) (version count width : ℕ) (words packed bytes : List ℕ) → bytes ≡ saved (at_version kind version).version kind.number count width (words_in kind version words packed)
-    → IsWhole (at_version kind version) count width (words_in kind version words packed) → IsForm kind count width words packed bytes × IsLoadedWhole kind count width words packed
-form_is kind version count width words packed bytes form whole = form_by kind.by_levels (eqb version VERSION) kind count width words packed bytes form whole
+pub form_is : (kind : Kind) (version count width : ℕ) (words packed bytes : List ℕ) → bytes ≡ saved (at_version kind version).version kind.number (count_in kind version count packed) width (words_in kind version words packed)
+    → IsWhole (at_version kind version) (count_in kind version count packed) width (words_in kind version words packed) → IsForm kind count width words packed bytes × IsLoadedWhole kind count width words packed
+form_is kind version count width words packed bytes form whole = form_by (has_first kind) (eqb version VERSION) kind count width words packed bytes form whole
 
 -- the latest version, and the first
-pub latest : (kind : Kind) (words packed : List ℕ) → (kind.by_levels ≡ true → kind.version ≢ 1) → (at_version kind kind.version ≡ kind) × (words_in kind kind.version words packed ≡ words)
-latest kind words packed later = elim (cases_Bool kind.by_levels) [
-  | inl levels ↦ let other : eqb kind.version VERSION ≡ false = ne_eqb kind.version VERSION (later levels) in rw (levels, other) (refl, refl)
-  | inr flat ↦ rw flat (refl, refl)
+pub latest : (kind : Kind) (count : ℕ) (words packed : List ℕ)
+    → (at_version kind kind.version ≡ kind) × (words_in kind kind.version words packed ≡ words) × (count_in kind kind.version count packed ≡ count)
+latest kind count words packed = elim (cases_Bool (has_first kind)) [
+  | inl later ↦
+      let other : eqb kind.version VERSION ≡ false = ne_eqb kind.version VERSION (λ e. absurd (omega (arith, e, ltb-true VERSION kind.version later))) in
+      rw (later, other) (refl, refl, refl)
+  | inr only ↦ rw only (refl, refl, refl)
 ]
 
-pub first_version : (kind : Kind) (words packed : List ℕ) → kind.by_levels ≡ true → (at_version kind 1 ≡ packed_kind kind) × (words_in kind 1 words packed ≡ packed)
-first_version kind words packed levels = rw levels (refl, refl)
+pub first_version : (kind : Kind) (count : ℕ) (words packed : List ℕ) → has_first kind ≡ true
+    → (at_version kind 1 ≡ packed_kind kind) × (words_in kind 1 words packed ≡ packed) × (count_in kind 1 count packed ≡ first_count kind count packed)
+first_version kind count words packed later = rw later (refl, refl, refl)
 
 -- a form of the latest version, and one of the first, in the version that it names
-pub latest_form : (kind : Kind) (count width : ℕ) (words bytes : List ℕ) → (kind.by_levels ≡ true → kind.version ≢ 1) → IsWhole kind count width words → bytes ≡ saved kind.version kind.number count width words
+pub latest_form : (kind : Kind) (count width : ℕ) (words bytes : List ℕ) → IsWhole kind count width words → bytes ≡ saved kind.version kind.number count width words
     → (kind.version ≡ (at_version kind kind.version).version) × IsWhole (at_version kind kind.version) count width words × (bytes ≡ saved (at_version kind kind.version).version kind.number count width words)
-latest_form kind count width words bytes later whole form =
-    let same = (latest kind words words later).0 in
+latest_form kind count width words bytes whole form =
+    let same = (latest kind count words words).0 in
     (ap (λ (k : Kind). k.version) (sym same), subst (λ k. IsWhole k count width words) (sym same) whole, form ∙ ap (λ (k : Kind). saved k.version kind.number count width words) (sym same))
 
-pub first_form : (kind : Kind) (count width : ℕ) (words bytes : List ℕ) → kind.by_levels ≡ true → IsWhole (packed_kind kind) count width words → bytes ≡ saved 1 kind.number count width words
+pub first_form : (kind : Kind) (count width : ℕ) (words bytes : List ℕ) → has_first kind ≡ true → IsWhole (packed_kind kind) count width words → bytes ≡ saved 1 kind.number count width words
     → (1 ≡ (at_version kind 1).version) × IsWhole (at_version kind 1) count width words × (bytes ≡ saved (at_version kind 1).version kind.number count width words)
 first_form kind count width words bytes levels whole form =
-    let same = (first_version kind words words levels).0 in
+    let same = (first_version kind count words words levels).0 in
     (ap (λ (k : Kind). k.version) (sym same), subst (λ k. IsWhole k count width words) (sym same) whole, form ∙ ap (λ (k : Kind). saved k.version kind.number count width words) (sym same))
 
 -- one form is of one version, of one shape and the same words
@@ -106,16 +113,16 @@ one_named kind v c w v' c' w' xs ys bytes bounds named named' hx hy e f =
     (f ∙ ap (λ (k : Kind). saved k.version kind.number c' w' ys) kinds ∙ ap (λ n. saved (at_version kind v).version n c' w' ys) number) in
     (same, one.0, one.1, one.2)
 
-pub chosen : (kind : Kind) (version : ℕ) → kind.by_levels ≡ true → version ≡ 1 → at_version kind version ≡ packed_kind kind
-chosen kind version levels is = rw (levels, is) refl
+pub chosen : (kind : Kind) (version : ℕ) → has_first kind ≡ true → version ≡ 1 → at_version kind version ≡ packed_kind kind
+chosen kind version later is = rw (later, is) refl
 
-pub not_levels : (kind : Kind) (version : ℕ) → kind.by_levels ≡ false → at_version kind version ≡ kind
-not_levels kind version flat = rw flat refl
+pub not_later : (kind : Kind) (version : ℕ) → has_first kind ≡ false → at_version kind version ≡ kind
+not_later kind version only = rw only refl
 
 pub not_first : (kind : Kind) (version : ℕ) → version ≢ 1 → at_version kind version ≡ kind
-not_first kind version other = elim (cases_Bool kind.by_levels) [
-  | inl levels ↦ let off : eqb version VERSION ≡ false = ne_eqb version VERSION other in rw (levels, off) refl
-  | inr flat ↦ rw flat refl
+not_first kind version other = elim (cases_Bool (has_first kind)) [
+  | inl later ↦ let off : eqb version VERSION ≡ false = ne_eqb version VERSION other in rw (later, off) refl
+  | inr only ↦ rw only refl
 ]
 
-pub ruleset versions = (chosen, not_levels, not_first)
+pub ruleset versions = (chosen, not_later, not_first)

@@ -1,15 +1,17 @@
 -- Why bytes are no saved form: the first test of some that fails.
-use Rattle.std.specs.Prelude.{ℕ, zero, suc, ◌+◌, ◌*◌, ◌/◌, ◌%◌, ◌^◌, ◌==◌, ◌&&◌, ◌||◌, Bool, true, false, List, [], ◌∷◌, ◌++◌, length, take, drop, slice_index, nat_lt, nat_le, Option, None, Some, if◌then◌else◌}
+use Rattle.std.specs.Prelude.{ℕ, zero, suc, ◌+◌, ◌*◌, ◌/◌, ◌%◌, ◌^◌, ◌==◌, ◌&&◌, ◌||◌, Bool, true, false, List, [], ◌∷◌, ◌++◌, length, take, drop, slice_index, nat_eq, nat_lt, nat_le, Option, None, Some, if◌then◌else◌}
 use Rattle.vers_bits.specs.Bits.{limb_count}
-use Rattle.vers_sorted.specs.Sorted.{each_next}
+use Rattle.std.specs.Cmp.Lexicographic.{pointwise}
+use Rattle.std.specs.List.{list_all}
+use Rattle.vers_sorted.specs.Sorted.{each_next, order_of}
 use Rattle.vers_saved.specs.declared.TheConstants.{MAGIC, VERSION}
 use Rattle.vers_saved.specs.declared.kind.Kind.{Kind}
 use Rattle.vers_saved.specs.declared.kind.TheConstants.{GREATEST_WORDS}
 use Rattle.vers_saved.specs.declared.kind.Order.{Order}
-use Rattle.vers_saved.specs.declared.kind.Order.TheVariants.{Any, Ascending, Rising, HalfRising}
+use Rattle.vers_saved.specs.declared.kind.Order.TheVariants.{Any, Ascending, Rising, HalfRising, Parts, RisingParts, InvertedParts}
 use Rattle.vers_saved.specs.declared.fault.LoadError.{LoadError}
 use Rattle.vers_saved.specs.declared.fault.LoadError.TheVariants.{TooShort, NotOurs, OtherVersion, OtherKind, BadLength, BadSum, BadPadding, NotAscending}
-use Rattle.vers_saved.specs.Format.{words_of, saved_size, check_sum}
+use Rattle.vers_saved.specs.Format.{words_of, saved_size, check_sum, decoded_members, sorted_words}
 
 -- the error of the first test that fails, or `None` if all pass
 abbrev pub first_failing : List (Bool × LoadError) → Option LoadError
@@ -67,6 +69,9 @@ stands Any = λ before next. true
 stands Ascending = nat_le
 stands Rising = nat_lt
 stands HalfRising = nat_lt
+stands Parts = λ before next. true
+stands RisingParts = λ before next. true
+stands InvertedParts = λ before next. true
 
 -- the words that have to be in an order: none, all of them, or the first half
 abbrev pub ordered_words : Order → List ℕ → List ℕ
@@ -74,10 +79,36 @@ ordered_words Any words = []
 ordered_words Ascending words = words
 ordered_words Rising words = words
 ordered_words HalfRising words = take (length words / 2) words
+ordered_words Parts words = []
+ordered_words RisingParts words = []
+ordered_words InvertedParts words = []
 
 -- whether each of the words is in an order with the next one
+abbrev pub in_steps : Order → List ℕ → Bool
+in_steps order words = each_next (stands order) (ordered_words order words)
+
+-- whether the words are those of the list that they say, which ascends, strictly if `rising`
+unfoldable pub are_of_list : (rising : Bool) → List ℕ → Bool
+are_of_list rising words = each_next (order_of rising) (decoded_members words) && pointwise nat_eq (sorted_words (decoded_members words)) words
+
+-- whether they are a length, and the words of a list that ascends strictly and is below the length
+abbrev pub are_of_sparse : List ℕ → Bool
+are_of_sparse words = are_of_list true (drop 1 words) && list_all (λ place. nat_lt place (slice_index words 0)) (decoded_members (drop 1 words))
+
+-- the number that all numbers of an inverted index are below: the product of the first two words
+abbrev pub end_of_numbers : List ℕ → ℕ
+end_of_numbers words = slice_index words 0 * slice_index words 1
+
+-- whether they are two numbers whose product has 64 bits, and the words of a list that ascends strictly and is below the product
+abbrev pub are_of_inverted : List ℕ → Bool
+are_of_inverted words = nat_lt (end_of_numbers words) (2 ^ 64) && are_of_sparse (end_of_numbers words ∷ drop 2 words)
+
+-- whether the words are in the order of a kind, or are those of an ascending list or of its parts
 abbrev pub in_order : Order → List ℕ → Bool
-in_order order words = each_next (stands order) (ordered_words order words)
+in_order Parts words = are_of_list false words
+in_order RisingParts words = are_of_sparse words
+in_order InvertedParts words = are_of_inverted words
+in_order order words = in_steps order words
 
 -- how many words the content has, as the head of these words says
 abbrev pub words_said : Kind → List ℕ → ℕ
@@ -123,6 +154,20 @@ version_fault kind bytes = first_failing (tests_of kind (length bytes) (words_of
 abbrev pub version_said : List ℕ → ℕ
 version_said bytes = slice_index (words_of bytes) 1
 
+-- whether a later version of the kind has another form than the first
+abbrev pub has_first : Kind → Bool
+has_first kind = nat_lt VERSION kind.version
+
+-- the order of the words of the first version, which are the elements themselves if those of the later one are parts
+abbrev pub first_order : Order → Order
+first_order Parts = Ascending
+first_order RisingParts = Rising
+first_order order = order
+
+-- how many items the first version counts: as many as the later one if its items are in levels, otherwise the words
+abbrev pub first_count : Kind → (count : ℕ) → (packed : List ℕ) → ℕ
+first_count kind count packed = if kind.by_levels then count else length packed
+
 -- lists of this kind whose items are one after another, as in the first version
 abbrev pub packed_kind : Kind → Kind
 packed_kind kind = record {
@@ -134,16 +179,20 @@ packed_kind kind = record {
   by_levels = false;
   least_count = kind.least_count;
   greatest_count = kind.greatest_count;
-  order = kind.order;
+  order = first_order kind.order;
 }
 
--- the kind in a version: that of lists by levels has a first version
+-- the kind in a version
 abbrev pub at_version : Kind → ℕ → Kind
-at_version kind version = if kind.by_levels && (version == VERSION) then packed_kind kind else kind
+at_version kind version = if has_first kind && (version == VERSION) then packed_kind kind else kind
 
--- the words in a version: the first has others if the kind has lists by levels
+-- the words in a version
 abbrev pub words_in : Kind → ℕ → (words packed : List ℕ) → List ℕ
-words_in kind version words packed = if kind.by_levels && (version == VERSION) then packed else words
+words_in kind version words packed = if has_first kind && (version == VERSION) then packed else words
+
+-- how many items a version counts
+abbrev pub count_in : Kind → ℕ → (count : ℕ) → (packed : List ℕ) → ℕ
+count_in kind version count packed = if has_first kind && (version == VERSION) then first_count kind count packed else count
 
 -- the error in bytes as the saved form of a list of that kind, in the version that they name, or `None` if they are one
 abbrev pub fault_of : Kind → List ℕ → Option LoadError

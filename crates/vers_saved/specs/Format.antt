@@ -1,15 +1,17 @@
 -- The saved form of a list: words of 64 bits, each as its eight bytes with the lowest first.
 -- First a head of five words, then words that hold the list, then a sum of all words before it.
-use Rattle.std.specs.Prelude.{ℕ, ◌+◌, ◌*◌, ◌/◌, ◌%◌, ◌^◌, Bool, true, List, [], ◌∷◌, ◌++◌, length, map, fold, flat_map, bit_xor}
+use Rattle.std.specs.Prelude.{ℕ, ◌+◌, ◌-◌, ◌*◌, ◌/◌, ◌%◌, ◌^◌, Bool, true, List, [], ◌∷◌, ◌++◌, length, map, fold, flat_map, bit_xor, take, drop, slice_index}
 use Rattle.std.specs.Int.{w64, to_le_bytes, from_le_bytes, rotate_left}
 use Rattle.std.specs.Simd.{first_chunks}
-use Rattle.vers_bits.specs.Bits.{limbs, pack, places}
+use Rattle.vers_bits.specs.Bits.{limb_count, limbs, pack, places}
+use Rattle.vers_sorted.specs.Layout.{first_of, last_of, low_count, high_count, low_parts, high_parts, members, width}
 use Rattle.vers_wavelet.specs.Makers.{symbol_levels}
-use Rattle.vers_saved.specs.declared.kind.TheConstants.{BITS, SORTED, SYMBOLS, SPARSE, VALUES, PARENTHESES, POSTINGS, TEXTS}
+use Rattle.vers_saved.specs.declared.kind.TheConstants.{BITS, SORTED, SYMBOLS, SPARSE, VALUES, PARENTHESES, POSTINGS, TEXTS, INVERTED}
 use Rattle.postings.specs.Posted.{Posted}
+use Rattle.inverted.specs.Lists.{Lists}
 use Rattle.text_index.specs.Texts.{Text, row_of}
 use Rattle.text_index.specs.Sizes.{column_of, kept_rows}
-use Rattle.vers_saved.specs.declared.TheConstants.{MAGIC, VERSION, LEVELS_VERSION, START, FACTOR, TURN}
+use Rattle.vers_saved.specs.declared.TheConstants.{MAGIC, VERSION, LEVELS_VERSION, PARTS_VERSION, START, FACTOR, TURN}
 
 -- the eight bytes of a word, the lowest first
 unfoldable pub word_bytes : ℕ → List ℕ
@@ -55,9 +57,36 @@ saved_size n = 8 * (n + 6)
 abbrev pub saved_bits : List Bool → List ℕ
 saved_bits bits = saved VERSION BITS (length bits) 1 (limbs bits)
 
--- the saved form of an ascending list: each element as a word
+-- the words of an ascending list: its length, its first and its last element, the limbs of its low and of its high parts
+abbrev pub sorted_words : List ℕ → List ℕ
+sorted_words members = length members ∷ first_of members ∷ last_of members ∷ limbs (low_parts members) ++ limbs (high_parts members)
+
+-- the saved form of an ascending list: its parts
 abbrev pub saved_sorted : List ℕ → List ℕ
-saved_sorted members = saved VERSION SORTED (length members) 64 members
+saved_sorted members = saved PARTS_VERSION SORTED (length (sorted_words members)) 64 (sorted_words members)
+
+-- the first version of that form: each element as a word
+abbrev pub listed_form : List ℕ → List ℕ
+listed_form members = saved VERSION SORTED (length members) 64 members
+
+-- the first n bits that words contain
+abbrev pub bits_in : ℕ → List ℕ → List Bool
+bits_in n words = take n (pack words 64)
+
+-- how far the last element is above the first, decoded from the words of a list
+abbrev pub decoded_span : List ℕ → ℕ
+decoded_span words = slice_index words 2 - slice_index words 1
+
+-- the low parts decoded from these words, and the high parts, which begin with a word
+abbrev pub decoded_low : List ℕ → List Bool
+decoded_low words = bits_in (low_count (slice_index words 0) (decoded_span words)) (drop 3 words)
+
+abbrev pub decoded_high : List ℕ → List Bool
+decoded_high words = bits_in (high_count (slice_index words 0) (decoded_span words)) (drop (3 + limb_count (low_count (slice_index words 0) (decoded_span words))) words)
+
+-- the elements decoded from these words
+unfoldable pub decoded_members : List ℕ → List ℕ
+decoded_members words = members (decoded_high words) (decoded_low words) (slice_index words 1) (width (slice_index words 0) (decoded_span words)) (slice_index words 0)
 
 -- the words of symbols of a width: the limbs of each level
 abbrev pub level_words : ℕ → List ℕ → List ℕ
@@ -71,13 +100,21 @@ saved_symbols width items = saved LEVELS_VERSION SYMBOLS (length items) width (l
 abbrev pub packed_form : ℕ → List ℕ → List ℕ
 packed_form width items = saved VERSION SYMBOLS (length items) width (limbs (pack items width))
 
--- the words of a sparse list of bits: the positions of the ones, and the length
+-- the words of a sparse list of bits: the length, and the words of the list of the ones' positions
 abbrev pub sparse_words : List Bool → List ℕ
-sparse_words bits = places true bits ++ length bits ∷ []
+sparse_words bits = length bits ∷ sorted_words (places true bits)
 
 -- the saved form of a list of bits with few ones
 abbrev pub saved_sparse : List Bool → List ℕ
-saved_sparse bits = saved VERSION SPARSE (length (sparse_words bits)) 64 (sparse_words bits)
+saved_sparse bits = saved PARTS_VERSION SPARSE (length (sparse_words bits)) 64 (sparse_words bits)
+
+-- the words of the first version: the positions of the ones, and the length
+abbrev pub place_words : List Bool → List ℕ
+place_words bits = places true bits ++ length bits ∷ []
+
+-- the first version of that form
+abbrev pub places_form : List Bool → List ℕ
+places_form bits = saved VERSION SPARSE (length (place_words bits)) 64 (place_words bits)
 
 -- the saved form of numbers in any order: each as a word
 abbrev pub saved_values : List ℕ → List ℕ
@@ -114,3 +151,11 @@ text_words text = text_numbers text ++ column_limbs text ++ row_limbs text
 -- the saved form of the index of a text
 abbrev pub saved_text : Text → List ℕ
 saved_text text = saved VERSION TEXTS (length (text_words text)) text.width (text_words text)
+
+-- the words of an inverted index: the number of terms, the number that all documents are below, and the words of the list of all numbers
+abbrev pub inverted_words : Lists → List ℕ
+inverted_words index = length index.lists ∷ index.universe ∷ sorted_words index.numbers
+
+-- the saved form of an inverted index
+abbrev pub saved_inverted : Lists → List ℕ
+saved_inverted index = saved VERSION INVERTED (length (inverted_words index)) 64 (inverted_words index)

@@ -8,7 +8,7 @@ use Rattle.vers_saved.specs.declared.kind.TheConstants.{GREATEST_WORDS, PARENTHE
 use Rattle.text_index.specs.Texts.{Text}
 use Rattle.text_index.specs.Columns.{IsIndexable}
 use Rattle.vers_trees.specs.declared.trees.bp.TheConstants.{MAX_BLOCK_SIZE}
-use Rattle.vers_saved.specs.Faults.{takes_width, takes_count, rows_of, row_bits, words_for, packed_kind, in_order}
+use Rattle.vers_saved.specs.Faults.{takes_width, takes_count, rows_of, row_bits, words_for, packed_kind, has_first, first_count, in_order}
 use Rattle.vers_saved.specs.Format.{saved}
 
 -- the last of n bits ends a word, or its word has no one past it
@@ -53,22 +53,22 @@ tree_kind size = record {
 abbrev pub HasTextForm : Text → Type 0
 HasTextForm text = IsIndexable text × (text.step < 2 ^ 64)
 
--- `IsForm` by whether the items are in levels
-abbrev pub FormBy : (by_levels : Bool) → Kind → (count width : ℕ) → (words packed bytes : List ℕ) → Type 0
+-- `IsForm` by whether there is a first version
+abbrev pub FormBy : (has_first : Bool) → Kind → (count width : ℕ) → (words packed bytes : List ℕ) → Type 0
 FormBy false kind count width words packed bytes = bytes ≡ saved kind.version kind.number count width words
 FormBy true kind count width words packed bytes =
     ((bytes ≡ saved kind.version kind.number count width words) × IsWhole kind count width words)
-    ⊎ ((bytes ≡ saved VERSION kind.number count width packed) × IsWhole (packed_kind kind) count width packed)
+    ⊎ ((bytes ≡ saved VERSION kind.number (first_count kind count packed) width packed) × IsWhole (packed_kind kind) (first_count kind count packed) width packed)
 
--- the bytes are the saved form of a list of this kind; if its items are in levels, perhaps that of the first version, whose words are `packed`
+-- the bytes are the saved form of a list of this kind, perhaps that of the first version, whose words are `packed`
 abbrev pub IsForm : Kind → (count width : ℕ) → (words packed bytes : List ℕ) → Type 0
-IsForm kind count width words packed bytes = FormBy kind.by_levels kind count width words packed bytes
+IsForm kind count width words packed bytes = FormBy (has_first kind) kind count width words packed bytes
 
--- `IsLoadedWhole` by whether the items are in levels
-abbrev pub WholeBy : (by_levels : Bool) → Kind → (count width : ℕ) → (words packed : List ℕ) → Type 0
+-- `IsLoadedWhole` by whether there is a first version
+abbrev pub WholeBy : (has_first : Bool) → Kind → (count width : ℕ) → (words packed : List ℕ) → Type 0
 WholeBy false kind count width words packed = IsWhole kind count width words
-WholeBy true kind count width words packed = IsWhole kind count width words ⊎ IsWhole (packed_kind kind) count width packed
+WholeBy true kind count width words packed = IsWhole kind count width words ⊎ IsWhole (packed_kind kind) (first_count kind count packed) width packed
 
--- a list is whole as one of this kind; if its items are in levels, perhaps as one of the first version
+-- a list is whole as one of this kind, perhaps as one of the first version
 abbrev pub IsLoadedWhole : Kind → (count width : ℕ) → (words packed : List ℕ) → Type 0
-IsLoadedWhole kind count width words packed = WholeBy kind.by_levels kind count width words packed
+IsLoadedWhole kind count width words packed = WholeBy (has_first kind) kind count width words packed

@@ -5,10 +5,11 @@ use Rattle.vers_bits.specs.Bits.{count, limb_count}
 use Rattle.vers_bits.specs.declared.bit_vec.TheConstants.{MAX_LEN}
 use Rattle.vers_trees.specs.declared.trees.bp.TheConstants.{MAX_BLOCK_SIZE}
 use Rattle.postings.specs.Posted.{ArePaired}
+use Rattle.inverted.specs.Numbers.{IsOfNumbers}
 use Rattle.vers_saved.specs.declared.kind.Kind.{Kind}
-use Rattle.vers_saved.specs.declared.kind.TheConstants.{GREATEST_WORDS, BIT_LISTS, SORTED_LISTS, SYMBOL_LISTS, PACKED_SYMBOLS, SPARSE_LISTS, TABLE_VALUES, BLOCK_VALUES, POSTING_LISTS}
-use Rattle.vers_saved.specs.Format.{check_sum, saved_bits, saved_sorted, saved_symbols, packed_form, saved_sparse, saved_values, saved_parentheses, saved_postings}
-use Rattle.vers_saved.specs.Faults.{fault_of}
+use Rattle.vers_saved.specs.declared.kind.TheConstants.{GREATEST_WORDS, BIT_LISTS, SORTED_LISTS, SYMBOL_LISTS, PACKED_SYMBOLS, SPARSE_LISTS, TABLE_VALUES, BLOCK_VALUES, POSTING_LISTS, INVERTED_LISTS}
+use Rattle.vers_saved.specs.Format.{check_sum, saved_bits, saved_sorted, sorted_words, listed_form, saved_symbols, packed_form, saved_sparse, sparse_words, places_form, saved_values, saved_parentheses, saved_postings, inverted_words, saved_inverted}
+use Rattle.vers_saved.specs.Faults.{fault_of, packed_kind}
 use Rattle.vers_saved.specs.Kinds.{AreWords, tree_kind}
 
 -- lists of words that differ in exactly one word have different sums
@@ -26,7 +27,11 @@ BitsGoRound = GoesRound BIT_LISTS (λ bits. length bits ≤ BIT_LISTS.greatest_c
 
 -- a saved ascending list of 64-bit numbers loads as the same list
 abbrev pub SortedGoRound : Type 0
-SortedGoRound = GoesRound SORTED_LISTS (λ members. (length members ≤ SORTED_LISTS.greatest_count) × AreWords members × IsNonDecreasing members) saved_sorted
+SortedGoRound = GoesRound SORTED_LISTS (λ members. (length (sorted_words members) ≤ GREATEST_WORDS) × AreWords members × IsNonDecreasing members) saved_sorted
+
+-- and so does one that was saved in the first version
+abbrev pub ListedSortedGoRound : Type 0
+ListedSortedGoRound = GoesRound (packed_kind SORTED_LISTS) (λ members. (length members ≤ GREATEST_WORDS) × AreWords members × IsNonDecreasing members) listed_form
 
 -- a saved list of symbols of 1 to 64 bits loads as the same list
 abbrev pub SymbolsGoRound : Type 0
@@ -42,7 +47,11 @@ PackedSymbolsGoRound =
 
 -- a saved sparse list of bits loads as the same list
 abbrev pub SparseGoRound : Type 0
-SparseGoRound = GoesRound SPARSE_LISTS (λ bits. (length bits < 2 ^ 64) × (count true bits (length bits) < GREATEST_WORDS)) saved_sparse
+SparseGoRound = GoesRound SPARSE_LISTS (λ bits. (length bits < 2 ^ 64) × (length (sparse_words bits) ≤ GREATEST_WORDS)) saved_sparse
+
+-- and so does one that was saved in the first version
+abbrev pub ListedSparseGoRound : Type 0
+ListedSparseGoRound = GoesRound (packed_kind SPARSE_LISTS) (λ bits. (length bits < 2 ^ 64) × (count true bits (length bits) < GREATEST_WORDS)) places_form
 
 -- saved 64-bit numbers, up to the length limit of a sparse table, load as the same list
 abbrev pub TableValuesGoRound : Type 0
@@ -61,3 +70,7 @@ ParenthesesGoRound =
 -- saved documents with 64-bit costs load as the same documents and costs
 abbrev pub PostingsGoRound : Type 0
 PostingsGoRound = GoesRound POSTING_LISTS (λ posted. (length posted.documents ≤ POSTING_LISTS.greatest_count) × ArePaired posted × AreWords posted.costs) saved_postings
+
+-- a saved inverted index loads as the same index
+abbrev pub InvertedGoRound : Type 0
+InvertedGoRound = GoesRound INVERTED_LISTS (λ index. IsOfNumbers index × (length (inverted_words index) ≤ GREATEST_WORDS)) saved_inverted

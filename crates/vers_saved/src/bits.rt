@@ -64,7 +64,7 @@ impl<A: Allocator + Copy> Saved for BitVec<A> {
 
 #[tactic(auto, using(crate::proofs::BitLists::bits, crate::proofs::Sources::bits))]
 impl<A: Allocator + Copy> Loaded<A> for BitVec<A> {
-    ghost use Rattle.vers_saved.specs.inside.Telling.{no_levels, bits_tell};
+    ghost use Rattle.vers_saved.specs.inside.Telling.{no_first, bits_tell};
 
     fn make(of: Shape, held: &mut Vec<u64, A>) -> Result<Self, AllocError> {
         Ok(bits_of(&BIT_LISTS, of, taken(held)))
@@ -72,7 +72,7 @@ impl<A: Allocator + Copy> Loaded<A> for BitVec<A> {
 
     ghost packed = { λ _. [] };
 
-    ghost by_levels = { no_levels };
+    ghost first_tells = { no_first };
 
     ghost tells = { bits_tell 1 };
 }
@@ -105,7 +105,7 @@ impl<A: Allocator + Copy> Saved for RsVec<A> {
 
 #[tactic(auto, using(crate::proofs::BitLists::bits, crate::proofs::Sources::bits))]
 impl<A: Allocator + Copy> Loaded<A> for RsVec<A> {
-    ghost use Rattle.vers_saved.specs.inside.Telling.{no_levels, bits_tell};
+    ghost use Rattle.vers_saved.specs.inside.Telling.{no_first, bits_tell};
 
     fn make(of: Shape, held: &mut Vec<u64, A>) -> Result<Self, AllocError> {
         RsVec::from_bit_vec(bits_of(&BIT_LISTS, of, taken(held)))
@@ -113,7 +113,7 @@ impl<A: Allocator + Copy> Loaded<A> for RsVec<A> {
 
     ghost packed = { λ _. [] };
 
-    ghost by_levels = { no_levels };
+    ghost first_tells = { no_first };
 
     ghost tells = { bits_tell 1 };
 }

@@ -54,7 +54,7 @@ impl<A: Allocator + Copy> Saved for Postings<A> {
 
 #[tactic(auto, using(crate::proofs::PostingLists::postings))]
 impl<A: Allocator + Copy> Loaded<A> for Postings<A> {
-    ghost use Rattle.vers_saved.specs.inside.Telling.{no_levels, postings_tell};
+    ghost use Rattle.vers_saved.specs.inside.Telling.{no_first, postings_tell};
 
     fn make(of: Shape, held: &mut Vec<u64, A>) -> Result<Self, AllocError> {
         let alloc = *held.allocator();
@@ -68,7 +68,7 @@ impl<A: Allocator + Copy> Loaded<A> for Postings<A> {
 
     ghost packed = { λ _. [] };
 
-    ghost by_levels = { no_levels };
+    ghost first_tells = { no_first };
 
     ghost tells = { postings_tell };
 }

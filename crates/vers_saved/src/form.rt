@@ -3,7 +3,7 @@ ghost use Rattle.std.specs.Prelude.{false, ◌≡◌, ℕ, List, ◌+◌, ◌*�
 ghost use Rattle.vers_saved.specs.Format.{word_bytes, bytes_of, bytes_word, check_sum, mix, head, words_of, saved, saved_size};
 ghost use Rattle.vers_bits.specs.Bits.{limb_count, limbs, pack};
 ghost use Rattle.vers_saved.specs.Faults.{at_version, first_failing, fault_of, version_fault, version_said, head_tests, body_tests, item_bits, row_bits, row_words, rows_of, said_tests, words_among, words_for};
-ghost use Rattle.vers_saved.specs.Kinds.{IsWhole};
+ghost use Rattle.vers_saved.specs.Kinds.{AreWords, IsWhole};
 
 use crate::fault::LoadError;
 use crate::kind::{Kind, Order, Rows};
@@ -124,6 +124,7 @@ pub(crate) fn head_of<W: Words>(kind: &Kind, words: &W) -> Result<Head, LoadErro
 #[tactic(auto, unfolding(crate::specs::Faults::is_summed))]
 fn test_summed<W: Words>(order: Order, rows: Rows, sum: u64, words: &W) -> Result<(), LoadError>
     requires long { length (W.words words.now) ≡ row_words rows.count rows.bits + FRAME }
+    requires fit { AreWords (W.words words.now) }
     requires small { row_words rows.count rows.bits ≤ 288230376151711743 }
     requires sum { sum ≡ check_sum (take (row_words rows.count rows.bits + 5) (W.words words.now)) }
     ensures none { OnOk result (first_failing (body_tests order rows.count rows.bits (W.words words.now)) ≡ None) }
@@ -145,6 +146,7 @@ fn test_summed<W: Words>(order: Order, rows: Rows, sum: u64, words: &W) -> Resul
 // Makes the same tests, and computes the sum.
 pub(crate) fn test_body<W: Words>(order: Order, rows: Rows, words: &W) -> Result<(), LoadError>
     requires long { length (W.words words.now) ≡ row_words rows.count rows.bits + FRAME }
+    requires fit { AreWords (W.words words.now) }
     requires small { row_words rows.count rows.bits ≤ 288230376151711743 }
     ensures none { OnOk result (first_failing (body_tests order rows.count rows.bits (W.words words.now)) ≡ None) }
     ensures fault { IfErr result (λ e.
@@ -163,6 +165,7 @@ fn tested_words<W: Words, A: Allocator>(
     words: &W,
 ) -> Result<Vec<u64, A>, LoadError>
     requires long { length (W.words words.now) ≡ row_words rows.count rows.bits + FRAME }
+    requires fit { AreWords (W.words words.now) }
     requires small { row_words rows.count rows.bits ≤ 288230376151711743 }
     ensures words { IfOk result (λ v. v.items ≡ words_among (row_words rows.count rows.bits) (W.words words.now)) }
     ensures none { OnOk result (first_failing (body_tests order rows.count rows.bits (W.words words.now)) ≡ None) }

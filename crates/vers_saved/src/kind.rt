@@ -1,8 +1,8 @@
 //! Kinds of lists that can be saved.
 ghost use Rattle.std.specs.Prelude.{◌≡◌, ◌<◌, ◌≤◌, ◌*◌, ◌&&◌, ℕ, true, IfSome, None};
-ghost use Rattle.vers_saved.specs.Faults.{at_version, takes_width, takes_count, item_bits, row_bits, row_words, rows_of, words_for};
+ghost use Rattle.vers_saved.specs.Faults.{at_version, first_order, has_first, takes_width, takes_count, item_bits, row_bits, row_words, rows_of, words_for};
 
-use crate::{LEVELS_VERSION, VERSION};
+use crate::{LEVELS_VERSION, PARTS_VERSION, VERSION};
 use vers_bits::bit_vec::MAX_LEN;
 use vers_rmq::rmq::{binary_rmq, fast_rmq};
 
@@ -17,6 +17,25 @@ pub enum Order {
     Rising,
     /// Each word of the first half is above the previous one.
     HalfRising,
+    /// The words are the ends and the parts of an ascending list.
+    Parts,
+    /// A length, and then the ends and the parts of a list that ascends strictly and is below it.
+    RisingParts,
+    /// Two numbers, and then the ends and the parts of a list that ascends strictly and is below their product.
+    InvertedParts,
+}
+
+impl Order {
+    // Returns the order of the words of the first version.
+    fn first(self) -> Order
+        ensures { result ≡ first_order self }
+    {
+        match self {
+            Order::Parts => Order::Ascending,
+            Order::RisingParts => Order::Rising,
+            other => other,
+        }
+    }
 }
 
 /// A kind of lists: the requirements on its saved forms.
@@ -66,6 +85,9 @@ pub const POSTINGS: u64 = 7;
 /// The number of indexes of texts.
 pub const TEXTS: u64 = 9;
 
+/// The number of inverted indexes.
+pub const INVERTED: u64 = 10;
+
 /// Rows of bits, each from a whole word on.
 #[derive(Clone, Copy, Drop)]
 pub(crate) struct Rows {
@@ -86,11 +108,18 @@ impl Rows {
 }
 
 impl Kind {
-    // Returns the kind in a version: that of lists by levels has a first version, with the items one after another.
+    // Returns true if a later version of the kind has another form than the first.
+    pub(crate) fn has_first(&self) -> bool
+        ensures { result ≡ has_first self.now }
+    {
+        VERSION < self.version
+    }
+
+    // Returns the kind in a version: the first may have the items one after another.
     pub(crate) fn at_version(&self, version: u64) -> Kind
         ensures { result ≡ at_version self.now version }
     {
-        if self.by_levels && version == VERSION {
+        if self.has_first() && version == VERSION {
             return Kind {
                 number: self.number,
                 version: VERSION,
@@ -100,7 +129,7 @@ impl Kind {
                 by_levels: false,
                 least_count: self.least_count,
                 greatest_count: self.greatest_count,
-                order: self.order,
+                order: self.order.first(),
             };
         }
         *self
@@ -186,30 +215,30 @@ pub const BIT_LISTS: Kind = Kind {
     order: Order::Any,
 };
 
-/// Ascending lists of numbers.
+/// Ascending lists of numbers, by their parts.
 pub const SORTED_LISTS: Kind = Kind {
     number: SORTED,
-    version: VERSION,
+    version: PARTS_VERSION,
     least_width: 64,
     greatest_width: 64,
     item_bits: 64,
     by_levels: false,
     least_count: 0,
     greatest_count: GREATEST_WORDS,
-    order: Order::Ascending,
+    order: Order::Parts,
 };
 
-/// Lists of bits with few ones: the positions of the ones, and the length.
+/// Lists of bits with few ones: the length, and the positions of the ones by their parts.
 pub const SPARSE_LISTS: Kind = Kind {
     number: SPARSE,
-    version: VERSION,
+    version: PARTS_VERSION,
     least_width: 64,
     greatest_width: 64,
     item_bits: 64,
     by_levels: false,
     least_count: 1,
     greatest_count: GREATEST_WORDS,
-    order: Order::Rising,
+    order: Order::RisingParts,
 };
 
 /// Lists of numbers in any order, with range minima from a sparse table.
@@ -289,4 +318,17 @@ pub const TEXT_INDEXES: Kind = Kind {
     least_count: 4,
     greatest_count: GREATEST_WORDS,
     order: Order::Any,
+};
+
+/// Inverted indexes: the number of terms, the limit of documents, and the list of all numbers by its parts.
+pub const INVERTED_LISTS: Kind = Kind {
+    number: INVERTED,
+    version: VERSION,
+    least_width: 64,
+    greatest_width: 64,
+    item_bits: 64,
+    by_levels: false,
+    least_count: 5,
+    greatest_count: GREATEST_WORDS,
+    order: Order::InvertedParts,
 };

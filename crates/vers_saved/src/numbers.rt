@@ -1,9 +1,12 @@
-//! Lists of numbers, saved unchanged, each as a word.
+//! Lists of numbers, saved unchanged, each as a word, and ascending ones by their parts.
 ghost use Rattle.std.specs.Prelude.{[], ◌≡◌, ◌<◌, ◌≤◌, ◌+◌, ◌-◌, ◌++◌, ◌^◌, ⊤, ℕ, None, drop, length, slice_index, unwrap_or};
+ghost use Rattle.std.specs.List.Sorted.{IsNonDecreasing};
+ghost use Rattle.vers_saved.specs.Format.{sorted_words};
 ghost use Rattle.vers_saved.specs.declared.kind.TheConstants.{SORTED_LISTS, TABLE_VALUES, BLOCK_VALUES};
 
 use crate::form::{Shape, taken};
 use crate::kind::{BLOCK_VALUES, GREATEST_WORDS, Kind, SORTED_LISTS, TABLE_VALUES};
+use crate::parts::{copy_list, count_list, list_in, list_word};
 use crate::saved::{Loaded, Saved};
 use std::alloc::{AllocError, Allocator};
 use vers_rmq::rmq::binary_rmq::BinaryRmq;
@@ -22,18 +25,6 @@ pub(crate) fn words_shape(count: usize) -> Shape
 pub(crate) fn are_words(items: &[u64])
     ensures { (k : ℕ) → slice_index items.now k < 2 ^ 64 }
 {}
-
-// Shows that all members of a list are words, since the last one is.
-#[tactic(auto, using(crate::proofs::WordLists::numbers))]
-fn read_last<A: Allocator + Copy>(list: &EliasFanoVec<A>)
-    ensures { (k : ℕ) → slice_index list.now k < 2 ^ 64 }
-{
-    let count = list.len();
-    if count == 0 {
-        return;
-    }
-    let _last = list.get_unchecked(count - 1);
-}
 
 // Skips the first `n` members that a walk has left.
 #[inline(always)]
@@ -78,55 +69,60 @@ pub(crate) fn copy_members<A: Allocator + Copy>(
     }
 }
 
-#[tactic(auto, using(crate::proofs::WordLists::numbers))]
+#[tactic(auto, using(crate::proofs::SortedForms::sorted))]
 impl<A: Allocator + Copy> Saved for EliasFanoVec<A> {
     ghost kind = { SORTED_LISTS };
 
-    ghost count = { length };
+    ghost count = { λ members. length (sorted_words members) };
 
     ghost width = { λ _. 64 };
 
-    ghost words = { λ members. members };
+    ghost words = { sorted_words };
 
-    ghost Fits = { λ _. ⊤ };
+    ghost Fits = { IsNonDecreasing };
 
     fn kind() -> Kind {
         SORTED_LISTS
     }
 
     fn shape(&self) -> Option<Shape> {
-        let count = self.len();
+        let count = count_list(self);
         if count as u64 > GREATEST_WORDS {
             return None;
         }
-        read_last(self);
         Some(words_shape(count))
     }
 
     #[inline]
     fn word(&self, k: usize) -> u64 {
-        self.get_unchecked(k)
+        list_word(self, k)
     }
 
+    #[inline]
     fn copy_words(&self, from: usize, out: &mut [u64]) {
-        copy_members(self.iter(), &[], from, out)
+        copy_list(self, from, out)
     }
 }
 
-#[tactic(auto, using(crate::proofs::WordLists::numbers))]
+#[tactic(auto, using(crate::proofs::SortedForms::sorted))]
 impl<A: Allocator + Copy> Loaded<A> for EliasFanoVec<A> {
-    ghost use Rattle.vers_saved.specs.inside.Telling.{no_levels, numbers_tell};
+    ghost use Rattle.vers_saved.specs.inside.Telling.{listed_tell, sorted_tell};
 
     fn make(of: Shape, held: &mut Vec<u64, A>) -> Result<Self, AllocError> {
+        let alloc = *held.allocator();
+        list_in(alloc, held.as_slice())
+    }
+
+    ghost packed = { λ members. members };
+
+    fn make_packed(of: Shape, held: &mut Vec<u64, A>) -> Result<Self, AllocError> {
         let alloc = *held.allocator();
         EliasFanoVec::from_slice(alloc, held.as_slice())
     }
 
-    ghost packed = { λ _. [] };
+    ghost first_tells = { listed_tell };
 
-    ghost by_levels = { no_levels };
-
-    ghost tells = { numbers_tell 64 };
+    ghost tells = { sorted_tell };
 }
 
 #[tactic(auto, using(crate::proofs::WordLists::numbers))]
@@ -158,7 +154,7 @@ impl<A: Allocator + Copy> Saved for BinaryRmq<A> {
 
 #[tactic(auto, using(crate::proofs::WordLists::numbers))]
 impl<A: Allocator + Copy> Loaded<A> for BinaryRmq<A> {
-    ghost use Rattle.vers_saved.specs.inside.Telling.{no_levels, numbers_tell};
+    ghost use Rattle.vers_saved.specs.inside.Telling.{no_first, numbers_tell};
 
     fn make(of: Shape, held: &mut Vec<u64, A>) -> Result<Self, AllocError> {
         BinaryRmq::from_vec(taken(held))
@@ -166,7 +162,7 @@ impl<A: Allocator + Copy> Loaded<A> for BinaryRmq<A> {
 
     ghost packed = { λ _. [] };
 
-    ghost by_levels = { no_levels };
+    ghost first_tells = { no_first };
 
     ghost tells = { numbers_tell 64 };
 }
@@ -200,7 +196,7 @@ impl<A: Allocator + Copy> Saved for FastRmq<A> {
 
 #[tactic(auto, using(crate::proofs::WordLists::numbers))]
 impl<A: Allocator + Copy> Loaded<A> for FastRmq<A> {
-    ghost use Rattle.vers_saved.specs.inside.Telling.{no_levels, numbers_tell};
+    ghost use Rattle.vers_saved.specs.inside.Telling.{no_first, numbers_tell};
 
     fn make(of: Shape, held: &mut Vec<u64, A>) -> Result<Self, AllocError> {
         FastRmq::from_vec(taken(held))
@@ -208,7 +204,7 @@ impl<A: Allocator + Copy> Loaded<A> for FastRmq<A> {
 
     ghost packed = { λ _. [] };
 
-    ghost by_levels = { no_levels };
+    ghost first_tells = { no_first };
 
     ghost tells = { numbers_tell 64 };
 }

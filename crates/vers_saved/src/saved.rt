@@ -2,7 +2,7 @@
 ghost use Rattle.std.specs.Prelude.{◌≡◌, ◌<◌, ◌≤◌, ◌+◌, ◌*◌, ℕ, List, ◌++◌, ◌⊎◌, length, take, drop, fold, slice_index, vec_len, vec_capacity, OnOk, OnErr, IfOk, IfErr, IfSome, MatchResult, Some, None, false, true, ◌≢◌};
 ghost use Rattle.vers_saved.specs.declared.kind.Kind.{Kind};
 ghost use Rattle.vers_saved.specs.Format.{bytes_of, mix, saved};
-ghost use Rattle.vers_saved.specs.Faults.{at_version, fault_of, packed_kind, words_in};
+ghost use Rattle.vers_saved.specs.Faults.{at_version, count_in, fault_of, first_count, has_first, packed_kind, words_in};
 ghost use Rattle.vers_saved.specs.Kinds.{IsForm, IsLoadedWhole, IsWhole, may_be_saved};
 
 use crate::VERSION;
@@ -71,23 +71,24 @@ pub trait Loaded<A: Allocator>: Saved + Sized {
         ensures { IfOk result (λ v. (Self.count v ≡ of.count) × (Self.width v ≡ of.width)
             × (Self.words v ≡ held.old.items) × Self.Fits v) };
 
-    // The words of the items in the first version of the form, for a kind of lists by levels.
+    // The words of the items in the first version of the form, if the kind has a later one.
     ghost packed: { Self → List ℕ };
 
     /// Returns the list of the items in these words, which are those of the first version of the form.
     /// Precondition: the words are those of a list of that shape, one item after another. Errors: `AllocError` if
-    /// the allocator refuses a request, or if lists of this kind are not saved by levels.
+    /// the allocator refuses a request, or if the kind has no later version.
     fn make_packed(_of: Shape, _held: &mut Vec<u64, A>) -> Result<Self, AllocError>
         requires whole { IsWhole (packed_kind Self.kind) _of.count _of.width _held.old.items }
-        ensures { IfOk result (λ v. (Self.count v ≡ _of.count) × (Self.width v ≡ _of.width)
-            × (Self.packed v ≡ _held.old.items) × Self.Fits v) }
+        ensures { IfOk result (λ v. (first_count Self.kind (Self.count v) (Self.packed v) ≡ _of.count)
+            × (Self.width v ≡ _of.width) × (Self.packed v ≡ _held.old.items) × Self.Fits v) }
     {
         Err(AllocError)
     }
 
-    // Lists by levels have a later version, and two with the same shape and the same words of the first are equal.
-    ghost by_levels: { Self.kind.by_levels ≡ true → (Self.kind.version ≢ 1) × ((x y : Self) → Self.Fits x → Self.Fits y
-        → Self.count x ≡ Self.count y → Self.width x ≡ Self.width y → Self.packed x ≡ Self.packed y → x ≡ y) };
+    // If the kind has a later version, two lists with the same shape and the same words of the first are equal.
+    ghost first_tells: { has_first Self.kind ≡ true → (x y : Self) → Self.Fits x → Self.Fits y
+        → first_count Self.kind (Self.count x) (Self.packed x) ≡ first_count Self.kind (Self.count y) (Self.packed y)
+        → Self.width x ≡ Self.width y → Self.packed x ≡ Self.packed y → x ≡ y };
 
     // Two lists with the same shape and the same words are equal.
     ghost tells: { (x y : Self) → Self.Fits x → Self.Fits y → Self.count x ≡ Self.count y
@@ -202,10 +203,11 @@ pub(crate) fn list_of<S: Loaded<A>, A: Allocator>(
     held: &mut Vec<u64, A>,
 ) -> Result<S, AllocError>
     requires { IsWhole (at_version S.kind version) of.count of.width held.old.items }
-    ensures { IfOk result (λ v. (S.count v ≡ of.count) × (S.width v ≡ of.width)
-        × (words_in S.kind version (S.words v) (S.packed v) ≡ held.old.items) × S.Fits v) }
+    ensures { IfOk result (λ v. (count_in S.kind version (S.count v) (S.packed v) ≡ of.count)
+        × (S.width v ≡ of.width) × (words_in S.kind version (S.words v) (S.packed v) ≡ held.old.items)
+        × S.Fits v) }
 {
-    if S::kind().by_levels && version == VERSION {
+    if S::kind().has_first() && version == VERSION {
         return S::make_packed(of, held);
     }
     S::make(of, held)
@@ -226,9 +228,10 @@ pub fn load_from_slice<S: Loaded<A>, A: Allocator>(alloc: A, bytes: &[u8]) -> Re
     ensures back { (x : S) → IsWhole S.kind (S.count x) (S.width x) (S.words x) → S.Fits x
         → bytes.now ≡ saved S.kind.version S.kind.number (S.count x) (S.width x) (S.words x)
         → MatchResult result (λ v. v ≡ x) (λ e. e ≡ LoadError.Memory) }
-    ensures first { (x : S) → S.kind.by_levels ≡ true
-        → IsWhole (packed_kind S.kind) (S.count x) (S.width x) (S.packed x) → S.Fits x
-        → bytes.now ≡ saved 1 S.kind.number (S.count x) (S.width x) (S.packed x)
+    ensures first { (x : S) → has_first S.kind ≡ true
+        → IsWhole (packed_kind S.kind) (first_count S.kind (S.count x) (S.packed x)) (S.width x) (S.packed x)
+        → S.Fits x
+        → bytes.now ≡ saved 1 S.kind.number (first_count S.kind (S.count x) (S.packed x)) (S.width x) (S.packed x)
         → MatchResult result (λ v. v ≡ x) (λ e. e ≡ LoadError.Memory) }
 {
     let Form {

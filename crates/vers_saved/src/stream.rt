@@ -2,7 +2,7 @@
 ghost use Rattle.std.specs.Prelude.{◌≡◌, ◌≢◌, ℕ, ◌+◌, ◌≤◌, ◌++◌, List, vec_len, vec_capacity, OnOk, IfOk, IfErr, IfSome, Some, Err, OnErr, MatchResult, ◌⊎◌, false, true};
 ghost use Rattle.std.specs.Io.KnownBytes.{Appends, IsAtEnd, Keeps};
 ghost use Rattle.vers_saved.specs.Format.{saved};
-ghost use Rattle.vers_saved.specs.Faults.{packed_kind};
+ghost use Rattle.vers_saved.specs.Faults.{first_count, has_first, packed_kind};
 ghost use Rattle.vers_saved.specs.Kinds.{IsForm, IsLoadedWhole, IsWhole, may_be_saved};
 ghost use Rattle.vers_io.specs.Device.{FollowsReadFault, FollowsWriteFault};
 ghost use Rattle.vers_saved.specs.Streams.{Writes, IsRefused};
@@ -139,9 +139,11 @@ pub fn load<S: Loaded<A>, A: Allocator + Copy, R: Source>(
     ensures back { (x : S) → IsWhole S.kind (S.count x) (S.width x) (S.words x) → S.Fits x
         → R.remaining reader.old ≡ Some (saved S.kind.version S.kind.number (S.count x) (S.width x) (S.words x))
         → MatchResult result (λ v. v ≡ x) (λ e. (e ≡ LoadError.Read) ⊎ (e ≡ LoadError.Memory)) }
-    ensures first { (x : S) → S.kind.by_levels ≡ true
-        → IsWhole (packed_kind S.kind) (S.count x) (S.width x) (S.packed x) → S.Fits x
-        → R.remaining reader.old ≡ Some (saved 1 S.kind.number (S.count x) (S.width x) (S.packed x))
+    ensures first { (x : S) → has_first S.kind ≡ true
+        → IsWhole (packed_kind S.kind) (first_count S.kind (S.count x) (S.packed x)) (S.width x) (S.packed x)
+        → S.Fits x
+        → R.remaining reader.old
+        ≡ Some (saved 1 S.kind.number (first_count S.kind (S.count x) (S.packed x)) (S.width x) (S.packed x))
         → MatchResult result (λ v. v ≡ x) (λ e. (e ≡ LoadError.Read) ⊎ (e ≡ LoadError.Memory)) }
 {
     let Form {

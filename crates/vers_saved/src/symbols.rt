@@ -166,7 +166,7 @@ impl<A: Allocator + Copy> Saved for WaveletMatrix<A> {
 
 #[tactic(auto, using(crate::proofs::SymbolLevels::symbols))]
 impl<A: Allocator + Copy> Loaded<A> for WaveletMatrix<A> {
-    ghost use Rattle.vers_saved.specs.inside.Telling.{levels_tell, symbols_by_levels};
+    ghost use Rattle.vers_saved.specs.inside.Telling.{levels_tell, symbols_first};
 
     fn make(of: Shape, held: &mut Vec<u64, A>) -> Result<Self, AllocError> {
         let alloc = *held.allocator();
@@ -181,7 +181,7 @@ impl<A: Allocator + Copy> Loaded<A> for WaveletMatrix<A> {
         packed_list(alloc, of, taken(held))
     }
 
-    ghost by_levels = { symbols_by_levels };
+    ghost first_tells = { symbols_first };
 
     ghost tells = { levels_tell };
 }

@@ -98,7 +98,7 @@ fn tree_of<'a, const BLOCK_SIZE: usize, A: Allocator>(
 
 // The size of a tree with any allocator isn't known, but that of one with a reference to it is.
 impl<'a, const BLOCK_SIZE: usize, A: Allocator> Loaded<&'a A> for BpTree<BLOCK_SIZE, &'a A> {
-    ghost use Rattle.vers_saved.specs.inside.Telling.{no_levels, bits_tell};
+    ghost use Rattle.vers_saved.specs.inside.Telling.{no_first, bits_tell};
 
     fn make(of: Shape, held: &mut Vec<u64, &'a A>) -> Result<Self, AllocError> {
         tree_of(of, held)
@@ -110,7 +110,7 @@ impl<'a, const BLOCK_SIZE: usize, A: Allocator> Loaded<&'a A> for BpTree<BLOCK_S
         Err(AllocError)
     }
 
-    ghost by_levels = { no_levels };
+    ghost first_tells = { no_first };
 
     ghost tells = { bits_tell BLOCK_SIZE };
 }

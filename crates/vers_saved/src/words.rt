@@ -1,10 +1,14 @@
 //! Words of 64 bits, as bytes, and their sum.
 ghost use Rattle.std.specs.Prelude.{◌≡◌, ℕ, List, ◌+◌, ◌*◌, ◌<◌, ◌≤◌, ◌++◌, [], length, map, take, slice_index, vec_len, vec_capacity};
 ghost use Rattle.vers_saved.specs.Format.{word_bytes, bytes_word, mix, check_sum};
-ghost use Rattle.vers_saved.specs.Faults.{is_padded, row_padded, row_words, in_order, ordered_words, stands, words_among};
+ghost use Rattle.vers_saved.specs.Faults.{is_padded, row_padded, row_words, in_order, in_steps, ordered_words, stands, words_among};
 ghost use Rattle.vers_bits.specs.Bits.{limb_count};
+ghost use Rattle.vers_saved.specs.Kinds.{AreWords};
 
+use crate::form::HEAD;
+use crate::inverted_index::are_of_inverted;
 use crate::kind::{Order, Rows};
+use crate::parts::{Cut, are_of_list, are_of_sparse};
 use crate::{FACTOR, START, TURN};
 use std::alloc::Allocator;
 
@@ -164,7 +168,7 @@ fn stands(order: Order, before: u64, next: u64) -> bool
     ensures { result ≡ stands order before next }
 {
     match order {
-        Order::Any => true,
+        Order::Any | Order::Parts | Order::RisingParts | Order::InvertedParts => true,
         Order::Ascending => before <= next,
         Order::Rising | Order::HalfRising => before < next,
     }
@@ -178,17 +182,32 @@ fn count_ordered(order: Order, count: usize) -> usize
         → take result words ≡ ordered_words order words }
 {
     match order {
-        Order::Any => 0,
+        Order::Any | Order::Parts | Order::RisingParts | Order::InvertedParts => 0,
         Order::Ascending | Order::Rising => count,
         Order::HalfRising => count / 2,
     }
 }
 
-// Returns true if the `n` words of the content are in order.
+// Returns true if the `n` words of the content are in order, or are those of an ascending list or of its parts.
 pub(crate) fn is_in_order<W: Words>(order: Order, n: usize, words: &W) -> bool
     requires long { length (W.words words.now) ≡ n + FRAME }
     requires small { n ≤ 288230376151711743 }
+    requires fit { AreWords (W.words words.now) }
     ensures { result ≡ in_order order (words_among n (W.words words.now)) }
+{
+    match order {
+        Order::Parts => are_of_list(&Cut::new(words, HEAD, n), n, false),
+        Order::RisingParts => are_of_sparse(words, HEAD, n),
+        Order::InvertedParts => are_of_inverted(words, HEAD, n),
+        order => are_in_steps(order, n, words),
+    }
+}
+
+// Returns true if each of the `n` words of the content is in order with the next one.
+fn are_in_steps<W: Words>(order: Order, n: usize, words: &W) -> bool
+    requires long { length (W.words words.now) ≡ n + FRAME }
+    requires small { n ≤ 288230376151711743 }
+    ensures { result ≡ in_steps order (words_among n (W.words words.now)) }
 {
     let end = count_ordered(order, n);
     let mut holds = true;

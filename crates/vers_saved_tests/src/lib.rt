@@ -2,7 +2,11 @@
 #![tactic(auto)]
 
 #[cfg(test)]
+mod ascending;
+#[cfg(test)]
 mod devices;
+#[cfg(test)]
+mod inverted_index;
 #[cfg(test)]
 mod levels;
 #[cfg(test)]

@@ -1,5 +1,10 @@
 //! Each request for memory refused, and heads that say more than there is.
-use crate::stored::{BITS, HOSTILE, PADDING, POSTINGS, SORTED, SPARSE, SYMBOLS, VALUES};
+use crate::stored::{
+    BITS, HOSTILE, INVERTED, PADDING, POSTINGS, SORTED, SPARSE, SYMBOLS, TEXT, VALUES, WIDE_TEXT,
+};
+use crate::texts::tried_text;
+use crate::trees::tried_tree;
+use inverted::InvertedIndex;
 use postings::Postings;
 use std::alloc::{AllocError, Allocator, Global};
 use test_alloc::{Ending, Refusing, done_if, out_of_memory_if};
@@ -17,6 +22,37 @@ use vers_wavelet::wavelet::WaveletMatrix;
 /// An allocator of which requests are refused.
 pub type Heap = Refusing<Global>;
 
+/// A structure that has a saved form. Symbols and texts have the width of a symbol.
+#[derive(Clone, Copy, Drop)]
+pub enum Form {
+    Bits,
+    Indexed,
+    Ascending,
+    Sparse,
+    Tree,
+    Binary,
+    Fast,
+    Posted,
+    Inverted,
+    Symbols(u16),
+    Text(u16),
+}
+
+const FORMS: [Form; 12] = [
+    Form::Bits,
+    Form::Indexed,
+    Form::Ascending,
+    Form::Sparse,
+    Form::Tree,
+    Form::Binary,
+    Form::Fast,
+    Form::Posted,
+    Form::Inverted,
+    Form::Symbols(3),
+    Form::Text(2),
+    Form::Text(9),
+];
+
 // Tests a load from a slice with a refused request.
 fn tried<'a, S: Loaded<&'a Heap> + Drop>(heap: &'a Heap, bytes: &[u8]) -> Ending {
     heap.start();
@@ -27,41 +63,26 @@ fn tried<'a, S: Loaded<&'a Heap> + Drop>(heap: &'a Heap, bytes: &[u8]) -> Ending
     }
 }
 
-fn tried_bits<'a>(heap: &'a Heap) -> Ending {
-    tried::<BitVec<&'a Heap>>(heap, &BITS)
+fn tried_form<'a>(heap: &'a Heap, form: Form) -> Ending {
+    match form {
+        Form::Bits => tried::<BitVec<&'a Heap>>(heap, &BITS),
+        Form::Indexed => tried::<RsVec<&'a Heap>>(heap, &BITS),
+        Form::Ascending => tried::<EliasFanoVec<&'a Heap>>(heap, &SORTED),
+        Form::Sparse => tried::<SparseRSVec<&'a Heap>>(heap, &SPARSE),
+        Form::Tree => tried_tree(heap),
+        Form::Binary => tried::<BinaryRmq<&'a Heap>>(heap, &VALUES),
+        Form::Fast => tried::<FastRmq<&'a Heap>>(heap, &VALUES),
+        Form::Posted => tried::<Postings<&'a Heap>>(heap, &POSTINGS),
+        Form::Inverted => tried::<InvertedIndex<&'a Heap>>(heap, &INVERTED),
+        Form::Symbols(_) => tried::<WaveletMatrix<&'a Heap>>(heap, &SYMBOLS),
+        Form::Text(2) => tried_text(heap, &TEXT, 6),
+        Form::Text(_) => tried_text(heap, &WIDE_TEXT, 3),
+    }
 }
 
-fn tried_indexed<'a>(heap: &'a Heap) -> Ending {
-    tried::<RsVec<&'a Heap>>(heap, &BITS)
-}
-
-fn tried_sorted<'a>(heap: &'a Heap) -> Ending {
-    tried::<EliasFanoVec<&'a Heap>>(heap, &SORTED)
-}
-
-fn tried_sparse<'a>(heap: &'a Heap) -> Ending {
-    tried::<SparseRSVec<&'a Heap>>(heap, &SPARSE)
-}
-
-fn tried_table<'a>(heap: &'a Heap) -> Ending {
-    tried::<BinaryRmq<&'a Heap>>(heap, &VALUES)
-}
-
-fn tried_blocks<'a>(heap: &'a Heap) -> Ending {
-    tried::<FastRmq<&'a Heap>>(heap, &VALUES)
-}
-
-fn tried_symbols<'a>(heap: &'a Heap) -> Ending {
-    tried::<WaveletMatrix<&'a Heap>>(heap, &SYMBOLS)
-}
-
-fn tried_documents<'a>(heap: &'a Heap) -> Ending {
-    tried::<Postings<&'a Heap>>(heap, &POSTINGS)
-}
-
-/// Returns true if a load ends as out of memory or right, whichever request is refused, and right if none is.
-/// Each frees all memory.
-pub fn ends_well<F: Fn(&Heap) -> Ending>(alloc: Global, tried: F) -> bool
+// Returns true if a load ends as out of memory or right, whichever request is refused, and right if none is.
+// Each frees all memory.
+fn ends_well<F: Fn(&Heap) -> Ending>(alloc: Global, tried: F) -> bool
     requires { F.IsAlwaysCallable tried }
 {
     for n in 1..100 {
@@ -79,14 +100,9 @@ pub fn ends_well<F: Fn(&Heap) -> Ending>(alloc: Global, tried: F) -> bool
 
 #[test]
 fn each_request_refused(rt: HostRuntime) {
-    assert!(rt; ends_well(rt.alloc(), |heap: &Heap| tried_bits(heap)));
-    assert!(rt; ends_well(rt.alloc(), |heap: &Heap| tried_indexed(heap)));
-    assert!(rt; ends_well(rt.alloc(), |heap: &Heap| tried_sorted(heap)));
-    assert!(rt; ends_well(rt.alloc(), |heap: &Heap| tried_sparse(heap)));
-    assert!(rt; ends_well(rt.alloc(), |heap: &Heap| tried_table(heap)));
-    assert!(rt; ends_well(rt.alloc(), |heap: &Heap| tried_blocks(heap)));
-    assert!(rt; ends_well(rt.alloc(), |heap: &Heap| tried_symbols(heap)));
-    assert!(rt; ends_well(rt.alloc(), |heap: &Heap| tried_documents(heap)));
+    for form in FORMS {
+        assert!(rt; ends_well(rt.alloc(), |heap: &Heap| tried_form(heap, form)));
+    }
 }
 
 // Returns the error of a load from a slice whose first request is refused.
@@ -144,7 +160,7 @@ fn a_hostile_length_takes_no_memory(rt: HostRuntime) {
 }
 
 /// The number of bytes read at once.
-const BLOCK: usize = 65536;
+pub const BLOCK: usize = 65536;
 
 // Returns a head that says 2 ^ 62 bits, and zeros after it, that many bytes in all.
 fn hostile(alloc: Global, len: usize) -> Result<Vec<u8>, AllocError> {

@@ -1,170 +1,368 @@
-//! Loads take memory in proportion to the structure and its form.
-ghost use Rattle.std.specs.Prelude.{◌≤◌};
+//! Loads and builds take memory in proportion to the structure and its input.
+ghost use Rattle.std.specs.Prelude.{◌<◌, ◌≤◌};
 
-use crate::memory::Heap;
-use crate::sizes::HeapSize;
-use std::alloc::{AllocError, Global};
+use crate::memory::{BLOCK, Form, Heap};
+use crate::sizes::{HeapSize, ascending, binary, fast, posted};
+use inverted::{InvertedError, InvertedIndex};
+use postings::Postings;
+use std::alloc::{AllocError, Allocator, Global};
 use test_alloc::{Refusing, Size};
-use vers_bits::bit_vec::BitVec;
+use text_index::TextIndex;
+use vers_bits::bit_vec::{BitVec, GrowError};
 use vers_rank::fast_rs_vec::RsVec;
 use vers_rmq::rmq::binary_rmq::BinaryRmq;
-use vers_rmq::rmq::fast_rmq::{FastRmq, MAX_LEN};
+use vers_rmq::rmq::fast_rmq::FastRmq;
 use vers_saved::fault::{LoadError, SaveError};
 use vers_saved::saved::{Loaded, Saved, load_from_slice, save_to_vec};
+use vers_saved::stream::load;
+use vers_saved::texts::{load_text, load_text_from_slice};
+use vers_saved::trees::{load_tree, load_tree_from_slice};
 use vers_sorted::elias_fano::EliasFanoVec;
-use vers_sorted::order::is_ascending;
+use vers_sorted::order::{are_below, is_strictly_ascending};
+use vers_sorted::sparse::SparseRSVec;
+use vers_trees::trees::bp::{BpTree, MAX_BLOCK_SIZE};
 use vers_wavelet::wavelet::WaveletMatrix;
 
-/// The number of items of each list.
-const COUNT: usize = 20_000;
+/// The number of numbers, of 8 bytes each, that each structure is made of. A vector that doubles as it grows to
+/// this length takes more than twice its bytes.
+const COUNT: usize = 10_000;
 
-// Returns the saved form of a list.
-fn form_of<S: Saved>(alloc: Global, list: &S) -> Result<Vec<u8>, SaveError> {
-    let mut bytes = Vec::new(alloc);
-    save_to_vec(list, &mut bytes)?;
-    Ok(bytes)
-}
+const INPUT: usize = 8 * COUNT;
 
-// Returns scattered numbers.
-fn scattered(alloc: Global) -> Result<Vec<u64>, AllocError> {
-    let mut numbers = Vec::new(alloc);
+/// The most bytes a symbol that an index of a text takes while it is loaded.
+const TEXT_BYTES: usize = 9;
+
+// Returns strictly ascending numbers whose low 40 bits are scattered.
+fn numbers_of(alloc: Global) -> Result<Vec<u64>, AllocError> {
+    let mut numbers = Vec::with_capacity(alloc, COUNT)?;
     for k in 0..COUNT as u64 {
-        numbers.push(k.wrapping_mul(0x9e37_79b9_7f4a_7c15).rotate_left(23))?;
+        numbers.push(k.wrapping_shl(40) | (k.wrapping_mul(0x9e37_79b9_7f4a_7c15) >> 24))?;
     }
     Ok(numbers)
 }
 
-// Returns ascending numbers.
-fn ascending(alloc: Global) -> Result<Vec<u64>, AllocError> {
-    let mut numbers = Vec::new(alloc);
-    for k in 0..COUNT as u64 {
-        numbers.push(k.wrapping_mul(1000))?;
-    }
-    Ok(numbers)
-}
-
-// Returns true if a form is loaded with at most the memory of the structure, of the form, and a tenth of both.
-fn fits<'a, S: Loaded<&'a Heap> + Drop>(heap: &'a Heap, bytes: &[u8]) -> bool
+// Returns true if a structure was made with at most its memory, that of its input, a tenth of both, and `fixed`
+// bytes.
+fn fits<S: Drop, X: Drop>(heap: &Heap, made: Result<S, X>, input: usize, fixed: usize) -> bool
 where
     HeapSize: Size<S>,
 {
-    let loaded: Result<S, LoadError> = load_from_slice(heap, bytes);
-    match loaded {
-        Ok(list) => {
-            let both = HeapSize.bytes(&list).saturating_add(bytes.len());
-            heap.most_held_bytes() <= both.saturating_add(both / 10)
+    match made {
+        Ok(it) => {
+            let both = HeapSize.bytes(&it).saturating_add(input);
+            let most = both.saturating_add(both / 10).saturating_add(fixed);
+            heap.most_held_bytes() <= most
         }
         Err(_) => false,
     }
 }
 
-// Returns the saved form of symbols of `width` bits.
-fn symbols(alloc: Global, width: u16) -> Result<Vec<u8>, SaveError>
-    requires { width ≤ 64 }
+fn bits<A: Allocator + Copy>(alloc: A, numbers: &[u64]) -> Result<BitVec<A>, GrowError> {
+    BitVec::from_vec(Vec::from_slice(alloc, numbers)?)
+}
+
+fn indexed<A: Allocator + Copy>(alloc: A, numbers: &[u64]) -> Result<RsVec<A>, GrowError> {
+    Ok(RsVec::from_bit_vec(bits(alloc, numbers)?)?)
+}
+
+fn sparse<A: Allocator + Copy>(alloc: A, numbers: &[u64]) -> Result<SparseRSVec<A>, AllocError> {
+    if is_strictly_ascending(numbers) && are_below(numbers, u64::MAX) {
+        return SparseRSVec::new(alloc, numbers, u64::MAX);
+    }
+    Err(AllocError)
+}
+
+// Returns the index of one term.
+fn inverted<A: Allocator + Copy>(
+    alloc: A,
+    numbers: &[u64],
+) -> Result<InvertedIndex<A>, InvertedError> {
+    InvertedIndex::from_numbers(1, u64::MAX, ascending(alloc, numbers)?)
+}
+
+fn tree<const N: usize, A: Allocator + Copy>(
+    alloc: A,
+    numbers: &[u64],
+) -> Result<BpTree<N, A>, GrowError>
+    requires some { 0 < N }
+    requires bounded { N ≤ MAX_BLOCK_SIZE }
 {
-    let numbers = scattered(alloc)?;
-    form_of(
+    BpTree::from_bit_vector(bits(alloc, numbers)?)
+}
+
+fn symbols<A: Allocator + Copy>(
+    alloc: A,
+    numbers: &[u64],
+    width: u16,
+) -> Result<WaveletMatrix<A>, AllocError> {
+    if width > 64 {
+        return Err(AllocError);
+    }
+    WaveletMatrix::from_slice(alloc, numbers, width)
+}
+
+fn counted<A: Allocator + Copy>(
+    alloc: A,
+    numbers: &[u64],
+    width: u16,
+) -> Result<WaveletMatrix<A>, AllocError> {
+    if width == 0 || width > 63 {
+        return Err(AllocError);
+    }
+    WaveletMatrix::from_slice_pc(alloc, numbers, width)
+}
+
+fn counted_bits<A: Allocator + Copy>(
+    alloc: A,
+    numbers: &[u64],
+    width: u16,
+) -> Result<WaveletMatrix<A>, GrowError> {
+    let bits = bits(alloc, numbers)?;
+    if width == 0 || bits.len() % width as usize != 0 || width > 63 {
+        return Err(GrowError::Memory);
+    }
+    Ok(WaveletMatrix::from_bit_vec_pc(&bits, width)?)
+}
+
+// A constructor. Those of symbols have their width.
+#[derive(Clone, Copy, Drop)]
+enum Build {
+    Indexed,
+    Ascending,
+    Sparse,
+    SmallBlocks,
+    LargeBlocks,
+    Binary,
+    Fast,
+    Posted,
+    Inverted,
+    Symbols(u16),
+    Counted(u16),
+    CountedBits(u16),
+}
+
+const BUILDS: [Build; 16] = [
+    Build::Indexed,
+    Build::Ascending,
+    Build::Sparse,
+    Build::SmallBlocks,
+    Build::LargeBlocks,
+    Build::Binary,
+    Build::Fast,
+    Build::Posted,
+    Build::Inverted,
+    Build::Symbols(1),
+    Build::Symbols(8),
+    Build::Symbols(64),
+    Build::Counted(1),
+    Build::Counted(9),
+    Build::CountedBits(2),
+    Build::CountedBits(8),
+];
+
+// Returns true if a constructor of symbols takes memory in proportion. A sort by one digit after another reads one
+// copy of the numbers and writes another.
+fn are_symbols_built(heap: &Heap, build: Build, numbers: &[u64]) -> bool {
+    match build {
+        Build::Symbols(width) => fits(heap, symbols(heap, numbers, width), 2 * INPUT, 0),
+        Build::Counted(width) => fits(heap, counted(heap, numbers, width), INPUT, 0),
+        Build::CountedBits(width) => fits(heap, counted_bits(heap, numbers, width), INPUT, 0),
+        _ => false,
+    }
+}
+
+// Returns true if a constructor takes memory in proportion. The input of postings are two lists.
+fn is_built(heap: &Heap, build: Build, numbers: &[u64]) -> bool {
+    match build {
+        Build::Indexed => fits(heap, indexed(heap, numbers), INPUT, 0),
+        Build::Ascending => fits(heap, ascending(heap, numbers), INPUT, 0),
+        Build::Sparse => fits(heap, sparse(heap, numbers), INPUT, 0),
+        Build::SmallBlocks => fits(heap, tree::<8, &Heap>(heap, numbers), INPUT, 0),
+        Build::LargeBlocks => fits(heap, tree::<512, &Heap>(heap, numbers), INPUT, 0),
+        Build::Binary => fits(heap, binary(heap, numbers), INPUT, 0),
+        Build::Fast => fits(heap, fast(heap, numbers), INPUT, 0),
+        Build::Posted => fits(heap, posted(heap, numbers), 2 * INPUT, 0),
+        Build::Inverted => fits(heap, inverted(heap, numbers), INPUT, 0),
+        _ => are_symbols_built(heap, build, numbers),
+    }
+}
+
+// Returns the number of the first constructor that takes more memory.
+fn first_large_build(alloc: Global) -> Result<Option<usize>, AllocError> {
+    let numbers = numbers_of(alloc)?;
+    for (row, build) in BUILDS.iter().enumerate() {
+        if !is_built(&Refusing::none(alloc), *build, numbers.as_slice()) {
+            return Ok(Some(row));
+        }
+    }
+    Ok(None)
+}
+
+#[test]
+fn builds_take_memory_in_proportion(rt: HostRuntime) {
+    assert!(rt; first_large_build(rt.alloc()) == Ok(None));
+}
+
+const FORMS: [Form; 18] = [
+    Form::Bits,
+    Form::Indexed,
+    Form::Ascending,
+    Form::Sparse,
+    Form::Tree,
+    Form::Binary,
+    Form::Fast,
+    Form::Posted,
+    Form::Inverted,
+    Form::Symbols(1),
+    Form::Symbols(2),
+    Form::Symbols(3),
+    Form::Symbols(8),
+    Form::Symbols(9),
+    Form::Symbols(33),
+    Form::Symbols(64),
+    Form::Text(2),
+    Form::Text(8),
+];
+
+// Returns the saved form of a structure that was made.
+fn saved<S: Saved + Drop, X: Drop>(
+    alloc: Global,
+    made: Result<S, X>,
+) -> Result<Vec<u8>, SaveError> {
+    let mut bytes = Vec::new(alloc);
+    match made {
+        Ok(it) => save_to_vec(&it, &mut bytes)?,
+        Err(_) => return Err(SaveError::Memory),
+    }
+    Ok(bytes)
+}
+
+// Returns the `width` low digits of each number.
+fn low_digits(alloc: Global, numbers: &[u64], width: u16) -> Result<Vec<u64>, AllocError> {
+    let most = 1u64.wrapping_shl(width as u32).wrapping_sub(1);
+    let mut symbols = Vec::with_capacity(alloc, numbers.len())?;
+    for number in numbers {
+        symbols.push(*number & most)?;
+    }
+    Ok(symbols)
+}
+
+// Returns the saved form of the index of the low digits of numbers.
+fn saved_text(alloc: Global, numbers: &[u64], width: u16) -> Result<Vec<u8>, SaveError> {
+    let symbols = low_digits(alloc, numbers, width)?;
+    saved(
         alloc,
-        &WaveletMatrix::from_slice(alloc, numbers.as_slice(), width)?,
+        TextIndex::from_slice(alloc, symbols.as_slice(), width),
     )
 }
 
-fn symbols_fit<'a>(heap: &'a Heap, alloc: Global, width: u16) -> bool
-    requires { width ≤ 64 }
+// Returns the saved form of numbers as a structure.
+fn form_of(alloc: Global, form: Form, numbers: &[u64]) -> Result<Vec<u8>, SaveError> {
+    match form {
+        Form::Bits | Form::Indexed => saved(alloc, bits(alloc, numbers)),
+        Form::Ascending => saved(alloc, ascending(alloc, numbers)),
+        Form::Sparse => saved(alloc, sparse(alloc, numbers)),
+        Form::Tree => saved(alloc, tree::<512, Global>(alloc, numbers)),
+        Form::Binary | Form::Fast => saved(alloc, fast(alloc, numbers)),
+        Form::Posted => saved(alloc, posted(alloc, numbers)),
+        Form::Inverted => saved(alloc, inverted(alloc, numbers)),
+        Form::Symbols(width) => saved(alloc, symbols(alloc, numbers, width)),
+        Form::Text(width) => saved_text(alloc, numbers, width),
+    }
+}
+
+// A saved form, and whether a reader returns it, which takes a block in addition.
+#[derive(Clone, Copy, Drop)]
+struct Stored<'a> {
+    bytes: &'a [u8],
+    is_read: bool,
+}
+
+// Returns the bytes in addition to those in proportion.
+fn fixed(from: Stored<'_>) -> usize {
+    if from.is_read { BLOCK } else { 0 }
+}
+
+// Returns true if a form is loaded with memory in proportion.
+fn fits_loaded<'a, S: Loaded<&'a Heap> + Drop>(heap: &'a Heap, from: Stored<'_>) -> bool
+where
+    HeapSize: Size<S>,
 {
-    match symbols(alloc, width) {
-        Ok(bytes) => fits::<WaveletMatrix<&'a Heap>>(heap, bytes.as_slice()),
-        Err(_) => false,
+    let mut rest = from.bytes;
+    let loaded: Result<S, LoadError> = if from.is_read {
+        load(heap, &mut rest)
+    } else {
+        load_from_slice(heap, rest)
+    };
+    fits(heap, loaded, from.bytes.len(), fixed(from))
+}
+
+fn fits_tree<'a>(heap: &'a Heap, from: Stored<'_>) -> bool {
+    let mut rest = from.bytes;
+    let loaded: Result<BpTree<512, &'a Heap>, LoadError> = if from.is_read {
+        load_tree(heap, &mut rest)
+    } else {
+        load_tree_from_slice(heap, rest)
+    };
+    fits(heap, loaded, from.bytes.len(), fixed(from))
+}
+
+// Returns true if an index of a text is loaded with at most that many bytes a symbol.
+fn fits_text<'a>(heap: &'a Heap, from: Stored<'_>) -> bool {
+    let mut rest = from.bytes;
+    let loaded: Result<TextIndex<&'a Heap>, LoadError> = if from.is_read {
+        load_text(heap, &mut rest)
+    } else {
+        load_text_from_slice(heap, rest)
+    };
+    loaded.is_ok() && heap.most_held_bytes() <= (TEXT_BYTES * COUNT).saturating_add(fixed(from))
+}
+
+fn is_loaded<'a>(heap: &'a Heap, form: Form, from: Stored<'_>) -> bool {
+    match form {
+        Form::Bits => fits_loaded::<BitVec<&'a Heap>>(heap, from),
+        Form::Indexed => fits_loaded::<RsVec<&'a Heap>>(heap, from),
+        Form::Ascending => fits_loaded::<EliasFanoVec<&'a Heap>>(heap, from),
+        Form::Sparse => fits_loaded::<SparseRSVec<&'a Heap>>(heap, from),
+        Form::Tree => fits_tree(heap, from),
+        Form::Binary => fits_loaded::<BinaryRmq<&'a Heap>>(heap, from),
+        Form::Fast => fits_loaded::<FastRmq<&'a Heap>>(heap, from),
+        Form::Posted => fits_loaded::<Postings<&'a Heap>>(heap, from),
+        Form::Inverted => fits_loaded::<InvertedIndex<&'a Heap>>(heap, from),
+        Form::Symbols(_) => fits_loaded::<WaveletMatrix<&'a Heap>>(heap, from),
+        Form::Text(_) => fits_text(heap, from),
     }
+}
+
+// Returns true if the saved form of numbers is loaded with memory in proportion.
+fn is_form_loaded(
+    alloc: Global,
+    form: Form,
+    numbers: &[u64],
+    is_read: bool,
+) -> Result<bool, SaveError> {
+    let saved = form_of(alloc, form, numbers)?;
+    let bytes = saved.as_slice();
+    Ok(is_loaded(&Refusing::none(alloc), form, Stored { bytes, is_read }))
+}
+
+// Returns the number of the first structure that is loaded with more memory.
+fn first_large_load(alloc: Global, is_read: bool) -> Result<Option<usize>, SaveError> {
+    let numbers = numbers_of(alloc)?;
+    for (row, form) in FORMS.iter().enumerate() {
+        if !is_form_loaded(alloc, *form, numbers.as_slice(), is_read)? {
+            return Ok(Some(row));
+        }
+    }
+    Ok(None)
 }
 
 #[test]
-fn symbols_take_memory_in_proportion(rt: HostRuntime) {
-    for width in [1, 2, 3, 8, 9, 33, 64] {
-        let heap = Refusing::none(rt.alloc());
-        assert!(rt; symbols_fit(&heap, rt.alloc(), width));
-    }
-}
-
-// Returns the saved form of a list of bits.
-fn bits(alloc: Global) -> Result<Vec<u8>, SaveError> {
-    match BitVec::from_vec(scattered(alloc)?) {
-        Ok(bits) => form_of(alloc, &bits),
-        Err(_) => Err(SaveError::Memory),
-    }
-}
-
-fn bits_fit<'a>(heap: &'a Heap, alloc: Global) -> bool {
-    match bits(alloc) {
-        Ok(bytes) => fits::<BitVec<&'a Heap>>(heap, bytes.as_slice()),
-        Err(_) => false,
-    }
-}
-
-fn indexed_fit<'a>(heap: &'a Heap, alloc: Global) -> bool {
-    match bits(alloc) {
-        Ok(bytes) => fits::<RsVec<&'a Heap>>(heap, bytes.as_slice()),
-        Err(_) => false,
-    }
+fn loads_from_slices_take_memory_in_proportion(rt: HostRuntime) {
+    assert!(rt; first_large_load(rt.alloc(), false) == Ok(None));
 }
 
 #[test]
-fn bits_take_memory_in_proportion(rt: HostRuntime) {
-    let heap = Refusing::none(rt.alloc());
-    assert!(rt; bits_fit(&heap, rt.alloc()));
-    let heap = Refusing::none(rt.alloc());
-    assert!(rt; indexed_fit(&heap, rt.alloc()));
-}
-
-// Returns the saved form of ascending numbers.
-fn members(alloc: Global) -> Result<Vec<u8>, SaveError> {
-    let numbers = ascending(alloc)?;
-    if !is_ascending(numbers.as_slice()) {
-        return Err(SaveError::NoForm);
-    }
-    form_of(alloc, &EliasFanoVec::from_slice(alloc, numbers.as_slice())?)
-}
-
-fn members_fit<'a>(heap: &'a Heap, alloc: Global) -> bool {
-    match members(alloc) {
-        Ok(bytes) => fits::<EliasFanoVec<&'a Heap>>(heap, bytes.as_slice()),
-        Err(_) => false,
-    }
-}
-
-#[test]
-fn ascending_lists_take_memory_in_proportion(rt: HostRuntime) {
-    let heap = Refusing::none(rt.alloc());
-    assert!(rt; members_fit(&heap, rt.alloc()));
-}
-
-// Returns the saved form of numbers in any order.
-fn values(alloc: Global) -> Result<Vec<u8>, SaveError> {
-    let numbers = scattered(alloc)?;
-    if numbers.len() > MAX_LEN {
-        return Err(SaveError::NoForm);
-    }
-    form_of(alloc, &FastRmq::from_vec(numbers)?)
-}
-
-fn blocks_fit<'a>(heap: &'a Heap, alloc: Global) -> bool {
-    match values(alloc) {
-        Ok(bytes) => fits::<FastRmq<&'a Heap>>(heap, bytes.as_slice()),
-        Err(_) => false,
-    }
-}
-
-fn tables_fit<'a>(heap: &'a Heap, alloc: Global) -> bool {
-    match values(alloc) {
-        Ok(bytes) => fits::<BinaryRmq<&'a Heap>>(heap, bytes.as_slice()),
-        Err(_) => false,
-    }
-}
-
-#[test]
-fn values_take_memory_in_proportion(rt: HostRuntime) {
-    let heap = Refusing::none(rt.alloc());
-    assert!(rt; blocks_fit(&heap, rt.alloc()));
-    let heap = Refusing::none(rt.alloc());
-    assert!(rt; tables_fit(&heap, rt.alloc()));
+fn loads_from_readers_take_memory_in_proportion(rt: HostRuntime) {
+    assert!(rt; first_large_load(rt.alloc(), true) == Ok(None));
 }

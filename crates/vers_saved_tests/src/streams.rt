@@ -1,7 +1,8 @@
 //! Forms that are read in pieces and written in pieces, with each read and each write failing.
 use crate::devices::{Held, Pieces};
 use crate::rows::is_saved_as;
-use crate::stored::{BITS, SORTED};
+use crate::stored::{BITS, INVERTED, SORTED};
+use inverted::InvertedIndex;
 use std::alloc::{Allocator, Global};
 use vers_bits::bit_vec::BitVec;
 use vers_saved::fault::{LoadError, SaveError};
@@ -77,4 +78,9 @@ fn bits_in_pieces(rt: HostRuntime) {
 #[test]
 fn numbers_in_pieces(rt: HostRuntime) {
     assert!(rt; is_streamed::<EliasFanoVec<Global>, Global>(rt.alloc(), rt.alloc(), &SORTED));
+}
+
+#[test]
+fn indexes_in_pieces(rt: HostRuntime) {
+    assert!(rt; is_streamed::<InvertedIndex<Global>, Global>(rt.alloc(), rt.alloc(), &INVERTED));
 }

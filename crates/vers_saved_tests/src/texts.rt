@@ -1,7 +1,7 @@
 //! Indexes of texts, which are loaded by functions of their own: each bit of a form flipped, with the sum as it was and
 //! made right again.
 use crate::devices::Pieces;
-use crate::memory::{Heap, ends_well};
+use crate::memory::Heap;
 use crate::rows::{changes_are_told, is_saved_as};
 use crate::stored::{EMPTY_TEXT, SYMBOLS, TEXT, WIDE_TEXT};
 use crate::streams::is_written;
@@ -246,8 +246,8 @@ fn texts_in_pieces(rt: HostRuntime) {
     assert!(rt; is_right == Ok(true));
 }
 
-// Tests a load of an index with a refused request.
-fn tried_text(heap: &Heap, bytes: &[u8], len: usize) -> Ending {
+/// Tests a load of an index with a refused request.
+pub fn tried_text(heap: &Heap, bytes: &[u8], len: usize) -> Ending {
     heap.start();
     let is_right = asked(
         load_text_from_slice(heap, bytes),
@@ -257,10 +257,4 @@ fn tried_text(heap: &Heap, bytes: &[u8], len: usize) -> Ending {
         Ok(is_right) => done_if(is_right),
         Err(fault) => out_of_memory_if(fault == LoadError::Memory),
     }
-}
-
-#[test]
-fn each_request_of_a_text_refused(rt: HostRuntime) {
-    assert!(rt; ends_well(rt.alloc(), |heap: &Heap| tried_text(heap, &TEXT, 6)));
-    assert!(rt; ends_well(rt.alloc(), |heap: &Heap| tried_text(heap, &WIDE_TEXT, 3)));
 }

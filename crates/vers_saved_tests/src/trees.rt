@@ -1,5 +1,5 @@
 //! Trees, which are loaded by functions of their own.
-use crate::memory::{Heap, ends_well};
+use crate::memory::Heap;
 use crate::rows::{changes_are_told, is_saved_as};
 use crate::stored::{BITS, PARENTHESES};
 use std::alloc::Global;
@@ -52,16 +52,11 @@ fn parentheses(rt: HostRuntime) {
     assert!(rt; tree_fault(&heap, &BITS) == Some(LoadError::OtherKind));
 }
 
-// Tests a load of a tree with a refused request.
-fn tried_tree<'a>(heap: &'a Heap) -> Ending {
+/// Tests a load of a tree with a refused request.
+pub fn tried_tree<'a>(heap: &'a Heap) -> Ending {
     heap.start();
     match loaded(heap, &PARENTHESES) {
         Ok(tree) => done_if(tree.len() == 6 && tree.close(0) == Some(5)),
         Err(fault) => out_of_memory_if(fault == LoadError::Memory),
     }
-}
-
-#[test]
-fn each_request_of_a_tree_refused(rt: HostRuntime) {
-    assert!(rt; ends_well(rt.alloc(), |heap: &Heap| tried_tree(heap)));
 }

@@ -6,9 +6,10 @@ use crate::proved::vers_bits::bit_vec::{BitVec, GrowError, MAX_LEN};
 use crate::proved::vers_rank::fast_rs_vec::RsVec;
 use crate::proved::vers_rmq::rmq::binary_rmq::BinaryRmq;
 use crate::proved::vers_rmq::rmq::fast_rmq::FastRmq;
-use crate::proved::vers_saved::saved::{load_from_slice, save_to_vec};
+use crate::proved::vers_saved::fault::LoadError;
+use crate::proved::vers_saved::saved::{load_from_slice, save_to_vec, Loaded, Saved};
 use crate::proved::vers_saved::trees::{load_parentheses_from_slice, load_tree, load_tree_from_slice};
-use crate::proved::vers_saved::{FACTOR, START, TURN};
+use crate::proved::vers_saved::{FACTOR, MAGIC, START, TURN};
 use crate::proved::vers_sorted::elias_fano::EliasFanoVec;
 use crate::proved::vers_sorted::sparse::SparseRSVec;
 use crate::proved::vers_tally::tally::{CountedBits, Tally};
@@ -210,17 +211,58 @@ fn searches_over_whole_words_are_those_of_a_scan() {
     }
 }
 
+/// The words of the saved form of a list.
+fn form_words<S: Saved>(list: &S) -> Plain<u64> {
+    let mut bytes = Vec::new(Global);
+    assert!(save_to_vec(list, &mut bytes).is_ok());
+    bytes.as_slice().chunks_exact(8).map(|it| u64::from_le_bytes(it.try_into().unwrap())).collect()
+}
+
+/// The list that words are the saved form of.
+fn list_of_form<S: Loaded<Global>>(words: &[u64]) -> S {
+    let bytes: Plain<u8> = words.iter().flat_map(|it| it.to_le_bytes()).collect();
+    load_from_slice(Global, &bytes).ok().unwrap()
+}
+
 #[test]
 fn long_lists_go_round() {
-    let members: Plain<u64> = (0..1500).map(|k| k * k).collect();
+    let members: Plain<u64> = (0..15_000).map(|k| k * k).collect();
     let sorted = EliasFanoVec::from_slice(Global, &members).ok().unwrap();
-    let mut bytes = Vec::new(Global);
-    assert!(save_to_vec(&sorted, &mut bytes).is_ok());
-    let loaded: EliasFanoVec<Global> = load_from_slice(Global, bytes.as_slice()).ok().unwrap();
-    assert!(loaded.iter().eq(members.iter().copied()));
-    let words: Plain<u64> =
-        bytes.as_slice().chunks_exact(8).map(|it| u64::from_le_bytes(it.try_into().unwrap())).collect();
-    assert!(words.windows(1500).any(|it| it == members));
+    let words = form_words(&sorted);
+    assert_eq!(words[5..8], [15_000, 0, 14_999 * 14_999]);
+    assert!(list_of_form::<EliasFanoVec<Global>>(&words).iter().eq(members.iter().copied()));
+    let sparse = form_words(&SparseRSVec::new(Global, &members, 1 << 40).ok().unwrap());
+    assert_eq!((sparse[5], &sparse[6..sparse.len() - 1]), (1 << 40, &words[5..words.len() - 1]));
+    assert!(list_of_form::<SparseRSVec<Global>>(&sparse).iter1().eq(members.iter().copied()));
+    let costs = Vec::from_slice(Global, &members).ok().unwrap();
+    let posted = form_words(&Postings::from_sorted(&members, costs).ok().unwrap());
+    assert!(posted[5..15_005] == members[..] && posted[15_005..30_005] == members[..]);
+}
+
+#[test]
+fn no_bits_go_round() {
+    let words = form_words(&SparseRSVec::new(Global, &[], 0).ok().unwrap());
+    assert_eq!(words[5..9], [0, 0, 0, 0]);
+    assert!(list_of_form::<SparseRSVec<Global>>(&words).is_empty());
+}
+
+/// Words with the right sum as the last one.
+fn summed(mut words: Plain<u64>) -> Plain<u64> {
+    let sum = words.iter().fold(START, |sum, it| (sum ^ it).wrapping_mul(FACTOR).rotate_left(TURN));
+    words.push(sum);
+    words
+}
+
+#[test]
+fn words_of_no_parts() {
+    let more = summed(vec![MAGIC, 2, 2, 64, 4, 0, 0, 0, 0]);
+    let bytes: Plain<u8> = more.iter().flat_map(|it| it.to_le_bytes()).collect();
+    assert!(load_from_slice::<EliasFanoVec<Global>, _>(Global, &bytes).err() == Some(LoadError::NotAscending));
+    let equal = form_words(&EliasFanoVec::from_slice(Global, &[1, 1]).ok().unwrap());
+    let mut places = vec![MAGIC, 2, 4, 64, equal[4] + 1, 12];
+    places.extend(&equal[5..equal.len() - 1]);
+    let bytes: Plain<u8> = summed(places).iter().flat_map(|it| it.to_le_bytes()).collect();
+    assert!(load_from_slice::<SparseRSVec<Global>, _>(Global, &bytes).err() == Some(LoadError::NotAscending));
 }
 
 #[test]
@@ -247,10 +289,9 @@ fn trees_of_other_blocks_are_refused() {
 /// Saved words of which one is another, with their sum.
 fn resaved(bytes: &[u8], at: usize, word: u64) -> Plain<u8> {
     let mut words: Plain<u64> = bytes.chunks_exact(8).map(|it| u64::from_le_bytes(it.try_into().unwrap())).collect();
-    let last = words.len() - 1;
     words[at] = word;
-    words[last] = words[..last].iter().fold(START, |sum, it| (sum ^ it).wrapping_mul(FACTOR).rotate_left(TURN));
-    words.iter().flat_map(|it| it.to_le_bytes()).collect()
+    words.pop();
+    summed(words).iter().flat_map(|it| it.to_le_bytes()).collect()
 }
 
 #[test]

@@ -455,8 +455,6 @@ fn inverted_indexes_answer_as_their_lists() {
     refused(REFUSED, |it| vers_inverted_build(Global, 5, 10, &TERMS[..8], &DOCUMENTS, it));
     refused(REFUSED, |it| vers_inverted_build(Global, 5, 10, &[1, 1], &[3, 3], it));
     refused(REFUSED, |it| vers_inverted_build(Global, 5, 10, &[1, 0], &[3, 4], it));
-    assert_eq!(vers_saved_size(Global, &mut handle).status, ABSENT);
-    assert_eq!(vers_save(Global, &mut handle, &mut [0; 8]), ABSENT);
 }
 
 /// What plain numbers answer.
@@ -730,6 +728,7 @@ fn of_each_kind() -> Vec<VersHandle> {
         made(|it| vers_postings_build(Global, &[2, 3, 60, 61], &values, it)),
         made(|it| vers_binary_rmq_build(Global, &values, it)),
         made(|it| vers_text_build(Global, &values, 4, 2, it)),
+        made(|it| vers_inverted_build(Global, 4, 70, &[0, 0, 2], &[3, 60, 1], it)),
     ]
 }
 
@@ -768,8 +767,8 @@ fn saved_forms_are_loaded_as_their_kind() {
         refused(8, |it| vers_load(Global, kind as u32, &[], it));
         wrong[0] ^= 1;
         refused(9, |it| vers_load(Global, kind as u32, &wrong, it));
-        refused(11, |it| vers_load(Global, (kind as u32 + 2) % 10, &bytes, it));
-        refused(UNKNOWN, |it| vers_load(Global, 10, &bytes, it));
+        refused(11, |it| vers_load(Global, (kind as u32 + 2) % 11, &bytes, it));
+        refused(UNKNOWN, |it| vers_load(Global, 11, &bytes, it));
     }
     // the row of the whole text, with the sum made right again
     let mut bytes = saved(&mut of_each_kind()[9]);

@@ -1,25 +1,27 @@
 -- Proofs that lists with the same words are the same list.
-use Rattle.std.proofs.Common.{◌≡◌, ℕ, suc, ◌^◌, ◌<◌, ◌*◌, Bool, false, true, ◌≢◌, List, [], ◌∷◌, length, get_or, take, drop, refl, sym, ap, subst, ◌∙◌, inl, inr, arith}
+use Rattle.std.proofs.Common.{◌≡◌, ℕ, suc, ◌-◌, ◌^◌, ◌<◌, ◌*◌, Bool, false, true, List, [], ◌∷◌, ◌++◌, length, get_or, take, drop, refl, sym, ap, subst, ◌∙◌, inl, inr, arith}
 use Rattle.std.proofs.Math.Nat.{mod-eq_of_lt}
 use Rattle.std.proofs.lemmas.Bool.{cases_lt, false≢true}
 use Rattle.std.proofs.lemmas.Nat.{pow_pos}
 use Rattle.std.proofs.lemmas.List.Elements.{All-get_or}
 use Rattle.std.proofs.lemmas.List.{same_from_push, take_at, drop_at, get_or_past}
 use Rattle.std.specs.Prelude.{⊤, map, flat_map, All}
-use Rattle.vers_bits.specs.Bits.{is_bit, number, low_bits, pack, limb_count, limbs, places}
-use Rattle.vers_bits.proofs.PublicLaws.{equal_limbs, length-limbs, length-packed, length-low_bits, number-low_bits}
+use Rattle.vers_bits.specs.Bits.{count, is_bit, number, low_bits, pack, limb_count, limbs, places, select}
+use Rattle.vers_bits.proofs.PublicLaws.{any_default, equal_limbs, select_up, length-limbs, length-places, length-packed, length-low_bits, number-low_bits}
 use Rattle.vers_sorted.specs.Ones.{ones_at}
-use Rattle.vers_sorted.proofs.PublicLaws.{ones_at-places}
+use Rattle.std.specs.List.Sorted.{IsNonDecreasing}
+use Rattle.vers_sorted.specs.Layout.{first_of, last_of, low_count, high_count, low_parts, high_parts}
+use Rattle.vers_sorted.proofs.PublicLaws.{counted_parts, ones_at-places, parts_tell}
 use Rattle.vers_wavelet.specs.Symbols.{Symbols}
 use Rattle.postings.specs.Posted.{Posted, ArePaired}
 use Rattle.vers_wavelet.specs.Makers.{symbol_levels}
 use Rattle.vers_wavelet.proofs.PublicLaws.{levels_even}
 use Rattle.vers_wavelet.proofs.PublicLaws as Wavelet
-use Rattle.vers_saved.specs.Format.{level_words, sparse_words, posting_words}
+use Rattle.vers_saved.specs.Format.{level_words, place_words, posting_words, sorted_words, sparse_words}
 
--- lists of a kind that is not saved by levels have no first version of another form
-pub no_levels : {P : Type 0} → false ≡ true → P
-no_levels levels = absurd (false≢true levels)
+-- a kind with no later version
+pub no_first : {P : Type 0} → false ≡ true → P
+no_first later = absurd (false≢true later)
 
 -- lists of bits with the same limbs
 pub bits_tell : (w : ℕ) (x y : List Bool) → ⊤ → ⊤ → length x ≡ length y → w ≡ w → limbs x ≡ limbs y → x ≡ y
@@ -29,16 +31,66 @@ bits_tell w x y t u long one same = equal_limbs x y long same
 pub numbers_tell : (w : ℕ) (x y : List ℕ) → ⊤ → ⊤ → length x ≡ length y → w ≡ w → x ≡ y → x ≡ y
 numbers_tell w x y t u long one same = same
 
+-- ascending lists with the same elements as words
+pub listed_tell : true ≡ true → (x y : List ℕ) → IsNonDecreasing x → IsNonDecreasing y → length x ≡ length y → ◌≡◌ {A = ℕ} 64 64 → x ≡ y → x ≡ y
+listed_tell later x y up_x up_y long one same = same
+
+-- the parts of a list, and how many bits they have
+pub own_counts : (m : List ℕ) → (length (low_parts m) ≡ low_count (length m) (last_of m - first_of m)) × (length (high_parts m) ≡ high_count (length m) (last_of m - first_of m))
+own_counts m =
+    counted_parts m (length m) (first_of m) (last_of m) (low_parts m) (high_parts m) (record { len_is = refl; first_is = refl; last_is = refl; low_is = refl; high_is = refl })
+
+-- ascending lists with the same ends and the same limbs of their parts
+pub sorted_tell : (x y : List ℕ) → IsNonDecreasing x → IsNonDecreasing y → length (sorted_words x) ≡ length (sorted_words y) → ◌≡◌ {A = ℕ} 64 64 → sorted_words x ≡ sorted_words y → x ≡ y
+sorted_tell x y up_x up_y long one same =
+    let many : length x ≡ length y = ap (λ l. get_or l 0 0) same in
+    let first : first_of x ≡ first_of y = ap (λ l. get_or l 1 0) same in
+    let last : last_of x ≡ last_of y = ap (λ l. get_or l 2 0) same in
+    let rest : limbs (low_parts x) ++ limbs (high_parts x) ≡ limbs (low_parts y) ++ limbs (high_parts y) = ap (drop 3) same in
+    let span : last_of x - first_of x ≡ last_of y - first_of y = ap (λ k. k - first_of x) last ∙ ap (λ k. last_of y - k) first in
+    let low_long : length (low_parts x) ≡ length (low_parts y) = (own_counts x).0 ∙ ap (λ n. low_count n (last_of x - first_of x)) many ∙ ap (low_count (length y)) span ∙ sym (own_counts y).0 in
+    let high_long : length (high_parts x) ≡ length (high_parts y) = (own_counts x).1 ∙ ap (λ n. high_count n (last_of x - first_of x)) many ∙ ap (high_count (length y)) span ∙ sym (own_counts y).1 in
+    let limbs_long : length (limbs (low_parts x)) ≡ length (limbs (low_parts y)) = length-limbs (low_parts x) ∙ ap limb_count low_long ∙ sym (length-limbs (low_parts y)) in
+    let n : ℕ = length (limbs (low_parts y)) in
+    let low : low_parts x ≡ low_parts y =
+    equal_limbs (low_parts x) (low_parts y) low_long
+    (sym (take_at (limbs (low_parts x)) (limbs (high_parts x)) n limbs_long) ∙ ap (take n) rest ∙ take_at (limbs (low_parts y)) (limbs (high_parts y)) n refl) in
+    let high : high_parts x ≡ high_parts y =
+    equal_limbs (high_parts x) (high_parts y) high_long
+    (sym (drop_at (limbs (low_parts x)) (limbs (high_parts x)) n limbs_long) ∙ ap (drop n) rest ∙ drop_at (limbs (low_parts y)) (limbs (high_parts y)) n refl) in
+    parts_tell x y (length y) (first_of y) (last_of y) (low_parts y) (high_parts y) up_x up_y
+    (record { len_is = sym many; first_is = sym first; last_is = sym last; low_is = sym low; high_is = sym high })
+    (record { len_is = refl; first_is = refl; last_is = refl; low_is = refl; high_is = refl })
+
 -- a list is its bits, each as it is
 same_bits : (x : List Bool) → map (is_bit true) x ≡ x
 same_bits [] = refl
 same_bits (b ∷ x) = ap (λ l. b ∷ l) (same_bits x)
 
--- lists of bits with few ones, by the places of the ones and the length
+-- lists of bits with the same length and places of the ones
+places_are : (x y : List Bool) → places true x ≡ places true y → length x ≡ length y → x ≡ y
+places_are x y ones long =
+    sym (ones_at-places true x ∙ same_bits x) ∙ ap (λ l. ones_at l (length x)) ones ∙ ap (ones_at (places true y)) long ∙ ones_at-places true y ∙ same_bits y
+
+-- the places of the ones ascend
+pub places_up : (x : List Bool) → IsNonDecreasing (places true x)
+unfolding select
+places_up x i j d from h = elim (cases_lt i j) [
+  | inl less ↦
+      let few : j < count true x (length x) = omega (arith, length-places true x) in
+      omega (arith, select_up true x i j less few, any_default (places true x) i (length x) d (omega arith), any_default (places true x) j (length x) d h)
+  | inr past ↦ let same : i ≡ j = omega arith in rw same (omega arith)
+]
+
+-- lists of bits with few ones, by the length and the words of the places
 pub sparse_tell : (x y : List Bool) → ⊤ → ⊤ → length (sparse_words x) ≡ length (sparse_words y) → ◌≡◌ {A = ℕ} 64 64 → sparse_words x ≡ sparse_words y → x ≡ y
 sparse_tell x y t u long one same =
-    let p = same_from_push (places true x) (places true y) (length x) (length y) same in
-    sym (ones_at-places true x ∙ same_bits x) ∙ ap (λ l. ones_at l (length x)) p.0 ∙ ap (ones_at (places true y)) p.1 ∙ ones_at-places true y ∙ same_bits y
+    let rest : sorted_words (places true x) ≡ sorted_words (places true y) = ap (drop 1) same in
+    places_are x y (sorted_tell (places true x) (places true y) (places_up x) (places_up y) (ap length rest) one rest) (ap (λ l. get_or l 0 0) same)
+
+-- and by the places and then the length
+pub places_tell : true ≡ true → (x y : List Bool) → ⊤ → ⊤ → length (place_words x) ≡ length (place_words y) → ◌≡◌ {A = ℕ} 64 64 → place_words x ≡ place_words y → x ≡ y
+places_tell later x y t u long one same = let p = same_from_push (places true x) (places true y) (length x) (length y) same in places_are x y p.0 p.1
 
 -- lists of n bits each with the same limbs, one list after another
 rows_tell : (n : ℕ) (ls ms : List (List Bool)) → All (λ l. length l ≡ n) ls → All (λ l. length l ≡ n) ms → length ls ≡ length ms → flat_map limbs ls ≡ flat_map limbs ms → ls ≡ ms
@@ -110,6 +162,6 @@ symbols_tell x y hx hy long wide same =
     ap (λ w. record { width = w; items = x.items }) wide ∙ ap (λ l. record { width = y.width; items = l }) items
 
 -- they have a later version, and those with the same words of the first are equal
-pub symbols_by_levels : true ≡ true → (◌≢◌ {A = ℕ} 2 1) × ((x y : Symbols) → All (λ v. v < 2 ^ x.width) x.items → All (λ v. v < 2 ^ y.width) y.items → length x.items ≡ length y.items → x.width ≡ y.width
-    → limbs (pack x.items x.width) ≡ limbs (pack y.items y.width) → x ≡ y)
-symbols_by_levels levels = (λ e. absurd (omega (arith, e)), symbols_tell)
+pub symbols_first : true ≡ true → (x y : Symbols) → All (λ v. v < 2 ^ x.width) x.items → All (λ v. v < 2 ^ y.width) y.items → length x.items ≡ length y.items → x.width ≡ y.width
+    → limbs (pack x.items x.width) ≡ limbs (pack y.items y.width) → x ≡ y
+symbols_first later = symbols_tell

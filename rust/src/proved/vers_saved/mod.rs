@@ -7,10 +7,12 @@ pub mod documents;
 pub mod fault;
 pub mod form;
 mod gather;
+pub mod inverted_index;
 pub mod kind;
 pub mod laws;
 pub mod numbers;
 mod packed;
+mod parts;
 pub mod saved;
 pub mod sparse;
 pub mod stream;
@@ -22,11 +24,14 @@ pub mod words;
 /// The first word of each saved form: the bytes `woltsjem`.
 pub const MAGIC: u64 = 7882823766888968055;
 
-/// The version of the form of each kind of list but symbols, and the first version of theirs.
+/// The first version of the form of each kind of list.
 pub const VERSION: u64 = 1;
 
 /// The version of the form of symbols by levels.
 pub const LEVELS_VERSION: u64 = 2;
+
+/// The version of the form of ascending lists by their parts.
+pub const PARTS_VERSION: u64 = 2;
 
 /// The sum of no words.
 pub const START: u64 = 0xcbf2_9ce4_8422_2325;

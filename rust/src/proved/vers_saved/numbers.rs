@@ -1,9 +1,10 @@
-//! Lists of numbers, saved unchanged, each as a word.
+//! Lists of numbers, saved unchanged, each as a word, and ascending ones by their parts.
 
 use crate::rattle::prelude::*;
 
 use crate::proved::vers_saved::form::{Shape, taken};
 use crate::proved::vers_saved::kind::{BLOCK_VALUES, GREATEST_WORDS, Kind, SORTED_LISTS, TABLE_VALUES};
+use crate::proved::vers_saved::parts::{copy_list, count_list, list_in, list_word};
 use crate::proved::vers_saved::saved::{Loaded, Saved};
 use crate::rattle::AllocError;
 use crate::rattle::Allocator;
@@ -18,15 +19,6 @@ pub(crate) fn words_shape(count: usize) -> Shape {
 
 // Shows that all items of a slice are words.
 pub(crate) fn are_words(items: &[u64]) {}
-
-// Shows that all members of a list are words, since the last one is.
-fn read_last<A: Allocator + Copy>(list: &EliasFanoVec<A>) {
-    let count = list.len();
-    if count == 0 {
-        return;
-    }
-    let _last = list.get_unchecked(count - 1);
-}
 
 // Skips the first `n` members that a walk has left.
 #[inline(always)]
@@ -66,26 +58,31 @@ impl<A: Allocator + Copy> Saved for EliasFanoVec<A> {
     }
 
     fn shape(&self) -> Option<Shape> {
-        let count = self.len();
+        let count = count_list(self);
         if count as u64 > GREATEST_WORDS {
             return None;
         }
-        read_last(self);
         Some(words_shape(count))
     }
 
     #[inline]
     fn word(&self, k: usize) -> u64 {
-        self.get_unchecked(k)
+        list_word(self, k)
     }
 
+    #[inline]
     fn copy_words(&self, from: usize, out: &mut [u64]) {
-        copy_members(self.iter(), &[], from, out)
+        copy_list(self, from, out)
     }
 }
 
 impl<A: Allocator + Copy> Loaded<A> for EliasFanoVec<A> {
     fn make(of: Shape, held: &mut Vec<u64, A>) -> Result<Self, AllocError> {
+        let alloc = *held.allocator();
+        list_in(alloc, held.as_slice())
+    }
+
+    fn make_packed(of: Shape, held: &mut Vec<u64, A>) -> Result<Self, AllocError> {
         let alloc = *held.allocator();
         EliasFanoVec::from_slice(alloc, held.as_slice())
     }

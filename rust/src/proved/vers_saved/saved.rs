@@ -39,7 +39,7 @@ pub trait Loaded<A: Allocator>: Saved + Sized {
 
     /// Returns the list of the items in these words, which are those of the first version of the form.
     /// Precondition: the words are those of a list of that shape, one item after another. Errors: `AllocError` if
-    /// the allocator refuses a request, or if lists of this kind are not saved by levels.
+    /// the allocator refuses a request, or if the kind has no later version.
     fn make_packed(_of: Shape, _held: &mut Vec<u64, A>) -> Result<Self, AllocError> {
         Err(AllocError)
     }
@@ -114,7 +114,7 @@ pub(crate) fn list_of<S: Loaded<A>, A: Allocator>(
     of: Shape,
     held: &mut Vec<u64, A>,
 ) -> Result<S, AllocError> {
-    if S::kind().by_levels && version == VERSION {
+    if S::kind().has_first() && version == VERSION {
         return S::make_packed(of, held);
     }
     S::make(of, held)

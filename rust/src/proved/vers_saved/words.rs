@@ -2,7 +2,10 @@
 
 use crate::rattle::prelude::*;
 
+use crate::proved::vers_saved::form::HEAD;
+use crate::proved::vers_saved::inverted_index::are_of_inverted;
 use crate::proved::vers_saved::kind::{Order, Rows};
+use crate::proved::vers_saved::parts::{Cut, are_of_list, are_of_sparse};
 use crate::proved::vers_saved::{FACTOR, START, TURN};
 use crate::rattle::Allocator;
 
@@ -117,7 +120,7 @@ pub(crate) fn is_padded<W: Words>(rows: Rows, words: &W) -> bool {
 #[inline(always)]
 fn stands(order: Order, before: u64, next: u64) -> bool {
     match order {
-        Order::Any => true,
+        Order::Any | Order::Parts | Order::RisingParts | Order::InvertedParts => true,
         Order::Ascending => before <= next,
         Order::Rising | Order::HalfRising => before < next,
     }
@@ -126,14 +129,24 @@ fn stands(order: Order, before: u64, next: u64) -> bool {
 // Returns how many of `count` words must be in order.
 fn count_ordered(order: Order, count: usize) -> usize {
     match order {
-        Order::Any => 0,
+        Order::Any | Order::Parts | Order::RisingParts | Order::InvertedParts => 0,
         Order::Ascending | Order::Rising => count,
         Order::HalfRising => count / 2,
     }
 }
 
-// Returns true if the `n` words of the content are in order.
+// Returns true if the `n` words of the content are in order, or are those of an ascending list or of its parts.
 pub(crate) fn is_in_order<W: Words>(order: Order, n: usize, words: &W) -> bool {
+    match order {
+        Order::Parts => are_of_list(&Cut::new(words, HEAD, n), n, false),
+        Order::RisingParts => are_of_sparse(words, HEAD, n),
+        Order::InvertedParts => are_of_inverted(words, HEAD, n),
+        order => are_in_steps(order, n, words),
+    }
+}
+
+// Returns true if each of the `n` words of the content is in order with the next one.
+fn are_in_steps<W: Words>(order: Order, n: usize, words: &W) -> bool {
     let end = count_ordered(order, n);
     let mut holds = true;
     for k in 0..end.saturating_sub(1) {

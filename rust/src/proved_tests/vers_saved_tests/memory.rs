@@ -1,7 +1,12 @@
 //! Each request for memory refused, and heads that say more than there is.
 
 use crate::rattle::prelude::*;
-use crate::proved_tests::vers_saved_tests::stored::{BITS, HOSTILE, PADDING, POSTINGS, SORTED, SPARSE, SYMBOLS, VALUES};
+use crate::proved_tests::vers_saved_tests::stored::{
+    BITS, HOSTILE, INVERTED, PADDING, POSTINGS, SORTED, SPARSE, SYMBOLS, TEXT, VALUES, WIDE_TEXT,
+};
+use crate::proved_tests::vers_saved_tests::texts::tried_text;
+use crate::proved_tests::vers_saved_tests::trees::tried_tree;
+use crate::proved::inverted::InvertedIndex;
 use crate::proved::postings::Postings;
 use crate::rattle::AllocError;
 use crate::rattle::Allocator;
@@ -21,6 +26,37 @@ use crate::proved::vers_wavelet::wavelet::WaveletMatrix;
 /// An allocator of which requests are refused.
 pub type Heap = Refusing<Global>;
 
+/// A structure that has a saved form. Symbols and texts have the width of a symbol.
+#[derive(Clone, Copy)]
+pub enum Form {
+    Bits,
+    Indexed,
+    Ascending,
+    Sparse,
+    Tree,
+    Binary,
+    Fast,
+    Posted,
+    Inverted,
+    Symbols(u16),
+    Text(u16),
+}
+
+const FORMS: [Form; 12] = [
+    Form::Bits,
+    Form::Indexed,
+    Form::Ascending,
+    Form::Sparse,
+    Form::Tree,
+    Form::Binary,
+    Form::Fast,
+    Form::Posted,
+    Form::Inverted,
+    Form::Symbols(3),
+    Form::Text(2),
+    Form::Text(9),
+];
+
 // Tests a load from a slice with a refused request.
 fn tried<'a, S: Loaded<&'a Heap>>(heap: &'a Heap, bytes: &[u8]) -> Ending {
     heap.start();
@@ -31,41 +67,26 @@ fn tried<'a, S: Loaded<&'a Heap>>(heap: &'a Heap, bytes: &[u8]) -> Ending {
     }
 }
 
-fn tried_bits<'a>(heap: &'a Heap) -> Ending {
-    tried::<BitVec<&'a Heap>>(heap, &BITS)
+fn tried_form<'a>(heap: &'a Heap, form: Form) -> Ending {
+    match form {
+        Form::Bits => tried::<BitVec<&'a Heap>>(heap, &BITS),
+        Form::Indexed => tried::<RsVec<&'a Heap>>(heap, &BITS),
+        Form::Ascending => tried::<EliasFanoVec<&'a Heap>>(heap, &SORTED),
+        Form::Sparse => tried::<SparseRSVec<&'a Heap>>(heap, &SPARSE),
+        Form::Tree => tried_tree(heap),
+        Form::Binary => tried::<BinaryRmq<&'a Heap>>(heap, &VALUES),
+        Form::Fast => tried::<FastRmq<&'a Heap>>(heap, &VALUES),
+        Form::Posted => tried::<Postings<&'a Heap>>(heap, &POSTINGS),
+        Form::Inverted => tried::<InvertedIndex<&'a Heap>>(heap, &INVERTED),
+        Form::Symbols(_) => tried::<WaveletMatrix<&'a Heap>>(heap, &SYMBOLS),
+        Form::Text(2) => tried_text(heap, &TEXT, 6),
+        Form::Text(_) => tried_text(heap, &WIDE_TEXT, 3),
+    }
 }
 
-fn tried_indexed<'a>(heap: &'a Heap) -> Ending {
-    tried::<RsVec<&'a Heap>>(heap, &BITS)
-}
-
-fn tried_sorted<'a>(heap: &'a Heap) -> Ending {
-    tried::<EliasFanoVec<&'a Heap>>(heap, &SORTED)
-}
-
-fn tried_sparse<'a>(heap: &'a Heap) -> Ending {
-    tried::<SparseRSVec<&'a Heap>>(heap, &SPARSE)
-}
-
-fn tried_table<'a>(heap: &'a Heap) -> Ending {
-    tried::<BinaryRmq<&'a Heap>>(heap, &VALUES)
-}
-
-fn tried_blocks<'a>(heap: &'a Heap) -> Ending {
-    tried::<FastRmq<&'a Heap>>(heap, &VALUES)
-}
-
-fn tried_symbols<'a>(heap: &'a Heap) -> Ending {
-    tried::<WaveletMatrix<&'a Heap>>(heap, &SYMBOLS)
-}
-
-fn tried_documents<'a>(heap: &'a Heap) -> Ending {
-    tried::<Postings<&'a Heap>>(heap, &POSTINGS)
-}
-
-/// Returns true if a load ends as out of memory or right, whichever request is refused, and right if none is.
-/// Each frees all memory.
-pub fn ends_well<F: Fn(&Heap) -> Ending>(alloc: Global, tried: F) -> bool {
+// Returns true if a load ends as out of memory or right, whichever request is refused, and right if none is.
+// Each frees all memory.
+fn ends_well<F: Fn(&Heap) -> Ending>(alloc: Global, tried: F) -> bool {
     for n in 1..100 {
         let heap = Refusing::after_start(alloc, n);
         let ending = tried(&heap);
@@ -82,14 +103,9 @@ pub fn ends_well<F: Fn(&Heap) -> Ending>(alloc: Global, tried: F) -> bool {
 #[test]
 fn each_request_refused() {
     let rt = HostRuntime;
-    assert!(ends_well(rt.alloc(), |heap: &Heap| tried_bits(heap)));
-    assert!(ends_well(rt.alloc(), |heap: &Heap| tried_indexed(heap)));
-    assert!(ends_well(rt.alloc(), |heap: &Heap| tried_sorted(heap)));
-    assert!(ends_well(rt.alloc(), |heap: &Heap| tried_sparse(heap)));
-    assert!(ends_well(rt.alloc(), |heap: &Heap| tried_table(heap)));
-    assert!(ends_well(rt.alloc(), |heap: &Heap| tried_blocks(heap)));
-    assert!(ends_well(rt.alloc(), |heap: &Heap| tried_symbols(heap)));
-    assert!(ends_well(rt.alloc(), |heap: &Heap| tried_documents(heap)));
+    for form in FORMS {
+        assert!(ends_well(rt.alloc(), |heap: &Heap| tried_form(heap, form)));
+    }
 }
 
 // Returns the error of a load from a slice whose first request is refused.
@@ -150,7 +166,7 @@ fn a_hostile_length_takes_no_memory() {
 }
 
 /// The number of bytes read at once.
-const BLOCK: usize = 65536;
+pub const BLOCK: usize = 65536;
 
 // Returns a head that says 2 ^ 62 bits, and zeros after it, that many bytes in all.
 fn hostile(alloc: Global, len: usize) -> Result<Vec<u8>, AllocError> {

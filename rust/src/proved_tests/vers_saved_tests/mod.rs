@@ -3,7 +3,11 @@
 use crate::rattle::prelude::*;
 
 #[cfg(test)]
+mod ascending;
+#[cfg(test)]
 mod devices;
+#[cfg(test)]
+mod inverted_index;
 #[cfg(test)]
 mod levels;
 #[cfg(test)]

@@ -5,6 +5,7 @@
 
 use crate::rattle::prelude::*;
 
+use crate::proved::inverted::InvertedIndex;
 use crate::proved::postings::{Postings, PostingsError};
 use crate::rattle::AllocError;
 use crate::rattle::Allocator;
@@ -89,6 +90,20 @@ impl<const N: usize, A: Allocator + Copy> Size<BpTree<N, A>> for HeapSize {
     }
 }
 
+impl<A: Allocator + Copy> Size<InvertedIndex<A>> for HeapSize {
+    fn bytes(&self, index: &InvertedIndex<A>) -> usize {
+        index.heap_size()
+    }
+}
+
+/// The index of the costs is left out: postings do not report it.
+impl<A: Allocator + Copy> Size<Postings<A>> for HeapSize {
+    fn bytes(&self, documents: &Postings<A>) -> usize {
+        let costs = size_of::<u64>().wrapping_mul(documents.len());
+        documents.documents().heap_size().wrapping_add(costs)
+    }
+}
+
 // A structure, and how it is made.
 #[derive(Clone, Copy)]
 enum Made {
@@ -139,7 +154,8 @@ fn tree<const N: usize, A: Allocator + Copy>(
     BpTree::from_bit_vector(BitVec::from_bits_u64(alloc, numbers)?)
 }
 
-fn ascending<A: Allocator + Copy>(
+/// Returns the list of ascending numbers.
+pub fn ascending<A: Allocator + Copy>(
     alloc: A,
     numbers: &[u64],
 ) -> Result<EliasFanoVec<A>, AllocError> {
@@ -149,21 +165,27 @@ fn ascending<A: Allocator + Copy>(
     EliasFanoVec::from_slice(alloc, numbers)
 }
 
-fn binary<A: Allocator + Copy>(alloc: A, numbers: &[u64]) -> Result<BinaryRmq<A>, AllocError> {
+/// Returns the minima of numbers by a table of powers of two.
+pub fn binary<A: Allocator + Copy>(alloc: A, numbers: &[u64]) -> Result<BinaryRmq<A>, AllocError> {
     if numbers.len() > binary_rmq::MAX_LEN {
         return Err(AllocError);
     }
     BinaryRmq::from_vec(Vec::from_slice(alloc, numbers)?)
 }
 
-fn fast<A: Allocator + Copy>(alloc: A, numbers: &[u64]) -> Result<FastRmq<A>, AllocError> {
+/// Returns the minima of numbers by blocks.
+pub fn fast<A: Allocator + Copy>(alloc: A, numbers: &[u64]) -> Result<FastRmq<A>, AllocError> {
     if numbers.len() > fast_rmq::MAX_LEN {
         return Err(AllocError);
     }
     FastRmq::from_vec(Vec::from_slice(alloc, numbers)?)
 }
 
-fn posted<A: Allocator + Copy>(alloc: A, numbers: &[u64]) -> Result<Postings<A>, PostingsError> {
+/// Returns the documents of these numbers, each with its number as its cost.
+pub fn posted<A: Allocator + Copy>(
+    alloc: A,
+    numbers: &[u64],
+) -> Result<Postings<A>, PostingsError> {
     Postings::from_sorted(numbers, Vec::from_slice(alloc, numbers)?)
 }
 

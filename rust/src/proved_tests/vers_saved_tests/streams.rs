@@ -3,7 +3,8 @@
 use crate::rattle::prelude::*;
 use crate::proved_tests::vers_saved_tests::devices::{Held, Pieces};
 use crate::proved_tests::vers_saved_tests::rows::is_saved_as;
-use crate::proved_tests::vers_saved_tests::stored::{BITS, SORTED};
+use crate::proved_tests::vers_saved_tests::stored::{BITS, INVERTED, SORTED};
+use crate::proved::inverted::InvertedIndex;
 use crate::rattle::Allocator;
 use crate::rattle::Global;
 use crate::proved::vers_bits::bit_vec::BitVec;
@@ -82,4 +83,10 @@ fn bits_in_pieces() {
 fn numbers_in_pieces() {
     let rt = HostRuntime;
     assert!(is_streamed::<EliasFanoVec<Global>, Global>(rt.alloc(), rt.alloc(), &SORTED));
+}
+
+#[test]
+fn indexes_in_pieces() {
+    let rt = HostRuntime;
+    assert!(is_streamed::<InvertedIndex<Global>, Global>(rt.alloc(), rt.alloc(), &INVERTED));
 }

@@ -3,7 +3,7 @@
 
 use crate::rattle::prelude::*;
 use crate::proved_tests::vers_saved_tests::devices::Pieces;
-use crate::proved_tests::vers_saved_tests::memory::{Heap, ends_well};
+use crate::proved_tests::vers_saved_tests::memory::Heap;
 use crate::proved_tests::vers_saved_tests::rows::{changes_are_told, is_saved_as};
 use crate::proved_tests::vers_saved_tests::stored::{EMPTY_TEXT, SYMBOLS, TEXT, WIDE_TEXT};
 use crate::proved_tests::vers_saved_tests::streams::is_written;
@@ -255,8 +255,8 @@ fn texts_in_pieces() {
     assert!(is_right == Ok(true));
 }
 
-// Tests a load of an index with a refused request.
-fn tried_text(heap: &Heap, bytes: &[u8], len: usize) -> Ending {
+/// Tests a load of an index with a refused request.
+pub fn tried_text(heap: &Heap, bytes: &[u8], len: usize) -> Ending {
     heap.start();
     let is_right = asked(
         load_text_from_slice(heap, bytes),
@@ -266,11 +266,4 @@ fn tried_text(heap: &Heap, bytes: &[u8], len: usize) -> Ending {
         Ok(is_right) => done_if(is_right),
         Err(fault) => out_of_memory_if(fault == LoadError::Memory),
     }
-}
-
-#[test]
-fn each_request_of_a_text_refused() {
-    let rt = HostRuntime;
-    assert!(ends_well(rt.alloc(), |heap: &Heap| tried_text(heap, &TEXT, 6)));
-    assert!(ends_well(rt.alloc(), |heap: &Heap| tried_text(heap, &WIDE_TEXT, 3)));
 }

@@ -1,7 +1,7 @@
 //! Trees, which are loaded by functions of their own.
 
 use crate::rattle::prelude::*;
-use crate::proved_tests::vers_saved_tests::memory::{Heap, ends_well};
+use crate::proved_tests::vers_saved_tests::memory::Heap;
 use crate::proved_tests::vers_saved_tests::rows::{changes_are_told, is_saved_as};
 use crate::proved_tests::vers_saved_tests::stored::{BITS, PARENTHESES};
 use crate::rattle::Global;
@@ -54,17 +54,11 @@ fn parentheses() {
     assert!(tree_fault(&heap, &BITS) == Some(LoadError::OtherKind));
 }
 
-// Tests a load of a tree with a refused request.
-fn tried_tree<'a>(heap: &'a Heap) -> Ending {
+/// Tests a load of a tree with a refused request.
+pub fn tried_tree<'a>(heap: &'a Heap) -> Ending {
     heap.start();
     match loaded(heap, &PARENTHESES) {
         Ok(tree) => done_if(tree.len() == 6 && tree.close(0) == Some(5)),
         Err(fault) => out_of_memory_if(fault == LoadError::Memory),
     }
-}
-
-#[test]
-fn each_request_of_a_tree_refused() {
-    let rt = HostRuntime;
-    assert!(ends_well(rt.alloc(), |heap: &Heap| tried_tree(heap)));
 }

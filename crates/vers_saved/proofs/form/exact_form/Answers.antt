@@ -1,5 +1,6 @@
-use Rattle.vers_saved.proofs.Names.{◌≡◌, ◌∙◌, ap, sym, arith, rules, map, length-map, None, bytes_word, words_of, words_among, row_words, refl, first_failing, body_tests, version_fault}
+use Rattle.vers_saved.proofs.Names.{◌≡◌, ◌∙◌, ap, subst, sym, arith, rules, map, length-map, None, bytes_word, words_of, words_among, row_words, refl, first_failing, body_tests, version_fault}
 use Rattle.vers_saved.proofs.Forms.{loaded_is}
+use Rattle.vers_saved.proofs.WordBytes.{AreWords, words_of-fit}
 use Rattle.vers_saved.proofs.RoundTrips.{no_fault_back, one_form}
 use Rattle.vers_saved.proofs.Tests.{words_are, told_of, memory_alone}
 use Rattle.vers_saved.proofs.form.exact_form.Goals as goal
@@ -9,8 +10,13 @@ returns-in_err-head-clause-back g c = λ count width words whole e.
     let none = no_fault_back c.args.kind c.args.bytes.now count width words (omega arith) whole e in
     cc (c.in_err-head.ensures.fault)
 
-pub tested_words-requires : goal.tested_words-requires
-tested_words-requires g c = grind (arith, length-map)
+pub tested_words-requires-clause-long : goal.tested_words-requires-clause-long
+tested_words-requires-clause-long g c = grind (arith, length-map)
+
+pub tested_words-requires-clause-fit : goal.tested_words-requires-clause-fit
+tested_words-requires-clause-fit g c =
+    let all : map bytes_word c.as_chunks.result.0.now ≡ words_of c.args.bytes.now = ap (map bytes_word) c.as_chunks.ensures.front ∙ words_are c.args.bytes.now in
+    subst AreWords (sym all) (words_of-fit c.args.bytes.now (λ i. omega (arith, c.type_inv.bytes i)))
 
 pub returns-in_err-words-clause-err : goal.returns-in_err-words-clause-err
 returns-in_err-words-clause-err g c =

@@ -1,12 +1,6 @@
-use Rattle.vers_saved.proofs.Names.{sym, arith, stands, words_among}
-use Rattle.vers_saved.proofs.Orders.{length-words_among, each_next-one, ordered_end, ordered_more}
+use Rattle.vers_saved.proofs.Names.{drop}
+use Rattle.vers_saved.proofs.SortedParts.{dropped_fit, taken_fit}
 use Rattle.vers_saved.proofs.words.is_in_order.Goals as goal
 
-pub loop-k-init : goal.loop-k-init
-loop-k-init g c = sym (each_next-one (stands c.args.order) (words_among c.args.n (g.W.Words.words c.args.words.now)))
-
-pub loop-k-preserved : goal.loop-k-preserved
-loop-k-preserved g c = grind (arith, ordered_more, stands)
-
-pub returns : goal.returns
-returns g c = grind (arith, ordered_end, length-words_among)
+pub are_of_list-requires-clause-fit : goal.are_of_list-requires-clause-fit
+are_of_list-requires-clause-fit g c = rw c.new.ensures (taken_fit c.args.n (drop 5 (g.W.Words.words c.args.words.now)) (dropped_fit 5 (g.W.Words.words c.args.words.now) c.requires.fit))

@@ -11,3 +11,6 @@ returns-in-Postings-clause-none g c = rw c.in-Postings.is c.write_form-in-Postin
 
 pub returns-in-Text-clause-none : goal.returns-in-Text-clause-none
 returns-in-Text-clause-none g c = rw c.in-Text.is c.write_form-in-Text.ensures.none
+
+pub returns-in-Inverted-clause-none : goal.returns-in-Inverted-clause-none
+returns-in-Inverted-clause-none g c = rw c.in-Inverted.is c.write_form-in-Inverted.ensures.none

@@ -1,5 +1,5 @@
-use Rattle.vers_saved.proofs.WordLists.{sorted_up}
+use Rattle.vers_saved.proofs.SortedForms.{of_sorted}
 use Rattle.vers_saved.proofs.numbers.EliasFanoVecLoaded.make.Goals as goal
 
-pub from_slice-requires : goal.from_slice-requires
-from_slice-requires g c = rw c.as_slice.ensures.value (sorted_up c.args.held.now.items c.args.of.count c.args.of.width c.requires)
+pub list_in-requires-clause-list : goal.list_in-requires-clause-list
+list_in-requires-clause-list g c = rw c.as_slice.ensures.value (of_sorted c.args.held.now.items c.args.of.count c.args.of.width c.requires)

@@ -1,5 +1,5 @@
 use Rattle.vers_saved.proofs.Names.{◌≡◌, suc, take, each_next, stands, words_among}
-use Rattle.vers_saved.proofs.words.is_in_order.Given as goal
+use Rattle.vers_saved.proofs.words.are_in_steps.Given as goal
 
 -- whether the words so far stand in the order
 abbrev pub invariant-loop-k : goal.invariant-loop-k
