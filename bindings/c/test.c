@@ -657,7 +657,6 @@ static void test_no_index(void) {
     vers_sorted_free(&sorted);
     is("inverted", vers_inverted_of(&index, 1, 1, &word, &word, 1), VERS_DONE);
     is("no such joint", vers_joined(&index.handle, 3, 0, 0, &list.handle), VERS_REFUSED);
-    compare("no form", 0, vers_saved_size(&index.handle), VERS_ABSENT, 0);
     vers_inverted_free(&index);
     vers_inverted_free(NULL);
 }
@@ -972,6 +971,27 @@ static void test_first_version(void) {
     vers_symbols_free(&symbols);
 }
 
+/* The index of the pairs (0, 0), (0, 1), (1, 0) and (1, 3) is saved by its limits, 2 terms and documents below 4, and by
+ * the parts of its numbers 0, 1, 4 and 7. */
+static void test_inverted_form(void) {
+    uint64_t terms[] = {0, 0, 1, 1}, documents[] = {0, 1, 0, 3}, words[13];
+    uint64_t wanted[13] = {0, 1, 10, 64, 7, 2, 4, 4, 0, 7, 10, 166, 0};
+    memcpy(wanted, worked, 8);
+    wanted[12] = sum_of(wanted, 13);
+    vers_inverted index = {0}, other = {0};
+    is("inverted of", vers_inverted_of(&index, 2, 4, terms, documents, 4), VERS_DONE);
+    found("saved_size", 0, vers_inverted_saved_size(&index), sizeof words);
+    is("save", vers_inverted_save(&index, (uint8_t *)words, sizeof words), VERS_DONE);
+    is("saved", memcmp(words, wanted, sizeof words) == 0, 1);
+    is("load", vers_inverted_load(&other, (const uint8_t *)words, sizeof words), VERS_DONE);
+    found("loaded", 1, vers_inverted_get(&other, 1, 1), 3);
+    vers_inverted_free(&other);
+    vers_inverted_free(&index);
+    is("a number past the end", load_changed(VERS_KIND_INVERTED, wanted, 13, 6, 3, true), VERS_NOT_ASCENDING);
+    is("more than 64 bits", load_changed(VERS_KIND_INVERTED, wanted, 13, 6, (uint64_t)1 << 63, true), VERS_NOT_ASCENDING);
+    is("another last number", load_changed(VERS_KIND_INVERTED, wanted, 13, 9, 6, true), VERS_NOT_ASCENDING);
+}
+
 /* Saves a list and loads it: the other list answers like the first. As another kind it is refused. */
 static void test_form(vers_handle *list, uint32_t kind, enum vers_query query) {
     uint64_t length = vers_ask(list, VERS_LEN, 0, 0, 0).value;
@@ -1033,6 +1053,11 @@ static void test_forms(size_t n) {
     test_form(&list, VERS_KIND_TREE, VERS_CLOSE);
     is("postings", vers_postings_build(ones, n, ones, n, &list), VERS_DONE);
     test_form(&list, VERS_KIND_POSTINGS, VERS_CHEAPEST);
+    uint64_t *terms = room(n, 8);
+    for (size_t i = 0; i < n; i++) terms[i] = i;
+    is("inverted", vers_inverted_build(n, last + 1, terms, n, ones, n, &list), VERS_DONE);
+    test_form(&list, VERS_KIND_INVERTED, VERS_GET);
+    free(terms);
     is("no symbols", vers_symbols_build(ones, n, 0, &list), VERS_DONE);
     compare("saved_size of no bits", 0, vers_saved_size(&list), VERS_ABSENT, 0);
     uint8_t byte = 0;
@@ -1386,6 +1411,7 @@ int main(void) {
     test_worked_form();
     test_faults();
     test_first_version();
+    test_inverted_form();
     test_tree_form();
     test_forms(0);
     test_forms(1);

@@ -146,7 +146,7 @@ enum vers_joint {
     VERS_DIFFERENCE = 2    /**< Those that have the first term and not the other. */
 };
 
-/** The kinds of lists that have a saved form: from 1 to 7, and 9, the numbers of those forms. A vers_growing has that
+/** The kinds of lists that have a saved form: from 1 to 7, 9 and 10, the numbers of those forms. A vers_growing has that
  *  of a vers_bits, and a vers_binary_rmq that of a vers_fast_rmq. */
 enum vers_kind {
     VERS_KIND_GROWING = 0,  /**< A vers_growing. */
@@ -158,7 +158,8 @@ enum vers_kind {
     VERS_KIND_TREE = 6,     /**< A vers_tree. */
     VERS_KIND_POSTINGS = 7, /**< A vers_postings. */
     VERS_KIND_BINARY = 8,   /**< A vers_binary_rmq. */
-    VERS_KIND_TEXT = 9      /**< A vers_text. */
+    VERS_KIND_TEXT = 9,     /**< A vers_text. */
+    VERS_KIND_INVERTED = 10 /**< A vers_inverted. */
 };
 
 /** The answer of a query: `value` counts where `status` is VERS_DONE, and is 0 else. */
@@ -1552,6 +1553,23 @@ static inline void vers_inverted_free(vers_inverted *index) {
  * VERS_NO_MEMORY. */
 static inline uint32_t vers_inverted_clone(const vers_inverted *index, vers_inverted *other) {
     return vers_cloned(&index->handle, &other->handle);
+}
+
+/** How many bytes the saved form of the index has. */
+static inline vers_answer vers_inverted_saved_size(const vers_inverted *index) {
+    return vers_saved_size(vers_held(&index->handle));
+}
+
+/** Writes the saved form over `count` bytes, as many as `_saved_size` says. VERS_REFUSED for another count,
+ * VERS_NO_MEMORY. */
+static inline uint32_t vers_inverted_save(const vers_inverted *index, uint8_t *bytes, size_t count) {
+    return vers_saved(&index->handle, bytes, count);
+}
+
+/** Makes the index of which bytes are the saved form. Where they are of no such index, the status says why, as at
+ * vers_load. VERS_OCCUPIED, VERS_NO_MEMORY. */
+static inline uint32_t vers_inverted_load(vers_inverted *index, const uint8_t *bytes, size_t count) {
+    return vers_loaded(VERS_KIND_INVERTED, bytes, count, &index->handle);
 }
 
 /** The number of pairs of a term and a document. */

@@ -374,7 +374,8 @@ static void test_inverted() {
     check("either", listed(index->either(2, 3)) == std::vector<std::uint64_t>{3, 4, 9});
     check("first", listed(index->difference(0, 2)) == std::vector<std::uint64_t>{0, 9} && index->difference(3, 0).is_empty());
     const auto copy = index->clone();
-    check("copies", copy == *index && !index->saved_size());
+    check("copies", copy == *index);
+    check("loaded", *loaded_form(*index) == *index);
     const auto made = index->documents(2, status);
     check("a status", made && status == Status::done && made->len() == 2);
     check("statuses", index->intersection(0, 2, status) && index->either(0, 2, status) && index->difference(0, 2, status));

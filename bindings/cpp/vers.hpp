@@ -275,8 +275,7 @@ public:
         return static_cast<Status>(vers_asked_rows(&raw_.handle, query, rows, count, other));
     }
 
-    /** How many bytes the saved form has. nullopt if there is none: of symbols without bits, of
-     *  InvertedIndex and of Numbers. */
+    /** How many bytes the saved form has. nullopt if there is none: of symbols without bits, and of Numbers. */
     std::optional<std::uint64_t> saved_size() const noexcept { return found(vers_saved_size(handle())); }
 
     /** Writes the saved form over `count` bytes, as many as `saved_size` says; Status::refused for another count. */
@@ -955,7 +954,7 @@ private:
 /** An inverted index: ascending documents for each term. `from(terms, universe, ..)` makes that of pairs of a term below
  *  `terms` and a document below `universe`, which ascend strictly by term, and those of one term by document. It refuses
  *  others, and limits whose product exceeds 64 bits. A term that the index doesn't have has no documents. */
-class InvertedIndex : public detail::Owner<InvertedIndex, vers_inverted> {
+class InvertedIndex : public detail::Owner<InvertedIndex, vers_inverted, VERS_KIND_INVERTED> {
     using Numbers64 = std::initializer_list<std::uint64_t>;
 
 public:

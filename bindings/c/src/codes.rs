@@ -89,6 +89,7 @@ pub const KIND_TREE: u32 = 6;
 pub const KIND_POSTINGS: u32 = 7;
 pub const KIND_BINARY: u32 = 8;
 pub const KIND_TEXT: u32 = 9;
+pub const KIND_INVERTED: u32 = 10;
 
 pub const PUSH: u32 = 0;
 pub const APPEND: u32 = 1;

@@ -182,8 +182,9 @@ impl Kept {
             Kept::Fast(values) => saved_size(values),
             Kept::Binary(values) => saved_size(values),
             Kept::Posted(posted) => saved_size(posted),
+            Kept::Inverted(index) => saved_size(index),
             Kept::Text(text) => saved_size(text),
-            Kept::Inverted(_) | Kept::Numbers(_) => None,
+            Kept::Numbers(_) => None,
         }
     }
 
@@ -199,8 +200,9 @@ impl Kept {
             Kept::Fast(values) => form_of(values),
             Kept::Binary(values) => form_of(values),
             Kept::Posted(posted) => form_of(posted),
+            Kept::Inverted(index) => form_of(index),
             Kept::Text(text) => form_of(text),
-            Kept::Inverted(_) | Kept::Numbers(_) => Err(SaveError::NoForm),
+            Kept::Numbers(_) => Err(SaveError::NoForm),
         }
     }
 
@@ -229,6 +231,7 @@ impl Kept {
             KIND_FAST => load_from_slice(Global, bytes).map(Kept::Fast),
             KIND_BINARY => load_from_slice(Global, bytes).map(Kept::Binary),
             KIND_POSTINGS => load_from_slice(Global, bytes).map(Kept::Posted),
+            KIND_INVERTED => load_from_slice(Global, bytes).map(Kept::Inverted),
             KIND_TEXT => load_text_from_slice(Global, bytes).map(Kept::Text),
             _ => return Err(UNKNOWN),
         };

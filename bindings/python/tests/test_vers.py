@@ -245,8 +245,10 @@ class Lists(unittest.TestCase):
         ):
             with self.assertRaisesRegex(vers.Refused, text):
                 vers.InvertedIndex(*arguments)
-        with self.assertRaises(TypeError):
-            index.to_bytes()
+        saved = index.to_bytes()
+        self.assertEqual(vers.InvertedIndex.from_bytes(saved), index)
+        with self.assertRaises(vers.TooShort):
+            vers.InvertedIndex.from_bytes(saved[:-1])
 
     def test_sets_of_documents(self):
         for sizes in ((300, 300), (300, 3), (0, 40), (40, 0), (0, 0), (1000, 1000)):

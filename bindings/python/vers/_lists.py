@@ -689,6 +689,7 @@ class InvertedIndex(Shared[_InvertedQuery]):
     doesn't have has no documents."""
 
     _items = "pairs"
+    _kind = codes.KIND_INVERTED
 
     def __new__(cls, terms: Numbers, documents: Numbers, limit: Optional[int] = None,
                 universe: Optional[int] = None) -> Any:
@@ -716,9 +717,6 @@ class InvertedIndex(Shared[_InvertedQuery]):
     def tolist(self) -> Any:
         """The pairs of a term and a document, as a list of Python's."""
         return list(zip(*self.pairs()))
-
-    def __reduce__(self) -> Any:
-        return InvertedIndex, (*self.pairs(), self.terms(), self.universe())
 
     def _traits(self) -> Any:
         return len(self), self.terms(), self.universe()
