@@ -41,7 +41,7 @@ LEVELS = ("x86-64-v2", "x86-64-v3", "x86-64-v4", "native")
 
 def built_original(folder, level, target="target", features=()):
     """Builds the original's driver for a level of processors, with the crate's sources in `folder` if one is given, and returns its path."""
-    command = ["cargo", "build", "--release", "--quiet", "--target-dir", target, *(f"--features=vers-vecs/{it}" for it in features)]
+    command = ["cargo", "build", "--release", "--quiet", "--target-dir", target, *(f"--features={it}" for it in features)]
     if folder:
         command += ["--offline", "--config", f'patch.crates-io.vers-vecs.path="{os.path.abspath(folder)}"']
     flags = {"RUSTFLAGS": f"-C target-cpu={level} --cap-lints allow"}
@@ -91,6 +91,10 @@ def compare_checksums(command):
     return bool(differing)
 
 
+def short(value):
+    return f"{value:.3g}" if value < 100 else f"{value:.0f}"
+
+
 class Series:
     """The least value of each driver for one series, and the checksums."""
 
@@ -109,7 +113,7 @@ class Series:
         return self.values[one] / self.values[other] if self.values.get(other) and one in self.values else None
 
     def row(self, name, drivers, ratios):
-        cells = ["" if it is None else f"{it:.3g}" if it < 100 else f"{it:.0f}" for it in map(self.values.get, drivers)]
+        cells = ["" if it is None else short(it) for it in map(self.values.get, drivers)]
         cells += ["" if it is None else f"{it:.2f}" for it in (self.ratio(*pair) for pair in ratios)]
         return "| " + " | ".join([*name, *cells[:-1], cells[-1] + (" differs" if self.differs() else "")]) + " |"
 
@@ -126,15 +130,15 @@ def means(found, ratios):
 
 
 def measured(drivers, structures, passes, options):
-    """Runs all passes and returns the series by (structure, operation, data)."""
+    """Runs all passes and returns the series by (structure, operation, data), each with its values by the names that its lines begin with."""
     found = {}
     for number in range(1, passes + 1):
         for structure in structures:
             print(f"pass {number} of {passes}: {structure}", file=sys.stderr)
             for driver, program in drivers.items():
                 for line in output_of([program, driver, structure, *options]).splitlines():
-                    _, *name, value, checksum = line.split("\t")
-                    found.setdefault(tuple(name), Series()).note(driver, float(value), checksum)
+                    column, *name, value, checksum = line.split("\t")
+                    found.setdefault(tuple(name), Series()).note(column, float(value), checksum)
     return beside_singles(found)
 
 
@@ -162,20 +166,20 @@ def counts_of(path):
 
 
 def instructions_of(program, driver, structure):
-    """Yields (series, instructions, checksum) for each pass of a structure, in the order of the lines."""
+    """Yields (what the line begins with, series, instructions, checksum) for each pass of a structure, in the order of the lines."""
     with tempfile.TemporaryDirectory() as folder:
         path = os.path.join(folder, "profile")
         command = [
             "valgrind", "--tool=callgrind", "--collect-atstart=no", "--toggle-collect=*_pass*", "--dump-after=*pass*",
             f"--callgrind-out-file={path}", program, driver, structure, "--small", "--reps", "1",
         ]
-        lines = [line.split("\t")[1:] for line in output_of(command).splitlines()]
+        lines = [line.split("\t") for line in output_of(command).splitlines()]
         counts = list(counts_of(path))
-    passes = [line for line in lines if not line[1].startswith(NO_QUERIES)]
+    passes = [line for line in lines if not line[2].startswith(NO_QUERIES)]
     if len(counts) != len(passes):
         sys.exit(f"{driver}, {structure}: {len(passes)} passes were printed, and {len(counts)} were counted")
-    for (*name, _, checksum), count in zip(passes, counts):
-        yield tuple(name), count, checksum
+    for (column, *name, _, checksum), count in zip(passes, counts):
+        yield column, tuple(name), count, checksum
 
 
 def counted(drivers, structures):
@@ -184,8 +188,8 @@ def counted(drivers, structures):
     for structure in structures:
         print(f"counting: {structure}", file=sys.stderr)
         for driver, program in drivers.items():
-            for name, count, checksum in instructions_of(program, driver, structure):
-                found.setdefault(name, Series()).note(driver, count, checksum)
+            for column, name, count, checksum in instructions_of(program, driver, structure):
+                found.setdefault(name, Series()).note(column, count, checksum)
     return beside_singles(found)
 
 
@@ -230,7 +234,7 @@ def main():
         del drivers["here"]
     ratios = [("here", "original")]
     if asked.plain:
-        for name, features in (("plain", ()), ("unchecked", ("unchecked",))):
+        for name, features in (("plain", ()), ("unchecked", ("vers-vecs/unchecked",))):
             drivers[name] = built_original(PLAIN, asked.level, f"target/{name}", features)
         drivers["from C"] = built_from_c(asked.level)
         ratios += [("plain", "here"), ("unchecked", "here"), ("plain", "original"), ("unchecked", "original"), ("from C", "original")]

@@ -40,12 +40,8 @@ def measured(growth, drivers, passes):
         for operation, row in rows.items():
             if first[operation].differs():
                 sys.exit(f"{growth.type}, {operation}, {size}: a checksum differs")
-            row.append(", ".join(short(first[operation].values[driver]) for driver in drivers))
+            row.append(", ".join(compare.short(first[operation].values[driver]) for driver in drivers))
     return list(rows.values())
-
-
-def short(time):
-    return f"{time:.3g}" if time < 100 else f"{time:.0f}"
 
 
 def line_of(cells):

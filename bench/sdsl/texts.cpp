@@ -5,35 +5,11 @@
 //
 // A kind is one of the names of INDEXES below, and all are run if none is named. Symbols of bases count from 1 there, since
 // sdsl ends a text with a 0. Each count is compared with a plain scan (memmem) for some patterns, whose time is printed as `scan_16`.
+#include "../series.hpp"
+
 #include <sdsl/suffix_arrays.hpp>
 
-#include <cstdint>
-#include <cstdio>
-#include <cstdlib>
 #include <cstring>
-#include <functional>
-#include <string>
-#include <time.h>
-#include <vector>
-
-using u64 = std::uint64_t;
-
-// The generator splitmix64.
-struct Random {
-    u64 state;
-
-    explicit Random(u64 seed) : state(seed) {}
-
-    u64 step()
-    {
-        u64 z = state += 0x9E3779B97F4A7C15ULL;
-        z = (z ^ (z >> 30)) * 0xBF58476D1CE4E5B9ULL;
-        z = (z ^ (z >> 27)) * 0x94D049BB133111EBULL;
-        return z ^ (z >> 31);
-    }
-
-    u64 below(u64 n) { return step() % n; }
-};
 
 // A text in bytes, of which each is a symbol and `shift`.
 struct Text {
@@ -43,7 +19,7 @@ struct Text {
 
 static Text bases(std::size_t n, u64 seed)
 {
-    Random random(seed);
+    Random random{seed};
     Text text{std::string(n, ' '), 1};
     for (char& it : text.bytes) it = char(1 + (random.step() >> 62));
     return text;
@@ -51,13 +27,13 @@ static Text bases(std::size_t n, u64 seed)
 
 static Text words(std::size_t n, u64 seed)
 {
-    Random choices(seed), letters(0);
+    Random choices{seed}, letters{0};
     Text text{std::string(n, ' '), 0};
     u64 left = 0;
     for (char& it : text.bytes) {
         if (left == 0) {
             u64 group = 1ULL << choices.below(11);
-            letters = Random(1000 + group + choices.below(group));
+            letters = Random{1000 + group + choices.below(group)};
             left = 2 + letters.below(8);
             continue;
         }
@@ -70,57 +46,10 @@ static Text words(std::size_t n, u64 seed)
 
 static Text equal(std::size_t n) { return Text{std::string(n, char(2)), 1}; }
 
-struct Settings {
-    std::string name;
-    std::size_t divisor = 1;
-    int repetitions = 5;
-    std::size_t size = 0;
-    std::vector<std::string> kinds;
-};
-
-static Settings settings;
-
-static double now()
+static Numbers drawn(std::size_t count, u64 seed, u64 lists_before, u64 n)
 {
-    timespec time;
-    clock_gettime(CLOCK_THREAD_CPUTIME_ID, &time);
-    return time.tv_sec * 1e9 + time.tv_nsec;
+    return Random{seed + lists_before * count * 0x9E3779B97F4A7C15ULL}.many_below(count, n);
 }
-
-static void line(const std::string& index, const char* operation, const std::string& parameters, double value, u64 sum)
-{
-    std::printf("%s-%s\ttexts\t%s\t%s\t%.3f\t%016llx\n", settings.name.c_str(), index.c_str(), operation, parameters.c_str(),
-                value, static_cast<unsigned long long>(sum));
-    std::fflush(stdout);
-}
-
-// A run is a function of its own in the machine code, so that a profiler counts its instructions.
-[[gnu::noinline]] static u64 timed_pass(const std::function<u64()>& run) { return run(); }
-
-// The median time of a run, which returns a checksum, for `count` operations.
-static void timed(const std::string& index, const char* operation, const std::string& parameters, std::size_t count,
-                  const std::function<u64()>& run)
-{
-    std::vector<double> times;
-    u64 sum = 0;
-    for (int i = 0; i < settings.repetitions; ++i) {
-        double start = now();
-        sum = timed_pass(run);
-        times.push_back((now() - start) / double(count));
-    }
-    std::sort(times.begin(), times.end());
-    line(index, operation, parameters, times[times.size() / 2], sum);
-}
-
-static std::vector<u64> drawn(std::size_t count, u64 seed, u64 lists_before, u64 n)
-{
-    Random random(seed + lists_before * count * 0x9E3779B97F4A7C15ULL);
-    std::vector<u64> all(count);
-    for (u64& it : all) it = random.below(n);
-    return all;
-}
-
-static u64 fold(u64 sum, u64 answer) { return sum * 31 + answer; }
 
 static u64 scanned(const std::string& text, const char* pattern, std::size_t len)
 {
@@ -131,65 +60,45 @@ static u64 scanned(const std::string& text, const char* pattern, std::size_t len
 }
 
 template <class Index>
-static void run_index(const std::string& name, const Text& text, const Text& other, const std::string& parameters)
+static void run_index(const Settings& settings, const Series& series, const Text& text, const Text& other)
 {
-    using namespace sdsl;
-    Index index;
     std::size_t n = text.bytes.size();
-    timed(name, "build", parameters, n, [&] {
-        index = Index();
-        construct_im(index, text.bytes, 1);
-        return n;
+    auto index = series.build(n, n, [&] {
+        auto made = std::make_unique<Index>();
+        sdsl::construct_im(*made, text.bytes, 1);
+        return made;
     });
     if (other.bytes.empty()) return;
-    line(name, "heap_bits_per_item", parameters, size_in_bytes(index) * 8.0 / double(n), 0);
+    series.line("heap_bits_per_item", sdsl::size_in_bytes(*index) * 8.0 / double(n), 0);
     auto counts = [&](const char* operation, const Text& from, std::size_t len, u64 number) {
-        auto asked = drawn(100000 / settings.divisor, 102, number, from.bytes.size() - 32);
-        timed(name, operation, parameters, asked.size(), [&] {
-            u64 sum = 0;
-            for (u64 place : asked) {
-                auto begin = from.bytes.begin() + place;
-                sum = fold(sum, count(index, begin, begin + len));
-            }
-            return sum;
+        series.queries(operation, drawn(settings.scaled(100000), 102, number, from.bytes.size() - 32), [&](u64 place) -> u64 {
+            auto begin = from.bytes.begin() + place;
+            return sdsl::count(*index, begin, begin + len);
         });
     };
     counts("count_8", text, 8, 0);
     counts("count_16", text, 16, 1);
     counts("count_32", text, 32, 2);
     counts("count_absent_32", other, 32, 3);
-    auto asked = drawn(20000 / settings.divisor, 103, 0, n - 64);
-    timed(name, "first_places_10", parameters, asked.size(), [&] {
-        u64 all = 0;
-        for (u64 place : asked) {
-            u64 sum = 0, first = 0, last = 0;
-            auto begin = text.bytes.begin() + place;
-            u64 found = backward_search(index, 0, index.size() - 1, begin, begin + 8, first, last);
-            for (u64 row = first; row < first + std::min<u64>(found, 10); ++row) sum = fold(sum, index[row]);
-            all = fold(all, sum);
-        }
-        return all;
-    });
-    asked = drawn(20000 / settings.divisor, 103, 1, n - 64);
-    timed(name, "extract_64", parameters, asked.size(), [&] {
-        u64 all = 0;
-        for (u64 place : asked) {
-            u64 sum = 0;
-            for (unsigned char it : extract(index, place, place + 63)) sum = fold(sum, it - text.shift);
-            all = fold(all, sum);
-        }
-        return all;
-    });
-    asked = drawn(100000 / settings.divisor, 102, 1, n - 32);
-    asked.resize(100);
-    timed(name, "scan_16", parameters, asked.size(), [&] {
-        u64 sum = 0;
-        for (u64 place : asked) sum = fold(sum, scanned(text.bytes, text.bytes.data() + place, 16));
+    std::size_t listed = settings.scaled(20000);
+    series.queries("first_places_10", drawn(listed, 103, 0, n - 64), [&](u64 place) {
+        u64 sum = 0, first = 0, last = 0;
+        auto begin = text.bytes.begin() + place;
+        u64 found = sdsl::backward_search(*index, 0, index->size() - 1, begin, begin + 8, first, last);
+        for (u64 row = first; row < first + std::min<u64>(found, 10); ++row) sum = sum * 31 + (*index)[row];
         return sum;
     });
+    series.queries("extract_64", drawn(listed, 103, 1, n - 64), [&](u64 place) {
+        u64 sum = 0;
+        for (unsigned char it : sdsl::extract(*index, place, place + 63)) sum = sum * 31 + (it - text.shift);
+        return sum;
+    });
+    Numbers asked = drawn(settings.scaled(100000), 102, 1, n - 32);
+    asked.resize(100);
+    series.queries("scan_16", asked, [&](u64 place) { return scanned(text.bytes, text.bytes.data() + place, 16); });
     for (u64 place : asked) {
         auto begin = text.bytes.begin() + place;
-        if (count(index, begin, begin + 16) != scanned(text.bytes, text.bytes.data() + place, 16)) std::abort();
+        if (sdsl::count(*index, begin, begin + 16) != scanned(text.bytes, text.bytes.data() + place, 16)) std::abort();
     }
 }
 
@@ -199,7 +108,7 @@ using Csa = sdsl::csa_wt<Tree, 32, 32>;
 
 struct Kind {
     const char* name;
-    void (*run)(const std::string&, const Text&, const Text&, const std::string&);
+    void (*run)(const Settings&, const Series&, const Text&, const Text&);
 };
 
 static const Kind INDEXES[] = {
@@ -211,29 +120,22 @@ static const Kind INDEXES[] = {
     {"blcd_il", run_index<Csa<sdsl::wt_blcd<sdsl::bit_vector_il<512>>>>},
 };
 
-static void run_size(const Kind& kind, std::size_t n)
+static void run_size(const Settings& settings, const Kind& kind, std::size_t n)
 {
-    auto parameters = [&](const char* text) { return std::string(text) + " n=" + std::to_string(n); };
-    kind.run(kind.name, bases(n, 100), bases(n / 10, 101), parameters("bases"));
-    kind.run(kind.name, words(n, 100), words(n / 10, 101), parameters("words"));
-    kind.run(kind.name, equal(n), Text{}, parameters("equal"));
+    auto run = [&](const char* data, const Text& text, const Text& other) {
+        Series series = settings.series("texts", data + (" n=" + std::to_string(n)));
+        series.name += std::string("-") + kind.name;
+        kind.run(settings, series, text, other);
+    };
+    run("bases", bases(n, 100), bases(n / 10, 101));
+    run("words", words(n, 100), words(n / 10, 101));
+    run("equal", equal(n), Text{});
 }
 
 int main(int count, char** arguments)
 {
-    for (int i = 1; i < count; ++i) {
-        std::string it = arguments[i];
-        if (it == "--small") settings.divisor = 16;
-        else if (it == "--reps" && i + 1 < count) settings.repetitions = std::atoi(arguments[++i]);
-        else if (it == "--size" && i + 1 < count) settings.size = std::strtoull(arguments[++i], nullptr, 10);
-        else if (settings.name.empty()) settings.name = it;
-        else settings.kinds.push_back(it);
-    }
-    for (const Kind& kind : INDEXES) {
-        bool is_asked = settings.kinds.empty();
-        for (const std::string& it : settings.kinds) is_asked |= it == kind.name;
-        if (!is_asked) continue;
-        run_size(kind, settings.size ? settings.size : 1000000 / settings.divisor);
-        if (!settings.size) run_size(kind, 10000000 / settings.divisor);
-    }
+    Settings settings(count, arguments);
+    for (const Kind& kind : INDEXES)
+        if (settings.wants(kind.name))
+            for (std::size_t n : settings.sizes(1000000, 10000000)) run_size(settings, kind, n);
 }

@@ -37,6 +37,21 @@ pub fn run(settings: &Settings, limb_count: usize, percent: u64, query_count: us
     series.walk("iter1", ones, || summed(bits.iter1().map(|it| it as u64)));
 }
 
+/// The series `bits` that a `WordRank` answers.
+#[cfg(feature = "own")]
+pub fn run_word_rank(settings: &Settings, limb_count: usize, percent: u64, query_count: usize) {
+    use vers_vecs::word_rank::WordRank;
+    let series = series(settings, "bits", limb_count, percent);
+    let source = BitVec::from_limbs(&limbs(limb_count, percent));
+    let bits = WordRank::from_bit_vec(source.clone());
+    let len = bits.len();
+    series.build("build", len, bits.rank1(len) as u64, || source.clone(), WordRank::from_bit_vec);
+    series.size("heap_overhead_percent", (bits.heap_size() as f64 * 8.0 / len as f64 - 1.0) * 100.0);
+    let places = Random::new(7).many_below(query_count, len as u64);
+    series.run("rank1", query_count, || folded(places.iter().map(|&it| bits.rank1(it as usize) as u64)));
+    series.run("rank1_chained", query_count, || folded(chained(&places, |it| bits.rank1(it))));
+}
+
 /// The series `walks`, but for the walk by chunks, which the crate has with AVX-512 alone.
 pub fn run_walks(settings: &Settings, limb_count: usize, percent: u64) {
     const STEP: usize = 10;

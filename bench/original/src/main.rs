@@ -4,6 +4,9 @@
 //! driver in the lines, then the structures to run (none: all), and the options `--small` (a sixteenth of the sizes),
 //! `--reps N` (how often each series is run, 5 by default) and `--size N` (one size of structures instead of the usual
 //! ones, as bits, members, symbols, items or nodes).
+//!
+//! The feature `own` adds the series that `WordRank` and `WaveletTree` answer, which vers-vecs lacks: their lines begin
+//! with the name of the driver and of the type.
 
 mod batches;
 mod bits;
@@ -24,6 +27,8 @@ fn run(settings: &Settings) {
     for &limb_count in limb_counts.iter().filter(|_| settings.wants("bits")) {
         for &percent in settings.kinds(&[50, 5]) {
             bits::run(settings, limb_count, percent, query_count);
+            #[cfg(feature = "own")]
+            bits::run_word_rank(&settings.of_type("WordRank"), limb_count, percent, query_count);
         }
     }
     for &limb_count in limb_counts.iter().filter(|_| settings.wants("walks")) {
@@ -44,6 +49,11 @@ fn run(settings: &Settings) {
     if settings.wants("wavelet") {
         for &width in settings.kinds(&[8, 32]) {
             symbols::run(settings, settings.size_or(1_000_000), width, settings.scaled(200_000));
+            #[cfg(feature = "own")]
+            if width == 8 {
+                let tree = settings.of_type("WaveletTree");
+                symbols::run_wavelet_tree(&tree, settings.size_or(1_000_000), width, settings.scaled(200_000));
+            }
         }
     }
     if settings.wants("rmq") {

@@ -3,6 +3,7 @@
 use std::time::Duration;
 
 /// How the series are run.
+#[derive(Clone)]
 pub enum Mode {
     /// Once, for the checksums alone.
     Checksums,
@@ -11,6 +12,7 @@ pub enum Mode {
 }
 
 /// What the arguments ask for.
+#[derive(Clone)]
 pub struct Settings {
     /// What the lines name the driver.
     pub name: String,
@@ -45,6 +47,12 @@ impl Settings {
                 Settings { name, structures, mode: Mode::Times { repetitions: repetitions.max(1), divisor }, size }
             }
         })
+    }
+
+    /// The same, whose lines begin with the name of a type too.
+    #[cfg(feature = "own")]
+    pub fn of_type(&self, name: &str) -> Self {
+        Settings { name: format!("{} {name}", self.name), ..self.clone() }
     }
 
     /// A size, divided by what all sizes are divided by.

@@ -24,6 +24,13 @@ pub fn number_or_none(answer: Option<usize>) -> u64 {
     answer.map_or(NONE, |it| it as u64)
 }
 
+/// Places of a list, and symbols of it.
+fn places_and_symbols(random: &mut Random, count: usize, list: &[u64]) -> (Vec<u64>, Vec<u64>) {
+    let places = random.many_below(count, list.len() as u64);
+    let others = random.many_below(count, list.len() as u64);
+    (places, others.iter().map(|&it| list[it as usize]).collect())
+}
+
 /// The series `wavelet`: `n` symbols of a width, and `query_count` queries of each kind.
 pub fn run(settings: &Settings, n: usize, width: u16, query_count: usize) {
     let series = Series { settings, structure: "wavelet", parameters: format!("n={n} width={width}") };
@@ -34,9 +41,7 @@ pub fn run(settings: &Settings, n: usize, width: u16, query_count: usize) {
     }
     let matrix = WaveletMatrix::from_slice(&list, width);
     let mut random = Random::new(9);
-    let places = random.many_below(query_count, n as u64);
-    let symbols = random.many_below(query_count, n as u64);
-    let symbols: Vec<u64> = symbols.iter().map(|&it| list[it as usize]).collect();
+    let (places, symbols) = places_and_symbols(&mut random, query_count, &list);
     // Of 8 bits, each symbol occurs some n / 256 times.
     let most = if width == 8 { n as u64 / 256 * 3 / 4 } else { 1 };
     let ranks = random.many_below(query_count, most);
@@ -65,4 +70,23 @@ pub fn run(settings: &Settings, n: usize, width: u16, query_count: usize) {
     });
     series.walk("iter_u64", n, || summed(matrix.iter_u64().into_iter().flatten()));
     series.walk("iter_sorted_u64", n, || summed(matrix.iter_sorted_u64().into_iter().flatten()));
+}
+
+/// The series `wavelet` that a `WaveletTree` answers.
+#[cfg(feature = "own")]
+pub fn run_wavelet_tree(settings: &Settings, n: usize, width: u16, query_count: usize) {
+    use vers_vecs::wavelet_tree::WaveletTree;
+    let series = Series { settings, structure: "wavelet", parameters: format!("n={n} width={width}") };
+    let list = symbols(n, width);
+    series.build("build", n, n as u64, || list.as_slice(), |it| WaveletTree::from_integers(it, width));
+    let tree = WaveletTree::from_integers(&list, width).expect("the symbols have this width");
+    series.size("heap_bits_per_item", tree.heap_size() as f64 * 8.0 / n as f64);
+    let (places, symbols) = places_and_symbols(&mut Random::new(9), query_count, &list);
+    series.run("get_u64", query_count, || {
+        folded(places.iter().map(|&place| tree.get(place as usize).unwrap_or(NONE)))
+    });
+    series.run("rank_u64", query_count, || {
+        let asked = places.iter().zip(&symbols);
+        folded(asked.map(|(&place, &symbol)| number_or_none(tree.rank(place as usize, symbol))))
+    });
 }
