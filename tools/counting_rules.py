@@ -32,7 +32,7 @@ from sources import TOP, bare_keeping_lines, closed, line_of, read_crate, report
 BELOW, COUNTERS = "vers_bits", "vers_tally"
 # The functions that may read a whole list without a counter.
 WHOLE = {
-    "RsVec::clone", "RsVec::into_bit_vec", "RsVec::eq", "EliasFanoVec::clone", "BinaryRmq::clone",
+    "RsVec::clone", "RsVec::into_bit_vec", "RsVec::eq", "EliasFanoVec::clone", "EliasFanoVec::low_parts", "BinaryRmq::clone",
     "BinaryRmq::as_slice", "FastRmq::clone", "FastRmq::as_slice", "MinMaxTree::copied", "PackedNumbers::clone", "WordRank::bits",
     "WordRank::clone", "WaveletTree::clone",
 }

@@ -70,7 +70,8 @@ def with_figures(text, found):
 # The crates of structures; those of the line programs have their calls in the sources.
 CRATES = "vers_bits vers_tally vers_rank word_rank vers_sorted vers_rmq vers_trees vers_wavelet wavelet_tree vers_saved postings sets inverted text_index"
 # The crates whose calls the Rust crate has under the same names.
-IN_RUST = "vers_bits vers_rank vers_sorted vers_rmq vers_trees vers_wavelet vers_saved postings sets inverted text_index".split()
+IN_RUST = """vers_bits vers_rank word_rank vers_sorted vers_rmq vers_trees vers_wavelet wavelet_tree vers_saved postings
+sets inverted text_index""".split()
 
 
 def owner(function):
@@ -133,9 +134,10 @@ def public_calls(top, crate):
 
 def page(top):
     """Returns the text of the page of calls."""
-    facade = "".join(text for _, text in facade_files(f"{top}/rust/src"))
+    files = [text for path, text in facade_files(f"{top}/rust/src") if not path.startswith("inside_tests/")]
+    facade = re.sub(r"(?m)//.*$|^\w+! ?[({].*[)}];?$", "", "".join(files))
     # functions, and what macros make functions of
-    in_rust = set(re.findall(r"(?<=\bfn )\w+|\b\w+(?=,)|\b\w+(?=\(\w+: .*\).*;\n)", facade))
+    in_rust = set(re.findall(r"(?<=\bfn )\w+|(?<![(&.])\b\w+(?=,)|\b\w+(?=\(\w+: .*\).*;\n)", facade))
     parts = [read(f"{top}/{PAGE}").split("\n\n## ")[0]]
     for crate in CRATES.split():
         parts += [section(f"`{crate}::{name}`", of, in_rust if crate in IN_RUST else ())

@@ -245,7 +245,7 @@ BREAKS = {
     "cites /srv/": ("README.md", "# ", "# In /srv/kit "),
     "cites `no_reads`": (DEFINITIONS, "no_reads", "none_read"),
     "`number` has no comment": (DEFINITIONS, "`number`: the", "`number`:\nthe"),
-    "cites `less`": (TALLY, "no_reads, one_more", "less as no_reads, one_more"),
+    "cites `fewest`": (TALLY, "no_reads, one_more", "fewest as no_reads, one_more"),
     "imports `proofs.Own` of vers_bits": (f"{RANK}proofs/Names.antt", "vers_bits.proofs.PublicLaws",
                                           "vers_bits.proofs.Own"),
     "imports `proofs.TreesLaws` of vers_vecs": ("crates/vers_vecs/proofs/Lib.antt", "PublicLaws as Trees",

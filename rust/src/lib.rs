@@ -81,3 +81,7 @@ pub mod text;
 pub mod trees;
 #[cfg(target_pointer_width = "64")]
 pub mod wavelet;
+#[cfg(target_pointer_width = "64")]
+pub mod wavelet_tree;
+#[cfg(target_pointer_width = "64")]
+pub mod word_rank;

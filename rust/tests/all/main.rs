@@ -15,3 +15,5 @@ mod text;
 mod threads;
 mod traits;
 mod trees;
+mod wavelet_tree;
+mod word_rank;

@@ -1,5 +1,6 @@
 //! Saved forms, which are loaded as what they were made of and as nothing else.
 use crate::plain::Random;
+use vers_vecs::inverted::InvertedIndex;
 use vers_vecs::postings::Postings;
 use vers_vecs::saved::{LoadError, SaveError, Saved};
 use vers_vecs::{BinaryRmq, BitVec, BpTree, EliasFanoVec, FastRmq, RsVec, SparseRSVec, WaveletMatrix};
@@ -53,6 +54,17 @@ fn documents_are_loaded_as_they_were() {
 }
 
 #[test]
+fn lists_of_terms_are_loaded_as_they_were() {
+    for (terms, universe, pairs) in
+        [(0, 0, vec![]), (3, 10, vec![(0, 3), (0, 7), (2, 1)]), (1, u64::MAX, vec![(0, 0), (0, u64::MAX - 1)])]
+    {
+        let index = again(&InvertedIndex::from_pairs(terms, universe, &pairs).unwrap());
+        assert_eq!((index.terms(), index.universe(), index.len()), (terms, universe, pairs.len()));
+        assert!(pairs.iter().all(|&(term, document)| index.contains(term, document)));
+    }
+}
+
+#[test]
 fn each_kind_is_loaded_as_itself() {
     let bytes = EliasFanoVec::from_slice(&[1, 2]).save().unwrap();
     let errors = [
@@ -61,8 +73,9 @@ fn each_kind_is_loaded_as_itself() {
         FastRmq::load(&bytes).err(),
         BpTree::<512>::load(&bytes).err(),
         Postings::load(&bytes).err(),
+        InvertedIndex::load(&bytes).err(),
     ];
-    assert_eq!(errors, [Some(LoadError::OtherKind); 5]);
+    assert_eq!(errors, [Some(LoadError::OtherKind); 6]);
 }
 
 #[test]

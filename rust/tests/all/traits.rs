@@ -10,6 +10,8 @@ use vers_vecs::postings::Postings;
 use vers_vecs::reads::Tally;
 use vers_vecs::saved::{LoadError, SaveError};
 use vers_vecs::text::TextIndex;
+use vers_vecs::wavelet_tree::WaveletTree;
+use vers_vecs::word_rank::WordRank;
 use vers_vecs::*;
 
 fn value<T: Clone + Debug + Default + PartialEq + Eq + Hash>(one: &T, other: &T) {
@@ -37,6 +39,9 @@ fn values_are_compared_hashed_and_cloned() {
     value(&BinaryRmq::from_vec(vec![1, 5]), &BinaryRmq::from_vec(vec![1, 6]));
     value(&FastRmq::from_vec(vec![1, 5]), &FastRmq::from_vec(vec![1, 6]));
     value(&BpTree::<512>::from(bits(5)), &BpTree::<512>::from(bits(4)));
+    value(&WordRank::from(bits(5)), &WordRank::from(bits(4)));
+    let tree = |width| WaveletTree::from_integers(&[1_u8, 5], width).unwrap();
+    value(&tree(3), &tree(4));
     let postings = |cost| Postings::from_sorted(&[3, 8], &[1, cost]).unwrap();
     value(&postings(5), &postings(4));
 }
@@ -52,6 +57,9 @@ fn debug_shows_items_and_shortens_many() {
     assert_eq!(format!("{tree:?}"), "BpTree { len: 2, parentheses: [1, 0] }");
     assert_eq!(format!("{:?}", Postings::from_sorted(&[3], &[1]).unwrap()), "Postings { len: 1, documents: [(3, 1)] }");
     assert_eq!(format!("{:?}", TextIndex::from_slice(&[3, 1], 2).unwrap()), "TextIndex { len: 2, symbols: [3, 1] }");
+    assert_eq!(format!("{:?}", WordRank::from(BitVec::from_bits(&[1, 0]))), "WordRank { len: 2, bits: [1, 0] }");
+    let tree = WaveletTree::from_integers(&[5_u8, 1], 3).unwrap();
+    assert_eq!(format!("{tree:?}"), "WaveletTree { len: 2, symbols: [5, 1] }");
     let many: Vec<u64> = (0..33).collect();
     let shown = (0..32).map(|it| it.to_string() + ", ").collect::<String>();
     assert_eq!(
@@ -116,6 +124,8 @@ fn iterators_have_both_ends() {
     iterates(symbols.iter_sorted_u64().unwrap(), vec![1, 1, 5, 7]);
     iterates(symbols.clone().into_iter_sorted_u64().unwrap(), vec![1, 1, 5, 7]);
     assert_eq!(symbols.iter().len() + symbols.iter_sorted().rev().len() + symbols.into_iter_sorted().len(), 12);
+    iterates(WordRank::from(bits).iter(), vec![0, 1, 1, 0, 1]);
+    iterates(WaveletTree::from_integers(&[5_u8, 1, 7, 1], 3).unwrap().iter(), vec![5, 1, 7, 1]);
     let tree: BpTree = BpTree::from(BitVec::from_bits(&[1, 1, 0, 1, 1, 0, 0, 0]));
     iterates(tree.dfs_iter(), vec![0, 1, 3, 4]);
     iterates(tree.dfs_post_iter(), vec![1, 4, 3, 0]);
@@ -150,6 +160,7 @@ fn crosses<T: Send + Sync + UnwindSafe + RefUnwindSafe + Unpin + 'static>() {}
 fn all_types_cross_threads() {
     crosses::<(BitVec, RsVec, SparseRSVec, EliasFanoVec, WaveletMatrix, BinaryRmq, FastRmq)>();
     crosses::<(BpTree, BpBuilder, Postings, TextIndex, Tally, BitMask)>();
+    crosses::<(WordRank, WaveletTree, wavelet_tree::WaveletTreeIter)>();
     crosses::<(bit_vec::BitVecIter, bit_vec::BitVecRefIter, bit_vec::LimbIter, bit_vec::sparse::SparseIter)>();
     crosses::<(bit_vec::fast_rs_vec::SelectIntoIter<true>, bit_vec::fast_rs_vec::BitSetIter<false>)>();
     crosses::<(elias_fano::EliasFanoIter, wavelet::WaveletSortedRefIter, trees::bp::PostIter<512>)>();

@@ -1,0 +1,246 @@
+//! Lists of symbols by their codes, which the crate vers-vecs doesn't have.
+
+use crate::contracts::contract;
+use crate::error::{granted, BuildError};
+use crate::items::{clones, iterator, lengths, shows, Walk};
+use crate::proved::wavelet_tree as proved;
+use crate::rattle::Global;
+use crate::reads::Tally;
+use crate::wavelet::Integer;
+use std::hash::{Hash, Hasher};
+use std::ops::Range;
+
+/// The greatest number of bits of a symbol.
+const MAX_WIDTH: u16 = 16;
+
+/// A list of symbols of at most 16 bits that reads and counts them. It can't change.
+///
+/// A binary tree divides the symbols at each fork where half of the elements are below, as nearly as symbols allow. The
+/// number of forks that lead to a symbol is the length of its code: that of a frequent symbol is short. A query takes a
+/// rank or two of bits for each fork that leads to its symbol, and those of a [`WaveletMatrix`](crate::WaveletMatrix)
+/// for each bit of the width.
+///
+/// Memory: 1.25 bits for each element and each fork above it, 32 bytes for each symbol that occurs, and 8 for each that
+/// there may be. It has no select, quantile, predecessor or successor.
+///
+/// The *sorted place* of an element is its index if all are sorted, and equal ones keep their order.
+///
+/// ```
+/// use vers_vecs::wavelet_tree::WaveletTree;
+///
+/// let symbols = WaveletTree::from_integers(b"abracadabra", 8).unwrap();
+/// assert_eq!((symbols.get(2), symbols.get(11)), (Some(u64::from(b'r')), None));
+/// assert_eq!(symbols.rank(8, u64::from(b'a')), Some(4));
+/// // five times `a`, then `b`: the second one is at sorted place 6
+/// assert_eq!(symbols.sorted_range(5..11, u64::from(b'b')), Some(6..7));
+/// assert_eq!(symbols.sorted_range(5..11, u64::from(b'c')), None);
+/// ```
+pub struct WaveletTree {
+    symbols: proved::WaveletTree<Global>,
+}
+
+/// A symbol, and its sorted place: its index if all elements are sorted, and equal ones keep their order.
+#[derive(Clone, Copy, PartialEq, Eq, Hash, Debug)]
+pub struct SortedPlace {
+    /// The symbol.
+    pub symbol: u64,
+    /// The sorted place.
+    pub place: usize,
+}
+
+#[doc(hidden)]
+impl From<proved::SortedPlace> for SortedPlace {
+    #[inline]
+    fn from(found: proved::SortedPlace) -> SortedPlace {
+        SortedPlace { symbol: found.symbol, place: found.place }
+    }
+}
+
+clones!(WaveletTree, symbols);
+shows!(WaveletTree, "symbols", |list| list.iter());
+lengths!(WaveletTree, symbols, "symbols", usize);
+
+/// Refuses a width above 16, and the first symbol that has more bits.
+fn check_symbols<N: Integer>(symbols: &[N], width: u16) -> Result<(), BuildError> {
+    if width > MAX_WIDTH {
+        return Err(BuildError::UnsupportedWidth { bits: width });
+    }
+    match symbols.iter().position(|symbol| symbol.number() >> width != 0) {
+        Some(position) => Err(BuildError::SymbolTooWide { position }),
+        None => Ok(()),
+    }
+}
+
+/// Makers.
+impl WaveletTree {
+    /// Indexes some symbols of `width` bits. Besides the tree it allocates two buffers of as many numbers of the same
+    /// type.
+    ///
+    /// # Errors
+    /// `UnsupportedWidth` if `width` is above 16, `SymbolTooWide` if a symbol has more bits, and `OutOfMemory`.
+    #[doc = contract!(WaveletTree::from_integers)]
+    pub fn from_integers<N: Integer>(symbols: &[N], width: u16) -> Result<Self, BuildError> {
+        check_symbols(symbols, width)?;
+        Ok(WaveletTree { symbols: proved::WaveletTree::from_integers(Global, symbols, width)? })
+    }
+
+    /// Indexes some symbols as [`from_integers`](Self::from_integers) does, in their own memory and one buffer more.
+    ///
+    /// # Errors
+    /// Those of [`from_integers`](Self::from_integers).
+    #[doc = contract!(WaveletTree::from_vec)]
+    pub fn from_vec<N: Integer>(symbols: Vec<N>, width: u16) -> Result<Self, BuildError> {
+        check_symbols(&symbols, width)?;
+        let symbols = crate::rattle::Vec::from_plain(symbols, Global);
+        Ok(WaveletTree { symbols: proved::WaveletTree::from_vec(Global, symbols, width)? })
+    }
+}
+
+/// Queries.
+impl WaveletTree {
+    /// Returns the number of bits of a symbol.
+    #[doc = contract!(WaveletTree::bit_len)]
+    #[must_use]
+    #[inline]
+    pub fn bit_len(&self) -> u16 {
+        self.symbols.bit_len()
+    }
+
+    /// Returns the symbol at `place`, or `None` past the end.
+    #[doc = contract!(WaveletTree::get)]
+    #[must_use]
+    #[inline]
+    pub fn get(&self, place: usize) -> Option<u64> {
+        (place < self.len()).then(|| self.symbols.get(place))
+    }
+
+    /// Iterates over the symbols in order, from both ends.
+    #[inline]
+    pub fn iter(&self) -> WaveletTreeIter<'_> {
+        WaveletTreeIter(Places { source: self, range: 0..self.len() })
+    }
+
+    /// Returns the symbol at `place` and its sorted place, or `None` past the end.
+    #[doc = contract!(WaveletTree::get_sorted)]
+    #[must_use]
+    #[inline]
+    pub fn get_sorted(&self, place: usize) -> Option<SortedPlace> {
+        (place < self.len()).then(|| self.symbols.get_sorted(place).into())
+    }
+
+    /// Answers as [`get_sorted`](Self::get_sorted), and adds what is read to `tally`.
+    #[doc = contract!(WaveletTree::get_sorted_counted)]
+    #[inline]
+    pub fn get_sorted_counted(&self, place: usize, tally: &mut Tally) -> Option<SortedPlace> {
+        (place < self.len()).then(|| self.symbols.get_sorted_counted(place, &mut tally.0).into())
+    }
+
+    /// Returns how often a symbol occurs before `place`, or `None` if `place` is above the length.
+    #[doc = contract!(WaveletTree::rank)]
+    #[must_use]
+    #[inline]
+    pub fn rank(&self, place: usize, symbol: u64) -> Option<usize> {
+        (place <= self.len()).then(|| self.symbols.rank(place, symbol))
+    }
+
+    /// Answers as [`rank`](Self::rank), and adds what is read to `tally`.
+    #[doc = contract!(WaveletTree::rank_counted)]
+    #[inline]
+    pub fn rank_counted(&self, place: usize, symbol: u64, tally: &mut Tally) -> Option<usize> {
+        (place <= self.len()).then(|| self.symbols.rank_counted(place, symbol, &mut tally.0))
+    }
+
+    /// Returns the sorted places of the occurrences of a symbol in a range, which are adjacent. `None` if there are
+    /// none, or the list doesn't have the range.
+    #[doc = contract!(WaveletTree::sorted_range)]
+    #[must_use]
+    #[inline]
+    pub fn sorted_range(&self, range: Range<usize>, symbol: u64) -> Option<Range<usize>> {
+        if range.start <= range.end && range.end <= self.len() {
+            return self.symbols.sorted_range(range, symbol);
+        }
+        None
+    }
+
+    /// Answers as [`sorted_range`](Self::sorted_range), and adds what is read to `tally`.
+    #[doc = contract!(WaveletTree::sorted_range_counted)]
+    #[inline]
+    pub fn sorted_range_counted(&self, range: Range<usize>, symbol: u64, tally: &mut Tally) -> Option<Range<usize>> {
+        if range.start <= range.end && range.end <= self.len() {
+            return self.symbols.sorted_range_counted(range, symbol, &mut tally.0);
+        }
+        None
+    }
+}
+
+/// A range of places of a tree.
+#[derive(Clone)]
+pub(crate) struct Places<'a> {
+    source: &'a WaveletTree,
+    range: Range<usize>,
+}
+
+impl Walk for Places<'_> {
+    type Item = u64;
+
+    #[inline(always)]
+    fn left(&self) -> usize {
+        self.range.len()
+    }
+
+    #[inline(always)]
+    fn first(&mut self) -> Option<u64> {
+        self.source.get(self.range.next()?)
+    }
+
+    #[inline(always)]
+    fn last(&mut self) -> Option<u64> {
+        self.source.get(self.range.next_back()?)
+    }
+
+    #[inline(always)]
+    fn after(&mut self, n: usize) -> Option<u64> {
+        self.source.get(self.range.nth(n)?)
+    }
+
+    #[inline(always)]
+    fn before(&mut self, n: usize) -> Option<u64> {
+        self.source.get(self.range.nth_back(n)?)
+    }
+}
+
+iterator! {
+    /// Iterates over the symbols of a [`WaveletTree`], a [`get`](WaveletTree::get) each.
+    WaveletTreeIter ['a] ['a] = Places<'a>, u64, |it| it.clone()
+}
+
+impl<'a> IntoIterator for &'a WaveletTree {
+    type Item = u64;
+    type IntoIter = WaveletTreeIter<'a>;
+
+    fn into_iter(self) -> WaveletTreeIter<'a> {
+        self.iter()
+    }
+}
+
+impl Default for WaveletTree {
+    fn default() -> Self {
+        granted(WaveletTree::from_integers::<u8>(&[], 0))
+    }
+}
+
+impl PartialEq for WaveletTree {
+    /// Returns true if the width and all symbols are equal.
+    fn eq(&self, other: &Self) -> bool {
+        self.bit_len() == other.bit_len() && self.len() == other.len() && self.iter().eq(other)
+    }
+}
+
+impl Eq for WaveletTree {}
+
+impl Hash for WaveletTree {
+    fn hash<H: Hasher>(&self, state: &mut H) {
+        (self.bit_len(), self.len()).hash(state);
+        self.iter().for_each(|symbol| symbol.hash(state));
+    }
+}
