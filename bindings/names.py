@@ -73,9 +73,12 @@ LEFT_OUT = {
     "A structure is made of an array, and its items are written over one.":
         """RsVec.into_bit_vec RsVec.*_equals BpTree.into_parentheses_vec SparseRSVec.from_* *.from_iter
         EliasFanoVec.from_numbers InvertedIndex.from_source TextIndex.from_* TextIndex.*_with_step""",
-    "Documents of terms are combined two terms at a time, into plain numbers.": "InvertedIndex.*_of InvertedIndex.*_numbers",
+    "Documents of terms are combined two terms at a time, into plain numbers.":
+        "InvertedIndex.*_of InvertedIndex.*n_numbers InvertedIndex.difference_numbers",
     "They serve saved forms, which C, C++ and Python load and save whole.":
-        "TextIndex.column TextIndex.whole_row TextIndex.kept_len TextIndex.kept_row WaveletMatrix.level",
+        """TextIndex.column TextIndex.whole_row TextIndex.kept_len TextIndex.kept_row WaveletMatrix.level
+        EliasFanoVec.ends EliasFanoVec.low_parts EliasFanoVec.high_parts EliasFanoVec.from_parts SparseRSVec.ones
+        InvertedIndex.pair_numbers InvertedIndex.from_numbers""",
     "Symbols are numbers of at most 64 bits, and not lists of bits.":
         """WaveletMatrix.bit_len WaveletMatrix.from_* WaveletMatrix.get_value WaveletMatrix.get_sorted
         WaveletMatrix.iter WaveletMatrix.iter_sorted WaveletMatrix.into_iter WaveletMatrix.into_iter_sorted
