@@ -95,7 +95,7 @@ struct Series {
         });
     }
 
-    // Prints the median time of making a value of `count` items, and returns it. It is dropped after the time is taken.
+    // Builds a value of `count` items, prints the median time of a build, and returns the last value. Drops are not timed.
     template <class Make> auto build(std::size_t count, u64 sum, const Make& make) const
     {
         Numbers times;
@@ -129,9 +129,9 @@ struct Settings {
     std::string name;
     std::size_t divisor = 1;
     int repetitions = 5;
-    // The one size of structures, instead of the usual ones; 0 if none is asked for.
+    // The size of all structures by --size, otherwise 0: each then has its usual sizes.
     std::size_t size = 0;
-    // The structures to run, or the kinds of a structure: all if none is named.
+    // The names of the structures to run; if there are none, all run.
     std::vector<std::string> asked;
 
     Settings(int count, char** words)
@@ -156,7 +156,7 @@ struct Settings {
 
     std::size_t size_or(std::size_t usual) const { return size ? size : scaled(usual); }
 
-    // The one size that is asked for, or the usual one and a large one.
+    // Returns the size by --size, otherwise the usual one and a large one.
     std::vector<std::size_t> sizes(std::size_t usual, std::size_t large) const
     {
         if (size) return {size};
@@ -165,7 +165,7 @@ struct Settings {
 
     Series series(const std::string& structure, const std::string& data) const { return Series{repetitions, name, structure, data}; }
 
-    // The kinds of data: the first alone if one size is asked for.
+    // Returns the kinds of data to run: with --size the first alone, otherwise all.
     template <class Kind> std::vector<Kind> kinds(std::vector<Kind> all) const
     {
         if (size) all.resize(1);

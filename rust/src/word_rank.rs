@@ -12,7 +12,7 @@ use std::hash::{Hash, Hasher};
 
 /// A list of bits that counts the ones before a place, for queries that are mostly ranks. It can't change.
 ///
-/// A rank reads one word and two counts, and takes about half of the time of one of an [`RsVec`](crate::RsVec). The
+/// A rank reads one word and two counts, and takes half of the instructions of one of an [`RsVec`](crate::RsVec). The
 /// counts, 16 bits for each word, take about 25 % of the bits' memory instead of 5 %. It has no select, predecessor or
 /// successor.
 ///
