@@ -1,5 +1,6 @@
 -- How high and low parts are made.
-use Rattle.vers_sorted.proofs.Names.{◌≡◌, ◌==◌, ℕ, ◌+◌, ◌-◌, ◌*◌, ◌/◌, ◌^◌, ◌<◌, ◌≤◌, true, false, Bool, List, [], ◌++◌, length, drop, Option, Some, None, unwrap_or, refl, sym, ap, ◌∙◌, arith, set, replicate, mul-le-mul_left, mul_comm, zero-div, slice_index, slice_get, map, if◌then◌else◌, range_with_len, IsNonDecreasing, get_or_past, append-nil, map-append, take_all, take_more, length-map, length-take, length-drop, drop-drop, get_or-drop, slice_get-get_or, slice_get_within, get_or_from_slice_get, map-range_with_len_more, flat_map-append, low_bits, pack, first_of, last_of, width, high_place, get_or-replicate, length-replicate, same_lists, TakesFirst, low_width, high_of, high_length, high_parts, low_parts, first_high_parts, first_low_parts}
+use Rattle.vers_sorted.proofs.Names.{◌≡◌, ◌==◌, ℕ, ◌+◌, ◌-◌, ◌*◌, ◌/◌, ◌^◌, ◌<◌, ◌≤◌, true, false, Bool, List, [], suc, ◌∷◌, ◌++◌, length, drop, Option, Some, None, unwrap_or, refl, sym, ap, ◌∙◌, arith, set, replicate, mul-le-mul_left, mul_comm, zero-div, slice_index, slice_get, map, if◌then◌else◌, range_with_len, IsNonDecreasing, get_or_past, append-nil, map-append, take_all, take_more, length-map, length-take, length-drop, drop-drop, get_or-drop, slice_get-get_or, slice_get_within, get_or_from_slice_get, map-range_with_len_more, flat_map-append, low_bits, pack, first_of, last_of, width, high_place, get_or-replicate, length-replicate, same_lists, TakesFirst, low_width, high_of, high_length, high_parts, low_parts, first_high_parts, first_low_parts}
+use Rattle.std.proofs.lemmas.Option.{same_Some}
 use Rattle.vers_sorted.proofs.Ones.{length-ones_at, ones_at_more, get_or-ones_at}
 use Rattle.vers_sorted.proofs.Split.{high_zeros, member_from}
 use Rattle.vers_sorted.proofs.Holds.{place_within, length-pack}
@@ -80,6 +81,27 @@ all_taken s rest new i here within t = grind (arith, length-drop i s, slice_get-
 pub first_taken : (s new : List ℕ) (taken : Option ℕ) → TakesFirst s taken new → unwrap_or taken 0 ≡ first_of s
 first_taken s new None t = grind (arith, first_none, all_taken)
 first_taken s new (Some v) t = grind (arith, taken_at)
+
+-- the last of a number and others is that of the others, if there are any
+last_after : (v : ℕ) (s : List ℕ) → 0 < length s → last_of (v ∷ s) ≡ last_of s
+last_after v s some = let at : length (v ∷ s) - 1 ≡ suc (length s - 1) = omega (arith, some) in ap (slice_index (v ∷ s)) at
+
+pub last_of_zero : (s : List ℕ) → last_of (0 ∷ s) ≡ last_of s
+last_of_zero [] = refl
+last_of_zero (v ∷ s) = last_after 0 (v ∷ s) (omega arith)
+
+-- one number more is read
+pub last_read : (last v : ℕ) (rest new : List ℕ) → TakesFirst rest (Some v) new → last_of (v ∷ new) ≡ last_of (last ∷ rest)
+last_read last v [] new t = absurd (cc (t.given))
+last_read last v (x ∷ rest) new t =
+    let same : v ∷ new ≡ x ∷ rest = rw (same_Some v x t.given, t.left) refl in
+    ap last_of same ∙ sym (last_after last (x ∷ rest) (omega arith))
+
+pub all_read : (last : ℕ) (rest new : List ℕ) → TakesFirst rest None new → last_of (last ∷ rest) ≡ last
+all_read last [] new t = refl
+all_read last (x ∷ rest) new t = absurd (cc (t.given))
+
+pub ruleset lasts = (last_of_zero, last_read, all_read)
 
 pub ruleset ends = (first_none, last_none, first_last, first_taken)
 

@@ -1,7 +1,8 @@
 -- The ones or the zeros of a limb, from the lowest up.
-use Rattle.vers_sorted.proofs.Names.{◌≡◌, ℕ, ◌+◌, ◌-◌, ◌*◌, ◌/◌, ◌%◌, ◌^◌, ◌<◌, ◌≤◌, Bool, true, false, List, [], ◌∷◌, ◌++◌, length, take, get_or, not, refl, sym, ap, subst, ◌∙◌, arith, inl, inr, min, w64, bit_at, bit_not, trailing_zeros, trailing_of_zero, cases_lt, shr-shr, bit_at-trailing_zeros, bit_at_not, bit_value, is_bit, count, places, limb, AreMarked, value_none, value_one, limb_bit, count_past, rules}
+use Rattle.vers_sorted.proofs.Names.{◌≡◌, ℕ, ◌+◌, ◌-◌, ◌*◌, ◌/◌, ◌%◌, ◌^◌, ◌<◌, ◌≤◌, Bool, true, false, List, length, get_or, slice_get, not, refl, sym, ap, ◌∙◌, Some, arith, inl, inr, min, w64, bit_at, bit_not, trailing_zeros, trailing_of_zero, cases_lt, shr-shr, bit_at-trailing_zeros, bit_at_not, bit_value, is_bit, count, places, limb, AreMarked, value_none, value_one, limb_bit, count_past, rules}
+use Rattle.std.proofs.Math.Nat.{div-le_self}
 use Rattle.vers_sorted.proofs.Scans.{count_stays}
-use Rattle.vers_sorted.proofs.SparseBits.{first_places_more}
+use Rattle.vers_sorted.proofs.SparseBits.{no_place, place_at}
 
 -- ---- a limb
 
@@ -20,12 +21,11 @@ zeros_marked l k small i h = search (rules, bit_at_not, limb_bit, other_value)
 pub digits_past : (w t i : ℕ) → bit_at (w / 2 ^ t) i ≡ bit_at w (t + i)
 digits_past w t i = ap (λ m. m % 2) (shr-shr w t i)
 
--- what is left past it
-pub marked_past : (b : Bool) (l : List Bool) (p n w t : ℕ) → t < n → AreMarked b l p n w → AreMarked b l (p + (t + 1)) (n - (t + 1)) (w / 2 ^ t / 2 ^ 1)
-marked_past b l p n w t h marked i small =
-    let e : t + (1 + i) ≡ t + 1 + i = omega arith in
-    let place : p + (t + 1) + i ≡ p + (t + 1 + i) = omega arith in
-    rw place (digits_past (w / 2 ^ t) 1 i ∙ digits_past w t (1 + i) ∙ ap (bit_at w) e ∙ marked (t + 1 + i) (omega arith))
+-- the marks from place r of a limb on
+marked_from : (b : Bool) (l : List Bool) (k r w : ℕ) → AreMarked b l (64 * k) 64 w → AreMarked b l (64 * k + r) (64 - r) (w / 2 ^ r)
+marked_from b l k r w marked i h =
+    let place : 64 * k + r + i ≡ 64 * k + (r + i) = omega arith in
+    rw place (digits_past w r i ∙ marked (r + i) (omega arith))
 
 module _ (b : Bool) (l : List Bool) (p n w : ℕ) (within : p + n ≤ length l) (few : n ≤ 64) (fits : w < 18446744073709551616) (marked : AreMarked b l p n w) where
   below_lowest : (i : ℕ) → i < trailing_zeros w64 w → bit_at w i ≡ 0
@@ -41,36 +41,46 @@ module _ (b : Bool) (l : List Bool) (p n w : ℕ) (within : p + n ≤ length l) 
   ]
 
   -- its place is the next, where it is one of the n
-  pub places_more : trailing_zeros w64 w < n
-      → take (count b l (p + (trailing_zeros w64 w + 1))) (places b l) ≡ take (count b l p) (places b l) ++ (p + trailing_zeros w64 w) ∷ []
-  places_more h =
-      let t : ℕ = trailing_zeros w64 w in
-      let e : p + (t + 1) ≡ p + t + 1 = omega arith in
-      grind (arith, count_stays, off, first_places_more, on)
+  found_at : trailing_zeros w64 w < n → slice_get (places b l) (count b l p) ≡ Some (p + trailing_zeros w64 w)
+  found_at h =
+      let stays = count_stays b l p (trailing_zeros w64 w) (omega (arith, within)) (λ i low. off i (omega arith) low) in
+      place_at b l p (p + trailing_zeros w64 w) (omega (arith, within)) (on h) stays
 
   -- else there is none
-  pub places_all : n ≤ trailing_zeros w64 w → take (count b l p) (places b l) ≡ take (count b l (p + n)) (places b l)
-  places_all h = ap (λ c. take c (places b l)) (sym (count_stays b l p n within (λ i low. off i low (omega arith))))
+  none_at : n ≤ trailing_zeros w64 w → count b l (p + n) ≡ count b l p
+  none_at h = count_stays b l p n within (λ i low. off i low (omega arith))
 
--- the same up to a place e, with the digit that was found
-pub marked_past_to : (b : Bool) (l : List Bool) (p e w t : ℕ) → t < e - p → AreMarked b l p (e - p) w → AreMarked b l (p + (t + 1)) (e - (p + (t + 1))) (w / 2 ^ t / 2 ^ 1)
-marked_past_to b l p e w t h marked i small = marked_past b l p (e - p) w t h marked i (omega arith)
+-- ---- a place, by the marks of its limb
 
-pub more_found : (b : Bool) (l : List Bool) (p e w t : ℕ) (items more : List ℕ) → p ≤ e → e ≤ length l → e ≤ p + 64 → w < 18446744073709551616
-    → AreMarked b l p (e - p) w → t ≡ trailing_zeros w64 w → t < e - p → items ≡ take (count b l p) (places b l) → more ≡ items ++ (p + t) ∷ []
-    → more ≡ take (count b l (p + (t + 1))) (places b l)
-more_found b l p e w t items more to within few fits marked is h found put =
-    let P : ℕ → Type 0 = λ q. take (count b l (p + (q + 1))) (places b l) ≡ take (count b l p) (places b l) ++ (p + q) ∷ [] in
-    let step : take (count b l (p + (t + 1))) (places b l) ≡ take (count b l p) (places b l) ++ (p + t) ∷ [] = subst P (sym is) (places_more b l p (e - p) w (omega arith) (omega arith) fits marked (omega (arith, is))) in
-    grind (arith, places_more)
+module _ (b : Bool) (l : List Bool) (p limb_word word n : ℕ) (inside : p < length l) (marked : AreMarked b l (64 * (p / 64)) 64 limb_word)
+    (is : word ≡ limb_word / 2 ^ (p % 64)) (limb_fits : limb_word < 18446744073709551616) (so_many : n ≡ min (length l - p) (64 - p % 64)) where
+  marked_here : AreMarked b l p n word
+  marked_here i h =
+      let place : 64 * (p / 64) + p % 64 ≡ p = omega arith in
+      let here : AreMarked b l p (64 - p % 64) (limb_word / 2 ^ (p % 64)) = rw place at (marked_from b l (p / 64) (p % 64) limb_word marked) in
+      ap (λ w. bit_at w i) is ∙ here i (omega (arith, so_many))
 
--- ---- of one limb
+  fits : word < 18446744073709551616
+  fits = omega (arith, is, div-le_self limb_word (2 ^ (p % 64)), limb_fits)
 
-pub limb_done : (b : Bool) (l : List Bool) (k p e w : ℕ) → 64 * k < length l → 64 * k ≤ p → p ≤ e → e ≡ 64 * k + min (length l - 64 * k) 64 → w < 18446744073709551616
-    → AreMarked b l p (e - p) w → e - p ≤ trailing_zeros w64 w → take (count b l p) (places b l) ≡ take (count b l (64 * k + 64)) (places b l)
-limb_done b l k p e w some from to is fits marked past =
-    let whole : p + (e - p) ≡ e = omega arith in
-    places_all b l p (e - p) w (omega arith) (omega arith) fits marked past
-    ∙ ap (λ q. take (count b l q) (places b l)) whole ∙ sym (grind (arith, count_past))
+  pub place_found : (t : ℕ) → t ≡ trailing_zeros w64 word → t < n → slice_get (places b l) (count b l p) ≡ Some (p + t)
+  place_found t lowest h =
+      found_at b l p n word (omega (arith, so_many)) (omega (arith, so_many)) fits marked_here (omega (arith, lowest, h))
+      ∙ ap (λ i. Some (p + i)) (sym lowest)
+
+  pub none_in_limb : (t : ℕ) → t ≡ trailing_zeros w64 word → n ≤ t → count b l (64 * (p / 64) + 64) ≡ count b l p
+  none_in_limb t lowest past =
+      let h : n ≤ trailing_zeros w64 word = omega (arith, lowest, past) in
+      let none = none_at b l p n word (omega (arith, so_many)) (omega (arith, so_many)) fits marked_here h in
+      elim (cases_lt (64 * (p / 64) + 64) (length l)) [
+        | inl before ↦
+            let end : p + n ≡ 64 * (p / 64) + 64 = omega (arith, so_many) in
+            ap (count b l) (sym end) ∙ none
+        | inr after ↦
+            let end : p + n ≡ length l = omega (arith, so_many) in
+            count_past b l (64 * (p / 64) + 64) after ∙ ap (count b l) (sym end) ∙ none
+      ]
 
 pub ruleset limbs = (ones_marked, zeros_marked)
+
+pub ruleset walking = (no_place)

@@ -1,5 +1,5 @@
 -- The queries of a sparse list of bits, by those of the list of its ones' places.
-use Rattle.vers_sorted.proofs.Names.{◌≡◌, ℕ, ◌+◌, ◌-◌, ◌<◌, ◌≤◌, Bool, true, false, List, [], ◌∷◌, ◌++◌, length, take, get_or, eqb, sym, ap, ◌∙◌, arith, min, Some, None, slice_index, slice_get, map, IsNonDecreasing, eq-eqb, ne_eqb, get_or_default, map-id, take_more, take_all, slice_get-get_or, slice_get_past, slice_get_within, get_or_from_slice_get, is_bit, count, places, count_none, count_both, count_past, count_up, select_at, select_past, length-places, count_more_yes, below, least_not_below, ones_at, AreSparse, select}
+use Rattle.vers_sorted.proofs.Names.{◌≡◌, ℕ, ◌+◌, ◌-◌, ◌<◌, ◌≤◌, Bool, true, false, List, [], ◌∷◌, length, drop, get_or, eqb, refl, sym, ap, subst, ◌∙◌, arith, min, Some, None, zero, suc, slice_index, slice_get, map, IsNonDecreasing, eq-eqb, ne_eqb, get_or_default, map-id, drop-drop, drop_all, get_or-drop, length-drop, slice_get-get_or, slice_get_past, slice_get_within, get_or_from_slice_get, is_bit, count, places, count_at_select, count_none, count_both, count_past, count_up, select_at, select_past, length-places, count_more_yes, below, least_not_below, ones_at, AreSparse, TakesFirst, last_of, select}
 use Rattle.vers_sorted.proofs.Below.{below_le, below_from, below_to, below_after, all_below}
 use Rattle.vers_sorted.proofs.Neighbours.{succ_is}
 use Rattle.vers_sorted.proofs.Ones.{length-ones_at, get_or-ones_at, member_test, ascends, below_member, count-ones_at, select-ones_at, all_ones, places-ones_at, places_rise, places_within, ones_at-places}
@@ -54,20 +54,58 @@ places_ascend b l = ascends (places b l) (places_rise b l)
 pub map_ones : (l : List Bool) → map (is_bit true) l ≡ l
 map_ones l = map-id l
 
--- the places below 0, one more of them, and all of them
-pub first_places_none : (b : Bool) (l : List Bool) → take (count b l 0) (places b l) ≡ []
-first_places_none b l = ap (λ k. take k (places b l)) (count_none b l)
+-- ---- the places from a place on
 
-pub first_places_more : (b : Bool) (l : List Bool) (i : ℕ) → i < length l → is_bit b (get_or l i false) ≡ true
-    → take (count b l (i + 1)) (places b l) ≡ take (count b l i) (places b l) ++ i ∷ []
+-- a place of the bit is the first from p on if no place between them is one
+pub place_at : (b : Bool) (l : List Bool) (p q : ℕ) → q < length l → is_bit b (get_or l q false) ≡ true → count b l q ≡ count b l p → slice_get (places b l) (count b l p) ≡ Some q
 unfolding select
-first_places_more b l i h on =
-    let at : get_or (places b l) (count b l i) (length l) ≡ i = grind (arith, select_at) in
-    grind (arith, count_more_yes, length-places, count_up, select_at, take_more)
+place_at b l p q h on same =
+    let more : count b l (q + 1) ≡ count b l q + 1 = count_more_yes b l q h on in
+    let few : count b l p < length (places b l) = omega (arith, more, same, length-places b l, count_up b l (q + 1) (length l) (omega arith)) in
+    slice_get-get_or (places b l) (count b l p) (length l) few ∙ ap Some (select_at b l (count b l p) q h on same)
 
--- past the last limb
-pub first_places_end : (b : Bool) (l : List Bool) (i : ℕ) → length l ≤ i → take (count b l i) (places b l) ≡ places b l
-first_places_end b l i h = ap (λ n. take n (places b l)) (count_past b l i h) ∙ grind (arith, take_all, length-places)
+-- past the last place there is none
+pub no_place : (b : Bool) (l : List Bool) (p : ℕ) → length l ≤ p → slice_get (places b l) (count b l p) ≡ None
+no_place b l p past = slice_get_past (places b l) (count b l p) (omega (arith, length-places b l, count_past b l p past))
+
+-- a place is within the list, and past it one place more is passed
+pub past_place : (b : Bool) (l : List Bool) (c p : ℕ) → slice_get (places b l) c ≡ Some p → (p < length l) × (count b l (p + 1) ≡ c + 1)
+unfolding select
+past_place b l c p e =
+    let at : select b l c ≡ p = get_or_from_slice_get (places b l) c p (length l) e in
+    let counted = count_at_select b l c (omega (arith, slice_get_within (places b l) c p e, length-places b l)) in
+    let P : ℕ → Type 0 = λ q. (q < length l) × (count b l (q + 1) ≡ c + 1) in
+    subst P at (counted.0, counted.2)
+
+first_is : (s : List ℕ) (c : ℕ) → slice_get (drop c s) 0 ≡ slice_get s c
+first_is s zero = refl
+first_is [] (suc c) = refl
+first_is (x ∷ s) (suc c) = first_is s c
+
+-- the places left are taken one by one
+pub place_taken : (b : Bool) (l : List Bool) (c p : ℕ) → slice_get (places b l) c ≡ Some p → TakesFirst (drop c (places b l)) (Some p) (drop (count b l (p + 1)) (places b l))
+place_taken b l c p e = record {
+  given = sym (first_is (places b l) c ∙ e);
+  left = ap (λ n. drop n (places b l)) (past_place b l c p e).1 ∙ sym (drop-drop 1 c (places b l));
+}
+
+pub all_places_taken : (b : Bool) (l : List Bool) (c : ℕ) → slice_get (places b l) c ≡ None → TakesFirst (drop c (places b l)) None (drop c (places b l))
+all_places_taken b l c e =
+    let past : length (places b l) ≤ c = grind (arith, slice_get-get_or (places b l) c 0) in
+    record {
+      given = sym (first_is (places b l) c ∙ e);
+      left = drop_all c (places b l) past ∙ sym (drop-drop 1 c (places b l) ∙ drop_all (c + 1) (places b l) (omega (arith, past)));
+    }
+
+-- all places are those from 0 on
+pub from_start : (b : Bool) (l : List Bool) → drop (count b l 0) (places b l) ≡ places b l
+from_start b l = ap (λ n. drop n (places b l)) (count_none b l)
+
+-- those from a place on end as all do, if there are any
+pub last_from : (s : List ℕ) (c p : ℕ) → slice_get s c ≡ Some p → last_of (drop c s) ≡ last_of s
+last_from s c p e =
+    let at : c + (length (drop c s) - 1) ≡ length s - 1 = omega (arith, slice_get_within s c p e, length-drop c s) in
+    get_or-drop c s (length (drop c s) - 1) 0 ∙ ap (slice_index s) at
 
 pub zeros_are : (l : List Bool) (i : ℕ) → min i (length l) - count true l i ≡ count false l i
 zeros_are l i = omega (arith, count_both l i)
@@ -79,6 +117,8 @@ pub ruleset sparse = (length-ones_at, get_or-ones_at, members_few, places_are, c
 
 pub ruleset from_places = (sparse_places, places_ascend, ones_at-places)
 
-pub ruleset collecting = (first_places_none, first_places_end)
+pub ruleset walking = (past_place, place_taken, all_places_taken)
+
+pub ruleset lasts = (from_start, last_from)
 
 pub ruleset zeros = (zeros_are, ones_few)

@@ -1,12 +1,12 @@
 //! Lists of bits with few ones.
-ghost use Rattle.std.specs.Prelude.{◌≡◌, ◌+◌, ◌*◌, ◌<◌, ◌≤◌, ◌↔◌, [], All, not, length, take, map, slice_index_or, slice_get, option_map, IsTrue, IfOk, OnOk, true, false};
+ghost use Rattle.std.specs.Prelude.{◌≡◌, ◌+◌, ◌*◌, ◌/◌, ◌<◌, ◌≤◌, ◌↔◌, [], All, not, length, drop, map, slice_index_or, slice_get, option_map, IsTrue, IfOk, IfSome, Some, None, true, false};
 ghost use Rattle.std.specs.List.Sorted.{IsStrictlyIncreasing};
 ghost use Rattle.vers_bits.specs.Bits.{bit_value, count, is_bit, places, select};
 ghost use Rattle.vers_tally.specs.Reads.{AddsAtMost};
-ghost use Rattle.vers_sorted.specs.Layout.{heap_size_of, member_reads, search_reads};
+ghost use Rattle.vers_sorted.specs.Layout.{heap_size_of, last_of, member_reads, search_reads};
 ghost use Rattle.vers_sorted.specs.Ones.{AreMarked};
 
-use crate::elias_fano::{EliasFanoRefIter, EliasFanoVec};
+use crate::elias_fano::{EliasFanoRefIter, EliasFanoVec, MAX_LEN, Numbers};
 use std::alloc::{AllocError, Allocator};
 use std::marker::Model;
 use vers_bits::bit_vec::BitVec;
@@ -88,9 +88,16 @@ impl<A: Allocator + Copy> SparseRSVec<A> {
     fn from_places(bits: &BitVec<A>, bit: bool) -> Result<Self, AllocError>
         ensures { IfOk result (λ v. v ≡ map (is_bit bit) bits.now) }
     {
-        let ones = places_of(bits, bit)?;
+        let len = count_of(bits, bit);
+        // A list of more members needs more memory than there can be.
+        if len > MAX_LEN {
+            return Err(AllocError);
+        }
+        let places = Places { bits, bit, from: 0 };
+        let from = last_start(bits, bit);
+        let last = last_left(Places { bits, bit, from });
         Ok(SparseRSVec {
-            ones: EliasFanoVec::from_slice(bits.allocator(), &ones)?,
+            ones: EliasFanoVec::from_numbers(bits.allocator(), places, len, last)?,
             len: bits.len() as u64,
         })
     }
@@ -278,43 +285,95 @@ impl<A: Allocator + Copy> SparseRSVec<A> {
     }
 }
 
-// Returns the positions of the ones or the zeros.
-#[tactic(auto, using(crate::proofs::SparseBits::collecting))]
-fn places_of<A: Allocator + Copy>(bits: &BitVec<A>, bit: bool) -> Result<Vec<u64, A>, AllocError>
-    ensures { IfOk result (λ v. v.items ≡ places bit bits.now) }
-{
-    let mut found = Vec::new(bits.allocator());
-    for k in 0..bits.len().div_ceil(64) {
-        push_places(&mut found, bits, bit, k)?;
-    }
-    Ok(found)
+// The positions of the ones or the zeros of a list, from position `from` on.
+#[derive(Clone, Copy, Drop)]
+struct Places<'a, A: Allocator + Copy> {
+    bits: &'a BitVec<A>,
+    bit: bool,
+    from: usize,
 }
 
-// Appends the positions of the ones or the zeros of one limb to those of the limbs before it, ascending.
-#[tactic(auto, using(crate::proofs::SparseBits::collecting))]
-fn push_places<A: Allocator + Copy>(
-    found: &mut Vec<u64, A>,
-    bits: &BitVec<A>,
-    bit: bool,
-    k: usize,
-) -> Result<(), AllocError>
-    requires within { 64 * k < length bits.now }
-    requires before { found.old.items ≡ take (count bit bits.now (64 * k)) (places bit bits.now) }
-    ensures { OnOk result (found.new.items
-        ≡ take (count bit bits.now (64 * k + 64)) (places bit bits.now)) }
-{
-    let len = bits.len();
-    let mut word = marks_of(bits, bit, k);
-    let mut place = 64 * k;
-    let end = place + (len - place).min(64);
-    let mut skip = word.trailing_zeros() as usize;
-    while skip < end - place {
-        found.push((place + skip) as u64)?;
-        word = (word >> skip) >> 1;
-        place += skip + 1;
-        skip = word.trailing_zeros() as usize;
+#[tactic(auto, using(crate::proofs::SparseBits::walking))]
+impl<A: Allocator + Copy> Numbers for Places<'_, A> {
+    ghost left = { λ walk. drop (count walk.bit walk.bits.now walk.from) (places walk.bit walk.bits.now) };
+
+    #[inline(always)]
+    fn next(&mut self) -> Option<u64> {
+        let _ = self.bits.len();
+        let place = place_from(self.bits, self.bit, self.from)?;
+        self.from = place + 1;
+        Some(place as u64)
     }
-    Ok(())
+}
+
+// Returns the number of ones or zeros.
+fn count_of<A: Allocator + Copy>(bits: &BitVec<A>, bit: bool) -> usize
+    ensures { result ≡ count bit bits.now (length bits.now) }
+{
+    if bit {
+        bits.count_ones() as usize
+    } else {
+        bits.count_zeros() as usize
+    }
+}
+
+// Returns the first position from `from` on of a one or a zero. `None` if there is none.
+#[inline(always)]
+#[tactic(auto, using(crate::proofs::Marks::walking))]
+fn place_from<A: Allocator + Copy>(bits: &BitVec<A>, bit: bool, from: usize) -> Option<usize>
+    ensures { result ≡ slice_get (places bit bits.now) (count bit bits.now from) }
+{
+    let mut place = from;
+    while place < bits.len() {
+        if let Some(found) = place_in_limb(bits, bit, place) {
+            return Some(found);
+        }
+        place = 64 * (place / 64) + 64;
+    }
+    None
+}
+
+// Returns the first position from `place` on in its limb of a one or a zero. `None` if there is none.
+#[inline(always)]
+#[tactic(auto, using(crate::proofs::Marks::walking))]
+fn place_in_limb<A: Allocator + Copy>(bits: &BitVec<A>, bit: bool, place: usize) -> Option<usize>
+    requires { place < length bits.now }
+    ensures some { IfSome result (λ found. slice_get (places bit bits.now) (count bit bits.now place) ≡ Some found) }
+    ensures none { result ≡ None → count bit bits.now (64 * (place / 64) + 64) ≡ count bit bits.now place }
+{
+    let word = marks_of(bits, bit, place / 64) >> (place % 64);
+    let skip = word.trailing_zeros() as usize;
+    if skip < (bits.len() - place).min(64 - place % 64) {
+        return Some(place + skip);
+    }
+    None
+}
+
+// Returns the start of the last limb that has a one or a zero, or 0 if none has.
+#[tactic(auto, using(crate::proofs::SparseBits::lasts))]
+fn last_start<A: Allocator + Copy>(bits: &BitVec<A>, bit: bool) -> usize
+    ensures { last_of (drop (count bit bits.now result) (places bit bits.now)) ≡ last_of (places bit bits.now) }
+{
+    let mut k = bits.len().div_ceil(64);
+    while k > 0 {
+        k -= 1;
+        if place_in_limb(bits, bit, 64 * k).is_some() {
+            return 64 * k;
+        }
+    }
+    0
+}
+
+// Returns the last of the numbers left, or 0 if none is left.
+#[tactic(auto, using(crate::proofs::Makes::lasts))]
+fn last_left<N: Numbers>(mut numbers: N) -> u64
+    ensures { result ≡ last_of (N.left numbers) }
+{
+    let mut last = 0;
+    while let Some(number) = numbers.next() {
+        last = number;
+    }
+    last
 }
 
 // Returns the word in which the ones or the zeros of a limb are ones.
