@@ -73,7 +73,7 @@ PROGRAM_USES = {**USES, "std::io::ErrorKind": "std::io::ErrorKind", "std::fs": H
 METHODS = set("""all any as_arrays as_bytes as_mut_slice at capacity checked_add checked_mul checked_sub clear
 copy_from_slice copy_to_slice div_ceil extend_from_slice is_err is_none is_some is_sorted_by iter_mut
 leading_zeros map map_err ok partition_point push push_reserved read_once reserve_exact resize rev reverse
-rotate_left saturating_add saturating_mul saturating_sub simd_ge simd_ne sort_unstable sort_unstable_by_key
+rotate_left saturating_add saturating_mul saturating_sub simd_ge simd_ne size_hint sort_unstable sort_unstable_by_key
 split split_at_mut split_first split_once strip_prefix then_some to_array to_bitmask to_le_bytes trailing_ones
 trailing_zeros
 unwrap unwrap_or wrapping_add wrapping_mul wrapping_sub write_once write_str write_usize""".split())

@@ -6,7 +6,8 @@ ghost use Rattle.vers_rmq.specs.Makers.{Refused};
 use std::alloc::Allocator;
 use vers_bits::bit_vec::GrowError;
 
-// Returns the items of a finite iterator. Tests before each allocation that they are at most `most`.
+// Returns the items of a finite iterator, with no spare capacity. Tests before each allocation that they are at most
+// `most`.
 pub(super) fn gathered<A: Allocator + Copy, I: Iterator<Item = u64> + Drop>(
     alloc: A,
     items: I,
@@ -18,14 +19,21 @@ pub(super) fn gathered<A: Allocator + Copy, I: Iterator<Item = u64> + Drop>(
     ensures within { IfOk result (λ v. length v.items ≤ most) }
     ensures refused { IfErr result (λ e. Refused I.next_gives items most e) }
 {
+    let known = items.size_hint().0.min(most);
     let mut list = Vec::new(alloc);
     for item in items {
         if list.len() == most {
             return Err(GrowError::TooLong);
         }
+        if list.is_empty() && list.reserve_exact(known).is_err() {
+            return Err(GrowError::Memory);
+        }
         if list.push(item).is_err() {
             return Err(GrowError::Memory);
         }
+    }
+    if list.len() < list.capacity() {
+        return Ok(Vec::from_slice(alloc, list.as_slice())?);
     }
     Ok(list)
 }
