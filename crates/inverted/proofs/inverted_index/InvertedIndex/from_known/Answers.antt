@@ -4,7 +4,7 @@ use Rattle.std.proofs.lemmas.Map.Keys.{non_decreasing_from_sorted, sorted_from_s
 use Rattle.inverted.specs.Makers.{number_of}
 use Rattle.inverted.proofs.PairNumbers.{has_index, lists_are, numbers_rise, numbers_within}
 use Rattle.inverted.proofs.Windows.{lists_ascend}
-use Rattle.inverted.proofs.inverted_index.InvertedIndex.from_source.Goals as goal
+use Rattle.inverted.proofs.inverted_index.InvertedIndex.from_known.Goals as goal
 
 pub from_slice-requires : goal.from_slice-requires
 from_slice-requires g c =
