@@ -7,4 +7,5 @@ pub mod Walking
 pub mod Parts
 pub mod Beginning
 pub mod Growing
+pub mod Batches
 pub mod PublicLaws

@@ -1,5 +1,5 @@
 -- The names of specs/ and of other crates that proofs use.
-pub use Rattle.std.proofs.Common.{append-nil, Bool, List, Option, Some, [], ap, arith, cond, drop, eqb, false, get_or, inl, inr, leb, length, ltb, map, max, min, not, refl, rules, set, subst, suc, sym, take, true, true≢false, zero, ℕ, ◌%◌, ◌/◌, ◌&&◌, ◌*◌, ◌++◌, ◌+◌, ◌-◌, ◌<◌, ◌^◌, ◌∙◌, ◌∷◌, ◌≡◌, ◌≢◌, ◌≤◌}
+pub use Rattle.std.proofs.Common.{append-nil, Bool, List, Option, Some, [], ap, arith, cond, drop, eqb, false, get_or, inl, inr, leb, length, ltb, map, max, min, not, refl, rules, set, subst, suc, sym, take, true, true≢false, zero, ℕ, ◌%◌, ◌/◌, ◌&&◌, ◌*◌, ◌++◌, ◌+◌, ◌-◌, ◌<◌, ◌^◌, ◌∙◌, ◌∷◌, ◌≡◌, ◌≢◌, ◌≤◌, ◌||◌}
 pub use Rattle.std.proofs.Math.Nat.{div-eq_of_lt, lt-div-mul-add, mod-eq_of_lt, pow-le-pow_right}
 pub use Rattle.std.proofs.lemmas.Nat.{one_shl, pow_pos}
 pub use Rattle.std.proofs.Math.Seq.{drop-cons}
@@ -13,18 +13,23 @@ pub use Rattle.std.proofs.lemmas.List.FromFn.{get_or-map-range_with_len, get_or-
 pub use Rattle.std.proofs.lemmas.List.Sums.{count_by-le-length, get_or-le-sum_by, length-filter, sum_by-append, sum_by-cons, sum_by-le-sum_by, sum_by-take-le, sum_by_more}
 pub use Rattle.std.specs.List.{count_by, range_with_len, sum_by}
 pub use Rattle.std.specs.Prelude.{All, filter, slice_index, slice_index_or, ◌⊎◌}
+pub use Rattle.word_rank.specs.Ranks.{word_rank_reads}
+pub use Rattle.vers_wavelet.specs.Batches.{Become}
 pub use Rattle.vers_bits.proofs.PublicLaws.{count_le, count_up, limb_gathered, number_below, bit_value_le, byte_value}
 pub use Rattle.vers_bits.specs.Bits.{bit_value, is_bit, number}
 unfoldable pub use Rattle.vers_bits.specs.Bits.{count}
 pub use Rattle.vers_tally.proofs.PublicLaws.{adds_nothing, adds_then, adds_weaker, within_itself}
-pub use Rattle.vers_tally.specs.Reads.{AddsAtMost, Reads, times, plus}
+pub use Rattle.vers_tally.specs.Reads.{AddsAtMost, IsWithin, Reads, no_reads, only_items, only_nodes, times, plus}
 pub use Rattle.vers_wavelet.specs.Symbols.{Symbols}
 pub use Rattle.wavelet_tree.specs.Trees.{Tree, lesser, starts_of, nearer, tree_of}
 unfoldable pub use Rattle.wavelet_tree.specs.Trees.{half_from, split, balanced, depth, forks, height}
 pub use Rattle.wavelet_tree.specs.Trees.Tree.{leaf, fork}
-pub use Rattle.wavelet_tree.specs.Queries.{fork_reads, occurring, sorted_place, walk_reads, bit_count, tree_size}
+pub use Rattle.wavelet_tree.specs.Queries.{fork_reads, occurring, sorted_place, walk_reads, bit_count, tree_size, IsSortedRange, query_reads}
+unfoldable pub use Rattle.wavelet_tree.specs.Queries.{sum_reads}
 pub use Rattle.wavelet_tree.specs.inside.Nodes.{shift, link, entry, lows, highs, weight, IsFork, Stands, no_node, symbols_in, IsTreeOf, Walks, WalksIn}
 unfoldable pub use Rattle.wavelet_tree.specs.inside.Nodes.{led}
+pub use Rattle.wavelet_tree.specs.inside.Batches.{AreAll, AreUpTo, HasRanks, HasTurned, IsAnswered, IsAsked, IsAtRoot, IsRanked, IsWalking, first_reads}
 pub use Rattle.wavelet_tree.specs.inside.Growing.{CountsWithin, GrowsTree, Grows, AreForks, StartsUpTo}
 pub use Rattle.wavelet_tree.specs.declared.node.Node.{Node}
 pub use Rattle.wavelet_tree.specs.declared.node.TheConstants.{LEAVES}
+pub use Rattle.wavelet_tree.specs.declared.batch.RangeQuery.{RangeQuery}

@@ -1,10 +1,11 @@
 -- What the queries of a wavelet tree return and read, and what the tree takes.
-use Rattle.std.specs.Prelude.{ℕ, ◌+◌, ◌*◌, ◌^◌, ◌==◌, List, take, count_by}
+use Rattle.std.specs.Prelude.{◌≡◌, ℕ, ◌+◌, ◌*◌, ◌^◌, ◌<◌, ◌==◌, List, [], ◌∷◌, take, count_by, if◌then◌else◌}
 use Rattle.std.specs.List.{sum_by}
-use Rattle.vers_tally.specs.Reads.{Reads, only_items, only_nodes, plus, times}
+use Rattle.vers_tally.specs.Reads.{Reads, no_reads, only_items, only_nodes, plus, times}
 use Rattle.vers_wavelet.specs.Symbols.{Symbols}
 use Rattle.word_rank.specs.Ranks.{word_rank_reads, word_rank_size}
 use Rattle.wavelet_tree.specs.Trees.{lesser, tree_of, depth, forks}
+use Rattle.wavelet_tree.specs.declared.batch.RangeQuery.{RangeQuery}
 
 -- how many of the first elements are a symbol
 abbrev pub occurring : List ℕ → ℕ → ℕ → ℕ
@@ -21,6 +22,22 @@ fork_reads = plus (only_nodes 1) (times 2 word_rank_reads)
 -- bound on a walk to a symbol: the forks that lead to it, and two numbers of lesser elements
 abbrev pub walk_reads : Symbols → ℕ → Reads
 walk_reads symbols s = plus (only_items 2) (times (depth (tree_of symbols) s) fork_reads)
+
+-- an answer to a query: the sorted positions of the symbol's occurrences in the range, which is empty if there are none
+pub record IsSortedRange (items : List ℕ) (asked answer : RangeQuery) : Type 0 where
+  pub symbol : answer.symbol ≡ asked.symbol
+  pub start : occurring items asked.start asked.symbol < occurring items asked.end asked.symbol → answer.start ≡ sorted_place items asked.start asked.symbol
+  pub end : occurring items asked.start asked.symbol < occurring items asked.end asked.symbol → answer.end ≡ sorted_place items asked.end asked.symbol
+  pub none : occurring items asked.start asked.symbol ≡ occurring items asked.end asked.symbol → answer.start ≡ answer.end
+
+-- bound on one query of many: nothing for an empty range, and a walk otherwise
+abbrev pub query_reads : Symbols → RangeQuery → Reads
+query_reads symbols query = if query.start == query.end then no_reads else walk_reads symbols query.symbol
+
+-- the sum of a bound for each element of a list
+unfoldable pub sum_reads : {X : Type 0} → (X → Reads) → List X → Reads
+sum_reads bound [] = no_reads
+sum_reads bound (x ∷ xs) = plus (bound x) (sum_reads bound xs)
 
 -- the bits of the forks: one for each element and each fork above it, and one at the end
 abbrev pub bit_count : Symbols → ℕ

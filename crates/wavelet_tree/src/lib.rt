@@ -2,6 +2,7 @@
 //! bits, so those of frequent symbols are short.
 #![tactic(auto)]
 
+mod batch;
 mod grow;
 pub mod laws;
 mod node;
@@ -10,5 +11,6 @@ mod starts;
 mod tree;
 mod walk;
 
+pub use batch::RangeQuery;
 pub use tree::WaveletTree;
 pub use walk::SortedPlace;

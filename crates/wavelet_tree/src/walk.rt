@@ -97,7 +97,7 @@ impl<A: Allocator + Copy> WaveletTree<A> {
 
     // Returns the sorted positions of all occurrences of a symbol.
     #[inline(always)]
-    fn sorted_all(&self, symbol: u64, tally: &mut Tally) -> Range<usize>
+    pub(crate) fn sorted_all(&self, symbol: u64, tally: &mut Tally) -> Range<usize>
         ensures start { result.start < result.end → result.start ≡ lesser self.now.items symbol }
         ensures end { result.end ≡ result.start + count_by (λ y. y == symbol) self.now.items }
         ensures adds { AddsAtMost tally.old tally.new (only_items 2) }
