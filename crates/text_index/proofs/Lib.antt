@@ -21,3 +21,4 @@ pub mod Numbering
 pub mod Ascending
 pub mod Bounds
 pub mod PublicLaws
+pub mod Groups

@@ -1,12 +1,12 @@
 -- The names of specs/ and of other crates that proofs use.
-pub use Rattle.std.proofs.Common.{append-nil, Bool, List, Some, [], ap, arith, cond, drop, eqb, false, get_or, inl, inr, leb, length, ltb, map, max, min, not, refl, reverse, rules, set, subst, suc, sym, take, true, true≢false, zero, ℕ, ◌%◌, ◌&&◌, ◌*◌, ◌++◌, ◌+◌, ◌-◌, ◌/◌, ◌<◌, ◌^◌, ◌||◌, ◌∙◌, ◌∷◌, ◌≡◌, ◌≤◌}
+pub use Rattle.std.proofs.Common.{append-nil, Bool, List, Some, [], ap, arith, cond, drop, eqb, false, get_or, inl, inr, leb, length, ltb, map, max, min, not, refl, reverse, rules, set, subst, suc, sym, take, true, true≢false, zero, ℕ, ◌%◌, ◌&&◌, ◌*◌, ◌++◌, ◌+◌, ◌-◌, ◌/◌, ◌<◌, ◌^◌, ◌||◌, ◌∙◌, ◌∷◌, ◌≡◌, ◌≢◌, ◌≤◌}
 pub use Rattle.std.proofs.Math.Bool.{and_comm}
 pub use Rattle.std.proofs.Math.Nat.{lt_of_mul-lt-mul_right, mod-eq_of_lt, mul-div_cancel, mul-le-mul, mul-le-mul_right, mul-mod_left, one-le-pow, pow-le-pow_right}
 pub use Rattle.std.proofs.Math.Seq.{drop-cons, drop-length}
 pub use Rattle.std.proofs.lemmas.Bool.{and_from, and_left, and_parts, and_right, cases_Bool, cases_eq, cases_lt, cases_order, eq-eqb, eqb-false, eqb-true, false_from_ne_true, false≢true, le-leb, le-ltb, leb-true, lt-leb, lt-ltb, ltb-false, ltb-true, ne_eqb}
 pub use Rattle.std.proofs.lemmas.Bool.Decides.{Decides-eqb, nat_tests}
 pub use Rattle.std.proofs.lemmas.Grind.{div_ceil_times}
-pub use Rattle.std.proofs.lemmas.List.{drop-drop, drop-take, drop_min, flat_map_more, get_or-drop, get_or-map, get_or-set_other, get_or-set_same, get_or_append_left, get_or_at, get_or_default, get_or_push, length-append, length-drop, length-map, length-set, length-take, map-append, map-id, nil_from_length, reverse-append, reverse-reverse, same_lists, take-append-drop, take-map, take-take, take_all, take_at, take_more}
+pub use Rattle.std.proofs.lemmas.List.{drop-drop, drop-take, drop_min, flat_map_more, get_or-drop, get_or-map, get_or-set_other, get_or-set_same, get_or_append_left, get_or_at, get_or_default, get_or-take, get_or_past, get_or_push, length-append, length-drop, length-map, length-set, length-take, map-append, map-id, nil_from_length, reverse-append, reverse-reverse, same_lists, take-append-drop, take-map, take-take, take_all, take_at, take_more}
 pub use Rattle.std.proofs.lemmas.List.Elements.{All-map, All-push, filter-append}
 pub use Rattle.std.proofs.lemmas.List.FromFn.{fill_by_all, get_or-map-range_with_len, get_or-range_with_len, length-map-range_with_len, length-range_with_len, map-range_with_len_more}
 pub use Rattle.std.proofs.lemmas.List.Kept.{AllPairs-from_increasing, IsNonDecreasingBy-filter}
@@ -29,6 +29,7 @@ unfoldable pub use Rattle.text_index.specs.Sizes.{kept_ranks}
 unfoldable pub use Rattle.text_index.specs.Texts.{begins_with, below, by_suffix, comes_before, places_in_order, places_of, stands_at}
 pub use Rattle.text_index.specs.inside.Building.{OrdersBy, PairedUpTo, RankedUpTo, SameOrder, rank_of}
 pub use Rattle.text_index.specs.inside.Checking.{CheckedUpTo, HeadsAt, HeadsUpTo, LeadsBack, follows, led}
+pub use Rattle.text_index.specs.inside.Groups.{AreQueries, AsksFor, HasComeTo, HaveMoved, HaveRows, IsAbsent, taken_reads}
 pub use Rattle.text_index.specs.inside.Paths.{AreLinked, HasCome, HaveCome, IsKeptPath, IsNext, IsOnePath, IsWalk, NextUpTo, SteppedUpTo, led_by}
 unfoldable pub use Rattle.text_index.specs.inside.Paths.{walked, walked_on}
 pub use Rattle.text_index.specs.inside.Samples.{AreNumbers, AreSamplesOf, HoldRanks, HoldRows, IsPacked, PutRows, Walked, between, unpacked}
@@ -40,11 +41,15 @@ unfoldable pub use Rattle.vers_bits.specs.Bits.{count, part_number}
 pub use Rattle.vers_bits.specs.Laws.{PackedElementsAreItems}
 pub use Rattle.vers_rank.specs.Queries.{get_reads, index_size, select_reads, superblock_count}
 pub use Rattle.vers_tally.proofs.PublicLaws.{adds_nothing, adds_then, adds_weaker, digits-le, digits_is, digits_pow, digits_up, pow_next, within_itself}
-pub use Rattle.vers_tally.specs.Reads.{AddsAtMost, IsWithin, Reads, digits, only_items, only_low_parts, plus, times}
+pub use Rattle.vers_tally.specs.Reads.{AddsAtMost, IsWithin, Reads, digits, no_reads, only_items, only_low_parts, plus, times}
 pub use Rattle.vers_wavelet.proofs.PublicLaws.{quantiles_ascend}
 pub use Rattle.vers_wavelet.specs.Symbols.{IsKth, Symbols}
 pub use Rattle.wavelet_tree.proofs.PublicLaws.{depth-le-height}
-pub use Rattle.wavelet_tree.specs.Queries.{fork_reads, occurring, sorted_place, tree_size, walk_reads}
+pub use Rattle.text_index.specs.declared.rows.RowRange.{RowRange}
+pub use Rattle.text_index.specs.declared.rows.TheConstants.{GROUP}
+pub use Rattle.wavelet_tree.specs.Queries.{IsSortedRange, fork_reads, occurring, query_reads, sorted_place, tree_size, walk_reads}
+unfoldable pub use Rattle.wavelet_tree.specs.Queries.{sum_reads}
+pub use Rattle.wavelet_tree.specs.declared.batch.RangeQuery.{RangeQuery}
 unfoldable pub use Rattle.wavelet_tree.specs.Trees.{balanced, depth, height}
 pub use Rattle.wavelet_tree.specs.Trees.{starts_of, tree_of}
 pub use lib.Count.{count_leading_zeros}

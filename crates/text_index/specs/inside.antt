@@ -4,3 +4,4 @@ pub mod Building
 pub mod Checking
 pub mod Paths
 pub mod Samples
+pub mod Groups
