@@ -1,6 +1,11 @@
 //! Queries and their codes.
-ghost use Rattle.std.specs.Prelude.{◌≡◌, slice_get};
+ghost use Rattle.std.specs.Prelude.{◌≡◌, ℕ, slice_get};
+ghost use Rattle.catalogue.specs.Answers.{is_known};
+ghost use Rattle.catalogue.specs.Contents.{Content};
+ghost use Rattle.catalogue.specs.Forms.{kind_of};
+ghost use Rattle.catalogue.specs.Queries.{answer};
 
+use crate::kind::Kind;
 use vers_trees::trees::bp::{LevelEnd, Measure, Relative};
 
 /// A query of a structure.
@@ -208,5 +213,39 @@ impl Query {
         ensures { result ≡ slice_get QUERIES code }
     {
         Query::at(&QUERIES, code as usize)
+    }
+
+    /// Returns true if the structures of a kind have the query: its answer is never `Unknown`. Plain numbers have no
+    /// kind.
+    pub fn is_of(self, kind: Option<Kind>) -> bool
+        ensures { (structure : Content) (a b c : ℕ) → kind_of structure ≡ kind
+            → result ≡ is_known (answer structure self a b c) }
+    {
+        match self {
+            Query::Len => true,
+            Query::Get => !matches!(kind, Some(Kind::Text)),
+            Query::HeapSize => !matches!(kind, Some(Kind::Postings) | None),
+            Query::GetBits => matches!(kind, Some(Kind::Growing | Kind::Bits)),
+            Query::Rank0 | Query::Rank1 | Query::Select1 => {
+                matches!(kind, Some(Kind::Bits | Kind::Sparse))
+            }
+            Query::Select0 => matches!(kind, Some(Kind::Bits)),
+            Query::Rank | Query::Has | Query::Successor => {
+                matches!(kind, Some(Kind::Sorted | Kind::Postings))
+            }
+            Query::Predecessor | Query::Delta => matches!(kind, Some(Kind::Sorted)),
+            Query::Width => matches!(kind, Some(Kind::Symbols | Kind::Text)),
+            Query::Symbols(_) => matches!(kind, Some(Kind::Symbols)),
+            Query::Tree(_) | Query::HasNode | Query::IsAncestor | Query::LevelAncestor => {
+                matches!(kind, Some(Kind::Tree))
+            }
+            Query::Node(_) | Query::Measure(_) | Query::Level(_) => {
+                matches!(kind, Some(Kind::Tree))
+            }
+            Query::RangeMin => matches!(kind, Some(Kind::Fast | Kind::Binary)),
+            Query::Cheapest | Query::Cost => matches!(kind, Some(Kind::Postings)),
+            Query::Step => matches!(kind, Some(Kind::Text)),
+            Query::Terms | Query::Universe | Query::Term(_) => matches!(kind, Some(Kind::Inverted)),
+        }
     }
 }

@@ -1,5 +1,6 @@
 -- The queries of a handle's structure, by their codes.
-use Rattle.std.specs.Prelude.{ℕ, Option, Some, None, slice_get}
+use Rattle.std.specs.Prelude.{ℕ, Option, Some, None, slice_get, if◌then◌else◌}
+use Rattle.catalogue.specs.Answers.{is_known}
 use Rattle.catalogue.specs.Contents.{Content}
 use Rattle.catalogue.specs.Queries.{answer}
 use Rattle.catalogue.specs.declared.answer.Answer.{Answer}
@@ -37,14 +38,9 @@ abbrev pub batch_answer : Option Content → ℕ → ℕ → ℕ → ℕ → Ans
 batch_answer None code a b c = Unknown
 batch_answer (Some held) code a b c = coded_answer held code a b c
 
--- the status of a batch whose query has this answer
-abbrev pub known_status : Answer → ℕ
-known_status Unknown = 2
-known_status _ = 0
-
 -- the status of a batch: whether the structure has such a query
 abbrev pub batch_status : Content → ℕ → ℕ
-batch_status held code = known_status (coded_answer held code 0 0 0)
+batch_status held code = if is_known (coded_answer held code 0 0 0) then 0 else 2
 
 -- the same for a handle, which may be empty
 abbrev pub contents_status : Option Content → ℕ → ℕ

@@ -1,6 +1,7 @@
 //! The structures of handles.
 ghost use Rattle.std.specs.Prelude.{◌≡◌, ◌≢◌, map, Some, None, IfOk, IfSome, IsErr, IsSome, option_map};
 ghost use Rattle.catalogue.specs.Contents.{PlainNumbers, content_of};
+ghost use Rattle.catalogue.specs.Forms.{kind_of};
 ghost use Rattle.catalogue.specs.Queries.{answer as answer_of};
 ghost use Rattle.vers_c.specs.Answers.{IsToldAs};
 ghost use Rattle.vers_c.specs.Batches.{told_row};
@@ -35,6 +36,16 @@ pub enum Kept {
 }
 
 impl Kept {
+    // Returns the kind, or `None` for plain numbers.
+    fn kind(&self) -> Option<Kind>
+        ensures { result ≡ kind_of (content self.now) }
+    {
+        match self {
+            Kept::Tree(_) => Some(Kind::Tree),
+            Kept::Other(structure) => structure.kind(),
+        }
+    }
+
     /// Returns the answer to a query with three numbers.
     pub fn answer(&self, query: Query, a: u64, b: u64, c: u64) -> Answer
         ensures { result ≡ answer_of (content self.now) query a b c }
@@ -144,12 +155,11 @@ pub fn query_of_code(kept: &Kept, code: u32) -> Option<Query>
     ensures unknown { result ≡ None
         → batch_status (content kept.now) code ≡ UNKNOWN }
 {
-    match Query::of(code) {
-        None => None,
-        Some(query) => match kept.answer(query, 0, 0, 0) {
-            Answer::Unknown => None,
-            _ => Some(query),
-        },
+    let query = Query::of(code)?;
+    if query.is_of(kept.kind()) {
+        Some(query)
+    } else {
+        None
     }
 }
 

@@ -18,7 +18,7 @@ unfolding words_of
 third bytes n long = ap (λ k. slice_index (map bytes_word (first_chunks 8 k bytes)) 2) long
 
 -- it stands in the first 24 bytes
-pub same_number : (front rest : List ℕ) → length front ≡ 24 → number_of_kind (front ++ rest) ≡ number_of_kind front
+same_number : (front rest : List ℕ) → length front ≡ 24 → number_of_kind (front ++ rest) ≡ number_of_kind front
 same_number front rest long =
     third (front ++ rest) (length rest / 8) (omega (arith, length-append front rest))
     ∙ ap (λ l. bytes_word (take 8 (drop 8 l))) (drop-append-le 8 front rest (omega arith))

@@ -77,7 +77,7 @@ fn tree_of_reader<'a, A: Allocator + Copy, R: Source>(
 }
 
 // Loads a list of the kind with a number from its saved form, the rest of a reader, as a structure.
-#[tactic(auto, using(crate::proofs::Numbered::kinds, crate::proofs::Named::numbers))]
+#[tactic(auto, using(crate::proofs::Numbered::kinds, catalogue::proofs::PublicLaws::third_word))]
 fn load_numbered<'a, A: Allocator + Copy, R: Source>(
     alloc: &'a A,
     number: u64,
