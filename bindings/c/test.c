@@ -705,6 +705,25 @@ static void test_pattern(const vers_text *text, const uint64_t *symbols, size_t 
     for (size_t limit = 0; limit <= k + 1; limit++) test_first_places(text, symbols, n, pattern, m, k, limit);
 }
 
+/* Many patterns are counted as each one is: the pieces of a text that end at its places, and one past it. */
+static void test_many_patterns(const vers_text *text, const uint64_t *symbols, size_t n) {
+    uint64_t *ends = room(n + 2, sizeof *ends);
+    for (size_t i = 0; i <= n; i++) ends[i] = i - i % 3;
+    ends[n + 1] = n;
+    is("count each", vers_text_count_each(text, symbols, n, ends, n + 2), VERS_DONE);
+    for (size_t i = 0, start = 0; i < n + 2; i++) {
+        size_t end = i <= n ? i - i % 3 : n;
+        found("count of each", i, vers_text_count(text, symbols + start, end - start), ends[i]);
+        start = end;
+    }
+    uint64_t down[] = {n, 0}, past[] = {0, n + 1};
+    is("counts of ends that descend", vers_text_count_each(text, symbols, n, down, 2), n == 0 ? VERS_DONE : VERS_REFUSED);
+    is("counts past the symbols", vers_text_count_each(text, symbols, n, past, 2), VERS_REFUSED);
+    is("the ends stay", past[1], n + 1);
+    is("no patterns", vers_text_count_each(text, NULL, 0, NULL, 0), VERS_DONE);
+    free(ends);
+}
+
 /* A text is what its saved form is loaded as. With the row of the whole text changed, and the sum made right again, it is
  * the form of no text. */
 static void test_saved_text(const vers_text *text, const uint64_t *symbols, size_t n) {
@@ -735,6 +754,7 @@ static void test_text(size_t n, uint32_t width, size_t step) {
     found("step", n, vers_text_step(&text), step);
     is("heap_size", vers_text_heap_size(&text).value > n * width / 8, 1);
     test_pattern(&text, symbols, n, NULL, 0);
+    test_many_patterns(&text, symbols, n);
     for (size_t m = 1; m <= 5; m++) {
         for (size_t i = 0; i + m <= n; i += 1 + n / 20) test_pattern(&text, symbols, n, symbols + i, m);
         uint64_t others[] = {next() % 3, next() % 3, next() % 3, next() % 70000, UINT64_MAX};
@@ -761,6 +781,7 @@ static void test_text(size_t n, uint32_t width, size_t step) {
     test_pattern(&other, symbols, n, symbols, n < 2 ? n : 2);
     vers_text_free(&other);
     compare("vacant", 0, vers_text_count(&other, symbols, 0), VERS_VACANT, 0);
+    is("vacant counts", vers_text_count_each(&other, symbols, 0, NULL, 0), VERS_VACANT);
     is("vacant places", vers_text_places(&other, symbols, 0, &piece), VERS_REFUSED);
     is("vacant extract", vers_text_extract(&other, 0, 0, &piece), VERS_REFUSED);
     free(symbols);
@@ -815,6 +836,7 @@ static void test_refused_texts(void) {
     vers_handle list = {0}, into = {0};
     is("symbols", vers_symbols_build(symbols, 3, 16, &list), VERS_DONE);
     compare("count in symbols", 0, vers_count(&list, symbols, 1), VERS_UNKNOWN, 0);
+    is("counts in symbols", vers_count_each(&list, symbols, 1, NULL, 0), VERS_UNKNOWN);
     is("places in symbols", vers_places(&list, symbols, 1, &into), VERS_REFUSED);
     is("piece of symbols", vers_extract(&list, 0, 1, &into), VERS_REFUSED);
     vers_free(&list);
@@ -1243,6 +1265,8 @@ static void test_missing_answers(void) {
     compare("places over null", 0, vers_bits_places1(&bits, 0, 8, NULL, 8), VERS_REFUSED, 0);
     found("places over nothing", 0, vers_bits_places1(&bits, 0, 8, NULL, 0), 5);
     compare("count of null", 0, vers_text_count(&text, NULL, 1), VERS_REFUSED, 0);
+    is("counts of null", vers_text_count_each(&text, NULL, 1, NULL, 0), VERS_REFUSED);
+    is("counts over null", vers_text_count_each(&text, words, 1, NULL, 1), VERS_REFUSED);
     is("places of null", vers_text_places(&text, NULL, 1, &places), VERS_REFUSED);
     is("extract", vers_text_extract(&text, 0, 2, &places), VERS_DONE);
     is("numbers over null", vers_numbers_copy(&places, NULL, 1), VERS_REFUSED);

@@ -217,6 +217,13 @@ uint32_t vers_intersect(vers_handle *one, vers_handle *other, vers_handle *into)
  *  One handle; reads `pattern`. */
 vers_answer vers_count(vers_handle *handle, const uint64_t *pattern, size_t count);
 
+/** Counts many patterns in a vers_text at once: in a text of some millions of symbols this takes less time than one
+ *  count after another. `symbols` has the patterns, joined, and `ends` says where each ends: the first pattern begins
+ *  at 0, each other one where the one before ends. Each end is replaced by how many places its pattern has.
+ *  VERS_REFUSED if the ends descend, or one is above `length`, VERS_UNKNOWN of another list, and VERS_VACANT: the ends
+ *  stay. One handle; reads `symbols`, and writes `ends`. */
+uint32_t vers_count_each(vers_handle *handle, const uint64_t *symbols, size_t length, uint64_t *ends, size_t count);
+
 /** Puts the places of a pattern in a vers_text, ascending, into an empty other handle, as vers_numbers. VERS_REFUSED
  *  where the first holds no text, VERS_OCCUPIED, VERS_NO_MEMORY. The two handles differ; reads `pattern`. */
 uint32_t vers_places(vers_handle *handle, const uint64_t *pattern, size_t count, vers_handle *into);
@@ -1747,6 +1754,16 @@ static inline vers_answer vers_text_count(const vers_text *text, const uint64_t 
     vers_answer missing = {VERS_REFUSED, 0};
     if (vers_is_missing(pattern, count)) return missing;
     return vers_count(vers_held(&text->handle), vers_array(pattern), count);
+}
+
+/** Counts many patterns, which are joined in `length` symbols: replaces each of `count` ends of a pattern by how many
+ *  places the pattern has. VERS_REFUSED if the ends descend, or one is above `length`: they stay. */
+static inline uint32_t vers_text_count_each(const vers_text *text, const uint64_t *symbols, size_t length,
+                                            uint64_t *ends, size_t count) {
+    if (vers_is_missing(symbols, length) || vers_is_missing(ends, count)) return VERS_REFUSED;
+    uint64_t none = 0;
+    if (count == 0) ends = &none;
+    return vers_count_each(vers_held(&text->handle), vers_array(symbols), length, ends, count);
 }
 
 /** Whether a pattern of `count` symbols has a place, 1 or 0. */

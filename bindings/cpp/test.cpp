@@ -433,6 +433,10 @@ static void test_texts() {
     const std::vector<std::uint8_t> narrow = {1, 2};
     check("of ranges", text->count(narrow) == 2 && text->count(pattern) == 2 && text->count({2}) == 3);
     check("in braces", text->contains({1, 2, 1}) && !text->contains({1, 1}) && !text->contains(wide));
+    const std::vector<Numbers> patterns = {{2}, {}, {1, 2}, {9}};
+    check("many patterns", text->count_each(patterns) == Numbers({3, 6, 2, 0}));
+    std::uint64_t ends[] = {2, 1};
+    check("ends that descend", text->count_each(pattern.data(), 2, ends, 2) == Status::refused && ends[0] == 2);
     const vers::Numbers of_range = text->places(narrow), of_braces = text->places({2});
     check("places of ranges", Numbers(of_range.begin(), of_range.end()) == Numbers({1, 3}) &&
                                   Numbers(of_braces.begin(), of_braces.end()) == Numbers({0, 2, 4}));
@@ -490,6 +494,7 @@ static void test_moved_from() {
     const auto kept = std::move(text);
     check("text", kept.places(documents.data(), 1).len() == 1);
     check("no pattern in none", text.places({2}).len() == 0 && text.count({2}) == 0 && !text.contains({2}));
+    check("no patterns in none", text.count_each(std::vector<Numbers>{{2}}) == Numbers({0}));
     check("places in none", text.places(documents.data(), 1).len() == 0 && text.count(documents.data(), 1) == 0);
     check("extract of none", !text.extract(0, 1));
     auto bits = vers::BitVec();

@@ -1087,6 +1087,25 @@ public:
         if (!counted) std::abort();
         return *counted;
     }
+    /** Counts many patterns, which are joined in `length` symbols: replaces each of `count` ends of a pattern by how
+     *  many places the pattern has. Status::refused if the ends descend, or one is above `length`. */
+    Status count_each(const std::uint64_t *symbols, std::size_t length, std::uint64_t *ends,
+                      std::size_t count) const noexcept {
+        return static_cast<Status>(vers_text_count_each(raw(), symbols, length, ends, count));
+    }
+    /** How many places each pattern of a range of patterns has. */
+    template <class Patterns, class = detail::Item<detail::Item<const Patterns>>>
+    std::vector<std::uint64_t> count_each(const Patterns &patterns) const {
+        std::vector<std::uint64_t> symbols, ends;
+        for (const auto &pattern : patterns) {
+            static_assert(std::is_unsigned_v<detail::Item<decltype(pattern)>>, "the items are unsigned whole numbers");
+            symbols.insert(symbols.end(), std::begin(pattern), std::end(pattern));
+            ends.push_back(symbols.size());
+        }
+        if (count_each(symbols.data(), symbols.size(), ends.data(), ends.size()) != Status::done)
+            std::fill(ends.begin(), ends.end(), 0);
+        return ends;
+    }
     bool contains(const std::uint64_t *pattern, std::size_t length) const noexcept {
         return count(pattern, length) > 0;
     }

@@ -118,12 +118,29 @@ impl TextIndex {
         self.text.step()
     }
 
-    /// Returns how often a pattern occurs. The cost depends on the pattern's length and the width, not on the text's
-    /// length.
+    /// Returns how often a pattern occurs. The cost depends on the pattern's length and the depths of its symbols, not
+    /// on the text's length.
     #[doc = contract!(TextIndex::count)]
     #[must_use]
     pub fn count(&self, pattern: &[u64]) -> usize {
         self.text.count(pattern)
+    }
+
+    /// Returns how often each of some patterns occurs, in less time than [`count`](Self::count) for each if the text has
+    /// some millions of symbols.
+    ///
+    /// ```
+    /// use vers_vecs::text::TextIndex;
+    ///
+    /// let text = TextIndex::from_bytes(b"abracadabra", 8).unwrap();
+    /// assert_eq!(text.count_each(&[&[98, 114], &[97], &[120]]), [2, 5, 0]);
+    /// ```
+    #[doc = contract!(TextIndex::count_each)]
+    #[must_use]
+    pub fn count_each(&self, patterns: &[&[u64]]) -> Vec<usize> {
+        let mut counts = vec![0; patterns.len()];
+        self.text.count_each(patterns, &mut counts);
+        counts
     }
 
     /// Returns true if a pattern occurs.
@@ -140,7 +157,7 @@ impl TextIndex {
         granted(self.text.places_ascending(pattern)).into_plain()
     }
 
-    /// Returns at most `limit` places of a pattern, in no certain order.
+    /// Returns the first `limit` places of a pattern, or all if there are fewer, in the order of the suffixes there.
     #[doc = contract!(TextIndex::first_places)]
     #[must_use]
     pub fn first_places(&self, pattern: &[u64], limit: usize) -> Vec<usize> {

@@ -155,6 +155,24 @@ pub unsafe extern "C" fn vers_count(handle: &Handle, pattern: *const u64, count:
 }
 
 /// # Safety
+/// `symbols` leads to `length` symbols, and `ends` to `count` numbers.
+#[unsafe(no_mangle)]
+pub unsafe extern "C" fn vers_count_each(
+    handle: &Handle,
+    symbols: *const u64,
+    length: usize,
+    ends: *mut u64,
+    count: usize,
+) -> u32 {
+    // SAFETY: vers.h asks for two arrays of as many numbers, which no other thread writes, and which differ.
+    let (symbols, ends) = unsafe { (elements(symbols, length), elements_mut(ends, count)) };
+    match handle.kept() {
+        Some(kept) => guarded(REFUSED, || kept.count_each(symbols, ends)),
+        None => VACANT,
+    }
+}
+
+/// # Safety
 /// `pattern` leads to `count` symbols.
 #[unsafe(no_mangle)]
 pub unsafe extern "C" fn vers_places(handle: &Handle, pattern: *const u64, count: usize, into: &mut Handle) -> u32 {

@@ -16,6 +16,7 @@ use crate::proved::vers_saved::saved::{load_from_slice, save_to_vec, saved_size,
 use crate::proved::vers_saved::texts::load_text_from_slice;
 use crate::proved::vers_saved::trees::load_parentheses_from_slice;
 use crate::proved::vers_sorted::elias_fano::EliasFanoVec;
+use crate::proved::vers_sorted::order::is_ascending;
 use crate::proved::vers_sorted::sparse::SparseRSVec;
 use crate::proved::vers_trees::trees::bp::BpTree;
 use crate::proved::vers_wavelet::wavelet::WaveletMatrix;
@@ -24,6 +25,9 @@ use crate::rattle::{AllocError, Global, Vec};
 
 /// How many bits a block of a tree has.
 const BLOCK_SIZE: usize = 512;
+
+/// How many patterns are counted at once.
+const GROUP: usize = 64;
 
 /// Parentheses with their index.
 pub type Parentheses = BpTree<BLOCK_SIZE, Global>;
@@ -145,6 +149,22 @@ impl Kept {
         }
     }
 
+    /// Replaces each end of a pattern by how many positions the pattern has in a text. The patterns are joined in some
+    /// symbols. A status.
+    pub fn count_each(&self, symbols: &[u64], ends: &mut [u64]) -> u32 {
+        let Kept::Text(text) = self else {
+            return UNKNOWN;
+        };
+        if !is_ascending(ends) || ends.last().is_some_and(|last| *last > symbols.len() as u64) {
+            return REFUSED;
+        }
+        let mut start = 0;
+        for group in ends.chunks_mut(GROUP) {
+            start = count_group(text, symbols, start, group);
+        }
+        DONE
+    }
+
     /// The positions of a pattern in a text, ascending. None where this is no text.
     pub fn places(&self, pattern: &[u64]) -> Result<Option<Kept>, AllocError> {
         let Kept::Text(text) = self else {
@@ -237,6 +257,21 @@ impl Kept {
         };
         loaded.map_err(fault)
     }
+}
+
+/// Replaces the ends of at most `GROUP` patterns by how many positions each has. The first pattern begins at `start`.
+/// The end of the last one.
+fn count_group(text: &TextIndex<Global>, symbols: &[u64], mut start: usize, group: &mut [u64]) -> usize {
+    let (mut patterns, mut counts) = ([[].as_slice(); GROUP], [0; GROUP]);
+    for (pattern, end) in patterns.iter_mut().zip(&*group) {
+        *pattern = &symbols[start..*end as usize];
+        start = *end as usize;
+    }
+    text.count_each(&patterns[..group.len()], &mut counts);
+    for (number, count) in group.iter_mut().zip(counts) {
+        *number = count as u64;
+    }
+    start
 }
 
 /// Positions as plain numbers.

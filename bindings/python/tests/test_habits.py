@@ -251,6 +251,8 @@ class Arrays(unittest.TestCase):
         self.assertEqual((tree.depth(0) - tree.depth(nodes)).tolist(), [0, -1, -1])
         symbols = vers.WaveletMatrix([3, 1, 3], 2)
         self.assertEqual(symbols.rank(numpy.array([[1], [3]]), numpy.array([1, 3])).tolist(), [[0, 1], [1, 2]])
+        counts = vers.TextIndex(b"abracadabra", 8).count_each(numpy.array([list(b"ab"), list(b"ra"), list(b"ba")]))
+        self.assertEqual((counts.tolist(), counts.dtype), ([2, 2, 0], numpy.uint64))
         with self.assertRaisesRegex(vers.Refused, "^no node opens at place 2, at position 1$"):
             tree.parent(numpy.array([0, 2]))
         with self.assertRaisesRegex(TypeError, "^the node at position 1 is masked$"):

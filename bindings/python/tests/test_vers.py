@@ -435,6 +435,11 @@ class Owners(unittest.TestCase):
                 self.assertEqual(list(text.first_places(pattern, limit)), order[:limit])
         self.assertEqual(bytes(text.extract(3, 11)), plain[3:11])
         self.assertEqual(text.count([ord("a"), 1 << 60]), 0)
+        patterns = [RANDOM.choices(b"abcdr", k=RANDOM.randrange(4)) for _ in range(200)] + [[], [300], plain]
+        counts = [sum(list(plain[k:k + len(it)]) == list(it) for k in range(56)) for it in patterns]
+        self.assertEqual(text.count_each(patterns), array("Q", counts))
+        self.assertEqual(text.count_each(map(bytes, patterns[:200])), array("Q", counts[:200]))
+        self.assertEqual(text.count_each([]), array("Q"))
         self.assertGreater(copy.copy(text).heap_size(), 55)
         for wrong in (lambda: text.extract(5, 56), lambda: text.extract(2, 1), lambda: vers.TextIndex([4], 2),
                       lambda: vers.TextIndex([], 0), lambda: vers.TextIndex([0], 17), lambda: vers.TextIndex([0], 1, 0)):

@@ -163,6 +163,19 @@ def held(numbers: Any, what: str = "number", sizes: Container[int] = (8,)) -> He
     return _held(copied(numbers, what, sizes))
 
 
+def joined(lists: Any) -> Tuple[Held, Held]:
+    """The numbers of some lists, one list after another, and where each ends: as numpy arrays for the rows of one."""
+    numpy = _numpy_of(lists)
+    if numpy is not None and lists.ndim == 2:
+        rows, length = lists.shape
+        return held(lists), _held(numpy.arange(1, rows + 1, dtype=numpy.uint64) * numpy.uint64(length))
+    numbers, ends = array("Q"), array("Q")
+    for it in lists:
+        numbers.frombytes(copied(it).tobytes())
+        ends.append(len(numbers))
+    return _held(numbers), _held(ends)
+
+
 def _held(made: Any) -> Held:
     return Held(address_of(made), len(made) if _numpy_of(made) is None else int(made.size), made)
 

@@ -869,6 +869,14 @@ class TextIndex(Shared[str]):
         value: int = answer.value
         return value
 
+    def count_each(self, patterns: Iterable[Numbers]) -> Any:
+        """How many places each of some patterns has: an array('Q'), or a numpy array for the rows of one. In a text of
+        some millions of symbols this takes less time than a `count` of each. Other threads of Python run meanwhile."""
+        symbols, ends = _buffers.joined(patterns)
+        own = self.__copy__()
+        library.done(library.count_each(own._at, *symbols[:2], *ends[:2]))
+        return ends.keeper
+
     def __contains__(self, pattern: Any) -> bool:
         return self.count(pattern) > 0
 

@@ -1,5 +1,5 @@
 -- Texts, in which patterns are found.
-use Rattle.std.specs.Prelude.{ℕ, ◌==◌, ◌&&◌, not, nat_le, List, length, take, Option, Some, None, if◌then◌else◌}
+use Rattle.std.specs.Prelude.{◌≡◌, ◌⊎◌, ℕ, ◌==◌, ◌<◌, ◌≤◌, ◌∷◌, ◌&&◌, not, nat_le, List, length, slice_index, take, Option, Some, None, if◌then◌else◌}
 use Rattle.std.specs.List.{slice_range}
 use Rattle.text_index.specs.Texts.{places_in_order, places_of}
 use Rattle.text_index.specs.Makers.{is_text}
@@ -7,6 +7,7 @@ use Rattle.catalogue.specs.Contents.{Content, IndexedText, PlainNumbers}
 use Rattle.catalogue.specs.declared.answer.Answer.{Answer}
 use Rattle.catalogue.specs.declared.answer.Answer.TheVariants.{Found, Unknown}
 use Rattle.vers_c.specs.declared.answer.VersAnswer.{VersAnswer}
+use Rattle.vers_c.specs.declared.status.TheConstants.{DONE, REFUSED, UNKNOWN, VACANT}
 use Rattle.vers_c.specs.Answers.{as_vers_answer, vacant}
 
 -- from symbols of a width, with a distance between samples that is not 0
@@ -14,9 +15,13 @@ abbrev pub text_made : List ℕ → ℕ → ℕ → Option Content
 text_made symbols width step =
     if is_text width symbols && not (step == 0) then Some (IndexedText (record { width = width; items = symbols; step = step })) else None
 
+-- how many occurrences a pattern has in some symbols
+abbrev pub occurrences : List ℕ → List ℕ → ℕ
+occurrences text pattern = length (places_of text pattern)
+
 -- how many occurrences a pattern has in a text
 abbrev pub pattern_count : Content → List ℕ → Answer
-pattern_count (IndexedText text) pattern = Found (length (places_of text.items pattern))
+pattern_count (IndexedText text) pattern = Found (occurrences text.items pattern)
 pattern_count held pattern = Unknown
 
 -- the same for a handle, which may be empty
@@ -38,3 +43,24 @@ first_pattern_places held pattern limit = None
 abbrev pub piece : Content → ℕ → ℕ → Option Content
 piece (IndexedText text) from to = if nat_le from to && nat_le to (length text.items) then Some (PlainNumbers (slice_range text.items from to)) else None
 piece held from to = None
+
+-- one of some patterns that are joined, by the number at which the first begins, and where each ends
+abbrev pub pattern_at : List ℕ → ℕ → List ℕ → ℕ → List ℕ
+pattern_at symbols start ends k = slice_range symbols (slice_index (start ∷ ends) k) (slice_index ends k)
+
+-- each of these patterns ends not before it begins, and within a number of symbols
+abbrev pub AreEnds : ℕ → ℕ → List ℕ → Type 0
+AreEnds len start ends = (k : ℕ) → k < length ends → (slice_index (start ∷ ends) k ≤ slice_index ends k) × (slice_index ends k ≤ len)
+
+-- numbers are how many occurrences each of these patterns has in a text
+pub record AreCountsIn (text symbols : List ℕ) (start : ℕ) (ends counts : List ℕ) : Type 0 where
+  pub long : length counts ≡ length ends
+  pub each : (k : ℕ) → k < length ends → slice_index counts k ≡ occurrences text (pattern_at symbols start ends k)
+
+-- what a count of joined patterns, the first of which begins at 0, writes over the ends, and its status
+abbrev pub IsCounted : Option Content → List ℕ → List ℕ → List ℕ → ℕ → Type 0
+IsCounted None symbols ends counts status = (status ≡ VACANT) × (counts ≡ ends)
+IsCounted (Some (IndexedText text)) symbols ends counts status =
+    ((status ≡ DONE) × AreEnds (length symbols) 0 ends × AreCountsIn text.items symbols 0 ends counts)
+    ⊎ ((status ≡ REFUSED) × (¬ AreEnds (length symbols) 0 ends) × (counts ≡ ends))
+IsCounted (Some held) symbols ends counts status = (status ≡ UNKNOWN) × (counts ≡ ends)

@@ -11,6 +11,7 @@ mod asks;
 mod batch;
 mod builds;
 mod change;
+mod counts;
 mod documents;
 mod handle;
 mod held;

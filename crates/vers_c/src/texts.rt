@@ -2,14 +2,15 @@
 ghost use Rattle.std.specs.Prelude.{◌≡◌};
 ghost use Rattle.std.specs.Option.{option_and_then};
 ghost use Rattle.vers_c.specs.Makes.{IsMade};
-ghost use Rattle.vers_c.specs.Texts.{contents_count, first_pattern_places, pattern_places, piece, text_made};
+ghost use Rattle.vers_c.specs.Texts.{IsCounted, contents_count, first_pattern_places, pattern_places, piece, text_made};
 ghost use Rattle.vers_c.specs.Structures.{contents};
 
 use crate::answer::VersAnswer;
+use crate::counts::count_each;
 use crate::handle::VersHandle;
 use crate::kept::{Kept, count, extract, first_places, places};
 use crate::owners::{fill, fill_made, put, taken};
-use crate::status::{NO_MEMORY, OCCUPIED, REFUSED};
+use crate::status::{NO_MEMORY, OCCUPIED, REFUSED, VACANT};
 use crate::text::{is_text, is_text_of_bytes, is_text_of_u16s};
 use catalogue::structure::Structure;
 use std::alloc::Global;
@@ -99,6 +100,28 @@ pub extern "C" fn vers_count(alloc: Global, handle: &mut VersHandle, pattern: &[
     let answer = count(&owner, pattern);
     put(handle, owner);
     VersAnswer::of(answer)
+}
+
+/// Replaces each of some ends by the number of occurrences of its pattern in a text. The patterns are joined: the first
+/// begins at 0, each other one where the one before ends. Refuses ends that descend, or that are above the number of
+/// symbols. Returns a status.
+#[unsafe(no_mangle)]
+pub extern "C" fn vers_count_each(
+    alloc: Global,
+    handle: &mut VersHandle,
+    symbols: &[u64],
+    ends: &mut [u64],
+) -> u32
+    ensures counted { IsCounted (contents handle.old) symbols.now ends.old ends.new result }
+    ensures kept { contents handle.new ≡ contents handle.old }
+{
+    if !handle.is_built {
+        return VACANT;
+    }
+    let owner = taken(alloc, handle);
+    let status = count_each(&owner, symbols, ends);
+    put(handle, owner);
+    status
 }
 
 /// Puts the positions of a pattern in a text, ascending, into another handle, as plain numbers. The handles are

@@ -15,7 +15,7 @@ use crate::programs::vers_c::quick;
 use crate::programs::vers_c::saves::{vers_load, vers_save, vers_saved_size};
 use crate::programs::vers_c::shares::{vers_clone, vers_free, vers_intersect};
 use crate::programs::vers_c::texts::{
-    vers_count, vers_extract, vers_first_places, vers_places, vers_text_build, vers_text_build_bytes,
+    vers_count, vers_count_each, vers_extract, vers_first_places, vers_places, vers_text_build, vers_text_build_bytes,
     vers_text_build_u16s,
 };
 use crate::proved::vers_bits::bit_vec::MAX_LEN as MOST_BITS;
@@ -520,6 +520,31 @@ fn texts_answer_as_their_symbols() {
     refused(REFUSED, |it| vers_first_places(Global, &mut made(|it| vers_sorted_build(Global, &[1], it)), &[1], 1, it));
     refused(REFUSED, |it| vers_first_places(Global, &mut empty(), &[1], 1, it));
     refused(REFUSED, |it| vers_extract(Global, &mut empty(), 0, 0, it));
+}
+
+#[test]
+fn many_patterns_are_counted_as_each_one_is() {
+    let symbols: Vec<u64> = (0..70).map(|k| (k * k + k / 3) % 4).collect();
+    let mut handle = made(|it| vers_text_build(Global, &symbols, 2, 5, it));
+    let ends: Vec<u64> = (0..150).map(|k| k * 70 / 149).collect();
+    let mut counts = ends.clone();
+    assert_eq!(vers_count_each(Global, &mut handle, &symbols, &mut counts), DONE);
+    let mut start = 0;
+    for (end, count) in ends.iter().map(|it| *it as usize).zip(counts) {
+        let pattern = &symbols[start..end];
+        let places = (0..=70 - pattern.len()).filter(|it| symbols[*it..].starts_with(pattern)).count();
+        assert_eq!(count, places as u64, "{pattern:?}");
+        start = end;
+    }
+    for wrong in [[2, 1], [0, 71]] {
+        let mut ends = wrong;
+        assert_eq!(vers_count_each(Global, &mut handle, &symbols, &mut ends), REFUSED);
+        assert_eq!(ends, wrong);
+    }
+    let (mut other, mut ends) = (made(|it| vers_sorted_build(Global, &[1], it)), [1]);
+    assert_eq!(vers_count_each(Global, &mut other, &symbols, &mut ends), UNKNOWN);
+    assert_eq!(vers_count_each(Global, &mut empty(), &symbols, &mut ends), VACANT);
+    assert_eq!(ends, [1]);
 }
 
 /// A node: where it opens and is closed, its parent, and its depth.

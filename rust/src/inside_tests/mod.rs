@@ -1,5 +1,6 @@
 //! Tests of the proved sources that need more than their crates of tests have: entries that are read, and other sizes.
 
+mod batches;
 mod bodies;
 #[cfg(mutants)]
 mod exports;

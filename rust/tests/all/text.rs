@@ -17,6 +17,9 @@ fn patterns_are_found() {
             assert_eq!((text.count(&pattern), text.contains(&pattern)), (places.len(), !places.is_empty()));
             assert_eq!(text.clone().places(&pattern), places);
         }
+        let pieces: Vec<&[u64]> = symbols.chunks(3).chain([&symbols[..], &[], &[u64::MAX]]).collect();
+        let counts: Vec<usize> = pieces.iter().map(|piece| text.count(piece)).collect();
+        assert_eq!(text.count_each(&pieces), counts);
         for (start, end) in
             (0..=length).step_by(29).flat_map(|start| (0..length + 2).step_by(37).map(move |end| (start, end)))
         {
