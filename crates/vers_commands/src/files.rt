@@ -193,7 +193,7 @@ fn why_not_saved(fault: SaveFault) -> &'static str {
         SaveFault::BadLine => "bad line",
         SaveFault::Refused => "refused",
         SaveFault::NoBits => "symbols of no bits have no saved form",
-        SaveFault::TooLong => "the structure has no saved form, or too many elements for one",
+        SaveFault::TooLong => "the structure has too many elements for a saved form",
         SaveFault::OutOfMemory => "out of memory",
         SaveFault::Read => "the file can't be read",
         SaveFault::Write => "write failed",

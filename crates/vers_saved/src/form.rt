@@ -86,7 +86,7 @@ pub(crate) fn head_of<W: Words>(kind: &Kind, words: &W) -> Result<Head, LoadErro
     ensures none { OnOk result (first_failing (head_tests kind.now (W.words words.now)) ≡ None) }
     ensures fault { IfErr result (λ e. first_failing (head_tests kind.now (W.words words.now)) ≡ Some e) }
     ensures version { IfOk result (λ h. h.version ≡ kind.now.version) }
-    ensures said { IfOk result (λ h. (h.shape.count ≡ slice_index (W.words words.now) 4)
+    ensures head { IfOk result (λ h. (h.shape.count ≡ slice_index (W.words words.now) 4)
         × (h.shape.width ≡ slice_index (W.words words.now) 3)
         × (h.rows.count ≡ rows_of kind.now h.shape.width)
         × (h.rows.bits ≡ row_bits kind.now h.shape.count h.shape.width)
@@ -189,7 +189,7 @@ fn test_bytes(kind: &Kind, bytes: &[u8]) -> Result<Head, LoadError>
     ensures body { IfOk result (λ h. version_fault kind.now bytes.now
         ≡ first_failing (body_tests kind.now.order h.rows.count h.rows.bits (words_of bytes.now))) }
     ensures fault { IfErr result (λ e. version_fault kind.now bytes.now ≡ Some e) }
-    ensures said { IfOk result (λ h. (h.shape.count ≡ slice_index (words_of bytes.now) 4)
+    ensures head { IfOk result (λ h. (h.shape.count ≡ slice_index (words_of bytes.now) 4)
         × (h.shape.width ≡ slice_index (words_of bytes.now) 3)
         × (h.rows.count ≡ rows_of kind.now h.shape.width)
         × (h.rows.bits ≡ row_bits kind.now h.shape.count h.shape.width)

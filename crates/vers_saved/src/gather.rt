@@ -173,7 +173,7 @@ fn gather_head<R: Source, A: Allocator>(
     ensures version { IfOk result (λ h. h.version ≡ (at_version kind.now h.version).version) }
     ensures none { IfOk result (λ h.
         first_failing (head_tests (at_version kind.now h.version) words.new.items) ≡ None) }
-    ensures said { IfOk result (λ h. (h.shape.count ≡ slice_index words.new.items 4)
+    ensures head { IfOk result (λ h. (h.shape.count ≡ slice_index words.new.items 4)
         × (h.shape.width ≡ slice_index words.new.items 3)
         × (h.rows.count ≡ rows_of (at_version kind.now h.version) h.shape.width)
         × (h.rows.bits ≡ row_bits (at_version kind.now h.version) h.shape.count h.shape.width)
@@ -260,14 +260,14 @@ fn gather_form<R: Source, A: Allocator>(
     ensures refused { IfErr result (IsRefused kind.now (R.remaining reader.old)) }
     ensures cause { IfErr result (λ e. e ≡ LoadError.Read → FollowsReadFault R.read_gives reader.new) }
 {
-    let said = gather_head(kind, reader, block, words)?;
-    let used = kind.at_version(said.version);
+    let found = gather_head(kind, reader, block, words)?;
+    let used = kind.at_version(found.version);
     let head = cut_head(words);
-    if let Err(fault) = gather_body(&used, said.rows, &head, reader, block, words) {
+    if let Err(fault) = gather_body(&used, found.rows, &head, reader, block, words) {
         return Err(fault);
     }
-    words.truncate(said.rows.words());
-    Ok(said)
+    words.truncate(found.rows.words());
+    Ok(found)
 }
 
 // Returns the shape and the words of the saved form that is the rest of a reader, for a list of that kind in the

@@ -31,12 +31,12 @@ returns-in_err-words-clause-back g c = λ count width words whole e.
 
 pub returns : goal.returns
 returns g c =
-    let said = c.in_ok-head.ensures.said in
+    let head = c.in_ok-head.ensures.head in
     let all : map bytes_word c.as_chunks.result.0.now ≡ words_of c.args.bytes.now = ap (map bytes_word) c.as_chunks.ensures.front ∙ words_are c.args.bytes.now in
     let none : version_fault c.args.kind c.args.bytes.now ≡ None =
     c.in_ok-head.ensures.body ∙ ap (λ l. first_failing (body_tests c.args.kind.order c.in_ok-head.head.rows.count c.in_ok-head.head.rows.bits l)) (sym all) ∙ c.in_ok-words.ensures.none in
     let p = loaded_is c.args.kind _ _ (row_words c.in_ok-head.head.rows.count c.in_ok-head.head.rows.bits) c.args.bytes.now _ (λ i. omega (arith, c.type_inv.bytes i))
-    none said.0 said.1 (rw (said.2, said.3) refl) (c.in_ok-words.ensures.words ∙ ap (words_among (row_words c.in_ok-head.head.rows.count c.in_ok-head.head.rows.bits)) all) in
+    none head.0 head.1 (rw (head.2, head.3) refl) (c.in_ok-words.ensures.words ∙ ap (words_among (row_words c.in_ok-head.head.rows.count c.in_ok-head.head.rows.bits)) all) in
     record {
       ok = (refl, p.0, p.1);
       none = none;
