@@ -39,7 +39,8 @@ impl<A: Allocator + Copy> InvertedIndex<A> {
         universe: u64,
         pairs: &[(u64, u64)],
     ) -> Result<Self, InvertedError> {
-        InvertedIndex::from_source(alloc, terms, universe, SlicePairs { rest: pairs })
+        let rest = SlicePairs { rest: pairs };
+        InvertedIndex::from_known(alloc, terms, universe, rest, pairs.len())
     }
 
     /// Returns what `from_pairs` does, of pairs that are read one by one. Errors: as for `from_pairs`.
@@ -49,10 +50,21 @@ impl<A: Allocator + Copy> InvertedIndex<A> {
         universe: u64,
         pairs: P,
     ) -> Result<Self, InvertedError> {
+        InvertedIndex::from_known(alloc, terms, universe, pairs, 0)
+    }
+
+    // Returns what `from_source` does, with room for the `known` number of pairs from the start.
+    fn from_known<P: Pairs>(
+        alloc: A,
+        terms: u64,
+        universe: u64,
+        pairs: P,
+        known: usize,
+    ) -> Result<Self, InvertedError> {
         if let Some(error) = refusal(terms, universe, pairs) {
             return Err(error);
         }
-        let numbers = numbers_of(alloc, terms, universe, pairs)?;
+        let numbers = numbers_of(alloc, terms, universe, pairs, known)?;
         let numbers = EliasFanoVec::from_slice(alloc, numbers.as_slice())?;
         Ok(InvertedIndex {
             numbers,
@@ -105,14 +117,15 @@ fn is_before(one: (u64, u64), other: (u64, u64)) -> bool {
     one.0 < other.0 || (one.0 == other.0 && one.1 < other.1)
 }
 
-// Returns the numbers of pairs.
+// Returns the numbers of pairs, with room for the `known` number of them from the start.
 fn numbers_of<A: Allocator + Copy, P: Pairs>(
     alloc: A,
     terms: u64,
     universe: u64,
     mut pairs: P,
+    known: usize,
 ) -> Result<Vec<u64, A>, AllocError> {
-    let mut numbers = Vec::new(alloc);
+    let mut numbers = Vec::with_capacity(alloc, known)?;
     while let Some(pair) = pairs.next() {
         numbers.push(pair.0 * universe + pair.1)?;
     }

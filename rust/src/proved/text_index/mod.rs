@@ -3,6 +3,7 @@
 
 use crate::rattle::prelude::*;
 
+mod batch;
 mod checked;
 mod column;
 mod fault;

@@ -151,14 +151,14 @@ fn gather_form<R: Source, A: Allocator>(
     block: &mut [u8],
     words: &mut Vec<u64, A>,
 ) -> Result<Head, LoadError> {
-    let said = gather_head(kind, reader, block, words)?;
-    let used = kind.at_version(said.version);
+    let found = gather_head(kind, reader, block, words)?;
+    let used = kind.at_version(found.version);
     let head = cut_head(words);
-    if let Err(fault) = gather_body(&used, said.rows, &head, reader, block, words) {
+    if let Err(fault) = gather_body(&used, found.rows, &head, reader, block, words) {
         return Err(fault);
     }
-    words.truncate(said.rows.words());
-    Ok(said)
+    words.truncate(found.rows.words());
+    Ok(found)
 }
 
 // Returns the shape and the words of the saved form that is the rest of a reader, for a list of that kind in the

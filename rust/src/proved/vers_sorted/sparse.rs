@@ -2,7 +2,7 @@
 
 use crate::rattle::prelude::*;
 
-use crate::proved::vers_sorted::elias_fano::{EliasFanoRefIter, EliasFanoVec};
+use crate::proved::vers_sorted::elias_fano::{EliasFanoRefIter, EliasFanoVec, MAX_LEN, Numbers};
 use crate::rattle::AllocError;
 use crate::rattle::Allocator;
 use crate::proved::vers_bits::bit_vec::BitVec;
@@ -52,9 +52,16 @@ impl<A: Allocator + Copy> SparseRSVec<A> {
 
     // Returns the list with ones where another has `bit`.
     fn from_places(bits: &BitVec<A>, bit: bool) -> Result<Self, AllocError> {
-        let ones = places_of(bits, bit)?;
+        let len = count_of(bits, bit);
+        // A list of more members needs more memory than there can be.
+        if len > MAX_LEN {
+            return Err(AllocError);
+        }
+        let places = Places { bits, bit, from: 0 };
+        let from = last_start(bits, bit);
+        let last = last_left(Places { bits, bit, from });
         Ok(SparseRSVec {
-            ones: EliasFanoVec::from_slice(bits.allocator(), &ones)?,
+            ones: EliasFanoVec::from_numbers(bits.allocator(), places, len, last)?,
             len: bits.len() as u64,
         })
     }
@@ -187,34 +194,76 @@ impl<A: Allocator + Copy> SparseRSVec<A> {
     }
 }
 
-// Returns the positions of the ones or the zeros.
-fn places_of<A: Allocator + Copy>(bits: &BitVec<A>, bit: bool) -> Result<Vec<u64, A>, AllocError> {
-    let mut found = Vec::new(bits.allocator());
-    for k in 0..bits.len().div_ceil(64) {
-        push_places(&mut found, bits, bit, k)?;
-    }
-    Ok(found)
+// The positions of the ones or the zeros of a list, from position `from` on.
+#[derive(Clone, Copy)]
+struct Places<'a, A: Allocator + Copy> {
+    bits: &'a BitVec<A>,
+    bit: bool,
+    from: usize,
 }
 
-// Appends the positions of the ones or the zeros of one limb to those of the limbs before it, ascending.
-fn push_places<A: Allocator + Copy>(
-    found: &mut Vec<u64, A>,
-    bits: &BitVec<A>,
-    bit: bool,
-    k: usize,
-) -> Result<(), AllocError> {
-    let len = bits.len();
-    let mut word = marks_of(bits, bit, k);
-    let mut place = 64 * k;
-    let end = place + (len - place).min(64);
-    let mut skip = word.trailing_zeros() as usize;
-    while skip < end - place {
-        found.push((place + skip) as u64)?;
-        word = (word >> skip) >> 1;
-        place += skip + 1;
-        skip = word.trailing_zeros() as usize;
+impl<A: Allocator + Copy> Numbers for Places<'_, A> {
+    #[inline(always)]
+    fn next(&mut self) -> Option<u64> {
+        let _ = self.bits.len();
+        let place = place_from(self.bits, self.bit, self.from)?;
+        self.from = place + 1;
+        Some(place as u64)
     }
-    Ok(())
+}
+
+// Returns the number of ones or zeros.
+fn count_of<A: Allocator + Copy>(bits: &BitVec<A>, bit: bool) -> usize {
+    if bit {
+        bits.count_ones() as usize
+    } else {
+        bits.count_zeros() as usize
+    }
+}
+
+// Returns the first position from `from` on of a one or a zero. `None` if there is none.
+#[inline(always)]
+fn place_from<A: Allocator + Copy>(bits: &BitVec<A>, bit: bool, from: usize) -> Option<usize> {
+    let mut place = from;
+    while place < bits.len() {
+        if let Some(found) = place_in_limb(bits, bit, place) {
+            return Some(found);
+        }
+        place = 64 * (place / 64) + 64;
+    }
+    None
+}
+
+// Returns the first position from `place` on in its limb of a one or a zero. `None` if there is none.
+#[inline(always)]
+fn place_in_limb<A: Allocator + Copy>(bits: &BitVec<A>, bit: bool, place: usize) -> Option<usize> {
+    let word = marks_of(bits, bit, place / 64) >> (place % 64);
+    let skip = word.trailing_zeros() as usize;
+    if skip < (bits.len() - place).min(64 - place % 64) {
+        return Some(place + skip);
+    }
+    None
+}
+
+// Returns the start of the last limb that has a one or a zero, or 0 if none has.
+fn last_start<A: Allocator + Copy>(bits: &BitVec<A>, bit: bool) -> usize {
+    let mut k = bits.len().div_ceil(64);
+    while k > 0 {
+        k -= 1;
+        if place_in_limb(bits, bit, 64 * k).is_some() {
+            return 64 * k;
+        }
+    }
+    0
+}
+
+// Returns the last of the numbers left, or 0 if none is left.
+fn last_left<N: Numbers>(mut numbers: N) -> u64 {
+    let mut last = 0;
+    while let Some(number) = numbers.next() {
+        last = number;
+    }
+    last
 }
 
 // Returns the word in which the ones or the zeros of a limb are ones.

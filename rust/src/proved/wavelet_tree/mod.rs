@@ -3,6 +3,7 @@
 
 use crate::rattle::prelude::*;
 
+mod batch;
 mod grow;
 pub mod laws;
 mod node;
@@ -11,5 +12,6 @@ mod starts;
 mod tree;
 mod walk;
 
+pub use batch::RangeQuery;
 pub use tree::WaveletTree;
 pub use walk::SortedPlace;

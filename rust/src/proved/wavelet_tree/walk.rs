@@ -73,7 +73,7 @@ impl<A: Allocator + Copy> WaveletTree<A> {
 
     // Returns the sorted positions of all occurrences of a symbol.
     #[inline(always)]
-    fn sorted_all(&self, symbol: u64, tally: &mut Tally) -> Range<usize> {
+    pub(crate) fn sorted_all(&self, symbol: u64, tally: &mut Tally) -> Range<usize> {
         if symbol >> self.width != 0 {
             return 0..0;
         }

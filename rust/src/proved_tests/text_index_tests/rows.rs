@@ -4,6 +4,7 @@ use crate::rattle::prelude::*;
 use crate::rattle::Global;
 use crate::proved_tests::test_alloc::asked;
 use crate::proved::text_index::{TextError, TextIndex};
+use crate::proved::vers_tally::tally::Tally;
 
 // Symbols, their width, a pattern, and its number of occurrences.
 type Row<'a> = (&'a [u64], u16, &'a [u64], usize);
@@ -47,6 +48,23 @@ fn wrong_row(alloc: Global, rows: &[Row]) -> Option<usize> {
 fn patterns_have_their_places() {
     let rt = HostRuntime;
     assert!(wrong_row(rt.alloc(), &ROWS).is_none());
+}
+
+// Returns true if patterns of a text are counted together, for more counts than patterns and for fewer.
+fn are_counted_together(text: &TextIndex<Global>) -> bool {
+    let patterns: [&[u64]; 5] = [&[2, 1, 2], &[2, 2], &[], &[u64::MAX, 2], &[1]];
+    let mut counts = [7; 6];
+    text.count_each(&patterns, &mut counts);
+    let mut few = [7; 1];
+    text.count_each_counted(&patterns, &mut few, &mut Tally::new());
+    counts == [2, 0, 6, 0, 2, 7] && few == [2]
+}
+
+#[test]
+fn patterns_are_counted_together() {
+    let rt = HostRuntime;
+    let made = TextIndex::from_slice(rt.alloc(), &[2, 1, 2, 1, 2], 2);
+    assert!(asked(made, are_counted_together) == Ok(true));
 }
 
 // Symbols of two bits, a pattern, and its positions in suffix-array order.

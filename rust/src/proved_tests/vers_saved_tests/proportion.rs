@@ -75,6 +75,19 @@ fn sparse<A: Allocator + Copy>(alloc: A, numbers: &[u64]) -> Result<SparseRSVec<
     Err(AllocError)
 }
 
+// Returns the ones of the bits of numbers in sparse form, or the zeros.
+fn sparse_bits<A: Allocator + Copy>(
+    alloc: A,
+    numbers: &[u64],
+    bit: bool,
+) -> Result<SparseRSVec<A>, GrowError> {
+    let bits = bits(alloc, numbers)?;
+    if bit {
+        return Ok(SparseRSVec::from_bitvec(&bits)?);
+    }
+    Ok(SparseRSVec::from_bitvec_inverted(&bits)?)
+}
+
 // Returns the index of one term.
 fn inverted<A: Allocator + Copy>(
     alloc: A,
@@ -130,10 +143,13 @@ enum Build {
     Indexed,
     Ascending,
     Sparse,
+    SparseBits(bool),
     SmallBlocks,
     LargeBlocks,
     Binary,
+    BinaryIter,
     Fast,
+    FastIter,
     Posted,
     Inverted,
     Symbols(u16),
@@ -141,14 +157,18 @@ enum Build {
     CountedBits(u16),
 }
 
-const BUILDS: [Build; 16] = [
+const BUILDS: [Build; 20] = [
     Build::Indexed,
     Build::Ascending,
     Build::Sparse,
+    Build::SparseBits(true),
+    Build::SparseBits(false),
     Build::SmallBlocks,
     Build::LargeBlocks,
     Build::Binary,
+    Build::BinaryIter,
     Build::Fast,
+    Build::FastIter,
     Build::Posted,
     Build::Inverted,
     Build::Symbols(1),
@@ -177,14 +197,39 @@ fn is_built(heap: &Heap, build: Build, numbers: &[u64]) -> bool {
         Build::Indexed => fits(heap, indexed(heap, numbers), INPUT, 0),
         Build::Ascending => fits(heap, ascending(heap, numbers), INPUT, 0),
         Build::Sparse => fits(heap, sparse(heap, numbers), INPUT, 0),
+        Build::SparseBits(bit) => fits(heap, sparse_bits(heap, numbers, bit), INPUT, 0),
         Build::SmallBlocks => fits(heap, tree::<8, &Heap>(heap, numbers), INPUT, 0),
         Build::LargeBlocks => fits(heap, tree::<512, &Heap>(heap, numbers), INPUT, 0),
         Build::Binary => fits(heap, binary(heap, numbers), INPUT, 0),
+        Build::BinaryIter => fits(
+            heap,
+            BinaryRmq::from_iter(heap, numbers.iter().copied()),
+            INPUT,
+            0,
+        ),
         Build::Fast => fits(heap, fast(heap, numbers), INPUT, 0),
+        Build::FastIter => fits(
+            heap,
+            FastRmq::from_iter(heap, numbers.iter().copied()),
+            INPUT,
+            0,
+        ),
         Build::Posted => fits(heap, posted(heap, numbers), 2 * INPUT, 0),
         Build::Inverted => fits(heap, inverted(heap, numbers), INPUT, 0),
         _ => are_symbols_built(heap, build, numbers),
     }
+}
+
+// Returns true if an index of the pairs of one term and each number is made with memory in proportion.
+fn is_paired_built(alloc: Global) -> Result<bool, AllocError> {
+    let numbers = numbers_of(alloc)?;
+    let mut pairs = Vec::with_capacity(alloc, COUNT)?;
+    for number in numbers.as_slice() {
+        pairs.push((0u64, *number))?;
+    }
+    let heap = Refusing::none(alloc);
+    let made = InvertedIndex::from_pairs(&heap, 1, u64::MAX, pairs.as_slice());
+    Ok(fits(&heap, made, 2 * INPUT, 0))
 }
 
 // Returns the number of the first constructor that takes more memory.
@@ -202,6 +247,7 @@ fn first_large_build(alloc: Global) -> Result<Option<usize>, AllocError> {
 fn builds_take_memory_in_proportion() {
     let rt = HostRuntime;
     assert!(first_large_build(rt.alloc()) == Ok(None));
+    assert!(is_paired_built(rt.alloc()) == Ok(true));
 }
 
 const FORMS: [Form; 18] = [

@@ -114,13 +114,15 @@ enum Made {
     Symbols,
     SymbolsCounted,
     Binary,
+    BinaryIter,
     Fast,
+    FastIter,
     SmallBlocks,
     LargeBlocks,
     Posted,
 }
 
-const ALL: [Made; 11] = [
+const ALL: [Made; 13] = [
     Made::Indexed,
     Made::BitsAgain,
     Made::Ascending,
@@ -128,7 +130,9 @@ const ALL: [Made; 11] = [
     Made::Symbols,
     Made::SymbolsCounted,
     Made::Binary,
+    Made::BinaryIter,
     Made::Fast,
+    Made::FastIter,
     Made::SmallBlocks,
     Made::LargeBlocks,
     Made::Posted,
@@ -179,6 +183,21 @@ pub fn fast<A: Allocator + Copy>(alloc: A, numbers: &[u64]) -> Result<FastRmq<A>
         return Err(AllocError);
     }
     FastRmq::from_vec(Vec::from_slice(alloc, numbers)?)
+}
+
+// The numbers of a slice, as an iterator that doesn't say how many are left.
+struct InTurn<'a> {
+    rest: &'a [u64],
+}
+
+impl Iterator for InTurn<'_> {
+    type Item = u64;
+
+    fn next(&mut self) -> Option<u64> {
+        let (first, others) = self.rest.split_first()?;
+        self.rest = others;
+        Some(*first)
+    }
 }
 
 /// Returns the documents of these numbers, each with its number as its cost.
@@ -242,12 +261,23 @@ fn spare_of_symbols(made: Made, heap: &Heap, numbers: &[u64]) -> Option<Spare> {
     }
 }
 
+fn spare_of_minima(made: Made, heap: &Heap, numbers: &[u64]) -> Option<Spare> {
+    let items = InTurn { rest: numbers };
+    match made {
+        Made::BinaryIter => spare_of(heap, BinaryRmq::from_iter(heap, items), &HeapSize),
+        Made::FastIter => spare_of(heap, FastRmq::from_iter(heap, items), &HeapSize),
+        Made::Binary => spare_of(heap, binary(heap, numbers), &HeapSize),
+        _ => spare_of(heap, fast(heap, numbers), &HeapSize),
+    }
+}
+
 fn spare_of_made(made: Made, inner: Global, heap: &Heap, numbers: &[u64]) -> Option<Spare> {
     match made {
         Made::Ascending => spare_of(heap, ascending(heap, numbers), &HeapSize),
         Made::Symbols | Made::SymbolsCounted => spare_of_symbols(made, heap, numbers),
-        Made::Binary => spare_of(heap, binary(heap, numbers), &HeapSize),
-        Made::Fast => spare_of(heap, fast(heap, numbers), &HeapSize),
+        Made::Binary | Made::BinaryIter | Made::Fast | Made::FastIter => {
+            spare_of_minima(made, heap, numbers)
+        }
         Made::Posted => spare_of_posted(inner, heap, numbers),
         _ => spare_of_bits(made, heap, numbers),
     }

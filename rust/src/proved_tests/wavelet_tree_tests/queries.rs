@@ -9,7 +9,7 @@ use std::ops::Range;
 use crate::rattle::testing::Fail;
 use crate::proved_tests::test_alloc::asked;
 use crate::proved::vers_tally::tally::Tally;
-use crate::proved::wavelet_tree::WaveletTree;
+use crate::proved::wavelet_tree::{RangeQuery, WaveletTree};
 
 // Returns true if the ranks of a symbol are right, of which two begin and end a range.
 fn is_ranked<A: Allocator + Copy>(
@@ -57,14 +57,43 @@ fn is_read<A: Allocator + Copy>(tree: &WaveletTree<A>, symbols: &[u8], place: us
 // Symbols of which some lists have some, and some have none.
 const ASKED: [u64; 10] = [0, 1, 2, 7, 18, 100, 200, 255, 256, u64::MAX];
 
+// Returns true if the ranges of all these symbols are right when they are asked for at once.
+fn are_ranked_together<A: Allocator + Copy>(
+    tree: &WaveletTree<A>,
+    symbols: &[u8],
+    range: Range<usize>,
+) -> bool {
+    if range.start > range.end || range.end > tree.len() {
+        return true;
+    }
+    let mut queries = [RangeQuery::new(range.start..range.end, 0); 10];
+    for k in 0..10 {
+        queries[k] = RangeQuery::new(range.start..range.end, ASKED[k]);
+    }
+    tree.sorted_range_each(&mut queries);
+    for query in queries {
+        let lesser = lesser_than(symbols, query.symbol);
+        let first = lesser.wrapping_add(rank_of(symbols, range.start, query.symbol));
+        let end = lesser.wrapping_add(rank_of(symbols, range.end, query.symbol));
+        let is_empty = first == end && query.start == query.end;
+        if !is_empty && (query.start != first || query.end != end) {
+            return false;
+        }
+    }
+    true
+}
+
 // Returns true if a tree answers as its list.
 fn is_right<A: Allocator + Copy>(tree: &WaveletTree<A>, symbols: &[u8]) -> bool {
     for place in 0..symbols.len().saturating_add(1) {
-        if !is_read(tree, symbols, place) {
+        let end = place.saturating_add(place % 5).min(symbols.len());
+        if !is_read(tree, symbols, place)
+            || !are_ranked_together(tree, symbols, 0..place)
+            || !are_ranked_together(tree, symbols, place..end)
+        {
             return false;
         }
         for symbol in ASKED {
-            let end = place.saturating_add(place % 5).min(symbols.len());
             if !is_ranked(tree, symbols, symbol, 0..place)
                 || !is_ranked(tree, symbols, symbol, place..end)
                 || !is_ranked(tree, symbols, symbol, place..symbols.len())
