@@ -1,7 +1,8 @@
 //! Builds the text index of each file, and counts patterns: `text_files SIZE FILE..`, of a file its first SIZE bytes that
-//! aren't 0. `fibonacci` is a Fibonacci word, and no file. Each line has the file, the number of symbols, the nanoseconds
-//! a symbol of a build, those of a count of 16 symbols, the bytes a symbol of the index, the sum of the counts, and the
-//! nanoseconds a symbol of a save and of a load.
+//! aren't 0. `fibonacci` is a Fibonacci word, `bases` are random letters of 2 bits, and neither is a file. Each line has
+//! the file, the number of symbols, the nanoseconds a symbol of a build, those of a count of 16 symbols, the bytes a symbol
+//! of the index, the sum of the counts, and the nanoseconds a symbol of a save and of a load. Three more have the length
+//! of patterns, the nanoseconds of one `count`, and those of each of 10,000 patterns of a `count_each`.
 
 use std::time::Instant;
 use vers_vecs::saved::Saved;
@@ -32,10 +33,11 @@ fn fibonacci(size: usize) -> Vec<u8> {
 }
 
 fn text_of(name: &str, size: usize) -> std::io::Result<Vec<u8>> {
-    let mut text = if name == "fibonacci" {
-        fibonacci(size)
-    } else {
-        std::fs::read(name)?
+    let mut random = Random(1);
+    let mut text = match name {
+        "fibonacci" => fibonacci(size),
+        "bases" => (0..size).map(|_| b"ACGT"[random.below(4) as usize]).collect(),
+        _ => std::fs::read(name)?,
     };
     text.retain(|it| *it != 0);
     text.truncate(size);
@@ -55,6 +57,29 @@ fn timed<T>(mut run: impl FnMut() -> T) -> (f64, T) {
     (least, last.expect("three runs"))
 }
 
+/// Returns random pieces of a text.
+fn patterns_of(text: &[u8], length: usize) -> Vec<Vec<u64>> {
+    let mut random = Random(7);
+    (0..PATTERNS)
+        .map(|_| random.below((text.len() - length) as u64) as usize)
+        .map(|at| text[at..at + length].iter().map(|it| u64::from(*it)).collect())
+        .collect()
+}
+
+/// Returns the nanoseconds of a count, alone and in a batch, in runs that alternate.
+fn counts(index: &TextIndex, patterns: &[Vec<u64>]) -> (f64, f64) {
+    let pieces: Vec<&[u64]> = patterns.iter().map(Vec::as_slice).collect();
+    let (mut one, mut each) = (f64::INFINITY, f64::INFINITY);
+    for _ in 0..5 {
+        let (time, single) = timed(|| pieces.iter().map(|it| index.count(it)).collect::<Vec<_>>());
+        one = one.min(time);
+        let (time, counts) = timed(|| index.count_each(&pieces));
+        each = each.min(time);
+        assert_eq!(single, counts);
+    }
+    (one / PATTERNS as f64, each / PATTERNS as f64)
+}
+
 fn main() -> Result<(), Box<dyn std::error::Error>> {
     let mut arguments = std::env::args().skip(1);
     let size = arguments
@@ -64,16 +89,7 @@ fn main() -> Result<(), Box<dyn std::error::Error>> {
     for name in arguments {
         let text = text_of(&name, size)?;
         let (build, index) = timed(|| TextIndex::from_bytes(&text, 8).expect("memory"));
-        let mut random = Random(7);
-        let patterns: Vec<Vec<u64>> = (0..PATTERNS)
-            .map(|_| random.below((text.len() - LENGTH) as u64) as usize)
-            .map(|at| {
-                text[at..at + LENGTH]
-                    .iter()
-                    .map(|it| u64::from(*it))
-                    .collect()
-            })
-            .collect();
+        let patterns = patterns_of(&text, LENGTH);
         let (count, sum) = timed(|| patterns.iter().map(|it| index.count(it)).sum::<usize>());
         let (symbols, bytes) = (text.len() as f64, index.heap_size() as f64);
         let (save, form) = timed(|| index.save().expect("memory"));
@@ -87,6 +103,10 @@ fn main() -> Result<(), Box<dyn std::error::Error>> {
             save / symbols,
             load / symbols
         );
+        for length in [8, 16, 32] {
+            let (one, each) = counts(&index, &patterns_of(&text, length));
+            println!("{name}\t{length}\t{one:.0}\t{each:.0}");
+        }
     }
     Ok(())
 }
