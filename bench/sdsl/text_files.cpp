@@ -1,4 +1,5 @@
-// What ../text_files does, by sdsl-lite: the same texts, patterns and lines. Build and run:
+// What ../text_files does, by sdsl-lite: the same texts, patterns and lines, without saves, loads and batches. Build and
+// run:
 //
 //     g++ -std=c++17 -O3 -march=x86-64-v2 -DNDEBUG text_files.cpp -lsdsl -ldivsufsort -ldivsufsort64 -o text_files
 //     ./text_files SIZE FILE..
@@ -41,6 +42,9 @@ static std::string text_of(const std::string& name, std::size_t size)
             before = std::move(text);
             text = std::move(next);
         }
+    } else if (name == "bases") {
+        Random random{1};
+        for (std::size_t i = 0; i < size; ++i) text.push_back("ACGT"[random.below(4)]);
     } else {
         std::ifstream file(name, std::ios::binary);
         text.assign(std::istreambuf_iterator<char>(file), {});
@@ -63,6 +67,24 @@ static double timed(const std::function<void()>& run)
     return least;
 }
 
+// Random pieces of a text.
+static std::vector<std::string> patterns_of(const std::string& text, std::size_t length)
+{
+    Random random{7};
+    std::vector<std::string> patterns;
+    for (std::size_t i = 0; i < PATTERNS; ++i) patterns.push_back(text.substr(random.below(text.size() - length), length));
+    return patterns;
+}
+
+// The nanoseconds of a count, and the sum of all.
+static double counted(const Index& index, const std::vector<std::string>& patterns, std::size_t& sum)
+{
+    return timed([&] {
+        sum = 0;
+        for (const auto& pattern : patterns) sum += sdsl::count(index, pattern.begin(), pattern.end());
+    }) / PATTERNS;
+}
+
 int main(int count, char** arguments)
 {
     if (count < 3) {
@@ -76,16 +98,14 @@ int main(int count, char** arguments)
             index = Index();
             sdsl::construct_im(index, text, 1);
         });
-        Random random{7};
-        std::vector<std::string> patterns;
-        for (std::size_t i = 0; i < PATTERNS; ++i) patterns.push_back(text.substr(random.below(text.size() - LENGTH), LENGTH));
         std::size_t sum = 0;
-        const double counted = timed([&] {
-            sum = 0;
-            for (const auto& pattern : patterns) sum += sdsl::count(index, pattern.begin(), pattern.end());
-        });
+        const double time = counted(index, patterns_of(text, LENGTH), sum);
         const double symbols = double(text.size());
-        std::printf("%s\t%zu\t%.1f\t%.0f\t%.2f\t%zu\n", arguments[k], text.size(), build / symbols, counted / PATTERNS,
+        std::printf("%s\t%zu\t%.1f\t%.0f\t%.2f\t%zu\n", arguments[k], text.size(), build / symbols, time,
                     double(sdsl::size_in_bytes(index)) / symbols, sum);
+        for (const std::size_t length : {8, 16, 32}) {
+            const double one = counted(index, patterns_of(text, length), sum);
+            std::printf("%s\t%zu\t%.0f\t%zu\n", arguments[k], length, one, sum);
+        }
     }
 }

@@ -2,7 +2,8 @@
 //! aren't 0. `fibonacci` is a Fibonacci word, `bases` are random letters of 2 bits, and neither is a file. Each line has
 //! the file, the number of symbols, the nanoseconds a symbol of a build, those of a count of 16 symbols, the bytes a symbol
 //! of the index, the sum of the counts, and the nanoseconds a symbol of a save and of a load. Three more have the length
-//! of patterns, the nanoseconds of one `count`, and those of each of 10,000 patterns of a `count_each`.
+//! of patterns, the nanoseconds of one `count`, those of each of 10,000 patterns of a `count_each`, and the sum of the
+//! counts.
 
 use std::time::Instant;
 use vers_vecs::saved::Saved;
@@ -66,18 +67,19 @@ fn patterns_of(text: &[u8], length: usize) -> Vec<Vec<u64>> {
         .collect()
 }
 
-/// Returns the nanoseconds of a count, alone and in a batch, in runs that alternate.
-fn counts(index: &TextIndex, patterns: &[Vec<u64>]) -> (f64, f64) {
+/// Returns the nanoseconds of a count, alone and in a batch, in runs that alternate, and the sum of all.
+fn counts(index: &TextIndex, patterns: &[Vec<u64>]) -> (f64, f64, usize) {
     let pieces: Vec<&[u64]> = patterns.iter().map(Vec::as_slice).collect();
-    let (mut one, mut each) = (f64::INFINITY, f64::INFINITY);
+    let (mut one, mut each, mut sum) = (f64::INFINITY, f64::INFINITY, 0);
     for _ in 0..5 {
         let (time, single) = timed(|| pieces.iter().map(|it| index.count(it)).collect::<Vec<_>>());
         one = one.min(time);
         let (time, counts) = timed(|| index.count_each(&pieces));
         each = each.min(time);
         assert_eq!(single, counts);
+        sum = counts.iter().sum();
     }
-    (one / PATTERNS as f64, each / PATTERNS as f64)
+    (one / PATTERNS as f64, each / PATTERNS as f64, sum)
 }
 
 fn main() -> Result<(), Box<dyn std::error::Error>> {
@@ -104,8 +106,8 @@ fn main() -> Result<(), Box<dyn std::error::Error>> {
             load / symbols
         );
         for length in [8, 16, 32] {
-            let (one, each) = counts(&index, &patterns_of(&text, length));
-            println!("{name}\t{length}\t{one:.0}\t{each:.0}");
+            let (one, each, sum) = counts(&index, &patterns_of(&text, length));
+            println!("{name}\t{length}\t{one:.0}\t{each:.0}\t{sum}");
         }
     }
     Ok(())
