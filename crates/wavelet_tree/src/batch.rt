@@ -11,7 +11,7 @@ use std::alloc::Allocator;
 use std::ops::Range;
 use vers_tally::tally::Tally;
 
-/// A range of positions, and a symbol whose occurrences there are asked for. The answer overwrites the range.
+/// A query for the occurrences of a symbol in a range of positions. The answer overwrites the range.
 #[derive(Clone, Copy, Drop)]
 pub struct RangeQuery {
     /// The first position of the range; once answered, the sorted position of the first occurrence.

@@ -53,7 +53,7 @@ fn is_read<A: Allocator + Copy>(tree: &WaveletTree<A>, symbols: &[u8], place: us
 // Symbols of which some lists have some, and some have none.
 const ASKED: [u64; 10] = [0, 1, 2, 7, 18, 100, 200, 255, 256, u64::MAX];
 
-// Returns true if the ranges of all these symbols are right when they are asked for at once.
+// Returns true if one batch returns the right range of each of these symbols.
 fn are_ranked_together<A: Allocator + Copy>(
     tree: &WaveletTree<A>,
     symbols: &[u8],

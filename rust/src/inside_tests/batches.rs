@@ -1,23 +1,11 @@
 //! Counts in groups, which the library makes only in texts of 4,194,304 symbols or more.
 
+use super::xorshift;
 use crate::proved::text_index::TextIndex;
 use crate::proved::vers_tally::tally::Tally;
 use crate::rattle::Global;
 
 type Plain<T> = std::vec::Vec<T>;
-
-/// Numbers that look random.
-fn scattered(n: usize, seed: u64) -> Plain<u64> {
-    let mut state = seed;
-    (0..n)
-        .map(|_| {
-            state ^= state << 13;
-            state ^= state >> 7;
-            state ^= state << 17;
-            state >> 8
-        })
-        .collect()
-}
 
 /// The number of positions of a text, its end included, at which a pattern occurs.
 fn occurrences(symbols: &[u64], pattern: &[u64]) -> usize {
@@ -27,7 +15,7 @@ fn occurrences(symbols: &[u64], pattern: &[u64]) -> usize {
 /// Patterns of 0 to 40 symbols: pieces of a text, pieces with another first symbol, and pieces that end with a symbol
 /// that the text can't have.
 fn patterns_of(symbols: &[u64], count: usize, seed: u64) -> Plain<Plain<u64>> {
-    let numbers = scattered(2 * count, seed);
+    let numbers = xorshift(2 * count, seed);
     (0..count)
         .map(|k| {
             let start = numbers[2 * k] as usize % (symbols.len() + 1);
@@ -68,9 +56,9 @@ fn counts_are_right(symbols: &[u64], width: u16) {
 #[test]
 fn counts_in_groups_are_those_of_a_scan() {
     for len in [0, 1, 2, 5, 20, 63, 64, 65, 300] {
-        let symbols: Plain<u64> = scattered(len, 3).iter().map(|it| it % 4).collect();
+        let symbols: Plain<u64> = xorshift(len, 3).iter().map(|it| it % 4).collect();
         counts_are_right(&symbols, 2);
-        let skewed: Plain<u64> = scattered(len, 5).iter().map(|it| it.trailing_ones() as u64 * 3).collect();
+        let skewed: Plain<u64> = xorshift(len, 5).iter().map(|it| it.trailing_ones() as u64 * 3).collect();
         counts_are_right(&skewed, 8);
         counts_are_right(&vec![1; len], 1);
     }

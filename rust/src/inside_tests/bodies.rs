@@ -22,15 +22,7 @@ use std::ops::Bound;
 type Plain<T> = std::vec::Vec<T>;
 
 fn scattered(n: usize, seed: u64) -> Plain<bool> {
-    let mut state = seed;
-    (0..n)
-        .map(|_| {
-            state ^= state << 13;
-            state ^= state >> 7;
-            state ^= state << 17;
-            state % 3 == 0
-        })
-        .collect()
+    super::xorshift(n, seed).into_iter().map(|number| number % 3 == 0).collect()
 }
 
 fn list(bits: &[bool]) -> BitVec<Global> {

@@ -10,3 +10,16 @@ mod memory;
 mod reads;
 #[cfg(mutants)]
 mod suffixes;
+
+/// Numbers of a xorshift generator.
+fn xorshift(count: usize, seed: u64) -> std::vec::Vec<u64> {
+    let mut state = seed;
+    (0..count)
+        .map(|_| {
+            state ^= state << 13;
+            state ^= state >> 7;
+            state ^= state << 17;
+            state
+        })
+        .collect()
+}
