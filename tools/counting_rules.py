@@ -27,7 +27,7 @@ import sys
 from collections import defaultdict
 
 from proofs import Crates
-from sources import TOP, bare_keeping_lines, closed, line_of, read_crate, report
+from sources import TOP, bare_keeping_lines, closed, line_of, read_crate, report, without
 
 BELOW, COUNTERS = "vers_bits", "vers_tally"
 # The functions that may read a whole list without a counter.
@@ -86,6 +86,7 @@ WITHOUT_LOOPS = {"agree", "RsVec::block_among", "last_up_to", "differences", "fa
                  "lanes_from", "put_lanes"}
 BYTES = {"bytes_forward", "bytes_backward"}
 RETURNED = re.compile(r"\bif let Some\((\w+)\) = place_met\([^;{]*\{\s*return Ok\([^;]*\b\1\b[^;]*\);")
+BRACKETS = r"\([^()]*\)|\[[^\[\]]*\]"
 NUMBER = r"(?:[ui](?:8|16|32|64|128|size)|bool)"
 NUMBERS = re.compile(rf"{NUMBER}|(?:Option|Result)<{NUMBER}.*>|\({NUMBER}(?:, {NUMBER})*\)")
 # What shows that an expression is a number: how it begins or ends, a constant, or an operator between two.
@@ -167,8 +168,7 @@ class Library:
         field = re.fullmatch(r"self\.(\w+)", of or "")
         type_ = self.fields.get((function.holder, field[1]),
                                 "") if field else {"tally": "Tally", "self": function.holder}.get(of)
-        own = self.of_type(type_, name) if type_ else []
-        return own if field and len(type_) > 1 else own or [it for it in self.by_name[name] if it.owner]
+        return type_ and self.of_type(type_, name) or [it for it in self.by_name[name] if it.owner]
 
     def mentions(self, function):
         """Yields the functions that a body may mention, with the text of the mention."""
@@ -205,20 +205,13 @@ class Library:
         if field := re.fullmatch(r"[\w.]+\.(\w+)", text):
             types += self.types_of_field[field[1]]
         return bool(types) and all(NUMBERS.fullmatch(it.strip())
-                                   for it in types) or bool(SHOWN.match(without_brackets(text).split("(")[0]))
-
-
-def without_brackets(text):
-    """Returns a text without what is in brackets."""
-    while (shorter := re.sub(r"\([^()]*\)|\[[^\[\]]*\]", "", text)) != text:
-        text = shorter
-    return text
+                                   for it in types) or bool(SHOWN.match(without(BRACKETS, text).split("(")[0]))
 
 
 def is_range(text):
     """Whether the head of a loop is a range, maybe in brackets and backward."""
     within = re.fullmatch(r"(?s)\s*\((.*)\)\.rev\(\)\s*", text)
-    return ".." in without_brackets(within[1] if within else text)
+    return ".." in without(BRACKETS, within[1] if within else text)
 
 
 def is_looked_at(function):
@@ -343,17 +336,13 @@ def is_thrown_away(library, name, body):
     reads."""
     if not any(" -> " in it.head for it in library.by_name[name]):
         return False
-    calls = []
-    for call in re.finditer(rf"\b{name}(?:::<[^<>]*>)?\(", body):
-        before = re.split(r"[;{}]", body[: call.start()])[-1].strip()
-        end, depth = call.end(), 1
-        while depth:
-            depth, end = depth + {"(": 1, ")": -1}.get(body[end], 0), end + 1
-        bound = re.match(r"let (?:mut )?(\w+)(?:: [^=]*)? =", before)
-        is_unread = bool(bound) and len(re.findall(rf"\b{bound[1]}\b", body)) < 2
-        is_statement = re.fullmatch(r"(?!return\b)[\w.:&* ]*", before) and body[end:].lstrip().startswith(";")
-        calls.append(is_unread or bool(is_statement))
-    return bool(calls) and all(calls)
+    calls = re.findall(rf"\b{name}(?:::<[^<>]*>)?\(", body)
+    flat = without(BRACKETS, re.sub(r"::<[^<>]*>", "", body))
+    start = r"(?:^|(?<=[;{}]))"
+    alone = re.findall(rf"{start}(?!\s*return\b)[\w.:&*\s]*\b{name}\s*;", flat)
+    bound = re.findall(rf"{start}\s*let (?:mut )?([a-z_]\w*)(?:: [^=;]*)? = [^;{{}}]*\b{name}\b", flat)
+    unread = [it for it in bound if len(re.findall(rf"\b{it}\b", body)) < 2]
+    return 0 < len(calls) == len(alone) + len(unread)
 
 
 def faults(sources):

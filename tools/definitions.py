@@ -1,42 +1,18 @@
 """Writes docs/DEFINITIONS.md: the words of `specs/` that public contracts cite, each with its comment there.
 
 A word is shown with the parameters of its definition. Its comment is the lines `-- ..` right above it, which
-tools/text_rules.py requires.
+tools/text_rules.py requires. The headings of the sections are written by hand: `## TITLE (`crates/NAME/specs`)`.
 """
 import os
 import re
 import textwrap
 from collections import defaultdict
 
-from rust_contracts import words_of
 from sources import public_functions, read, read_crate
 
 PAGE = "docs/DEFINITIONS.md"
-# The crates with words that contracts cite, and the titles of their sections.
-TITLES = {
-    "vers_bits": "Bit vectors",
-    "vers_tally": "Counted reads",
-    "vers_rank": "Indexed bit vectors",
-    "word_rank": "Bit vectors with counted words",
-    "vers_sorted": "Ascending lists",
-    "vers_wavelet": "Lists of symbols",
-    "wavelet_tree": "Weight-balanced wavelet trees",
-    "vers_rmq": "Range minima",
-    "vers_trees": "Trees of parentheses",
-    "sets": "Sets of numbers",
-    "inverted": "Lists of terms",
-    "postings": "Documents with costs",
-    "vers_io": "Readers and writers",
-    "vers_saved": "Saved forms",
-    "text_index": "Texts",
-    "catalogue": "The catalogue of structures",
-    "vers_words": "Words of lines",
-    "vers_engine": "The engine of lines",
-    "vers_cli": "The line program",
-    "vers_texts": "The line program over texts",
-    "vers_files": "Lists in files",
-    "vers_uses": "A user's own words",
-}
+# The heading of the section of a crate's words.
+SECTION = r"(?m)^## (.*) \(`crates/(\w+)/specs`\)$"
 DECLARATION = re.compile(
     r"(?m)^((?: *-- .*\n)*) *(?:(?:unfoldable|abbrev) )?pub (record |data )?(?!mod\b|use\b)([\w-]+)(.*(?:\n(?! *(?:--|abbrev|unfoldable)).+)*)")
 PARAMETER = r"[a-z]\w*|[A-Z]"
@@ -61,23 +37,24 @@ def declared_words(top, crate):
                 yield file, name, parameters_of(name, rest), text
 
 
-def cited_words(top):
+def cited_words(top, crates):
     """Returns the names that public contracts cite, by the crates that define them."""
-    declared = {crate: {name for _, name, *_ in declared_words(top, crate)} for crate in TITLES}
+    declared = {crate: {name for _, name, *_ in declared_words(top, crate)} for crate in crates}
     found = defaultdict(set)
     for crate in os.listdir(f"{top}/crates"):
-        for owner, name in (word for function in public_functions(read_crate(top, crate))
-                            for word in words_of(function)):
+        for owner, _, name in [it for function in public_functions(read_crate(top, crate)) for it in function.words]:
             # a crate may export a word of another
-            for it in [owner] if name in declared.get(owner, ()) else TITLES:
+            for it in [owner] if name in declared.get(owner, ()) else crates:
                 found[it].add(name)
     return found
 
 
 def page(top):
     """Returns the text of the page."""
-    cited, parts = cited_words(top), [read(f"{top}/{PAGE}").split("\n\n## ")[0]]
-    for crate, title in TITLES.items():
+    old = read(f"{top}/{PAGE}")
+    titles = {crate: title for title, crate in re.findall(SECTION, old)}
+    cited, parts = cited_words(top, titles), [old.split("\n\n## ")[0]]
+    for crate, title in titles.items():
         parts.append(f"## {title} (`crates/{crate}/specs`)")
         rows = defaultdict(list)
         for file, name, parameters, comment in declared_words(top, crate):

@@ -51,6 +51,19 @@ RIGHT = (
 # A small source, and edits of it: each with what its refusal says, or nothing for one that isn't refused.
 SMALL = """const STEP: u64 = 1;
 
+pub struct Counter {
+    count: u64,
+}
+
+impl Counter {
+    #[inline]
+    pub fn value(&self) -> u64 {
+        self.count
+    }
+
+    fn reset() {}
+}
+
 pub fn next(x: u64) -> u64 {
     x + STEP
 }
@@ -59,18 +72,27 @@ pub fn second(x: u64) -> u64 {
     next(next(x))
 }
 """
-BAD = {
-    name: (f"file: {file}\nold: {old}\nnew: {new}\n{row}\n", wanted)
-    for name, file, old, new, row, wanted in (
-        ("next--adds-two", "src/lib.rt", "x + STEP", "x + STEP + STEP", "row: rows::next", ""),
-        ("next--is-read-by-rt-too", "src/lib.rt", "x + STEP", "x", "# row: rows::next", ""),
-        ("next--names-no-test", "src/lib.rt", "x + STEP", "x", "goal: next returns", "names no test"),
-        ("next--of-another-file", "src/main.rt", "x + STEP", "x", "row: rows::next", "no file src/main.rt"),
-        ("next--stands-nowhere", "src/lib.rt", "x - STEP", "x", "row: rows::next", "0 times in its file"),
-        ("next--stands-twice", "src/lib.rt", "next(x", "next(1 + x", "row: rows::next", "2 times in its file"),
-        ("next--changes-nothing", "src/lib.rt", "x + STEP", "x + STEP", "row: rows::next", "changes nothing"),
-        ("next--changes-a-constant", "src/lib.rt", "STEP: u64 = 1", "STEP: u64 = 2", "row: rows::next",
-         "no body of one function"),
-        ("next--is-of-another", "src/lib.rt", "next(next(x))", "next(x)", "row: rows::next", "begin with `second--`"),
+EDITS = {
+    name: (f"file: src/{file}.rt\nold: {old}\nnew: {new}\n{row}: rows::next\n", wanted)
+    for name, old, new, wanted, row, file in (
+        ("next--adds-two", "x + STEP", "x + STEP + STEP", "", "row", "lib"),
+        ("next--is-read-by-rt-too", "x + STEP", "x", "", "# row", "lib"),
+        ("value--is-one-more", "self.count", "self.count + 1", "", "row", "lib"),
+        ("second--is-third", "next(next(x))", "next(next(next(x)))", "", "row", "lib"),
+        ("next--names-no-test", "x + STEP", "x", "names no test", "goal", "lib"),
+        ("next--of-another-file", "x + STEP", "x", "no file src/main.rt", "row", "main"),
+        ("next--stands-nowhere", "x - STEP", "x", "0 times in its file", "row", "lib"),
+        ("next--stands-twice", "next(x", "next(1 + x", "2 times in its file", "row", "lib"),
+        ("next--changes-nothing", "x + STEP", "x + STEP", "changes nothing", "row", "lib"),
+        ("value--changes-nothing", "self.count", "self.count", "changes nothing", "row", "lib"),
+        ("next--changes-a-constant", "STEP: u64 = 1", "STEP: u64 = 2", "no body of one function", "row", "lib"),
+        ("next--changes-the-type-of-a-constant", "STEP: u64", "STEP: u32", "no body of one function", "row", "lib"),
+        ("value--changes-a-field", "count: u64", "count: u32", "no body of one function", "row", "lib"),
+        ("second--changes-a-name", "fn second(x", "fn third(x", "no body of one function", "row", "lib"),
+        ("reset--adds-a-function", "fn reset() {}", "fn reset() {} fn stop() {}", "no body of one function", "row", "lib"),
+        ("value--changes-an-attribute", "#[inline]", "#[cold]", "no body of one function", "row", "lib"),
+        ("value--changes-two-bodies", "self.count", "self.count * 2\nold: next(next(x))\nnew: next(x)",
+         "no body of one function", "row", "lib"),
+        ("next--is-of-another", "next(next(x))", "next(x)", "begin with `second--`", "row", "lib"),
     )
 }

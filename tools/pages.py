@@ -1,12 +1,11 @@
 #!/usr/bin/env python3
 """Writes docs/CALLS.md, docs/DEFINITIONS.md and docs/vers.1, and the figures of README's table of times.
 
-CALLS lists the calls that `cargo doc` describes under the same names by the bounds on their reads. Each other call is
-there as it is declared, with the first sentence of its doc comment, its preconditions, and the bound on the reads of
-its counted form. `tools/definitions.py` writes DEFINITIONS, and `tools/manual.py` vers.1.
+CALLS lists the calls that `cargo doc` describes under the same names by the bounds on their reads, and each other call
+as it is declared, with what this doesn't say.
 
 A row of a table of PERFORMANCE is read if its first cell is a call, such as `rank1` or `FastRmq::range_min`, or a call
-and what its time is for, such as "`iter1`, a position". Nothing is measured.
+and what its time is for, such as "`iter1`, a position".
 
 It also lists the names that the facade exports, and the calls of its types, that are neither in the table of our own
 names in docs/DIFFERENCES.md nor among those of vers-vecs (tools/original_names.txt), and the names in the first that
@@ -68,15 +67,10 @@ def with_figures(text, found):
 
 
 # The crates of structures; those of the line programs have their calls in the sources.
-CRATES = "vers_bits vers_tally vers_rank word_rank vers_sorted vers_rmq vers_trees vers_wavelet wavelet_tree vers_saved postings sets inverted text_index"
+CRATES = """vers_bits vers_tally vers_rank word_rank vers_sorted vers_rmq vers_trees vers_wavelet wavelet_tree
+vers_saved postings sets inverted text_index""".split()
 # The crates whose calls the Rust crate has under the same names.
-IN_RUST = """vers_bits vers_rank word_rank vers_sorted vers_rmq vers_trees vers_wavelet wavelet_tree vers_saved postings
-sets inverted text_index""".split()
-
-
-def owner(function):
-    """Returns the type or the module that a call belongs to."""
-    return function.holder or function.source.module
+IN_RUST = set(CRATES) - {"vers_tally"}
 
 
 def declaration(function):
@@ -87,7 +81,7 @@ def declaration(function):
 
 def first_sentence(function):
     """Returns the first sentence of a call's doc comment."""
-    doc = [it.strip().removeprefix("///").strip() for it in function.above[0]]
+    doc = [it.strip().removeprefix("///").strip() for it in function.above]
     return re.split(r"(?<=[.]) (?=[A-Z`])", " ".join("\n".join(doc).split("\n\n")[0].split()))[0].rstrip(".")
 
 
@@ -128,7 +122,7 @@ def public_calls(top, crate):
     groups = defaultdict(list)
     for it in sorted(public_functions(read_crate(top, crate)), key=lambda it: (it.source.path, it.first)):
         if not it.trait and not it.is_declared_by_trait and it.source.module != "laws":
-            groups[owner(it)].append(it)
+            groups[it.holder or it.source.module].append(it)
     return groups
 
 
@@ -139,7 +133,7 @@ def page(top):
     # functions, and what macros make functions of
     in_rust = set(re.findall(r"(?<=\bfn )\w+|(?<![(&.])\b\w+(?=,)|\b\w+(?=\(\w+: .*\).*;\n)", facade))
     parts = [read(f"{top}/{PAGE}").split("\n\n## ")[0]]
-    for crate in CRATES.split():
+    for crate in CRATES:
         parts += [section(f"`{crate}::{name}`", of, in_rust if crate in IN_RUST else ())
                   for name, of in sorted(public_calls(top, crate).items())]
     return "\n\n".join(parts) + "\n"
@@ -156,7 +150,7 @@ def misplaced_names(top):
     for crate, names in re.findall(r"pub use (\w+)::[\w:]*?\{?\s*(\w+(?:,\s*\w+)*),?\s*\}?;", facade):
         types.update(re.findall(r"\w+", names))
         own.update(set(re.findall(r"\w+", names)) - original.get(crate, set()))
-    for crate in CRATES.split():
+    for crate in CRATES:
         # the bodies of all walks are in `vers_tally`, and their calls are those of the iterators
         known = original.get(crate) or set().union(*original.values())
         for it in public_functions(read_crate(top, crate)):

@@ -5,17 +5,17 @@
     tools/plain_rust.py --check        compares these, and rust/guards.txt with the sources (tools/rust_contracts.py)
     python3 tools/plain_rust.py --self-test    tries forms that it has to write, and forms that it has to refuse
 
-The script reads a text as tokens, balanced brackets and items. It leaves out what is ghost, replaces the paths and
-words that its tables list, and keeps all else as it is, comments included. It refuses every form that no table names.
+The script reads a text as tokens in balanced brackets. It leaves out what is ghost, replaces the paths and words that
+its tables list, and keeps all else as it is, comments included. It refuses items, words, macros, attributes, paths and
+methods that no table names.
 """
-import os
 import re
 import sys
+from pathlib import Path
 
 import rust_contracts
 from rust_contracts import guard_faults, pages
-from sources import TOP, report, write_files
-from sources import read as read_text
+from sources import TOP, read_crate, report, write_or_check
 
 RUST = "rust/src"
 # The crates: each becomes a module of `proved`, and each crate of tests a module of `proved_tests`.
@@ -70,19 +70,20 @@ PROGRAM_USES = {**USES, "std::io::ErrorKind": "std::io::ErrorKind", "std::fs": H
 
 # Methods that the proved sources call and don't define. Those of Rust's own types are assumed to mean the same in both
 # languages; the support module has the others.
-METHODS = set("""all any as_arrays as_bytes as_mut_slice at capacity checked_add checked_mul checked_sub clear
-copy_from_slice copy_to_slice div_ceil extend_from_slice is_err is_none is_some is_sorted_by iter_mut
-leading_zeros map map_err ok partition_point push push_reserved read_once reserve_exact resize rev reverse
-rotate_left saturating_add saturating_mul saturating_sub simd_ge simd_ne size_hint sort_unstable sort_unstable_by_key
-split split_at_mut split_first split_once strip_prefix then_some to_array to_bitmask to_le_bytes trailing_ones
-trailing_zeros
-unwrap unwrap_or wrapping_add wrapping_mul wrapping_sub write_once write_str write_usize""".split())
+METHODS = set("""all any as_arrays as_bytes as_mut_slice capacity checked_add checked_mul checked_sub clear
+copy_from_slice copy_to_slice div_ceil extend_from_slice is_err is_none is_some is_sorted_by iter_mut leading_zeros map
+map_err ok partition_point push push_reserved read_once reserve_exact resize rev reverse rotate_left saturating_add
+saturating_mul saturating_sub simd_ge simd_ne size_hint sort_unstable sort_unstable_by_key split split_at_mut
+split_first split_once strip_prefix then_some to_array to_bitmask to_le_bytes trailing_ones trailing_zeros unwrap
+unwrap_or wrapping_add wrapping_mul wrapping_sub write_once write_str write_usize""".split())
 # Those that programs call besides.
 PROGRAM_METHODS = set("""as_chunks as_str cast_signed cast_unsigned chain checked_add_unsigned
 checked_sub_unsigned copied discard into_box into_owner is_ascii_digit permissions position read_all replace
 set_permissions shrink_to sync_all take unsigned_abs""".split())
 # A method that takes a list of Rust's own there, and the one of the support module that takes a list of Rattle's.
 RENAMED = {"read_to_end": "read_all"}
+# A method that the oldest rustc lacks, and the one of the support module.
+RENAMED_FOR_OLDEST = {"as_chunks": "as_arrays"}
 
 KEPT_ATTRIBUTES = {"inline", "cfg", "test"}
 DROPPED_ATTRIBUTES = {"tactic"}
@@ -93,6 +94,8 @@ MACROS = {"unreachable", "matches"}
 GHOST_MACROS = {"prove", "prove_eq", "prove_ne"}
 HANDLED_MACROS = {"assert", "assert_eq", "assert_ne"}
 CLAUSES = {"requires", "ensures"}
+# What may follow an item at the top of a file, a visibility or a ghost value.
+ITEMS = CLAUSES | set("# pub ( ghost use fn const static type mod struct enum trait impl macro_rules extern ; =".split()) | {""}
 # Words that no written file may have.
 REFUSED = CLAUSES | {"ghost", "Model", "Drop", "unsafe", "macro_rules", "extern", "async", "dyn", "static_assert",
                      "Box", "Rc", "Cell"}
@@ -107,8 +110,7 @@ NOTE = """//! Written by tools/plain_rust.py from the proved sources: not to be 
 """
 
 TOKEN = re.compile(
-    r"""(?P<space>\s+)
-    |(?P<comment>//[^\n]*|/\*(?:[^*]|\*(?!/))*\*/)
+    r"""(?P<blank>(?:\s|//[^\n]*|/\*(?:[^*]|\*(?!/))*\*/)+)
     |(?P<text>b?"(?:[^"\\]|\\.)*")
     |(?P<char>b?'(?:[^'\\\n]|\\(?:[^u]|u\{[0-9a-fA-F_]+\}))')
     |(?P<life>'[A-Za-z_]\w*)
@@ -126,18 +128,10 @@ class Refused(Exception):
 
 
 class Token:
-    """A token, or a group: its opening bracket and the tokens within."""
+    """A token and the blanks and comments before it; or a group, with its tokens and the blanks before its end."""
 
-    def __init__(self, kind, text, line):
-        self.kind, self.text, self.line, self.inner = kind, text, line, None
-
-    def written(self):
-        """Returns the text that the token was read from."""
-        return self.text if self.inner is None else self.text + "".join(it.written()
-                                                                        for it in self.inner) + CLOSING[self.text]
-
-    def is_blank(self):
-        return self.kind in ("space", "comment")
+    def __init__(self, kind, text, line, blank=""):
+        self.kind, self.text, self.line, self.blank, self.inner, self.tail = kind, text, line, blank, None, ""
 
     def opens(self, bracket):
         """Returns whether this is a group in such brackets."""
@@ -147,85 +141,42 @@ class Token:
 NOTHING = Token("none", "", 0)
 
 
-def read(text, line=1):
-    """Returns the tokens of a text that begins in a line, with groups for what is in brackets."""
-    groups, at = [[]], 0
-    opened = []
+def read(text):
+    """Returns the tokens of a text, with groups for what is in brackets; the last one has the blanks at its end."""
+    groups, opened, blank, line, at = [[]], [], "", 1, 0
     while at < len(text):
         found = TOKEN.match(text, at)
         if not found:
             raise Refused(f"line {line}: no token begins with {text[at:at + 9]!r}")
-        token = Token(found.lastgroup, found[0], line)
-        if token.kind == "sign" and token.text in CLOSING:
-            token.kind, token.inner = "group", []
+        token = Token(found.lastgroup, found[0], line, blank)
+        if token.text in CLOSING.values():
+            if not opened or CLOSING[opened[-1].text] != token.text:
+                raise Refused(f"line {line}: a bracket closes that isn't open")
+            groups.pop()
+            opened.pop().tail = blank
+        elif token.kind != "blank":
             groups[-1].append(token)
+        if token.text in CLOSING:
+            token.inner = []
             groups.append(token.inner)
             opened.append(token)
-        elif token.kind == "sign" and token.text in CLOSING.values():
-            if not opened or CLOSING[opened.pop().text] != token.text:
-                raise Refused(f"line {line}: a bracket closes that doesn't stand open")
-            groups.pop()
-        else:
-            groups[-1].append(token)
-        line, at = line + found[0].count("\n"), found.end()
+        blank = token.text if token.kind == "blank" else ""
+        line, at = line + token.text.count("\n"), found.end()
     if opened:
         raise Refused(f"line {opened[-1].line}: a bracket stays open")
-    return groups[0]
+    return [*groups[0], Token("end", "", line, blank)]
 
 
-def real(tokens):
-    """Returns the tokens that are no blanks."""
-    return [it for it in tokens if not it.is_blank()]
+def source_of(tokens):
+    """Returns the text that tokens were read from."""
+    return "".join(it.blank + it.text + ("" if it.inner is None else source_of(it.inner) + it.tail + CLOSING[it.text])
+                   for it in tokens)
 
 
-def let_else(tokens):
-    """Returns a statement `let .. else ..` as the `match` that an older rustc knows, or None if the tokens aren't
-    one."""
-    words = real(tokens)
-    if len(words) < 7 or words[-3].text != "else" or not words[-2].opens("{") or not words[1].text[0].isupper():
-        return None
-    name, value = words[2].written()[1:-1], tokens[tokens.index(words[3]) + 1:tokens.index(words[-3])]
-    if not re.fullmatch(r"(mut )?\w+|\(\w+(, \w+)*\)",
-                        name) or words[1].text not in ("Some", "Ok") or words[3].text != "=":
-        raise Refused(f"line {words[0].line}: a pattern of another form before `else`")
-    bound = name.replace("mut ", "")
-    matched = "".join(it.written() for it in value)
-    return f"let {name} = match{matched}{{ {words[1].text}({bound}) => {bound}, _ => {words[-2].written()} }};"
-
-
-def arrays(words):
-    """Returns how a type that is a slice of arrays is written, with its last token, or None if the words don't begin
-    one."""
-    life = words[1:2] and words[1].kind == "life"
-    if words[0].text != "&" or len(words) < 2 + life or not words[1 + life].opens("["):
-        return None
-    inner = real(words[1 + life].inner)
-    found = re.fullmatch(r"\[(\w+); (\w+)\]", inner[0].written()) if len(inner) == 1 and inner[0].opens("[") else None
-    return found and (f"Arrays<{words[1].text if life else chr(39) + '_'}, {found[1]}, {found[2]}>", words[1 + life])
-
-
-def older(tokens, chunked):
-    """Returns tokens without the forms that the oldest rustc lacks: `let .. else`, `as_chunks`, and the slices of
-    arrays that it makes. The names of these are added to a set: an entry of one is borrowed by a call, for as long as
-    the items are."""
-    out, k = [], 0
-    while k < len(tokens):
-        end, it, text = k + 1, tokens[k], None
-        words = real(tokens[k:k + 6])
-        if it.text == "let":
-            last = next((n for n in range(k, len(tokens)) if tokens[n].text == ";"), k)
-            end, text = last + 1, let_else(tokens[k:last + 1])
-            if any(other.text == "as_chunks" for other in tokens[k:last]):
-                chunked.add(real(words[1].inner)[0].text)
-        elif it.text == "as_chunks":
-            text = "as_arrays"
-        elif it.text == "&" and len(words) > 2 and words[1].text in chunked and words[2].opens("["):
-            end, text = tokens.index(words[2]) + 1, f"{words[1].text}.at({words[2].written()[1:-1]})"
-        elif it.text == "&" and (found := arrays(words)):
-            end, text = tokens.index(found[1]) + 1, found[0]
-        out += tokens[k:k + 1] if text is None else read(text, it.line)
-        k = k + 1 if text is None else end
-    return out
+def before_left_out(blank):
+    """Returns the blanks before an item that is left out, without the comments that belong to it: up to the last empty
+    line, or the words of the page."""
+    return re.match(r"(?s)(?:.*(?://![^\n]*|(?=\n\n)))?", blank)[0]
 
 
 def module_of(crate):
@@ -239,103 +190,58 @@ def is_program(crate):
 
 
 class Writer:
-    """What is written of one file. It notes the methods that are called and the functions that are defined."""
+    """What is written of one file. It notes the methods that are called and the functions that are defined.
+
+    Each form that isn't written as it is begins with a token of `forms`. Its method gets the tokens and the number of
+    that one, and returns what is written for the form and the number of its tokens, or None if it is another form.
+    """
 
     def __init__(self, crate, name):
-        self.crate, self.name, self.out, self.calls, self.defines, self.chunked = crate, name, [], {}, set(), set()
+        self.crate, self.name, self.calls, self.defines, self.chunked = crate, name, {}, set(), set()
         self.refused, self.uses, self.renamed, self.macros = REFUSED, USES, {}, MACROS
         self.dropped = DROPPED_ATTRIBUTES
+        self.forms = {"#": self.attribute, "pub": self.ghost, "ghost": self.ghost, "impl": self.model,
+                      "use": self.use, "fn": self.function, "requires": self.clauses, "ensures": self.clauses,
+                      "+": self.bound, ":": self.bound, ".": self.call}
         if is_program(crate):
             self.refused, self.uses, self.renamed = REFUSED - IN_PROGRAMS, PROGRAM_USES, RENAMED
             self.dropped = DROPPED_ATTRIBUTES | EXPORT_ATTRIBUTES
+            self.forms.update({"macro_rules": self.own_macro, "extern": self.export})
+        else:
+            # the forms that the oldest rustc lacks, which never compiles programs
+            self.renamed = RENAMED_FOR_OLDEST
+            self.forms.update({"let": self.let_else, "&": self.arrays})
 
     def refuse(self, token, why):
+        """Raises that a form can't be written."""
         raise Refused(f"{self.name}:{token.line}: {why}")
 
-    def put(self, text):
-        self.out.append(text)
-
-    def unput_space(self):
-        """Takes back the blanks that were written last."""
-        while self.out and self.out[-1].isspace():
-            self.out.pop()
-
-    # What bodies, types and values contain.
-
     def code(self, tokens):
-        """Writes code: as it is, but for paths, bounds by Drop, macros with a handle, and the forms that the oldest
-        rustc lacks."""
-        if not is_program(self.crate):  # (which the oldest rustc never compiles)
-            tokens = older(tokens, self.chunked)
-        places = [k for k, it in enumerate(tokens) if not it.is_blank()]
-        order = {k: n for n, k in enumerate(places)}
-
-        def near(k, by):
-            n = order[k] + by
-            return tokens[places[n]] if 0 <= n < len(places) else NOTHING
-
-        k = 0
+        """Returns what is written for tokens."""
+        out, k = [], 0
         while k < len(tokens):
-            it = tokens[k]
-            if it.is_blank():
-                self.put(it.text)
-            elif it.inner is not None:
-                self.put(it.text)
-                self.code(it.inner)
-                self.put(CLOSING[it.text])
-            elif it.kind == "word" and near(k, 1).text == "!" and near(k, 2).inner is not None:
-                k = places[order[k] + 2]
-                if it.text in GHOST_MACROS:
-                    if near(k, 1).text != ";":
-                        self.refuse(it, "a condition to prove that is no statement")
-                    k = places[order[k] + 1]
-                    self.unput_space()
-                else:
-                    self.macro(it, tokens[k])
-            elif it.text in ("+", ":") and near(k, 1).text == "Drop":
-                # The first bound says in Rattle that the type has a size, too. Another one says nothing in Rust.
-                if it.text == ":":
-                    self.put(": Sized")
-                else:
-                    self.unput_space()
-                k = places[order[k] + 1]
-            elif it.kind == "text" and "\n" in it.text:
-                self.refuse(it, "a text of several lines")
-            elif it.kind == "ghost" or it.text == "#" or (it.kind == "word" and it.text in self.refused):
-                self.refuse(it, f"{it.text!r} in code")
-            else:
-                if it.text == "." and near(k, 1).kind == "word" and near(k, 2).text in ("(", "::"):
-                    name = near(k, 1)
-                    name.text = self.renamed.get(name.text, name.text)
-                    self.calls.setdefault(name.text, it.line)
-                if it.kind == "word" and near(k, 1).text == "::" and near(k, -1).text != "::":
-                    self.put(self.root(it, near(k, 2).text, near(k, 4).text))
-                else:
-                    self.put(it.text)
-            k += 1
+            text, count = self.form(tokens, k)
+            out.append(text)
+            k += count
+        return "".join(out)
 
-    def macro(self, name, group):
-        """Writes the use of a macro."""
-        text = group.written()
-        if name.text in self.macros:
-            self.put(name.text + "!" + group.text)
-            self.code(group.inner)
-            self.put(CLOSING[group.text])
-        elif name.text in HANDLED_MACROS:
-            # The handle that may stop the program comes first, and a semicolon.
-            rest = next((k for k, it in enumerate(group.inner) if it.text == ";" and it.inner is None), None)
-            if rest is None:
-                self.refuse(name, f"{name.text}! without a handle")
-            self.put(f"{name.text}!(")
-            self.code(group.inner[rest + 1 + (group.inner[rest + 1].kind == "space"):])
-            self.put(")")
-        elif name.text == "vec" and (found := re.fullmatch(r"\[in ([^;]+); ([^;]+); ([^;]+)\]", text)):
-            # An allocator, an item, and how many times.
-            self.code(read(f"Vec::from_elem({', '.join(found.groups())})", name.line))
-        elif name.text == "format" and re.match(r"\(in [^;]+; ", text):
-            self.put("crate::rattle::testing::granted(format!(" + text.split("; ", 1)[1] + ")")
-        else:
-            self.refuse(name, f"the macro {name.text}!")
+    def form(self, tokens, k):
+        """Returns what is written for the form that begins at a token, and the number of its tokens."""
+        it, second, third, _, fifth = (tokens[k:k + 5] + [NOTHING] * 4)[:5]
+        special = it.kind in ("word", "sign") and it.text in self.forms and self.forms[it.text](tokens, k)
+        if special:
+            return special
+        if it.inner is not None:
+            return it.blank + it.text + self.code(it.inner) + it.tail + CLOSING[it.text], 1
+        if it.kind == "word" and second.text == "!" and third.inner is not None:
+            return self.macro(tokens, k)
+        if it.kind == "text" and "\n" in it.text:
+            self.refuse(it, "a text of several lines")
+        if it.kind == "ghost" or it.text == "#" or (it.kind == "word" and it.text in self.refused):
+            self.refuse(it, f"{it.text!r} in code")
+        if it.kind == "word" and second.text == "::" and (k == 0 or tokens[k - 1].text != "::"):
+            return it.blank + self.root(it, third.text, fifth.text), 1
+        return it.blank + it.text, 1
 
     def root(self, it, second, third):
         """Returns the translation of the first word of a path."""
@@ -348,195 +254,180 @@ class Writer:
             self.refuse(it, f"the path {it.text}::{second}::{third}")
         return it.text
 
+    # What bodies, types and values contain.
+
+    def call(self, tokens, k):
+        """Notes the call of a method."""
+        name, after = (tokens[k + 1:k + 3] + [NOTHING] * 2)[:2]
+        if name.kind == "word" and after.text in ("(", "::"):
+            name.text = self.renamed.get(name.text, name.text)
+            self.calls.setdefault(name.text, name.line)
+
+    def bound(self, tokens, k):
+        """Leaves out a bound by Drop. The first one says in Rattle that the type has a size, too."""
+        if [it.text for it in tokens[k + 1:k + 2]] == ["Drop"]:
+            return tokens[k].blank + ": Sized" if tokens[k].text == ":" else "", 2
+        return None
+
+    def macro(self, tokens, k):
+        """Writes the use of a macro: as it is, or without the handle that comes first, and a semicolon; or leaves out a
+        condition to prove."""
+        name, _, group = tokens[k:k + 3]
+        text = source_of([group]).strip()
+        if name.text in GHOST_MACROS:
+            if k + 3 == len(tokens) or tokens[k + 3].text != ";":
+                self.refuse(name, "a condition to prove that is no statement")
+            return "", 4
+        if name.text in self.macros:
+            return f"{name.blank}{name.text}!", 2
+        if name.text in HANDLED_MACROS:
+            rest = next((n for n, it in enumerate(group.inner, 1) if it.text == ";"), None)
+            if rest is None:
+                self.refuse(name, f"{name.text}! without a handle")
+            return f"{name.blank}{name.text}!({self.code(group.inner[rest:]).lstrip()}{group.tail})", 3
+        if name.text == "vec" and (found := re.fullmatch(r"\[in ([^;]+); ([^;]+); ([^;]+)\]", text)):
+            # An allocator, an item, and how many times.
+            return name.blank + self.code(read(f"Vec::from_elem({', '.join(found.groups())})")), 3
+        if name.text == "format" and re.match(r"\(in [^;]+; ", text):
+            return f"{name.blank}crate::rattle::testing::granted(format!({text.split('; ', 1)[1]})", 3
+        return self.refuse(name, f"the macro {name.text}!")
+
+    # The forms that the oldest rustc lacks.
+
+    def let_else(self, tokens, k):
+        """Writes a statement `let .. else ..` as a `match`, and notes the name of what `as_chunks` returns: an entry
+        of it is borrowed by a call, for as long as the items are."""
+        end = next((n for n in range(k, len(tokens)) if tokens[n].text == ";"), k)
+        words = tokens[k:end]
+        if any(it.text == "as_chunks" for it in words):
+            self.chunked.add(words[1].inner[0].text)
+        if len(words) < 6 or words[-2].text != "else" or not words[1].text[0].isupper():
+            return None
+        name = source_of(words[2:3])[1:-1]
+        if not re.fullmatch(r"(mut )?\w+|\(\w+(, \w+)*\)", name) or [it.text for it in words[1:4:2]] not in (["Some", "="],
+                                                                                                        ["Ok", "="]):
+            self.refuse(words[0], "a pattern of another form before `else`")
+        bound, value, other = name.replace("mut ", ""), self.code(words[4:-2]), self.code(words[-1:]).lstrip()
+        return (f"{words[0].blank}let {name} = match{value}{words[-2].blank}{{ {words[1].text}({bound}) => {bound}, "
+                f"_ => {other} }};", end + 1 - k)
+
+    def arrays(self, tokens, k):
+        """Writes a type that is a slice of arrays, or an entry of a value of such a type."""
+        words = [it for it in tokens[k + 1:k + 3] if it.kind != "life"]
+        if len(words) > 1 and words[0].text in self.chunked and words[1].opens("["):
+            return f"{tokens[k].blank}{words[0].text}.at({source_of(words[1:])[1:-1]})", 3
+        if not (words and words[0].opens("[")):
+            return None
+        life = tokens[k + 1].text if tokens[k + 1].kind == "life" else "'_"
+        found = re.fullmatch(r"\[\[(\w+); (\w+)\]\]", source_of(words[:1]).strip())
+        return found and (f"{tokens[k].blank}Arrays<{life}, {found[1]}, {found[2]}>", 2 + (life != "'_"))
+
     # Items.
 
-    def items(self, tokens, fields=False):
-        """Writes items, or the fields of a struct or an enum."""
-        k = 0
-        while k < len(tokens):
-            if tokens[k].is_blank():
-                self.put(tokens[k].text)
-                k += 1
-                continue
-            end = k
-            while end < len(tokens) and not self.ends(tokens, k, end, fields):
-                end += 1
-            self.item(tokens[k:end + 1], fields)
-            k = end + 1
-
-    @staticmethod
-    def ends(tokens, start, k, fields):
-        """Returns whether an item ends at a token: by a semicolon or a body, a field by a comma, and an attribute of
-        the file by itself."""
-        it, before = tokens[k], real(tokens[start:k])
-        if [t.text for t in before] == ["#", "!"]:
-            return it.opens("[")
-        if fields:
-            return it.text == ","
-        if it.text == ";":
-            return True
-        if not it.opens("{"):
-            return False
-        words = [t.text for t in before if t.kind == "word"]
-        if next((w for w in words if w != "pub"), "") in ("use", "ghost", "const", "static",
-                                                          "type") and "fn" not in words:
-            return False
-        last = before[-2] if before[-1].kind == "word" and before[-1].text not in CLAUSES else before[-1]
-        return last.text not in CLAUSES
-
-    def item(self, tokens, fields):
-        """Writes one item with its attributes, or one field."""
-        tokens = self.attributes(tokens)
-        words = real(tokens)
-        if not words:
-            return
-        head = [it.text for it in words]
-        if head[0] == "pub":
-            head = head[2:] if words[1].opens("(") else head[1:]
-        kind = head[0] if head else ""
-        if kind == "const" and head[1:2] == ["fn"]:
-            kind = "fn"
-        if kind == "extern" and is_program(self.crate):
-            at = next(k for k, it in enumerate(tokens) if it.text == "extern")
-            kind, tokens = "fn", tokens[:at] + tokens[at + 4:]
-        if kind == "ghost":
-            self.check_ghost(words, fields)
-            self.unput_item()
-        elif kind == "impl" and ("Model", "for") in zip(head, head[1:]):
-            inner = Writer(self.crate, self.name)
-            inner.items(words[-1].inner)
-            if "".join(inner.out).strip():
-                self.refuse(words[0], "an impl of Model with more than ghost items")
-            self.unput_item()
-        elif kind == "use":
-            self.use(tokens)
-        elif kind == "fn":
-            self.function(tokens)
-        elif kind == "macro_rules" and is_program(self.crate):
-            self.macros = self.macros | {words[2].text}
-            self.code(tokens)
-        elif fields or kind in ("const", "static", "type") or (kind in ("mod", "struct") and head[-1] == ";"):
-            self.code(tokens)
-        elif kind in ("mod", "struct", "enum", "trait", "impl") and tokens[-1].opens("{"):
-            self.code(tokens[:-1])
-            self.put("{")
-            self.items(tokens[-1].inner, fields=kind in ("struct", "enum"))
-            self.put("}")
+    def ghost(self, tokens, k):
+        """Leaves out a ghost item: a `use`, or a name with a type or a value in braces."""
+        start = k + (tokens[k].text == "pub")
+        if tokens[start].text != "ghost":
+            return None
+        text = " ".join("{}" if it.opens("{") else it.text for it in tokens[start:start + 7]) + " "
+        found = re.match(r"ghost \w+ (?:: {} = {}|[:=] {}) (?:[;,] |$)", text)
+        if tokens[start + 1].text == "use":
+            end = next(n for n in range(start, len(tokens)) if tokens[n].text == ";") + 1
+        elif found:
+            end = start + len(found[0].split())
         else:
-            self.refuse(words[0], f"an item that begins with {kind!r}")
+            self.refuse(tokens[start], f"a ghost item of another form: {text}")
+        return before_left_out(tokens[k].blank), end - k
 
-    def unput_item(self):
-        """Takes back the blanks before an item that is left out, and the comments that belong to it."""
-        while self.out and (self.out[-1].isspace() or re.match("//(?!!)", self.out[-1])):
-            last = self.out.pop()
-            if last.count("\n") > 1:
-                self.put(last[: last.index("\n")] if self.out and self.out[-1] != "{" else "")
-                break
+    def model(self, tokens, k):
+        """Leaves out an impl of Model, which has only ghost items."""
+        end = next((n for n in range(k, len(tokens)) if tokens[n].opens("{")), k)
+        head = [it.text for it in tokens[k:end]]
+        if ("Model", "for") not in zip(head, head[1:]):
+            return None
+        if self.code(tokens[end].inner).strip():
+            self.refuse(tokens[k], "an impl of Model with more than ghost items")
+        return before_left_out(tokens[k].blank), end + 1 - k
 
-    def check_ghost(self, words, fields):
-        """Checks that a ghost item is a `use`, or a name with a type or a value in braces."""
-        words = words[words[0].text == "pub":]
-        text = "".join("{}" if it.opens("{") else it.text for it in words)
-        known = r"ghost\w+:\{\},?" if fields else r"ghost\w+([:=]|:\{\}=)\{\};"
-        if words[1].text != "use" and not re.fullmatch(known, text):
-            self.refuse(words[0], f"a ghost item of another form: {text}")
+    def attribute(self, tokens, k):
+        """Writes an attribute, or leaves it out with its line."""
+        is_inward = tokens[k + 1].text == "!"
+        end = k + 2 + is_inward
+        name, *rest = tokens[end - 1].inner or [NOTHING]
+        whole = source_of(tokens[k:end])
+        if name.text == "derive":
+            names = [it.text for it in rest[0].inner if it.kind == "word" and it.text != "Drop"]
+            if set(names) - DERIVES:
+                self.refuse(name, f"a derive of {names}")
+            whole = f"{tokens[k].blank}#[derive({', '.join(names)})]" if names else ""
+        elif name.text in self.dropped:
+            whole = ""
+        elif name.text not in KEPT_ATTRIBUTES or is_inward:
+            self.refuse(name, f"the attribute {whole}")
+        if is_inward:
+            return tokens[k].blank.rstrip(), end - k
+        if not whole:
+            tokens[end].blank = tokens[k].blank + tokens[end].blank.lstrip()
+        return whole, end - k
 
-    def attributes(self, tokens):
-        """Writes the attributes that lead an item, and returns what follows them."""
-        while tokens and tokens[0].text == "#":
-            inward = real(tokens)[1].text == "!"
-            end = next(k for k, it in enumerate(tokens) if it.opens("["))
-            words = real(tokens[end].inner)
-            whole = "".join(it.written() for it in tokens[:end + 1])
-            if words[0].text == "derive":
-                names = [it.text for it in words[1].inner if it.kind == "word" and it.text != "Drop"]
-                if set(names) - DERIVES:
-                    self.refuse(words[0], f"a derive of {names}")
-                whole = f"#[derive({', '.join(names)})]" if names else ""
-            elif words[0].text in self.dropped:
-                whole = ""
-            elif words[0].text not in KEPT_ATTRIBUTES or inward:
-                self.refuse(words[0], f"the attribute {whole}")
-            if inward:
-                self.unput_space()
-            self.put(whole)
-            tokens = tokens[end + 1:]
-            while tokens and tokens[0].is_blank():
-                if whole or tokens[0].kind == "comment":
-                    self.put(tokens[0].text)
-                tokens = tokens[1:]
-        return tokens
-
-    def use(self, tokens):
+    def use(self, tokens, k):
         """Writes a `use`, by the list of translations of std."""
-        text = re.sub(r"\s+", " ", "".join(it.written() for it in tokens))
-        public, path = re.fullmatch(r"(pub(?:\([^)]*\))? )?use ([^;]*);", text).groups("")
-        first = path.split("::")[0]
-        if first not in ("std", "core", "alloc") and (first != "vers_io" or is_program(self.crate)):
-            return self.code(tokens)
+        end = next(n for n in range(k, len(tokens)) if tokens[n].text == ";")
+        path = " ".join(source_of(tokens[k + 1:end]).split())
+        if path.split("::")[0] not in ("std", "core", "alloc", *["vers_io"] * (not is_program(self.crate))):
+            return None
         whole = re.fullmatch(r"(.*::)\{(.*?),? ?\}", path)
         paths = [whole[1] + it.strip() for it in whole[2].split(",")] if whole else [path]
         for it in paths:
             if it not in self.uses:
-                self.refuse(tokens[0], f"the path {it}")
-        lines = [f"{public}use {self.uses[it]};" for it in paths if self.uses[it]]
-        if not lines:
-            self.unput_space()
-        return self.put("\n".join(lines))
+                self.refuse(tokens[k], f"the path {it}")
+        public = "pub " if k and tokens[k - 1].text == "pub" else ""
+        lines = [f"use {self.uses[it]};" for it in paths if self.uses[it]]
+        return (tokens[k].blank if lines else tokens[k].blank.rstrip()) + f"\n{public}".join(lines), end + 1 - k
 
-    def function(self, tokens):
-        """Writes a function without its clauses."""
+    def function(self, tokens, k):
+        """Notes the name of a function, and writes the usual signature of `fmt`. A test makes the runtime that it is
+        given in Rattle."""
+        end = next((n for n in range(k, len(tokens)) if tokens[n].opens("{") or tokens[n].text in CLAUSES | {";"}), k)
+        flat = " ".join(source_of(tokens[k:end]).split())
         self.chunked = set()
-        signature, k, clauses = [], 0, 0
-        while k < len(tokens) - 1:
-            it = tokens[k]
-            if it.kind == "word" and it.text in CLAUSES:
-                clause = real(tokens[k + 1:k + 5])
-                named = clause[0].kind == "word"
-                if not clause[named].opens("{"):
-                    self.refuse(it, "a clause of another form")
-                k = tokens.index(clause[named])
-                clauses += 1
-            elif clauses and not it.is_blank():
-                self.refuse(it, "more of a signature after a clause")
-            else:
-                signature.append(it)
-            k += 1
-        while clauses and signature[-1].is_blank():
-            signature.pop()
-        words = [it.text for it in real(signature)]
-        self.defines.add(words[words.index("fn") + 1])
-        runtime = self.signature(signature)
-        body = tokens[-1]
-        if body.text == ";":
-            return self.put(";")
-        if clauses:
-            self.put("\n" if "where" in words else " ")
-        self.put("{")
-        if runtime:
-            self.put(f"\n    let {runtime} = HostRuntime;")
-        self.code(body.inner)
-        return self.put("}")
-
-    def signature(self, tokens):
-        """Writes a signature, and returns the name by which a test is given the runtime, which it makes itself in
-        Rust."""
-        flat = re.sub(r"\s+", " ", "".join(it.written() for it in tokens)).strip()
-        if "fmt::Write" in flat:
-            if flat != "fn fmt<W: fmt::Write>(&self, f: &mut fmt::Formatter<W>) -> fmt::Result":
-                self.refuse(tokens[0], "a signature of fmt that is not the usual one")
-            self.put("fn fmt(&self, f: &mut fmt::Formatter<'_>) -> fmt::Result ")
+        self.defines.add(tokens[k + 1].text)
+        if given := re.search(r"\((\w+): HostRuntime\)", flat):
+            next(it for it in tokens[k:] if it.opens("(")).inner = []
+            body = next(it for it in tokens[end:] if it.opens("{"))
+            body.inner.insert(0, Token("number", f"\n    let {given[1]} = HostRuntime;", body.line))
+        if "fmt::Write" not in flat:
             return None
-        given = re.search(r"\((\w+): HostRuntime\)", flat)
-        if given:
-            next(it for it in tokens if it.opens("(")).inner = []
-        self.code(tokens)
-        return given and given[1]
+        if flat != "fn fmt<W: fmt::Write>(&self, f: &mut fmt::Formatter<W>) -> fmt::Result":
+            self.refuse(tokens[k], "a signature of fmt that is not the usual one")
+        return f"{tokens[k].blank}fn fmt(&self, f: &mut fmt::Formatter<'_>) -> fmt::Result", end - k
+
+    def clauses(self, tokens, k):
+        """Leaves out the clauses of a function."""
+        form, head = " ".join("{}" if it.opens("{") else it.text for it in tokens[k:]), [it.text for it in tokens[:k]]
+        found = re.match(r"(?:(?:requires|ensures) (?:\w+ )?{} )+(?=[{;])", form)
+        if not (found and "fn" in head):
+            self.refuse(tokens[k], "a clause of another form")
+        count, has_bounds = len(found[0].split()), "where" in head[len(head) - head[::-1].index("fn"):]
+        tokens[k + count].blank = "" if tokens[k + count].text == ";" else "\n" if has_bounds else " "
+        return "", count
+
+    def own_macro(self, tokens, k):
+        """Notes the name of a macro of the file's own."""
+        self.macros = self.macros | {tokens[k + 2].text}
+
+    def export(self, tokens, k):
+        """Leaves out that a function is exported to C."""
+        tokens[k + 2].blank = tokens[k].blank
+        return "", 2
 
     def file(self, text):
         """Returns what is written for a file's text."""
-        self.items(read(text))
-        lines = "".join(self.out).split("\n")
+        tokens = read(text)
+        for before, it in zip([Token("sign", ";", 0), *tokens], tokens):
+            if (before.text in (";", "pub") or before.opens("{")) and not (it.text in ITEMS or it.opens("{")):
+                self.refuse(it, f"an item that begins with {it.text!r}")
+        lines = self.code(tokens).split("\n")
         # The names that every file sees come after the page's words.
         at = next((k for k, it in enumerate(lines) if not it.startswith("//!")), len(lines))
         lines[at:at] = ["", PRELUDE]
@@ -549,16 +440,10 @@ class Writer:
         return re.sub(r"\{\n\s*\}", "{}", text).strip("\n") + "\n"
 
 
-def sources(crate):
-    """Yields the path that each file of a crate is written to, and its text."""
-    src = os.path.join(TOP, "crates", crate, "src")
-    for folder, _, names in sorted(os.walk(src)):
-        for name in sorted(names):
-            path = os.path.join(folder, name)
-            stem, end = os.path.splitext(os.path.relpath(path, src))
-            if end == ".rt":
-                with open(path, encoding="utf-8") as file:
-                    yield f"{crate}/{'mod' if stem == 'lib' else stem}.rs", file.read()
+def path_of(source):
+    """Returns the path that a source file is written to."""
+    stem = source.path.partition("/src/")[2].removesuffix(".rt")
+    return f"{source.crate}/{'mod' if stem == 'lib' else stem}.rs"
 
 
 def written_of(crates):
@@ -566,15 +451,14 @@ def written_of(crates):
     the functions that are defined."""
     written, faults, calls, defines = {}, [], {}, set()
     for crate in crates:
-        for path, text in sources(crate):
-            if path not in BY_HAND:
-                writer = Writer(crate, path)
-                try:
-                    written[path] = writer.file(text)
-                except Refused as why:
-                    faults.append(str(why))
-                calls.update({it: f"{path}:{line}" for it, line in writer.calls.items()})
-                defines |= writer.defines
+        for path, text in [(path_of(it), it.text) for it in read_crate(TOP, crate) if path_of(it) not in BY_HAND]:
+            writer = Writer(crate, path)
+            try:
+                written[path] = writer.file(text)
+            except Refused as why:
+                faults.append(str(why))
+            calls.update({it: f"{path}:{line}" for it, line in writer.calls.items()})
+            defines |= writer.defines
     written["mod.rs"] = NOTE + "".join(f"pub mod {it};\n" for it in crates)
     return written, faults, calls, defines
 
@@ -598,8 +482,8 @@ def written(top):
 def stored(folder):
     """Returns the files of the folders that the script alone writes, by their paths in the folder of the crate's
     sources."""
-    paths = [os.path.join(at, name) for it in STORED for at, _, names in os.walk(f"{folder}/{it}") for name in names]
-    return {os.path.relpath(it, folder) for it in paths} - {f"proved_tests/{it}" for it in BY_HAND}
+    paths = [path.relative_to(folder) for it in STORED for path in Path(folder, it).rglob("*") if path.is_file()]
+    return set(map(str, paths)) - {f"proved_tests/{it}" for it in BY_HAND}
 
 
 TRIED = {
@@ -665,21 +549,18 @@ def self_test():
     return wrong > 0
 
 
-def main():
+def main(arguments):
     """Writes the files, compares them, or tries the forms."""
-    if sys.argv[1:] == ["--self-test"]:
+    if arguments == ["--self-test"]:
         return self_test()
-    folder = f"{TOP}/{RUST}"
+    folder, is_check = f"{TOP}/{RUST}", arguments == ["--check"]
     files, faults = written(TOP)
     faults += [f"{it} is written from nothing" for it in sorted(stored(folder) - set(files))]
-    if sys.argv[1:] == ["--check"]:
-        faults += [f"{it} is not what is written" for it in files if not os.path.exists(f"{folder}/{it}")
-                   or read_text(f"{folder}/{it}") != files[it]]
-        faults += guard_faults(TOP, folder, CRATES)
-    elif not faults:
-        write_files(folder, files)
-    return report("tools/plain_rust.py", faults)
+    faults += guard_faults(TOP, folder, CRATES) if is_check else []
+    if report("tools/plain_rust.py", faults) and not is_check:
+        return 1
+    return write_or_check({f"{RUST}/{path}": text for path, text in files.items()}, "tools/plain_rust.py") or bool(faults)
 
 
 if __name__ == "__main__":
-    sys.exit(main())
+    sys.exit(main(sys.argv[1:]))

@@ -16,7 +16,6 @@ import sys
 import tempfile
 import threading
 import time
-from collections import Counter
 from concurrent.futures import FIRST_COMPLETED, ThreadPoolExecutor, wait
 from graphlib import TopologicalSorter
 from pathlib import Path
@@ -71,13 +70,17 @@ class Crates:
         """Returns the libraries below a crate, each after those that it depends on."""
         return list(dict.fromkeys(it for use in self.uses(name) for it in [*self.below(use), use]))
 
+    def is_fresh(self, path, names, *others):
+        """Returns whether a file or folder is there and as new as the sources of crates and as other files."""
+        folders = [Path(self.folder(it), part) for it in names for part in PARTS]
+        files = [*others, *folders, *(file for folder in folders for file in folder.rglob("*"))]
+        return os.path.exists(path) and all(it.stat().st_mtime <= os.stat(path).st_mtime
+                                            for it in [Path(self.top, "crates.txt"), *files] if it.exists())
+
     def is_built(self, name):
         """Returns whether the build of a library is newer than its sources and than the libraries that it uses."""
-        built, *below = (Path(self.built(it)) for it in [name, *self.uses(name)])
-        texts = (file for part in PARTS for file in Path(self.folder(name), part).rglob("*"))
-        parts = [Path(self.top, "crates.txt"), *below, *texts]
-        return all(map(Path.is_dir, [built, *below])) and all(it.stat().st_mtime <= built.stat().st_mtime
-                                                              for it in parts)
+        below = [Path(self.built(it)) for it in self.uses(name)]
+        return all(map(Path.is_dir, below)) and self.is_fresh(self.built(name), [name], *below)
 
     def command(self, verb, name):
         """Returns the command that checks or builds a crate in its folder, over the libraries below it as they were
@@ -109,13 +112,18 @@ class Crates:
 
 
 class Commands:
-    """Runs commands, adds up what they took, and ends them all where one fails and on an interrupt."""
+    """Runs commands, and ends them all if one fails and on an interrupt."""
 
-    def __init__(self, count):
-        self.count, self.running, self.seconds, self.ended, self.lock = count, set(), Counter(), "", threading.RLock()
+    def __init__(self):
+        # (four processors at most, since each check wants some gigabytes)
+        self.count = min(4, len(os.sched_getaffinity(0)))
+        self.running, self.ended, self.lock = set(), "", threading.RLock()
+        for it in (signal.SIGINT, signal.SIGTERM, signal.SIGHUP):
+            signal.signal(it, lambda number, frame: self.end("interrupted"))
 
-    def run(self, part, command, folder):
-        """Runs a command in a folder, adds what it took to a part, and returns what it printed and its status."""
+    def run(self, command, folder):
+        """Runs a command in a folder, and returns what it printed, its status, and the processor seconds that it
+        took."""
         with (
             tempfile.TemporaryDirectory(prefix="proof-", ignore_cleanup_errors=True) as room,
             open(f"{room}/output", "w+", encoding="utf-8", errors="replace") as out,
@@ -131,11 +139,10 @@ class Commands:
             child.returncode = os.waitstatus_to_exitcode(status)
             with self.lock:
                 self.running.discard(child.pid)
-                self.seconds[part] += used.ru_utime + used.ru_stime
                 if self.ended:
                     raise Failure(self.ended)
             out.seek(0)
-            return out.read(), child.returncode
+            return out.read(), child.returncode, used.ru_utime + used.ru_stime
 
     def end(self, why):
         """Ends all that runs, and lets nothing begin."""
@@ -144,16 +151,6 @@ class Commands:
             for it in self.running:
                 with contextlib.suppress(ProcessLookupError):
                     os.killpg(it, signal.SIGINT)
-
-    def fail(self, why):
-        """Ends all that runs, and says why."""
-        self.end(why)
-        raise Failure(self.ended)
-
-    def end_on_interrupt(self):
-        """Has an interrupt end all that runs."""
-        for it in (signal.SIGINT, signal.SIGTERM, signal.SIGHUP):
-            signal.signal(it, lambda number, frame: self.end("interrupted"))
 
 
 def longest_ways(crates, asked):
@@ -169,7 +166,7 @@ def longest_ways(crates, asked):
 
 
 def prove_all(crates, names, commands, report):
-    """Proves crates with those below them, half as many at a time as there are processors, and reports each name.
+    """Proves crates with those below them, half as many at a time as there are processors, and reports each.
     Of two, that with the shorter way up yields."""
     asked = {it for name in names for it in [*crates.below(name), name]}
     ways, order, running = longest_ways(crates, asked), TopologicalSorter({it: crates.uses(it) for it in asked}), {}
@@ -180,49 +177,42 @@ def prove_all(crates, names, commands, report):
             longest = max(map(ways.get, [*running.values(), *ready]))
             running |= {pool.submit(prove, crates, it, 10 - 10 * ways[it] // longest, commands): it for it in ready}
             for done in wait(running, return_when=FIRST_COMPLETED).done:
-                done.result()
-                name = running.pop(done)
-                order.done(name)
-                report(name)
+                report(f"{running[done]} is {done.result()}")
+                order.done(running.pop(done))
 
 
 def prove(crates, name, niceness, commands):
-    """Proves a crate and builds it, unless it is a library whose build is up to date."""
+    """Proves a crate and builds it, unless it is a library whose build is up to date, and returns what it did."""
     if crates.is_built(name):
-        return
-    began, built = time.time(), Path(crates.built(name))
+        return "up to date"
+    began, built, seconds = time.time(), Path(crates.built(name)), 0
     os.makedirs(built.parent, exist_ok=True)
     for command in crates.building(name, commands.count // 2 + 1):
-        output, status = commands.run((name, "proof"), ["nice", "-n", str(niceness), *command], crates.folder(name))
+        output, status, more = commands.run(["nice", "-n", str(niceness), *command], crates.folder(name))
+        seconds += more
         if status:
             reasons = "\n".join(it[0] for it in REASON.finditer(output))
-            commands.fail(f"{name} is not proved:\n{reasons or output[-4000:]}")
+            commands.end(f"{name} is not proved:\n{reasons or output[-4000:]}")
+            raise Failure(commands.ended)
     if built.is_dir():
         # (a source that changed meanwhile is newer)
         os.utime(built, (began, began))
+    return f"proved by {seconds:.0f} processor seconds"
 
 
-def processor_count():
-    """Returns how many processors a run may use: four at most, since each check wants some gigabytes."""
-    return min(4, len(os.sched_getaffinity(0)))
-
-
-def main():
+def main(names):
     """Proves the crates that are named."""
-    began, names, crates, commands = time.time(), sys.argv[1:], Crates(TOP), Commands(processor_count())
+    began, crates, commands = time.time(), Crates(TOP), Commands()
 
     def report(text):
-        print(f"{names[0]}: {text}", file=sys.stderr, flush=True)
+        print(f"{names[0]}: {text}, after {(time.time() - began) / 60:.1f} minutes", file=sys.stderr, flush=True)
 
-    commands.end_on_interrupt()
     try:
-        report("proving the crates, those below first; this takes some minutes the first time")
-        prove_all(crates, names, commands, lambda name: report(
-            f"{name} is proved by {commands.seconds[name, 'proof']:.0f} processor seconds, "
-            f"after {(time.time() - began) / 60:.1f} minutes"
-            if (name, "proof") in commands.seconds else f"{name} is up to date"))
+        print(f"{names[0]}: proving the crates, those below first; this takes some minutes the first time",
+              file=sys.stderr)
+        prove_all(crates, names, commands, report)
     except Failure as failure:
-        report(failure)
+        print(f"{names[0]}: {failure}", file=sys.stderr)
         return 1
     for name in filter(crates.is_program, names):
         write_files(crates.folder(name), {f"out/{name}.built": ""})
@@ -231,4 +221,4 @@ def main():
 
 
 if __name__ == "__main__":
-    sys.exit(main())
+    sys.exit(main(sys.argv[1:]))

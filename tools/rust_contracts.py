@@ -7,17 +7,17 @@ sources.
 - `rust/guards.txt` has a row for each call of a proved function with a precondition: the file and the function of the
   facade, the proved function, its precondition, and the text in the facade's function that establishes it.
 """
-import os
 import re
 import tempfile
+import textwrap
 from collections import defaultdict
+from pathlib import Path
 
 from sources import public_functions, read, read_crate, write_files
 
 DEFINITIONS, GUARDS = "docs/DEFINITIONS.md", "guards.txt"
 WRITTEN = ("proved", "proved_tests", "rattle", "contracts.rs")
 CITED = re.compile(r"\bcontract!\(\s*(\$?\w+(?:::\$?\w+)?)\s*\)")
-IMPORT = re.compile(r"\bghost use Rattle\.(\w+)\.specs\.[\w.]+\.\{([^}]*)\}")
 CALL = re.compile(r"(?P<receiver>(?:<?[$\w]+(?:::<\w+>)?(?:\(\))?>?(?:\.|::))+)(?P<name>[a-z]\w*)(?:::<[^<>]*>)?\(")
 HEAD = re.compile(r"^( *)(?:pub(?:\([a-z]+\))? )?(?:const )?fn (\w+)")
 BRACKETS, PLAIN = r"^\((.*)\)$", r"\1"
@@ -30,12 +30,10 @@ ADDS = "AddsAtMost tally.old tally.new "
 
 def facade_files(folder):
     """Yields the path of each file of the facade, below its folder, and its text."""
-    for at, folders, names in os.walk(folder):
-        folders[:] = sorted(it for it in folders if it not in WRITTEN)
-        for name in sorted(names):
-            if name.endswith(".rs") and name not in WRITTEN:
-                path = os.path.join(at, name)
-                yield os.path.relpath(path, folder), read(path)
+    for path in sorted(Path(folder).rglob("*.rs")):
+        below = path.relative_to(folder)
+        if not set(below.parts) & set(WRITTEN):
+            yield str(below), read(path)
 
 
 class Definitions:
@@ -64,29 +62,13 @@ class Definitions:
         return re.sub(r"\[([^\]]*)\]\((?!#)[^)]*\)", r"\1", text)
 
 
-def dedented(text):
-    """Returns the lines of a text without the blanks that all begin with."""
-    lines = text.split("\n")
-    margin = min(len(it) - len(it.lstrip()) for it in lines if it.strip())
-    return "\n".join(it[margin:].rstrip() for it in lines)
-
-
-def words_of(function):
-    """Yields the crate and the name of each word of `specs/` that a contract cites."""
-    cited = set(re.findall(r"(?<![\w.])\w+", " ".join(fact for _, fact in function.clauses)))
-    for crate, names in IMPORT.findall(function.source.text):
-        for name, *other in (it.strip().split(" as ") for it in names.split(",")):
-            if (other or [name])[0] in cited and crate != "std":
-                yield crate, name
-
-
 def contract_of(function, counted, definitions):
     """Returns the section of a page that has a function's contract."""
-    said = ["# Contract", "", "```text", dedented(function.declared), "```", ""]
-    words = list(dict.fromkeys(words_of(function)))
+    said = ["# Contract", "", "```text", re.sub(r"(?m) +$", "", textwrap.dedent(function.declared)), "```", ""]
+    words = list(dict.fromkeys((crate, word) for crate, _, word in function.words))
     bounds = [fact.removeprefix(ADDS) for _, fact in counted.clauses if fact.startswith(ADDS)] if counted else []
     if bounds and counted is not function:
-        words += [it for it in words_of(counted) if it not in words and it[1] in bounds[0]]
+        words += [(crate, it) for crate, _, it in counted.words if (crate, it) not in words and it in bounds[0]]
         said += [f"Reads at most `{re.sub(BRACKETS, PLAIN, bounds[0])}`, counted by `{counted.name}`.", ""]
     links = [it for it in (definitions.link(*word) for word in words) if it]
     return "\n".join(said + ([f"Words: {', '.join(links)}."] if links else []))
@@ -117,17 +99,17 @@ def pages(top, folder, crates):
     return {"contracts.rs": head + macro, "definitions.md": definitions.page()}, faults
 
 
-class Conditions:
-    """What public proved functions require, by their types and names."""
+def conditions(top, crates):
+    """Returns what public proved functions require, by their types and names."""
+    known = {}
+    for it in [it for crate in crates for it in public_functions(read_crate(top, crate))]:
+        known.setdefault((it.holder, it.name), [fact for kind, fact in it.clauses if kind == "requires"])
+    return known
 
-    def __init__(self, top, crates):
-        self.known = {}
-        for it in [it for crate in crates for it in public_functions(read_crate(top, crate))]:
-            self.known.setdefault((it.holder, it.name), [fact for kind, fact in it.clauses if kind == "requires"])
 
-    def of(self, types, name):
-        """Returns what a call of a name requires, of a value of one of these types."""
-        return next((self.known[it, name] for it in sorted(types) if self.known.get((it, name))), [])
+def required_of(known, types, name):
+    """Returns what a call of a name requires, of a value of one of these types."""
+    return next((known[it, name] for it in sorted(types) if known.get((it, name))), [])
 
 
 class FacadeFile:
@@ -152,17 +134,15 @@ class FacadeFile:
         is_open = "$" in receiver + "".join(found) or receiver.endswith("masked().") or receiver == "self.0."
         return set().union(*(it.types for it in others)) if is_open else found
 
-    def calls(self, conditions, others):
+    def calls(self, known, others):
         """Yields for each call with a precondition the name of its function, the text of that, the callee's name, and
         what it requires."""
         for at, line in enumerate(self.lines):
             for call in CALL.finditer(line):
-                required = conditions.of(self.types_of(call["receiver"], others), call["name"])
-                if required:
+                if required := required_of(known, self.types_of(call["receiver"], others), call["name"]):
                     yield (*self.function_at(at), call["name"], required)
         for text, callee in self.written_calls():
-            required = conditions.of(self.types, callee)
-            if required:
+            if required := required_of(known, self.types, callee):
                 yield callee, text, callee, required
 
     def written_calls(self):
@@ -191,10 +171,10 @@ class FacadeFile:
 def guard_faults(top, folder, crates):
     """Yields a line for each call with a precondition that the list lacks, and for each row of the list that is not
     so."""
-    conditions, found = Conditions(top, crates), {}
+    known, found = conditions(top, crates), {}
     files = [FacadeFile(*it) for it in facade_files(folder)]
     for file in files:
-        for function, body, callee, required in file.calls(conditions, files):
+        for function, body, callee, required in file.calls(known, files):
             found[file.path, function, callee] = body, required
     listed = set()
     for row in [it for it in read(f"{folder}/../{GUARDS}").splitlines() if it and not it.startswith("#")]:

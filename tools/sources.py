@@ -24,6 +24,7 @@ HEAD = re.compile(rf"(?: {{4}})?{PUB}(?:const |unsafe |extern \"C\" )*fn (\w+)")
 OWNER = re.compile(rf"{PUB}(?:unsafe )?(?:impl|trait)\b")
 CLAUSE = re.compile(r"(?ms)^\s*(requires|ensures) (?:[a-z_]\w* )?\{ (.*?)\s\}\s*(?=^\s*(?:requires|ensures)\b|\Z)")
 STRUCT = re.compile(rf"(?ms)^{PUB}(struct|enum) (\w+)([^;{{(]*)(\{{.*?^\}}|\{{[^\n]*\}}|\([^;]*\);|;)")
+IMPORT = re.compile(r"\bghost use Rattle\.(\w+)\.specs\.([\w.]+)\.\{([^}]*)\}")
 # The test that fails with a wrong body.
 ROW = re.compile(r"(?m)^(?:# )?row: (\S+)$")
 # The path of a file of wrong bodies, and each of the bodies in it.
@@ -51,21 +52,19 @@ def closed(found, leads):
     return found
 
 
+def without(pattern, text):
+    """Returns a text without what a pattern matches, such as innermost brackets, over and over."""
+    while (shorter := re.sub(pattern, "", text)) != text:
+        text = shorter
+    return text
+
+
 def split_owner(owner):
     """Returns the type and the trait that the head of an impl names, or a trait itself and none, without their
     generics."""
-    words = re.sub(r"\bwhere\b.*", "", owner.replace("->", "")).split("{")[0]
-    while (shorter := re.sub(r"<[^<>]*>", "", words)) != words:
-        words = shorter
+    words = without(r"<[^<>]*>", re.sub(r"\bwhere\b.*", "", owner.replace("->", "")).split("{")[0])
     trait, is_for, kind = re.sub(r"^.*?\b(?:impl|trait)\b", "", words).rpartition(" for ")
     return kind, trait if is_for else ""
-
-
-def above(lines, at):
-    """Returns the lines of comments right above a line, and those of attributes."""
-    found = [*takewhile(lambda it: it and not it.endswith(("{", "}")), reversed(lines[:at]))][::-1]
-    comments = [it for it in found if it.lstrip().startswith("//")]
-    return comments, [it for it in found if it not in comments]
 
 
 class Function:
@@ -99,9 +98,18 @@ class Function:
         return [(kind, " ".join(fact.split())) for kind, fact in CLAUSE.findall(self.declared)]
 
     @cached_property
+    def words(self):
+        """The words of `specs/` that its clauses cite, as (crate, page, word)."""
+        cited = set(re.findall(r"(?<![\w.])\w+", " ".join(fact for _, fact in self.clauses)))
+        imported = [(crate, page, it.split(" as ")) for crate, page, names in IMPORT.findall(self.source.text)
+                    for it in re.split(r",\s*", names.strip())]
+        return [(crate, page, names[0]) for crate, page, names in imported if names[-1] in cited and crate != "std"]
+
+    @cached_property
     def above(self):
-        """The lines of its comments, and those of its attributes."""
-        return above(self.source.lines, self.first)
+        """The lines of comments right above it."""
+        found = takewhile(lambda it: it and not it.endswith(("{", "}")), reversed(self.source.lines[:self.first]))
+        return [it for it in reversed([*found]) if it.lstrip().startswith("//")]
 
     @cached_property
     def parameters(self):
@@ -200,23 +208,31 @@ def wrong_bodies(texts):
             yield from ((crate, it[1], f"file: src/{module}.rt\n{it[2]}") for it in MUTANT.finditer(text))
 
 
-def load_edit(name, text, sources):
-    """Returns the function that a wrong body changes, or raises a `ValueError` that says why it can't be tried."""
-    file = next(iter(re.findall(r"(?m)^file: ?(.*?) *$", text)), "")
+def changed_function(edit, sources):
+    """Returns the function whose body an edit changes and the lines of the body after it, or raises a `ValueError` that
+    says why it can't be tried."""
+    file = next(iter(re.findall(r"(?m)^file: ?(.*?) *$", edit)), "")
     if file not in sources:
         raise ValueError(f"there is no file {file} in the crate")
-    lines, were = edited(sources[file].text, text).split("\n"), sources[file].lines
+    lines, were = edited(sources[file].text, edit).split("\n"), sources[file].lines
     changed = [at for at, (was, now) in enumerate(zip(were, lines)) if was != now]
     if not changed or len(lines) != len(were):
         raise ValueError("it changes nothing, or the number of lines")
-    within = [it for it in sources[file].functions if it.has_body and it.body <= changed[0] and changed[-1] <= it.last]
-    if not within:
-        raise ValueError(f"it changes no body of one function of {file}")
-    if not name.startswith(f"{within[0].name}--"):
-        raise ValueError(f"its name doesn't begin with `{within[0].name}--`, for the function that it changes")
+    for it in sources[file].functions:
+        if it.has_body and it.body <= changed[0] and changed[-1] < it.last:
+            return it, lines[it.body : it.last]
+    raise ValueError(f"it changes no body of one function of {file}")
+
+
+def load_edit(name, text, sources):
+    """Returns the function that a wrong body changes and the lines of that body, or raises a `ValueError` that says why
+    it can't be tried."""
+    function, lines = changed_function(text, sources)
+    if not name.startswith(f"{function.name}--"):
+        raise ValueError(f"its name doesn't begin with `{function.name}--`, for the function that it changes")
     if not ROW.search(text):
         raise ValueError("it names no test that fails with it: a line `row: TEST`")
-    return within[0]
+    return function, lines
 
 
 def public_files(sources):
@@ -248,10 +264,8 @@ def public_functions(sources):
 
 def has_cargo():
     """Returns whether cargo is there, as new as the tests of the Rust crate need it."""
-    if not shutil.which("cargo"):
-        return False
-    found = re.search(r"cargo (\d+)\.(\d+)",
-                      subprocess.run(["cargo", "--version"], stdout=subprocess.PIPE, text=True, check=False).stdout)
+    said = shutil.which("cargo") and subprocess.run(["cargo", "--version"], capture_output=True, text=True).stdout
+    found = re.search(r"cargo (\d+)\.(\d+)", said or "")
     return bool(found) and (int(found[1]), int(found[2])) >= NEW_CARGO
 
 
@@ -263,10 +277,12 @@ def report(name, faults):
 
 
 def write_files(top, files):
-    """Writes texts below a folder, by their paths."""
+    """Writes texts below a folder, by their paths, except those that are there."""
     for path, text in files.items():
-        os.makedirs(os.path.dirname(f"{top}/{path}"), exist_ok=True)
-        Path(f"{top}/{path}").write_text(text, encoding="utf-8")
+        to, content = Path(top, path), text.encode()
+        if not (to.is_file() and to.read_bytes() == content):
+            to.parent.mkdir(parents=True, exist_ok=True)
+            to.write_bytes(content)
 
 
 def write_or_check(pages, script):

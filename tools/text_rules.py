@@ -1,28 +1,18 @@
 #!/usr/bin/env python3
 """Rules over the text of the repository that no contract states.
 
-- What a text may not contain, by the rows of `PATTERNS`: public items without a doc comment and module files that don't
-  say what they are, labels of papers and paths of one machine, sources of 800 lines, lines past 120 columns, and values
-  that are dropped, except a mention for the prover of a field (`&self.len`) or of a length (`high.len()`).
-- No text of `PLAIN`, the kinds of files that are clean of them, has one of the `PHRASES`, which are not plain English.
-- Functions have at most 60 lines, except tests. `crates.txt` lists the folders of `crates/`. Links of documents lead to
-  a file, and to a heading or an anchor of it.
-- `docs/DEFINITIONS.md` has, in backticks, each word of a crate's `specs/` that the contract of a public function cites.
-- A crate imports no proofs of a crate below it but the page of laws (`PublicLaws`), or one that its `proofs/Lib.antt`
-  passes on under another name, and nothing of its `specs/inside`.
-- What only proofs need is in `specs/inside`: no public contract and no other page of `specs/` cites a word of it.
-- The table of structures in `docs/ARCHITECTURE.md` names modules, load lines, types and kinds of `vers.h`, and series
-  of the benchmark that there are.
-- The page of layouts ends with the stored run of the program whose values it draws (`DRAWN`).
-- Proofs that depend only on the contracts of another part of their crate import nothing of that part's inside
-  (`ON_CONTRACTS`).
+- No text contains what the rows of `PATTERNS` and `PHRASES` name, such as long lines and phrases that aren't plain
+  English. Functions have at most 60 lines, except tests. Links lead to a file, and to a heading or an anchor of it.
+- docs/DEFINITIONS.md defines the words of `specs/` that public contracts cite. What only proofs need is in
+  `specs/inside`, and a crate imports no proofs of a crate below it but its pages of laws.
+- crates.txt, the table of structures in docs/ARCHITECTURE.md and the end of docs/LAYOUTS.md agree with what is there.
 
 Exits with status 1 if a rule is broken, and prints a line for each position. `--self-test` breaks each rule in a text
 that was read.
 
-`--wrong-bodies` lists the public functions that compute something and that no wrong body reaches: no edit of the
-crate's `wrong/` or `must-fail/` changes them, or a function of the crate that they name. A body computes something
-unless it is empty, reads a field, wraps its argument, or passes its arguments to one call.
+`--wrong-bodies` lists the public functions that compute something and that no wrong body reaches: no edit changes them,
+or a function of the crate that they name. A body computes something unless it is empty, reads a field, wraps its
+argument, or passes its arguments to one call.
 """
 import contextlib
 import os
@@ -81,7 +71,6 @@ PATTERNS = (
      "drops `{1}`; allowed: a mention of a field, a length or a last member, and a message on standard error"),
 )
 PASSES_ON = re.compile(r"(?:[\w.:&*]+(?:::<\w+>)?(?:\([\w\s,&.*]*\)|\{\w+\})?)?")
-SPECS = re.compile(r"\bghost use Rattle\.(?!std\b)\w+\.specs\.(?!declared\b)([\w.]+)\.\{([^}]*)\}")
 LINK = re.compile(r"\]\(([^)#:\s]*)(?:#([^)\s]*))?\)")
 HEADING = re.compile(r"(?m)^#+ (.*)$")
 READ_ONCE = lru_cache(maxsize=None)(Source)
@@ -118,14 +107,11 @@ def undefined(sources, defined):
     `specs/inside`."""
     for function in public_functions(sources):
         start = f"{function.where}: {function.full_name} cites"
-        cited = set(re.findall(r"(?<![\w.])\w+", " ".join(fact for _, fact in function.clauses)))
-        for page, names in SPECS.findall(function.source.text):
-            words = [it.strip().split(" as ") for it in names.split(",")]
-            for word in [it[0] for it in words if it[-1] in cited]:
-                if page.startswith("inside"):
-                    yield f"{start} `{word}` of `specs/inside`, which no public contract may"
-                elif word not in defined:
-                    yield f"{start} `{word}`, which {DEFINITIONS} doesn't define"
+        for _, page, word in function.words:
+            if page.startswith("inside"):
+                yield f"{start} `{word}` of `specs/inside`, which no public contract may"
+            elif word not in defined and not page.startswith("declared"):
+                yield f"{start} `{word}`, which {DEFINITIONS} doesn't define"
 
 
 def misnamed(texts):
@@ -153,7 +139,7 @@ def missing_wrong_bodies(texts):
         found, changed = [it for source in sources for it in source.functions if it.has_body], set()
         for name, edit in [(name, edit) for owner, name, edit in wrong_bodies(texts) if owner == crate]:
             with contextlib.suppress(ValueError):
-                changed.add(load_edit(name, edit, by_path(sources)))
+                changed.add(load_edit(name, edit, by_path(sources))[0])
         named = {it: set(re.findall(r"\b\w+\b(?=(?:::<[^>]*>)?\()", it.code)) for it in found}
         reached = closed(changed, {it: {other for other in found if other.name in named[it]} for it in found})
         for it in found if not re.search("^test_|_tests$", crate) else ():
