@@ -108,8 +108,7 @@ fn append_low<A: Allocator + Copy>(
     Ok(())
 }
 
-// Returns the symbols of `width` bits each in a list of bits; none if `width` is 0. Prefixes are counted if the
-// tables for it take no more memory than the symbols.
+// Returns the symbols of `width` bits each in a list of bits; none if `width` is 0.
 fn of_packed<A: Allocator + Copy>(
     packed: &BitVec<A>,
     width: u16,
@@ -123,9 +122,6 @@ fn of_packed<A: Allocator + Copy>(
     packed_elements_are_items();
     if width == 0 {
         return WaveletMatrix::from_slice(packed.allocator(), &[], 0);
-    }
-    if width <= 56 && packed.len() >> (width + 7) != 0 {
-        return WaveletMatrix::from_bit_vec_pc(packed, width);
     }
     WaveletMatrix::from_bit_vec(packed, width)
 }

@@ -124,38 +124,17 @@ symbols_shape count k words whole =
 pub whole_number : (count k : ℕ) (bits : List Bool) → 1 ≤ k → length bits ≡ count * k → length bits % k ≡ 0
 whole_number count k bits some e = ap (λ m. m % k) e ∙ mul-mod_left count k
 
--- the first n of the numbers of k bits each that bits hold
-abbrev pub first_numbers : List Bool → ℕ → ℕ → List ℕ
-first_numbers bits k n = map (λ e. number (part bits (e * k) k)) (range_with_len 0 n)
-
-pub more_numbers : (bits : List Bool) (k n : ℕ) → first_numbers bits k (n + 1) ≡ first_numbers bits k n ++ number (part bits (n * k) k) ∷ []
-more_numbers bits k n = map-range_with_len_more (λ e. number (part bits (e * k) k)) 0 n n (omega arith)
-
-pub all_numbers : (bits : List Bool) (k n : ℕ) → n ≡ length bits / k → first_numbers bits k n ≡ packed_symbols bits k
-unfolding packed_symbols
-all_numbers bits k n is = ap (first_numbers bits k) is
-
-pub number_inside : (bits : List Bool) (k e : ℕ) → e < length bits / k → e * k + k ≤ length bits
-number_inside bits k e h = grind (arith, mul-le-mul_right, div-mul-le_self)
-
--- a number of at most 8 bits is a byte
-pub byte_number : (bits : List Bool) (k e : ℕ) → k ≤ 8 → number (part bits (e * k) k) < 256
-byte_number bits k e few =
-    let small : number (part bits (e * k) k) < 2 ^ k = number_below (part bits (e * k) k) k (omega (arith, length-take k (drop (e * k) bits))) in
-    let most : 2 ^ k ≤ 2 ^ 8 = pow-le-pow_right {n = 2} (omega arith) {i = k} {j = 8} few in
-    omega (arith, small, most)
-
-pub ruleset unpacking = (more_numbers, all_numbers, number_inside)
-
 -- what the symbols that bits hold have
 pub loaded_symbols : (count k : ℕ) (bits : List Bool) (items : List ℕ) → 1 ≤ k → length bits ≡ count * k → items ≡ packed_symbols bits k
     → (length items ≡ count) × (limbs (pack items k) ≡ limbs bits) × All (λ y. y < 2 ^ k) items
 loaded_symbols count k bits items some long is = rw is (length-packed_symbols bits k count some long, ap limbs (pack-packed_symbols bits k count some long), symbols_fit bits k)
 
 -- and a matrix of them
-pub loaded_matrix : (count k w : ℕ) (symbols words : List ℕ) (v : Symbols) → 1 ≤ k → w ≡ k → length symbols ≡ count → limbs (pack symbols k) ≡ words → All (λ y. y < 2 ^ k) symbols
-    → v.width ≡ w → v.items ≡ low_symbols symbols w → (length v.items ≡ count) × (v.width ≡ k) × (limbs (pack v.items v.width) ≡ words) × All (λ y. y < 2 ^ v.width) v.items
-loaded_matrix count k w symbols words v some is_width long same fit wide low = grind (arith, small_numbers_stay)
+pub loaded_matrix : (count k : ℕ) (bits : List Bool) (words : List ℕ) (v : Symbols) → 1 ≤ k → length bits ≡ count * k → limbs bits ≡ words → v.width ≡ k → v.items ≡ packed_symbols bits k
+    → (length v.items ≡ count) × (v.width ≡ k) × (limbs (pack v.items v.width) ≡ words) × All (λ y. y < 2 ^ v.width) v.items
+loaded_matrix count k bits words v some long same wide is =
+    let loaded = loaded_symbols count k bits v.items some long is in
+    rw wide (loaded.0, refl, loaded.1 ∙ same, loaded.2)
 
 pub count_small : (count k a b : ℕ) (words : List ℕ) → IsWhole PACKED_SYMBOLS count k words → a ≡ count → b ≡ k → a * b ≤ 18446744073709551552
 count_small count k a b words whole is_count is_width = rw (is_count, is_width) (bounds_are PACKED_SYMBOLS count k words refl whole).4

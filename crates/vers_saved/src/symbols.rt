@@ -177,8 +177,7 @@ impl<A: Allocator + Copy> Loaded<A> for WaveletMatrix<A> {
     ghost packed = { λ symbols. limbs (pack symbols.items symbols.width) };
 
     fn make_packed(of: Shape, held: &mut Vec<u64, A>) -> Result<Self, AllocError> {
-        let alloc = *held.allocator();
-        packed_list(alloc, of, taken(held))
+        packed_list(of, taken(held))
     }
 
     ghost first_tells = { symbols_first };

@@ -1,5 +1,6 @@
 -- What the sources of symbols say of their items.
-use Rattle.vers_wavelet.proofs.Names.{◌≡◌, ℕ, ◌+◌, ◌-◌, ◌*◌, ◌/◌, ◌%◌, ◌^◌, ◌<◌, ◌≤◌, Bool, false, List, length, get_or, take, drop, slice_get, Some, sym, ap, ◌∙◌, arith, bit_and, range_with_len, mod-eq_of_lt, div-mul-le_self, div-le_self, length-take, get_or-take, get_or-drop, drop-drop, drop-take, length-range_with_len, get_or-range_with_len, one_shl, and_mask, row_fits, pow_pos, slice_get-get_or, number, part, number-drop, number_below, digit, prefix}
+use Rattle.vers_wavelet.proofs.Names.{◌≡◌, ℕ, ◌+◌, ◌-◌, ◌*◌, ◌/◌, ◌%◌, ◌^◌, ◌<◌, ◌≤◌, Bool, false, List, length, get_or, take, drop, slice_get, Some, sym, ap, ◌∙◌, arith, bit_and, range_with_len, map, map-append, [], ◌∷◌, ◌++◌, packed_symbols, pow-le-pow_right, mod-eq_of_lt, div-mul-le_self, div-le_self, length-take, get_or-take, get_or-drop, drop-drop, drop-take, length-range_with_len, get_or-range_with_len, one_shl, and_mask, row_fits, pow_pos, slice_get-get_or, number, part, number-drop, number_below, digit, prefix}
+use Rattle.std.proofs.lemmas.List.FromFn.{map-range_with_len_more}
 use Rattle.vers_wavelet.proofs.Digits.{list_digit}
 
 -- of a machine's number
@@ -32,6 +33,25 @@ packed_inside n w e some h = omega (arith, row_fits e w (n / w) w h (omega arith
 pub place_item : (n i : ℕ) → i < length (range_with_len 0 n) → slice_get (range_with_len 0 n) i ≡ Some i
 place_item n i h = slice_get-get_or (range_with_len 0 n) i i h ∙ ap Some (get_or-range_with_len 0 n i i (omega (arith, length-range_with_len 0 n)) ∙ (let none : 0 + i ≡ i = omega arith in none))
 
+-- the first n of the numbers of k bits each that bits encode
+abbrev pub first_numbers : List Bool → ℕ → ℕ → List ℕ
+first_numbers bits k n = map (λ e. number (part bits (e * k) k)) (range_with_len 0 n)
+
+pub more_numbers : (bits : List Bool) (k n : ℕ) → first_numbers bits k (n + 1) ≡ first_numbers bits k n ++ number (part bits (n * k) k) ∷ []
+more_numbers bits k n = map-range_with_len_more (λ e. number (part bits (e * k) k)) 0 n n (omega arith)
+
+pub all_numbers : (bits : List Bool) (k n : ℕ) → n ≡ length bits / k → first_numbers bits k n ≡ packed_symbols bits k
+unfolding packed_symbols
+all_numbers bits k n is = ap (first_numbers bits k) is
+
+-- each is a number of a type that has as many bits
+pub fits_in : (bits : List Bool) (k e most : ℕ) → k ≤ most → number (part bits (e * k) k) < 2 ^ most
+fits_in bits k e most few =
+    let small : number (part bits (e * k) k) < 2 ^ k = number_below (part bits (e * k) k) k (omega (arith, length-take k (drop (e * k) bits))) in
+    omega (arith, small, pow-le-pow_right {n = 2} (omega arith) {i = k} {j = most} few)
+
 pub ruleset words = (word_prefix, one_fits)
 
 pub ruleset packed = (packed_digit, packed_prefix, packed_inside, div-le_self, length-range_with_len, place_item)
+
+pub ruleset unpacking = (more_numbers, all_numbers, packed_inside, fits_in, map-append)

@@ -30,6 +30,7 @@ pub use iter::{
     WaveletIter, WaveletNumIter, WaveletNumRefIter, WaveletRefIter, WaveletSortedIter,
     WaveletSortedNumIter, WaveletSortedNumRefIter, WaveletSortedRefIter,
 };
+pub use make::unpacked;
 use std::alloc::Allocator;
 use std::marker::Model;
 use vers_bits::bit_vec::MAX_LEN;

@@ -1,10 +1,18 @@
 //! Unsigned integers, of which lists of symbols are made.
-ghost use Rattle.std.specs.Prelude.{◌≡◌, ◌≤◌, ℕ, length};
+ghost use Rattle.std.specs.Prelude.{◌≡◌, ◌<◌, ◌≤◌, ◌^◌, ℕ, length};
 
 /// An unsigned integer: `u8`, `u16`, `u32` or `u64`.
 pub trait Integer: Copy + Drop {
     // What the number is.
     ghost value: { Self → ℕ };
+
+    // How many bits it has.
+    ghost bits: { ℕ };
+
+    /// Returns the same number. Precondition: it has no more bits than the type.
+    fn of(number: u64) -> Self
+        requires { number < 2 ^ bits }
+        ensures { value result ≡ number };
 
     /// Returns the number.
     fn number(&self) -> usize
@@ -19,6 +27,13 @@ pub trait Integer: Copy + Drop {
 impl Integer for u8 {
     ghost value = { λ number. number };
 
+    ghost bits = { 8 };
+
+    #[inline(always)]
+    fn of(number: u64) -> Self {
+        number as u8
+    }
+
     #[inline(always)]
     fn number(&self) -> usize {
         *self as usize
@@ -31,6 +46,13 @@ impl Integer for u8 {
 
 impl Integer for u16 {
     ghost value = { λ number. number };
+
+    ghost bits = { 16 };
+
+    #[inline(always)]
+    fn of(number: u64) -> Self {
+        number as u16
+    }
 
     #[inline(always)]
     fn number(&self) -> usize {
@@ -45,6 +67,13 @@ impl Integer for u16 {
 impl Integer for u32 {
     ghost value = { λ number. number };
 
+    ghost bits = { 32 };
+
+    #[inline(always)]
+    fn of(number: u64) -> Self {
+        number as u32
+    }
+
     #[inline(always)]
     fn number(&self) -> usize {
         *self as usize
@@ -57,6 +86,13 @@ impl Integer for u32 {
 
 impl Integer for u64 {
     ghost value = { λ number. number };
+
+    ghost bits = { 64 };
+
+    #[inline(always)]
+    fn of(number: u64) -> Self {
+        number
+    }
 
     #[inline(always)]
     fn number(&self) -> usize {

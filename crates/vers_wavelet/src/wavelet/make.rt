@@ -1,19 +1,21 @@
 //! Constructors of wavelet matrices.
-ghost use Rattle.std.specs.Prelude.{◌≡◌, ℕ, ◌+◌, ◌-◌, ◌*◌, ◌/◌, ◌%◌, ◌^◌, ◌<◌, ◌≤◌, map, length, IfOk, IsErr};
+ghost use Rattle.std.specs.Prelude.{◌≡◌, ℕ, ◌+◌, ◌-◌, ◌*◌, ◌/◌, ◌%◌, ◌^◌, ◌<◌, ◌≤◌, map, length, All, IfOk, IsErr};
 ghost use Rattle.vers_wavelet.specs.Symbols.{Symbols};
 ghost use Rattle.vers_wavelet.specs.Makers.{low_symbols, packed_symbols};
 
 use crate::wavelet::WaveletMatrix;
 use crate::wavelet::integer::Integer;
 use crate::wavelet::make::count::counted_levels;
-use crate::wavelet::make::sort::sorted_levels;
+use crate::wavelet::make::sort::{all_items, sorted_levels};
 use crate::wavelet::make::source::{Packed, Source, Words};
+pub use crate::wavelet::make::unpack::unpacked;
 use std::alloc::{AllocError, Allocator};
-use vers_bits::bit_vec::BitVec;
+use vers_bits::bit_vec::{BitVec, MAX_LEN};
 
 mod count;
 mod sort;
 mod source;
+mod unpack;
 
 #[tactic(auto, using(crate::proofs::Makes::makes))]
 impl<A: Allocator + Copy> WaveletMatrix<A> {
@@ -44,17 +46,25 @@ impl<A: Allocator + Copy> WaveletMatrix<A> {
     }
 
     /// Returns the matrix of the symbols of `bits_per_element` bits each in a list of bits, by stable sorting.
-    /// Allocates two buffers of as many numbers as symbols, in addition to the levels. Precondition: the list's
-    /// length is a multiple of `bits_per_element`, which isn't 0. Errors: `AllocError` if the allocator refuses
-    /// a request.
+    /// Allocates two buffers of as many numbers as symbols, in addition to the levels: each has the least of 8, 16,
+    /// 32 and 64 bits that a symbol needs, or 64 for wider symbols. Precondition: the list's length is a multiple of
+    /// `bits_per_element`, which isn't 0. Errors: `AllocError` if the allocator refuses a request.
     pub fn from_bit_vec(bits: &BitVec<A>, bits_per_element: u16) -> Result<Self, AllocError>
         requires some { 1 ≤ bits_per_element }
         requires whole { length bits.now % bits_per_element ≡ 0 }
         ensures width { IfOk result (λ w. w.width ≡ bits_per_element) }
         ensures items { IfOk result (λ w. w.items ≡ packed_symbols bits.now bits_per_element) }
     {
-        let source = Packed::new(bits, bits_per_element as usize);
-        WaveletMatrix::sorted(bits.allocator(), &source)
+        match bits_per_element {
+            0..=8 => WaveletMatrix::of_packed::<u8>(bits, bits_per_element),
+            9..=16 => WaveletMatrix::of_packed::<u16>(bits, bits_per_element),
+            17..=32 => WaveletMatrix::of_packed::<u32>(bits, bits_per_element),
+            33..=64 => WaveletMatrix::of_packed::<u64>(bits, bits_per_element),
+            _ => {
+                let source = Packed::new(bits, bits_per_element as usize);
+                WaveletMatrix::sorted(bits.allocator(), &source)
+            }
+        }
     }
 
     /// Returns the matrix that `from_slice` does, by counting prefixes. Allocates two tables of `2 ^
@@ -100,10 +110,45 @@ impl<A: Allocator + Copy> WaveletMatrix<A> {
         ensures items { IfOk result (λ w. w.items
             ≡ map (λ x. S.number source.now x % 2 ^ S.width source.now) (S.items source.now)) }
     {
-        let levels = sorted_levels(alloc, source)?;
-        let len = source.len();
+        let items = all_items(alloc, source)?;
+        WaveletMatrix::of_items(alloc, source, items, source.len())
+    }
+
+    // Returns the matrix of the numbers of `len` items of a source, by stable sorting.
+    fn of_items<S: Source>(
+        alloc: A,
+        source: &S,
+        items: Vec<S::Item, A>,
+        len: usize,
+    ) -> Result<Self, AllocError>
+        requires has { All (S.has source.now) items.items }
+        requires none { S.width source.now ≡ 0 → len ≡ 0 }
+        requires narrow { S.width source.now ≤ 65535 }
+        requires len { len ≡ length items.items }
+        requires short { len ≤ MAX_LEN }
+        ensures width { IfOk result (λ w. w.width ≡ S.width source.now) }
+        ensures items { IfOk result (λ w. w.items
+            ≡ map (λ x. S.number source.now x % 2 ^ S.width source.now) items.items) }
+    {
+        let levels = sorted_levels(alloc, source, items)?;
         Ok(WaveletMatrix { levels, len })
     }
+
+    // Returns the matrix of the symbols of `bits_per_element` bits each in a list of bits, which are sorted as numbers
+    // of a type.
+    fn of_packed<N: Integer>(bits: &BitVec<A>, bits_per_element: u16) -> Result<Self, AllocError>
+        requires some { 1 ≤ bits_per_element }
+        requires narrow { bits_per_element ≤ N.bits }
+        requires few { bits_per_element ≤ 64 }
+        ensures width { IfOk result (λ w. w.width ≡ bits_per_element) }
+        ensures items { IfOk result (λ w. w.items ≡ packed_symbols bits.now bits_per_element) }
+    {
+        let width = bits_per_element as usize;
+        let numbers = unpacked::<N, A>(bits, width)?;
+        let source = Words::new(&[], width);
+        WaveletMatrix::of_items(bits.allocator(), &source, numbers, bits.len() / width)
+    }
+
     // Returns the matrix of the numbers of a source, by counting prefixes.
     fn counted<S: Source>(alloc: A, source: &S) -> Result<Self, AllocError>
         requires some { 0 < S.width source.now }

@@ -127,7 +127,6 @@ impl<A: Allocator + Copy> Loaded<A> for WaveletMatrix<A> {
     }
 
     fn make_packed(of: Shape, held: &mut Vec<u64, A>) -> Result<Self, AllocError> {
-        let alloc = *held.allocator();
-        packed_list(alloc, of, taken(held))
+        packed_list(of, taken(held))
     }
 }

@@ -29,6 +29,7 @@ pub use iter::{
     WaveletIter, WaveletNumIter, WaveletNumRefIter, WaveletRefIter, WaveletSortedIter,
     WaveletSortedNumIter, WaveletSortedNumRefIter, WaveletSortedRefIter,
 };
+pub use make::unpacked;
 use crate::rattle::Allocator;
 use crate::proved::vers_bits::bit_vec::MAX_LEN;
 use crate::proved::vers_rank::fast_rs_vec::RsVec;

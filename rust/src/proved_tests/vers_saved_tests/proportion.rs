@@ -137,6 +137,18 @@ fn counted_bits<A: Allocator + Copy>(
     Ok(WaveletMatrix::from_bit_vec_pc(&bits, width)?)
 }
 
+fn sorted_bits<A: Allocator + Copy>(
+    alloc: A,
+    numbers: &[u64],
+    width: u16,
+) -> Result<WaveletMatrix<A>, GrowError> {
+    let bits = bits(alloc, numbers)?;
+    if width == 0 || bits.len() % width as usize != 0 {
+        return Err(GrowError::Memory);
+    }
+    Ok(WaveletMatrix::from_bit_vec(&bits, width)?)
+}
+
 // A constructor. Those of symbols have their width.
 #[derive(Clone, Copy)]
 enum Build {
@@ -155,9 +167,10 @@ enum Build {
     Symbols(u16),
     Counted(u16),
     CountedBits(u16),
+    SortedBits(u16),
 }
 
-const BUILDS: [Build; 20] = [
+const BUILDS: [Build; 24] = [
     Build::Indexed,
     Build::Ascending,
     Build::Sparse,
@@ -178,6 +191,10 @@ const BUILDS: [Build; 20] = [
     Build::Counted(9),
     Build::CountedBits(2),
     Build::CountedBits(8),
+    Build::SortedBits(8),
+    Build::SortedBits(16),
+    Build::SortedBits(32),
+    Build::SortedBits(64),
 ];
 
 // Returns true if a constructor of symbols takes memory in proportion. A sort by one digit after another reads one
@@ -187,6 +204,7 @@ fn are_symbols_built(heap: &Heap, build: Build, numbers: &[u64]) -> bool {
         Build::Symbols(width) => fits(heap, symbols(heap, numbers, width), 2 * INPUT, 0),
         Build::Counted(width) => fits(heap, counted(heap, numbers, width), INPUT, 0),
         Build::CountedBits(width) => fits(heap, counted_bits(heap, numbers, width), INPUT, 0),
+        Build::SortedBits(width) => fits(heap, sorted_bits(heap, numbers, width), 3 * INPUT, 0),
         _ => false,
     }
 }

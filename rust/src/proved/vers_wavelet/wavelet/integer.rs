@@ -4,6 +4,9 @@ use crate::rattle::prelude::*;
 
 /// An unsigned integer: `u8`, `u16`, `u32` or `u64`.
 pub trait Integer: Copy {
+    /// Returns the same number. Precondition: it has no more bits than the type.
+    fn of(number: u64) -> Self;
+
     /// Returns the number.
     fn number(&self) -> usize;
 
@@ -12,6 +15,11 @@ pub trait Integer: Copy {
 }
 
 impl Integer for u8 {
+    #[inline(always)]
+    fn of(number: u64) -> Self {
+        number as u8
+    }
+
     #[inline(always)]
     fn number(&self) -> usize {
         *self as usize
@@ -24,6 +32,11 @@ impl Integer for u8 {
 
 impl Integer for u16 {
     #[inline(always)]
+    fn of(number: u64) -> Self {
+        number as u16
+    }
+
+    #[inline(always)]
     fn number(&self) -> usize {
         *self as usize
     }
@@ -35,6 +48,11 @@ impl Integer for u16 {
 
 impl Integer for u32 {
     #[inline(always)]
+    fn of(number: u64) -> Self {
+        number as u32
+    }
+
+    #[inline(always)]
     fn number(&self) -> usize {
         *self as usize
     }
@@ -45,6 +63,11 @@ impl Integer for u32 {
 }
 
 impl Integer for u64 {
+    #[inline(always)]
+    fn of(number: u64) -> Self {
+        number
+    }
+
     #[inline(always)]
     fn number(&self) -> usize {
         *self as usize

@@ -219,7 +219,7 @@ fn first_wrong_symbols(alloc: Global, method: Method, widths: &[u16]) -> Option<
 #[test]
 fn symbols_are_parts_of_the_list() {
     let rt = HostRuntime;
-    let widths = [1, 2, 63, 64, 65, 127];
+    let widths = [1, 2, 8, 9, 16, 17, 32, 33, 63, 64, 65, 127];
     let wrong = first_wrong_symbols(rt.alloc(), Method::Sorting, &widths);
     assert!(wrong.is_none());
 }

@@ -1,0 +1,27 @@
+//! The symbols of a list of bits, as numbers.
+ghost use Rattle.std.specs.Prelude.{◌≡◌, ◌≤◌, map, IfOk};
+ghost use Rattle.vers_wavelet.specs.Makers.{packed_symbols};
+
+use crate::wavelet::integer::Integer;
+use std::alloc::{AllocError, Allocator};
+use vers_bits::bit_vec::BitVec;
+
+/// Returns the symbols of `width` bits each in a list of bits, as integers. Precondition: `width` is from 1 to the
+/// number of bits of the type. Errors: `AllocError` if the allocator refuses a request.
+#[tactic(auto, using(crate::proofs::Sources::unpacking))]
+pub fn unpacked<N: Integer, A: Allocator + Copy>(
+    bits: &BitVec<A>,
+    width: usize,
+) -> Result<Vec<N, A>, AllocError>
+    requires some { 1 ≤ width }
+    requires narrow { width ≤ N.bits }
+    requires few { width ≤ 64 }
+    ensures { IfOk result (λ v. map N.value v.items ≡ packed_symbols bits.now width) }
+{
+    let count = bits.len() / width;
+    let mut numbers = Vec::with_capacity(bits.allocator(), count)?;
+    for e in 0..count {
+        numbers.push(N::of(bits.unpack_element_unchecked(e, width)))?;
+    }
+    Ok(numbers)
+}

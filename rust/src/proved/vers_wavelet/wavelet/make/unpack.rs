@@ -1,0 +1,22 @@
+//! The symbols of a list of bits, as numbers.
+
+use crate::rattle::prelude::*;
+
+use crate::proved::vers_wavelet::wavelet::integer::Integer;
+use crate::rattle::AllocError;
+use crate::rattle::Allocator;
+use crate::proved::vers_bits::bit_vec::BitVec;
+
+/// Returns the symbols of `width` bits each in a list of bits, as integers. Precondition: `width` is from 1 to the
+/// number of bits of the type. Errors: `AllocError` if the allocator refuses a request.
+pub fn unpacked<N: Integer, A: Allocator + Copy>(
+    bits: &BitVec<A>,
+    width: usize,
+) -> Result<Vec<N, A>, AllocError> {
+    let count = bits.len() / width;
+    let mut numbers = Vec::with_capacity(bits.allocator(), count)?;
+    for e in 0..count {
+        numbers.push(N::of(bits.unpack_element_unchecked(e, width)))?;
+    }
+    Ok(numbers)
+}
