@@ -1,4 +1,4 @@
-//! Counts in groups, which the library makes only in texts of 4,194,304 symbols or more.
+//! Counts in groups, which the library makes only in columns of 2 MiB or more.
 
 use super::xorshift;
 use crate::proved::text_index::TextIndex;
