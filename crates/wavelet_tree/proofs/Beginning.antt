@@ -156,6 +156,7 @@ tree_made width limit len xs starts nodes bits root limit_is narrow small long s
         starts_are = same;
         nodes_are = made.nodes_are;
         bits_are = made.bits_are;
+        ended = made.ended;
         fits = made.fits;
         root_is = made.root_is;
         stands = made.stands;

@@ -4,20 +4,20 @@ use Rattle.wavelet_tree.proofs.Splits.{Divides, split_divides, only_symbol}
 use Rattle.wavelet_tree.proofs.Standing.{count_begun, get_begun, length_begun, weight_fork, stands_kept}
 use Rattle.wavelet_tree.proofs.Parts.{count_whole, count_map}
 
-weight_leaf : (c : ℕ) (xs : List ℕ) → weight (leaf c) xs ≡ 0
+pub weight_leaf : (c : ℕ) (xs : List ℕ) → weight (leaf c) xs ≡ 0
 unfolding depth
 weight_leaf c [] = refl
 weight_leaf c (x ∷ xs) = omega (arith, sum_by-cons (depth (leaf c)) x xs, weight_leaf c xs)
 
-balanced_leaf : (starts : List ℕ) (n low end m : ℕ) → m ≡ split starts low end → get_or starts m 0 ≡ get_or starts end 0 → balanced starts (suc n) low end ≡ leaf (m - 1)
+pub balanced_leaf : (starts : List ℕ) (n low end m : ℕ) → m ≡ split starts low end → get_or starts m 0 ≡ get_or starts end 0 → balanced starts (suc n) low end ≡ leaf (m - 1)
 unfolding balanced
 balanced_leaf starts n low end m is same = rw (← is, eq-eqb _ _ same) refl
 
-balanced_fork : (starts : List ℕ) (n low end m : ℕ) → m ≡ split starts low end → (get_or starts m 0 ≡ get_or starts end 0 → ⊥) → balanced starts (suc n) low end ≡ fork m (balanced starts n low m) (balanced starts n m end)
+pub balanced_fork : (starts : List ℕ) (n low end m : ℕ) → m ≡ split starts low end → (get_or starts m 0 ≡ get_or starts end 0 → ⊥) → balanced starts (suc n) low end ≡ fork m (balanced starts n low m) (balanced starts n m end)
 unfolding balanced
 balanced_fork starts n low end m is other = rw (← is, ne_eqb _ _ other) refl
 
-leaf_tree : (starts : List ℕ) (low end m : ℕ) (xs : List ℕ) (nodes : List Node) (bits : List Bool) → CountsWithin starts low end xs → m ≡ split starts low end → get_or starts m 0 ≡ get_or starts end 0
+pub leaf_tree : (starts : List ℕ) (low end m : ℕ) (xs : List ℕ) (nodes : List Node) (bits : List Bool) → CountsWithin starts low end xs → m ≡ split starts low end → get_or starts m 0 ≡ get_or starts end 0
     → GrowsTree (leaf (m - 1)) starts xs nodes nodes bits bits (LEAVES + (m - 1)) (get_or starts (m - 1) 0)
 unfolding forks
 leaf_tree starts low end m xs nodes bits counts is same =
@@ -191,6 +191,7 @@ forks_made starts limit xs nodes0 nodes bits0 bits ended ones to from grows no_n
     record {
       nodes_are = omega (arith, made.nodes_are, none);
       bits_are = ap length is ∙ length-append bits (false ∷ []) ∙ omega (arith, all);
+      ended = ap (λ (l : List Bool). get_or l (weight t xs) true) is ∙ get_or_at bits false [] true (weight t xs) all;
       fits = fits;
       stands = stands_kept starts nodes nodes bits ended (length bits) (weight t xs) (take_all (length nodes) nodes (omega arith)) (rw is (begins_append bits (false ∷ []))) (omega arith) (omega (arith, all)) t 0 0 xs stands;
       root_is = made.link_is ∙ ap (λ n. link t n) none;

@@ -9,3 +9,5 @@ pub mod Beginning
 pub mod Growing
 pub mod Batches
 pub mod PublicLaws
+pub mod Saving
+pub mod Rebuilding

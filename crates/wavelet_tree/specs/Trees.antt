@@ -1,5 +1,5 @@
 -- The weight-balanced tree over the symbols of a list. A range of symbols is divided where half of its elements are below, as nearly as symbols allow, until only one symbol of it occurs.
-use Rattle.std.specs.Prelude.{ℕ, zero, suc, ◌+◌, ◌-◌, ◌*◌, ◌^◌, ◌==◌, max, List, map, slice_index, count_by, nat_lt, nat_le, if◌then◌else◌}
+use Rattle.std.specs.Prelude.{◌≡◌, ℕ, zero, suc, ◌+◌, ◌-◌, ◌*◌, ◌^◌, ◌<◌, ◌≤◌, ◌==◌, ◌++◌, max, All, Bool, List, [], filter, length, map, slice_index, count_by, nat_lt, nat_le, if◌then◌else◌}
 use Rattle.std.specs.List.{range_with_len}
 use Rattle.vers_wavelet.specs.Symbols.{Symbols}
 
@@ -55,3 +55,20 @@ forks (fork m l r) = forks l + forks r + 1
 unfoldable pub height : Tree → ℕ
 height (leaf c) = 0
 height (fork m l r) = 1 + max (height l) (height r)
+
+-- the bits of a tree for some elements: none for a leaf, and for a fork one for each element, a one if it isn't below the split, then those of the left subtree for the elements below the split, and those of the right one for the others
+unfoldable pub tree_bits : Tree → List ℕ → List Bool
+tree_bits (leaf c) xs = []
+tree_bits (fork m l r) xs = map (λ x. nat_le m x) xs ++ (tree_bits l (filter (λ x. nat_lt x m) xs) ++ tree_bits r (filter (λ x. nat_le m x) xs))
+
+-- the bits of the tree of a list of symbols
+abbrev pub bits_of : Symbols → List Bool
+bits_of symbols = tree_bits (tree_of symbols) symbols.items
+
+-- a list of fewer than 2 ^ 63 symbols of at most 16 bits is saved as these parts: how many of its elements are below each symbol, and the bits of its tree
+pub record HasParts (symbols : Symbols) (starts : List ℕ) (bits : List Bool) : Type 0 where
+  pub narrow : symbols.width ≤ 16
+  pub small : All (λ s. s < 2 ^ symbols.width) symbols.items
+  pub short : length symbols.items < 2 ^ 63
+  pub starts_are : starts_of symbols ≡ starts
+  pub bits_are : bits_of symbols ≡ bits

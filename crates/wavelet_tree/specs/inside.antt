@@ -2,3 +2,4 @@
 pub mod Nodes
 pub mod Growing
 pub mod Batches
+pub mod Rebuilding

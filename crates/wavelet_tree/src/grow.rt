@@ -84,7 +84,7 @@ fn no_bits<A: Allocator + Copy>(alloc: A, n: usize) -> Result<BitVec<A>, AllocEr
 }
 
 // Returns the same bits and a zero after them, with rank.
-fn ended<A: Allocator + Copy>(mut bits: BitVec<A>) -> Result<WordRank<A>, AllocError>
+pub(crate) fn ended<A: Allocator + Copy>(mut bits: BitVec<A>) -> Result<WordRank<A>, AllocError>
     ensures bits { IfOk result (λ v. v ≡ bits ++ false ∷ []) }
     ensures fits { IfOk result (λ v. length v < 2 ^ 64) }
 {
@@ -98,13 +98,13 @@ fn ended<A: Allocator + Copy>(mut bits: BitVec<A>) -> Result<WordRank<A>, AllocE
 
 // The number of forks of a tree, and that of their bits.
 #[derive(Clone, Copy, Drop)]
-struct Need {
-    forks: usize,
-    bits: usize,
+pub(crate) struct Need {
+    pub(crate) forks: usize,
+    pub(crate) bits: usize,
 }
 
 // Returns what the tree of some symbols needs, from `low` on and before `end`, so that it is allocated at once.
-fn need_of(starts: &[u64], low: usize, end: usize) -> Need
+pub(crate) fn need_of(starts: &[u64], low: usize, end: usize) -> Need
     requires narrow { end ≤ 65536 }
     requires counts { (xs : List ℕ) × CountsWithin starts.now low end xs }
 {
@@ -167,7 +167,10 @@ pub(crate) fn grow<T: Integer, A: Allocator + Copy>(
 
 // Appends a node, and returns the link to it. Errors: `AllocError` also if there are as many nodes as there may be
 // symbols.
-fn add_node<A: Allocator + Copy>(nodes: &mut Vec<Node, A>, node: Node) -> Result<u32, AllocError>
+pub(crate) fn add_node<A: Allocator + Copy>(
+    nodes: &mut Vec<Node, A>,
+    node: Node,
+) -> Result<u32, AllocError>
     ensures nodes { OnOk result (nodes.new.items ≡ nodes.old.items ++ node ∷ []) }
     ensures link { IfOk result (λ link. link ≡ length nodes.old.items) }
     ensures few { OnOk result (length nodes.old.items < LEAVES) }
@@ -181,7 +184,7 @@ fn add_node<A: Allocator + Copy>(nodes: &mut Vec<Node, A>, node: Node) -> Result
 }
 
 // Returns where some symbols are divided, from `low` on and before `end`.
-fn split_of(starts: &[u64], low: usize, end: usize) -> usize
+pub(crate) fn split_of(starts: &[u64], low: usize, end: usize) -> usize
     requires order { low < end }
     requires inside { end < length starts.now }
     requires short { All (λ n. n < 2 ^ 63) starts.now }

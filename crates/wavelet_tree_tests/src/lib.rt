@@ -5,6 +5,8 @@
 #[cfg(test)]
 mod lists;
 #[cfg(test)]
+mod loads;
+#[cfg(test)]
 mod memory;
 #[cfg(test)]
 mod queries;

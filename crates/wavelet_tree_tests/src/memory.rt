@@ -1,11 +1,12 @@
 //! The calls that allocate, each of their requests refused in turn, and the memory that a tree takes.
 use crate::lists::{LOOKS, Look, symbols_of, tree_of};
+use crate::loads::loaded;
 use std::alloc::{AllocError, Allocator, Global};
 use test_alloc::{
     Check, Ending, Making, Refusing, Size, Sizing, Spare, Trial, first_wrong_size,
     first_wrong_trial, spare_of, try_clone_checked, try_making,
 };
-use wavelet_tree::WaveletTree;
+use wavelet_tree::{PartsError, WaveletTree};
 
 type Heap = Refusing<Global>;
 
@@ -43,6 +44,35 @@ impl<A: Allocator + Copy> Making for Indexing<'_, A> {
     }
 }
 
+// Symbols of whose parts a tree is made.
+#[derive(Drop)]
+struct Loading<'a, A: Allocator + Copy> {
+    alloc: A,
+    symbols: &'a [u8],
+}
+
+impl<A: Allocator + Copy> Making for Loading<'_, A> {
+    type Made = WaveletTree<A>;
+
+    type Fault = PartsError;
+
+    fn make(&self) -> Result<WaveletTree<A>, PartsError> {
+        loaded(self.alloc, self.symbols)
+    }
+
+    fn is_right(&self, tree: &WaveletTree<A>) -> bool {
+        has_symbols(tree, self.symbols)
+    }
+}
+
+fn tried_parts(heap: &Heap, symbols: &[u8]) -> Ending {
+    let loading = Loading {
+        alloc: heap,
+        symbols,
+    };
+    try_making(heap, &loading)
+}
+
 fn tried(heap: &Heap, symbols: &[u8]) -> Ending {
     let indexing = Indexing {
         alloc: heap,
@@ -72,12 +102,15 @@ fn cloned(heap: &Heap, symbols: &[u8]) -> Ending {
 #[derive(Clone, Copy, Drop)]
 enum Call {
     Make(Look),
+    Load(Look),
     Clone(Look),
 }
 
-const CALLS: [Call; 4] = [
+const CALLS: [Call; 6] = [
     Call::Make(Look::Turning),
     Call::Make(Look::Skewed),
+    Call::Load(Look::Turning),
+    Call::Load(Look::Skewed),
     Call::Clone(Look::Turning),
     Call::Clone(Look::Equal),
 ];
@@ -85,13 +118,14 @@ const CALLS: [Call; 4] = [
 impl Trial<Global> for Call {
     fn run(self, heap: &Heap, len: usize) -> Ending {
         let look = match self {
-            Call::Make(look) | Call::Clone(look) => look,
+            Call::Make(look) | Call::Load(look) | Call::Clone(look) => look,
         };
         let Ok(symbols) = symbols_of(heap, look, len) else {
             return Ending::Wrong;
         };
         match self {
             Call::Make(_) => tried(heap, symbols.as_slice()),
+            Call::Load(_) => tried_parts(heap, symbols.as_slice()),
             Call::Clone(_) => cloned(heap, symbols.as_slice()),
         }
     }

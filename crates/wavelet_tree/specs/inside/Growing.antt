@@ -1,5 +1,5 @@
 -- What the construction of a tree takes and leaves.
-use Rattle.std.specs.Prelude.{◌≡◌, ℕ, ◌+◌, ◌^◌, ◌<◌, ◌≤◌, ◌-◌, ◌==◌, Bool, true, List, filter, length, take, slice_index, slice_index_or, count_by, All}
+use Rattle.std.specs.Prelude.{◌≡◌, ℕ, ◌+◌, ◌^◌, ◌<◌, ◌≤◌, ◌-◌, ◌==◌, Bool, true, false, List, filter, length, take, slice_index, slice_index_or, count_by, All}
 use Rattle.vers_bits.specs.Bits.{count}
 use Rattle.wavelet_tree.specs.Trees.{Tree, lesser, balanced, forks}
 use Rattle.wavelet_tree.specs.inside.Nodes.{Stands, link, entry, weight}
@@ -28,10 +28,11 @@ pub record Grows (starts : List ℕ) (low end : ℕ) (xs : List ℕ) (nodes more
   pub ones_are : ones ≡ count true more_bits (length more_bits)
   pub tree : (n : ℕ) → end ≤ low + n → GrowsTree (balanced starts n low end) starts xs nodes more_nodes bits more_bits to from
 
--- nodes and bits, with one bit more, are those of a tree of all elements
+-- nodes and bits, with a zero after these, are those of a tree of all elements
 pub record AreForks (t : Tree) (starts xs : List ℕ) (nodes : List Node) (bits : List Bool) (root : ℕ) : Type 0 where
   pub nodes_are : length nodes ≡ forks t
   pub bits_are : length bits ≡ weight t xs + 1
+  pub ended : slice_index_or bits (weight t xs) true ≡ false
   pub fits : length bits < 2 ^ 64
   pub stands : Stands t starts nodes bits (weight t xs) 0 0 xs
   pub root_is : root ≡ link t 0

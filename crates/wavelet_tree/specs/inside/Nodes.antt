@@ -82,6 +82,7 @@ pub record IsTreeOf (symbols : Symbols) (starts : List ℕ) (nodes : List Node) 
   pub starts_are : starts ≡ starts_of symbols
   pub nodes_are : length nodes ≡ forks (tree_of symbols)
   pub bits_are : length bits ≡ weight (tree_of symbols) symbols.items + 1
+  pub ended : slice_index_or bits (weight (tree_of symbols) symbols.items) true ≡ false
   pub fits : length bits < 2 ^ 64
   pub root_is : root ≡ link (tree_of symbols) 0
   pub stands : Stands (tree_of symbols) starts nodes bits (weight (tree_of symbols) symbols.items) 0 0 symbols.items

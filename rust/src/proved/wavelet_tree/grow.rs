@@ -74,7 +74,7 @@ fn no_bits<A: Allocator + Copy>(alloc: A, n: usize) -> Result<BitVec<A>, AllocEr
 }
 
 // Returns the same bits and a zero after them, with rank.
-fn ended<A: Allocator + Copy>(mut bits: BitVec<A>) -> Result<WordRank<A>, AllocError> {
+pub(crate) fn ended<A: Allocator + Copy>(mut bits: BitVec<A>) -> Result<WordRank<A>, AllocError> {
     if bits.append(false).is_err() {
         return Err(AllocError);
     }
@@ -85,13 +85,13 @@ fn ended<A: Allocator + Copy>(mut bits: BitVec<A>) -> Result<WordRank<A>, AllocE
 
 // The number of forks of a tree, and that of their bits.
 #[derive(Clone, Copy)]
-struct Need {
-    forks: usize,
-    bits: usize,
+pub(crate) struct Need {
+    pub(crate) forks: usize,
+    pub(crate) bits: usize,
 }
 
 // Returns what the tree of some symbols needs, from `low` on and before `end`, so that it is allocated at once.
-fn need_of(starts: &[u64], low: usize, end: usize) -> Need {
+pub(crate) fn need_of(starts: &[u64], low: usize, end: usize) -> Need {
     let split = split_of(starts, low, end);
     if starts[split] == starts[end] {
         return Need { forks: 0, bits: 0 };
@@ -144,7 +144,10 @@ pub(crate) fn grow<T: Integer, A: Allocator + Copy>(
 
 // Appends a node, and returns the link to it. Errors: `AllocError` also if there are as many nodes as there may be
 // symbols.
-fn add_node<A: Allocator + Copy>(nodes: &mut Vec<Node, A>, node: Node) -> Result<u32, AllocError> {
+pub(crate) fn add_node<A: Allocator + Copy>(
+    nodes: &mut Vec<Node, A>,
+    node: Node,
+) -> Result<u32, AllocError> {
     let link = nodes.len();
     if link >= LEAVES as usize {
         return Err(AllocError);
@@ -154,7 +157,7 @@ fn add_node<A: Allocator + Copy>(nodes: &mut Vec<Node, A>, node: Node) -> Result
 }
 
 // Returns where some symbols are divided, from `low` on and before `end`.
-fn split_of(starts: &[u64], low: usize, end: usize) -> usize {
+pub(crate) fn split_of(starts: &[u64], low: usize, end: usize) -> usize {
     let elements = starts[low] + starts[end];
     let symbol = half_of(starts, elements, low + 1, end);
     if elements < starts[symbol - 1] + starts[symbol] {

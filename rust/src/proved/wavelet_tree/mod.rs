@@ -4,14 +4,18 @@
 use crate::rattle::prelude::*;
 
 mod batch;
+mod fault;
 mod grow;
 pub mod laws;
+mod loads;
 mod node;
 mod part;
+mod rebuild;
 mod starts;
 mod tree;
 mod walk;
 
 pub use batch::RangeQuery;
+pub use fault::PartsError;
 pub use tree::WaveletTree;
 pub use walk::SortedPlace;

@@ -6,6 +6,8 @@ use crate::rattle::prelude::*;
 #[cfg(test)]
 mod lists;
 #[cfg(test)]
+mod loads;
+#[cfg(test)]
 mod memory;
 #[cfg(test)]
 mod queries;

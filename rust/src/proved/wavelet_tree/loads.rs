@@ -1,0 +1,64 @@
+//! The parts by which a tree is saved, and the constructor that takes them, in linear time and without the symbols.
+
+use crate::rattle::prelude::*;
+
+use crate::proved::wavelet_tree::fault::PartsError;
+use crate::proved::wavelet_tree::grow::Forks;
+use crate::proved::wavelet_tree::rebuild::{are_starts, forks_in};
+use crate::proved::wavelet_tree::starts::symbol_limit;
+use crate::proved::wavelet_tree::tree::WaveletTree;
+use crate::rattle::Allocator;
+use crate::proved::vers_bits::bit_vec::BitVec;
+use crate::proved::vers_tally::tally::{CountedItems, CountedNodes, Tally};
+
+impl<A: Allocator + Copy> WaveletTree<A> {
+    /// Returns the tree of the only list of symbols of `width` bits with these parts: `starts` has the number that
+    /// `start` returns for each symbol up to 2^`width`, and `bits` has the bits whose limbs `tree_limb` returns.
+    /// Appends a bit to `bits`, and so reallocates it if it has no room. Reads no symbols, and sorts nothing.
+    ///
+    /// # Errors
+    ///
+    /// `NotAList` if no list of symbols has these parts; `Memory` if the allocator refuses a request.
+    pub fn from_parts(starts: Vec<u64, A>, bits: BitVec<A>, width: u16) -> Result<Self, PartsError> {
+        if !are_starts(starts.as_slice(), width) {
+            return Err(PartsError::NotAList);
+        }
+        let limit = symbol_limit(width);
+        let len = starts[limit] as usize;
+        let Forks { nodes, bits, root } = forks_in(starts.as_slice(), limit, bits)?;
+        Ok(WaveletTree {
+            starts: CountedItems::new(starts),
+            nodes: CountedNodes::new(nodes),
+            bits,
+            root,
+            width,
+            len,
+        })
+    }
+
+    /// Returns the number of bits of the tree: for each symbol one for each fork that leads to it.
+    #[inline]
+    pub fn tree_bit_count(&self) -> usize {
+        self.bits.len() - 1
+    }
+
+    /// Returns limb `k` of the bits of the tree: the 64 bits from position `64 * k`, least significant first, with
+    /// zeros past the last bit. Precondition: limb `k` contains at least one bit.
+    #[inline]
+    pub fn tree_limb(&self, k: usize) -> u64 {
+        self.bits.bits().limb(k)
+    }
+
+    /// Returns the number of elements below a symbol. Precondition: `symbol` is at most 2^`bit_len()`.
+    #[inline]
+    pub fn start(&self, symbol: usize) -> u64 {
+        let mut tally = Tally::new();
+        self.start_counted(symbol, &mut tally)
+    }
+
+    /// Returns `start(symbol)`. Reads one number of lesser elements.
+    #[inline(always)]
+    pub fn start_counted(&self, symbol: usize, tally: &mut Tally) -> u64 {
+        self.starts.read(symbol, tally)
+    }
+}
