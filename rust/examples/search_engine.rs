@@ -2,7 +2,7 @@
 
 use std::collections::{BTreeMap, BTreeSet};
 use std::error::Error;
-use vers_vecs::{postings::Postings, text::TextIndex, RsVec};
+use vers_vecs::{postings::Postings, sets, text::TextIndex, EliasFanoVec, RsVec};
 
 const DOCUMENTS: [&str; 4] = [
     "the library keeps a succinct index of a text",
@@ -36,8 +36,8 @@ impl Engine {
     }
 
     /// Returns the documents that contain one of two words at least.
-    fn either(&self, one: &str, other: &str) -> BTreeSet<u64> {
-        [one, other].iter().flat_map(|word| self.words[word].1.iter()).map(|(document, _)| document).collect()
+    fn either(&self, one: &str, other: &str) -> EliasFanoVec {
+        sets::union(&self.words[one].1.documents(), &self.words[other].1.documents())
     }
 
     /// Returns the documents in which some words follow one another.
@@ -52,7 +52,7 @@ fn main() -> Result<(), Box<dyn Error>> {
     let has = |k: u64, words: &str| format!(" {} ", DOCUMENTS[k as usize]).contains(&format!(" {words} "));
     let both = engine.words["index"].1.intersect(&engine.words["text"].1);
     assert!((0..4).filter(|&it| has(it, "index") && has(it, "text")).eq(both));
-    assert!((0..4).filter(|&it| has(it, "symbols") || has(it, "bits")).eq(engine.either("symbols", "bits")));
+    assert!((0..4).filter(|&it| has(it, "symbols") || has(it, "bits")).eq(engine.either("symbols", "bits").iter()));
     assert!((0..4).filter(|&it| has(it, "index of")).eq(engine.phrase("index of")));
     println!("\"index of\": {:?}", engine.phrase("index of"));
     println!("the shortest with a text: {:?}", engine.words["text"].1.cheapest(0, 3));

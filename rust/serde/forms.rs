@@ -4,6 +4,7 @@ use serde::Serialize;
 use vers_vecs::inverted::InvertedIndex;
 use vers_vecs::postings::Postings;
 use vers_vecs::saved::Saved;
+use vers_vecs::text::TextIndex;
 use vers_vecs::{BinaryRmq, BitVec, BpTree, EliasFanoVec, FastRmq, RsVec, SparseRSVec, WaveletMatrix};
 
 fn comes_back<T: Serialize + DeserializeOwned + Saved + PartialEq + std::fmt::Debug>(structure: T) {
@@ -47,4 +48,12 @@ fn an_inverted_index_comes_back() {
 fn symbols_without_a_form_are_refused() {
     let error = bincode::serialize(&WaveletMatrix::from_slice(&[1], 0)).unwrap_err().to_string();
     assert_eq!(error, "symbols of no bits or more than 64 have no saved form");
+}
+
+#[test]
+fn a_text_index_comes_back() {
+    let text = TextIndex::from_bytes(b"abracadabra", 8).unwrap();
+    let bytes = bincode::serialize(&text).unwrap();
+    assert_eq!(bincode::deserialize::<TextIndex>(&bytes).unwrap().save(), text.save());
+    assert!(bincode::deserialize::<TextIndex>(&bytes[..bytes.len() - 1]).is_err());
 }

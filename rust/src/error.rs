@@ -13,7 +13,7 @@ use std::fmt;
 ///
 /// let error = EliasFanoVec::try_from_slice(&[3, 8, 5]).unwrap_err();
 /// assert_eq!(error, BuildError::NotAscending { position: 2 });
-/// assert_eq!(error.to_string(), "the numbers must ascend, and the one at position 2 does not");
+/// assert_eq!(error.to_string(), "the numbers must ascend, and the one at position 2 is not above the one before it");
 /// ```
 #[derive(Clone, Copy, PartialEq, Eq, Hash, Debug)]
 #[non_exhaustive]
@@ -23,7 +23,7 @@ pub enum BuildError {
         /// The index of the first such item.
         position: usize,
     },
-    /// The item at `position` is not below the length.
+    /// The item at `position` is not below its limit, such as the length.
     OutOfRange {
         /// The index of the first such item.
         position: usize,
@@ -54,10 +54,14 @@ impl fmt::Display for BuildError {
     fn fmt(&self, f: &mut fmt::Formatter<'_>) -> fmt::Result {
         match self {
             BuildError::NotAscending { position } => {
-                write!(f, "the numbers must ascend, and the one at position {} does not", position)
+                write!(
+                    f,
+                    "the numbers must ascend, and the one at position {} is not above the one before it",
+                    position
+                )
             }
             BuildError::OutOfRange { position } => {
-                write!(f, "the number at position {} is not below the length", position)
+                write!(f, "the number at position {} is not below its limit", position)
             }
             BuildError::SymbolTooWide { position } => {
                 write!(f, "the number at position {} has more bits than a symbol", position)
@@ -96,6 +100,7 @@ impl From<GrowError> for BuildError {
 /// # Panics
 /// If it can't be made. The message is that of the error.
 #[inline]
+#[track_caller]
 pub(crate) fn granted<T, E: Into<BuildError>>(made: Result<T, E>) -> T {
     match made {
         Ok(made) => made,
@@ -105,6 +110,7 @@ pub(crate) fn granted<T, E: Into<BuildError>>(made: Result<T, E>) -> T {
 
 #[cold]
 #[inline(never)]
+#[track_caller]
 fn refused(error: BuildError) -> ! {
     panic!("{}", error)
 }
@@ -112,6 +118,7 @@ fn refused(error: BuildError) -> ! {
 /// Stops at bits that a list doesn't have, or that are too many.
 #[cold]
 #[inline(never)]
+#[track_caller]
 pub(crate) fn no_bits(place: usize, n: usize) -> ! {
     panic!("the list has no {} bits from {} on", n, place)
 }
@@ -119,6 +126,7 @@ pub(crate) fn no_bits(place: usize, n: usize) -> ! {
 /// Panics for a range of values that the list doesn't have.
 #[cold]
 #[inline(never)]
+#[track_caller]
 pub(crate) fn no_range(i: usize, j: usize) -> ! {
     panic!("the list has no range from {} to {}", i, j)
 }
@@ -126,6 +134,7 @@ pub(crate) fn no_range(i: usize, j: usize) -> ! {
 /// Stops at a place past the end of a list of bits.
 #[cold]
 #[inline(never)]
+#[track_caller]
 pub(crate) fn no_bit(place: usize) -> ! {
     panic!("the list has no bit at {}", place)
 }

@@ -164,6 +164,7 @@ impl InvertedIndex {
     /// Returns the documents that have both terms, by at most one search more for each than the rarer has documents.
     #[doc = contract!(InvertedIndex::intersection)]
     #[must_use]
+    #[track_caller]
     pub fn intersection(&self, one: u64, other: u64) -> EliasFanoVec {
         EliasFanoVec { numbers: granted(self.index.intersection(Global, one, other)) }
     }
@@ -171,6 +172,7 @@ impl InvertedIndex {
     /// Returns the documents that have one of two terms, or both.
     #[doc = contract!(InvertedIndex::union)]
     #[must_use]
+    #[track_caller]
     pub fn union(&self, one: u64, other: u64) -> EliasFanoVec {
         EliasFanoVec { numbers: granted(self.index.union(Global, one, other)) }
     }
@@ -178,6 +180,7 @@ impl InvertedIndex {
     /// Returns the documents that have the first term and not the other.
     #[doc = contract!(InvertedIndex::difference)]
     #[must_use]
+    #[track_caller]
     pub fn difference(&self, one: u64, other: u64) -> EliasFanoVec {
         EliasFanoVec { numbers: granted(self.index.difference(Global, one, other)) }
     }
@@ -186,6 +189,7 @@ impl InvertedIndex {
     /// the first has documents: the rarest term should come first.
     #[doc = contract!(InvertedIndex::intersection_of)]
     #[must_use]
+    #[track_caller]
     pub fn intersection_of(&self, first: u64, others: &[u64]) -> EliasFanoVec {
         EliasFanoVec { numbers: granted(self.index.intersection_of(Global, first, others)) }
     }
@@ -193,6 +197,7 @@ impl InvertedIndex {
     /// Returns the documents that have the first term or one of the others.
     #[doc = contract!(InvertedIndex::union_of)]
     #[must_use]
+    #[track_caller]
     pub fn union_of(&self, first: u64, others: &[u64]) -> EliasFanoVec {
         EliasFanoVec { numbers: granted(self.index.union_of(Global, first, others)) }
     }

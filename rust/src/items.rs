@@ -119,6 +119,7 @@ impl<T> Plain<T> for Option<T> {
 
 impl Plain<BitVec> for Option<Result<proved::BitVec<Global>, AllocError>> {
     #[inline(always)]
+    #[track_caller]
     fn plain(self) -> Option<BitVec> {
         self.map(|made| granted(made).into())
     }
@@ -274,6 +275,7 @@ macro_rules! counted_iterator {
 
             /// Skips the last `n` items, returns the one before them, and adds what is read to `tally`.
             #[inline]
+            #[track_caller]
             pub fn nth_back_counted(&mut self, n: usize, tally: &mut crate::reads::Tally) -> Option<$item> {
                 crate::items::Plain::plain(self.0.nth_back_counted(n, &mut tally.0))
             }
@@ -352,6 +354,7 @@ pub(crate) use iterates;
 macro_rules! clones {
     ($name:ident, $field:ident) => {
         impl Clone for $name {
+            #[track_caller]
             fn clone(&self) -> $name {
                 $name { $field: crate::error::granted(crate::rattle::Clone::clone(&self.$field)) }
             }

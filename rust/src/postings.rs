@@ -1,6 +1,7 @@
 //! Documents with costs, which the crate vers-vecs doesn't have.
 
 use crate::contracts::contract;
+use crate::elias_fano::EliasFanoVec;
 use crate::error::{granted, BuildError};
 use crate::items::{check_ascending, compares, counted, shows};
 use crate::proved::postings as proved;
@@ -81,6 +82,22 @@ impl Postings {
         self.list.costs()
     }
 
+    /// Returns a copy of the documents, for [`sets`](crate::sets).
+    ///
+    /// ```
+    /// use vers_vecs::{postings::Postings, sets};
+    ///
+    /// let one = Postings::from_sorted(&[2, 5, 9], &[30, 10, 20]).unwrap();
+    /// let other = Postings::from_sorted(&[5, 6], &[1, 1]).unwrap();
+    /// let either = sets::union(&one.documents(), &other.documents());
+    /// assert_eq!(either.iter().collect::<Vec<_>>(), [2, 5, 6, 9]);
+    /// ```
+    #[doc = contract!(Postings::documents)]
+    #[must_use]
+    pub fn documents(&self) -> EliasFanoVec {
+        EliasFanoVec { numbers: granted(crate::rattle::Clone::clone(self.list.documents())) }
+    }
+
     /// Iterates over the documents with their costs.
     pub fn iter(&self) -> impl Iterator<Item = (u64, u64)> + '_ {
         self.list.documents().iter().zip(self.list.costs().iter().copied())
@@ -121,12 +138,14 @@ impl Postings {
     /// Returns the documents that both lists have, ascending.
     #[doc = contract!(Postings::intersect)]
     #[must_use]
+    #[track_caller]
     pub fn intersect(&self, other: &Postings) -> Vec<u64> {
         granted(self.list.intersect(&other.list)).into_plain()
     }
 
     /// Answers as [`intersect`](Self::intersect), and adds what is read to `tally`.
     #[doc = contract!(Postings::intersect_counted)]
+    #[track_caller]
     pub fn intersect_counted(&self, other: &Postings, tally: &mut Tally) -> Vec<u64> {
         granted(self.list.intersect_counted(&other.list, &mut tally.0)).into_plain()
     }
@@ -140,12 +159,14 @@ counted! { Postings, list:
 }
 
 impl Clone for Postings {
+    #[track_caller]
     fn clone(&self) -> Self {
         Postings { list: granted(crate::rattle::Clone::clone(&self.list)) }
     }
 }
 
 impl Default for Postings {
+    #[track_caller]
     fn default() -> Self {
         granted(Postings::from_sorted(&[], &[]))
     }

@@ -3,6 +3,7 @@
 use crate::inverted::InvertedIndex;
 use crate::postings::Postings;
 use crate::saved::Saved;
+use crate::text::TextIndex;
 use crate::{BinaryRmq, BitVec, BpTree, EliasFanoVec, FastRmq, RsVec, SparseRSVec, WaveletMatrix};
 use serde::de::{Deserialize, Deserializer, Error, SeqAccess, Visitor};
 use serde::ser::{Serialize, Serializer};
@@ -66,5 +67,6 @@ forms! {
     [] FastRmq;
     [] Postings;
     [] InvertedIndex;
+    [] TextIndex;
     [const BLOCK_SIZE: usize] BpTree<BLOCK_SIZE>;
 }

@@ -63,6 +63,7 @@ fn numbers_of<'a>(lists: &[&'a EliasFanoVec]) -> Vec<&'a lists::EliasFanoVec<Glo
 }
 
 /// Returns a list that was made.
+#[track_caller]
 fn made(numbers: Result<lists::EliasFanoVec<Global>, crate::rattle::AllocError>) -> EliasFanoVec {
     EliasFanoVec { numbers: granted(numbers) }
 }

@@ -18,12 +18,13 @@ const DEFAULT_STEP: usize = 32;
 /// ```
 /// use vers_vecs::text::TextIndex;
 ///
-/// let symbols: Vec<u64> = "abracadabra".bytes().map(u64::from).collect();
-/// let text = TextIndex::from_slice(&symbols, 8).unwrap();
-/// let pattern = symbols[..4].to_vec();
-/// assert_eq!(text.count(&pattern), 2);
-/// assert_eq!(text.places(&pattern), [0, 7]);
-/// assert_eq!(text.extract(7..11), Some(pattern));
+/// let text = TextIndex::from_bytes(b"abracadabra", 8).unwrap();
+/// assert_eq!(text.count_bytes(b"abra"), 2);
+/// assert_eq!(text.places_bytes(b"abra"), [0, 7]);
+/// assert_eq!(text.extract_bytes(7..11), Some(b"abra".to_vec()));
+///
+/// let text = TextIndex::from_slice(&[5, 300, 5, 300, 7], 9).unwrap();
+/// assert_eq!(text.places(&[5, 300]), [0, 2]);
 /// ```
 ///
 /// An index is saved with its column, so that a load sorts nothing:
@@ -33,7 +34,7 @@ const DEFAULT_STEP: usize = 32;
 /// use vers_vecs::text::TextIndex;
 ///
 /// let bytes = TextIndex::from_bytes(b"abracadabra", 8).unwrap().save().unwrap();
-/// assert_eq!(TextIndex::load(&bytes).unwrap().places(&[98, 114]), [1, 8]);
+/// assert_eq!(TextIndex::load(&bytes).unwrap().places_bytes(b"br"), [1, 8]);
 /// assert_eq!(TextIndex::load(&bytes[8..]).unwrap_err(), LoadError::NotOurs);
 /// ```
 pub struct TextIndex {
@@ -67,7 +68,7 @@ impl TextIndex {
     /// use vers_vecs::text::TextIndex;
     ///
     /// let text = TextIndex::from_bytes(b"abracadabra", 8).unwrap();
-    /// assert_eq!(text.count(&[98, 114]), 2);
+    /// assert_eq!(text.count_bytes(b"br"), 2);
     /// ```
     ///
     /// # Errors
@@ -126,6 +127,13 @@ impl TextIndex {
         self.text.count(pattern)
     }
 
+    /// Returns how often a pattern of bytes occurs, as [`count`](Self::count) does for the same numbers.
+    #[doc = contract!(TextIndex::count)]
+    #[must_use]
+    pub fn count_bytes(&self, pattern: &[u8]) -> usize {
+        self.count(&symbols_of(pattern))
+    }
+
     /// Returns how often each of some patterns occurs, in less time than [`count`](Self::count) for each if the text has
     /// some millions of symbols.
     ///
@@ -143,6 +151,22 @@ impl TextIndex {
         counts
     }
 
+    /// Returns how often each of some patterns of bytes occurs, as [`count_each`](Self::count_each) does for the same
+    /// numbers.
+    ///
+    /// ```
+    /// use vers_vecs::text::TextIndex;
+    ///
+    /// let text = TextIndex::from_bytes(b"abracadabra", 8).unwrap();
+    /// assert_eq!(text.count_each_bytes(&["br", "a", "x"]), [2, 5, 0]);
+    /// ```
+    #[doc = contract!(TextIndex::count_each)]
+    #[must_use]
+    pub fn count_each_bytes<P: AsRef<[u8]>>(&self, patterns: &[P]) -> Vec<usize> {
+        let symbols: Vec<Vec<u64>> = patterns.iter().map(|pattern| symbols_of(pattern.as_ref())).collect();
+        self.count_each(&symbols.iter().map(Vec::as_slice).collect::<Vec<_>>())
+    }
+
     /// Returns true if a pattern occurs.
     #[doc = contract!(TextIndex::contains)]
     #[must_use]
@@ -153,13 +177,22 @@ impl TextIndex {
     /// Returns all places of a pattern, ascending.
     #[doc = contract!(TextIndex::places_ascending)]
     #[must_use]
+    #[track_caller]
     pub fn places(&self, pattern: &[u64]) -> Vec<usize> {
         granted(self.text.places_ascending(pattern)).into_plain()
+    }
+
+    /// Returns all places of a pattern of bytes, ascending, as [`places`](Self::places) does for the same numbers.
+    #[doc = contract!(TextIndex::places_ascending)]
+    #[must_use]
+    pub fn places_bytes(&self, pattern: &[u8]) -> Vec<usize> {
+        self.places(&symbols_of(pattern))
     }
 
     /// Returns the first `limit` places of a pattern, or all if there are fewer, in the order of the suffixes there.
     #[doc = contract!(TextIndex::first_places)]
     #[must_use]
+    #[track_caller]
     pub fn first_places(&self, pattern: &[u64], limit: usize) -> Vec<usize> {
         granted(self.text.first_places(pattern, limit)).into_plain()
     }
@@ -167,21 +200,40 @@ impl TextIndex {
     /// Returns the symbols of a range. `None` if the range ends past the end, or before its start.
     #[doc = contract!(TextIndex::extract)]
     #[must_use]
+    #[track_caller]
     pub fn extract(&self, range: Range<usize>) -> Option<Vec<u64>> {
         Some(granted(self.text.extract(range))?.into_plain())
     }
 
+    /// Returns the symbols of a range as bytes. `None` if the range ends past the end, or before its start, or a symbol
+    /// may have more than 8 bits.
+    #[doc = contract!(TextIndex::extract)]
+    #[must_use]
+    pub fn extract_bytes(&self, range: Range<usize>) -> Option<Vec<u8>> {
+        if self.bits_per_symbol() > 8 {
+            return None;
+        }
+        Some(self.extract(range)?.into_iter().map(|symbol| symbol as u8).collect())
+    }
+
     /// Answers as [`extract`](Self::extract), and adds what is read to `tally`.
     #[doc = contract!(TextIndex::extract_counted)]
+    #[track_caller]
     pub fn extract_counted(&self, range: Range<usize>, tally: &mut Tally) -> Option<Vec<u64>> {
         Some(granted(self.text.extract_counted(range, &mut tally.0))?.into_plain())
     }
 
     /// Answers as [`first_places`](Self::first_places), and adds what is read to `tally`.
     #[doc = contract!(TextIndex::first_places_counted)]
+    #[track_caller]
     pub fn first_places_counted(&self, pattern: &[u64], limit: usize, tally: &mut Tally) -> Vec<usize> {
         granted(self.text.first_places_counted(pattern, limit, &mut tally.0)).into_plain()
     }
+}
+
+/// Returns bytes as symbols.
+fn symbols_of(bytes: &[u8]) -> Vec<u64> {
+    bytes.iter().map(|byte| u64::from(*byte)).collect()
 }
 
 /// Returns an index that was made, or why it wasn't.

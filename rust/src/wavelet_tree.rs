@@ -224,6 +224,7 @@ impl<'a> IntoIterator for &'a WaveletTree {
 }
 
 impl Default for WaveletTree {
+    #[track_caller]
     fn default() -> Self {
         granted(WaveletTree::from_integers::<u8>(&[], 0))
     }

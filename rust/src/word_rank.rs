@@ -56,6 +56,7 @@ impl WordRank {
     /// Counts the ones of a list, whose memory it takes over, in O(`bits.len()`).
     #[doc = contract!(WordRank::from_bit_vec)]
     #[must_use]
+    #[track_caller]
     pub fn from_bit_vec(bits: BitVec) -> WordRank {
         granted(WordRank::try_from_bit_vec(bits))
     }
@@ -72,6 +73,7 @@ impl WordRank {
     /// Returns a copy of the bits.
     #[doc = contract!(WordRank::bits)]
     #[must_use]
+    #[track_caller]
     pub fn to_bit_vec(&self) -> BitVec {
         granted(crate::rattle::Clone::clone(self.bits.bits())).into()
     }

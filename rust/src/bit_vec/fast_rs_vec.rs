@@ -54,6 +54,7 @@ impl RsVec {
     /// Indexes the bits of a list, whose memory it takes over, in O(`bits.len()`).
     #[doc = contract!(RsVec::from_bit_vec)]
     #[must_use]
+    #[track_caller]
     pub fn from_bit_vec(bits: BitVec) -> RsVec {
         RsVec { bits: granted(proved::RsVec::from_bit_vec(bits.bits)) }
     }
@@ -186,8 +187,12 @@ impl RsVec {
     #[doc = contract!(RsVec::get)]
     #[must_use]
     #[inline]
+    #[track_caller]
     pub fn get_unchecked(&self, place: usize) -> u64 {
-        self.bits.get(place).unwrap_or_else(|| no_bit(place))
+        match self.bits.get(place) {
+            Some(found) => found,
+            None => no_bit(place),
+        }
     }
 
     /// Returns true if the bit at `place` is a one, and adds what is read to `tally`.
@@ -197,6 +202,7 @@ impl RsVec {
     #[doc = contract!(RsVec::is_one_counted)]
     #[must_use]
     #[inline]
+    #[track_caller]
     pub fn is_one_counted(&self, place: usize, tally: &mut Tally) -> bool {
         if place >= self.len() {
             no_bit(place);
@@ -220,8 +226,12 @@ impl RsVec {
     #[doc = contract!(RsVec::get_bits)]
     #[must_use]
     #[inline]
+    #[track_caller]
     pub fn get_bits_unchecked(&self, place: usize, n: usize) -> u64 {
-        self.bits.get_bits(place, n).unwrap_or_else(|| no_bits(place, n))
+        match self.bits.get_bits(place, n) {
+            Some(found) => found,
+            None => no_bits(place, n),
+        }
     }
 
     /// Returns true if both lists have the same length and their ones (their zeros, for `ZERO`) at the same places.

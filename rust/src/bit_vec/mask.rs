@@ -67,8 +67,12 @@ impl<'a, 'b, F: Fn(u64, u64) -> u64> MaskedBitVec<'a, 'b, F> {
     #[doc = contract!(MaskedBitVec::get)]
     #[must_use]
     #[inline]
+    #[track_caller]
     pub fn get_unchecked(&self, place: usize) -> u64 {
-        self.masked().get(place).unwrap_or_else(|| no_bit(place))
+        match self.masked().get(place) {
+            Some(found) => found,
+            None => no_bit(place),
+        }
     }
 
     /// Returns true if the bit at `place` is a one, or `None` past the end.
@@ -86,8 +90,12 @@ impl<'a, 'b, F: Fn(u64, u64) -> u64> MaskedBitVec<'a, 'b, F> {
     #[doc = contract!(MaskedBitVec::is_bit_set)]
     #[must_use]
     #[inline]
+    #[track_caller]
     pub fn is_bit_set_unchecked(&self, place: usize) -> bool {
-        self.masked().is_bit_set(place).unwrap_or_else(|| no_bit(place))
+        match self.masked().is_bit_set(place) {
+            Some(found) => found,
+            None => no_bit(place),
+        }
     }
 
     /// Returns the `n` bits from `place` on as a number, the first bit lowest. `None` if the list has fewer, or `n` is
@@ -106,11 +114,15 @@ impl<'a, 'b, F: Fn(u64, u64) -> u64> MaskedBitVec<'a, 'b, F> {
     #[doc = contract!(MaskedBitVec::get_bits)]
     #[must_use]
     #[inline]
+    #[track_caller]
     pub fn get_bits_unchecked(&self, place: usize, n: usize) -> u64 {
         if n == 0 {
             return 0;
         }
-        self.masked().get_bits(place, n).unwrap_or_else(|| no_bits(place, n))
+        match self.masked().get_bits(place, n) {
+            Some(found) => found,
+            None => no_bits(place, n),
+        }
     }
 
     /// Returns the number of zeros, in O(`len` / 64).
@@ -130,6 +142,7 @@ impl<'a, 'b, F: Fn(u64, u64) -> u64> MaskedBitVec<'a, 'b, F> {
     /// Makes a list of the combined bits.
     #[doc = contract!(MaskedBitVec::to_bit_vec)]
     #[must_use]
+    #[track_caller]
     pub fn to_bit_vec(&self) -> BitVec {
         BitVec { bits: granted(self.masked().to_bit_vec()) }
     }

@@ -79,6 +79,7 @@ macro_rules! makers {
                 $(#[$doc])*
                 #[doc = contract!(BitVec::$name)]
                 #[must_use]
+                #[track_caller]
                 pub fn $name($($arg: $kind),*) -> Self {
                     granted(proved::BitVec::$name(Global, $($arg),*)).into()
                 }
@@ -112,6 +113,7 @@ macro_rules! makers_from_iterators {
             $(
                 $(#[$doc])*
                 #[doc = contract!(BitVec::$name)]
+                #[track_caller]
                 pub fn $name<I: IntoIterator<Item = $item>>($arg: I $(, $k: $size)?) -> Self {
                     granted(proved::BitVec::$name(Global, $arg.into_iter() $(, $k)?)).into()
                 }
@@ -189,6 +191,7 @@ impl BitVec {
     /// Makes a list of all bits of the limbs: 64 for each. Takes over the memory of `limbs`.
     #[doc = contract!(BitVec::from_vec)]
     #[must_use]
+    #[track_caller]
     pub fn from_vec(limbs: Vec<u64>) -> Self {
         granted(proved::BitVec::from_vec(crate::rattle::Vec::from_plain(limbs, Global))).into()
     }
@@ -196,6 +199,7 @@ impl BitVec {
     /// Makes a list of the lowest bit of each number.
     #[doc = contract!(BitVec::from_bits_iter)]
     #[must_use]
+    #[track_caller]
     pub fn from_bits_iter<I, E>(bits: I) -> Self
     where
         E: Into<u64>,
@@ -206,6 +210,7 @@ impl BitVec {
 
     /// Makes a list of all bits of the limbs: 64 for each.
     #[doc = contract!(BitVec::from_limbs_iter)]
+    #[track_caller]
     pub fn from_limbs_iter<I, E>(limbs: I) -> Self
     where
         E: Into<u64>,
@@ -220,6 +225,7 @@ impl BitVec {
     /// Appends a bit, in amortized O(1).
     #[doc = contract!(BitVec::append)]
     #[inline]
+    #[track_caller]
     pub fn append(&mut self, bit: bool) {
         granted(self.bits.append(bit));
     }
@@ -227,30 +233,35 @@ impl BitVec {
     /// Appends the lowest bit of a number, in amortized O(1).
     #[doc = contract!(BitVec::append_bit)]
     #[inline]
+    #[track_caller]
     pub fn append_bit(&mut self, number: u64) {
         granted(self.bits.append_bit(number));
     }
 
     /// Appends the lowest bit of a number, in amortized O(1).
     #[doc = contract!(BitVec::append_bit_u32)]
+    #[track_caller]
     pub fn append_bit_u32(&mut self, number: u32) {
         granted(self.bits.append_bit_u32(number));
     }
 
     /// Appends the lowest bit of a number, in amortized O(1).
     #[doc = contract!(BitVec::append_bit_u16)]
+    #[track_caller]
     pub fn append_bit_u16(&mut self, number: u16) {
         granted(self.bits.append_bit_u16(number));
     }
 
     /// Appends the lowest bit of a number, in amortized O(1).
     #[doc = contract!(BitVec::append_bit_u8)]
+    #[track_caller]
     pub fn append_bit_u8(&mut self, number: u8) {
         granted(self.bits.append_bit_u8(number));
     }
 
     /// Appends the 64 bits of a word, the lowest first, in amortized O(1).
     #[doc = contract!(BitVec::append_word)]
+    #[track_caller]
     pub fn append_word(&mut self, word: u64) {
         granted(self.bits.append_word(word));
     }
@@ -261,6 +272,7 @@ impl BitVec {
     /// If `len` is above 64.
     #[doc = contract!(BitVec::append_bits)]
     #[inline]
+    #[track_caller]
     pub fn append_bits(&mut self, bits: u64, len: usize) {
         assert!(len <= WORD_SIZE, "at most 64 bits can be appended at once");
         granted(self.bits.append_bits(bits, len));
@@ -271,6 +283,7 @@ impl BitVec {
     /// # Panics
     /// If `len` is above 64.
     #[doc = contract!(BitVec::append_bits_unchecked)]
+    #[track_caller]
     pub fn append_bits_unchecked(&mut self, bits: u64, len: usize) {
         assert!(len <= WORD_SIZE, "at most 64 bits can be appended at once");
         granted(self.bits.append_bits_unchecked(bits, len));
@@ -278,6 +291,7 @@ impl BitVec {
 
     /// Appends all bits of another list, in O(`other.len()` / 64).
     #[doc = contract!(BitVec::extend_bitvec)]
+    #[track_caller]
     pub fn extend_bitvec(&mut self, other: &Self) {
         granted(self.bits.extend_bitvec(&other.bits));
     }
@@ -294,6 +308,7 @@ impl BitVec {
     /// If `place` is past the end.
     #[doc = contract!(BitVec::flip_bit)]
     #[inline]
+    #[track_caller]
     pub fn flip_bit(&mut self, place: usize) {
         if place >= self.len() {
             no_bit(place);
@@ -307,6 +322,7 @@ impl BitVec {
     /// If no limb has the place.
     #[doc = contract!(BitVec::flip_bit_unchecked)]
     #[inline]
+    #[track_caller]
     pub fn flip_bit_unchecked(&mut self, place: usize) {
         if place >= self.len() {
             return self.expect_limb(place);
@@ -330,6 +346,7 @@ impl BitVec {
     /// # Panics
     /// If no limb has the place.
     #[doc = contract!(BitVec::set)]
+    #[track_caller]
     pub fn set_unchecked(&mut self, place: usize, value: u64) {
         if self.bits.set(place, value).is_err() {
             self.expect_limb(place);
@@ -341,6 +358,7 @@ impl BitVec {
     /// # Errors
     /// If `at` is above the length: the list itself.
     #[doc = contract!(BitVec::split_at)]
+    #[track_caller]
     pub fn split_at(self, at: usize) -> Result<(Self, Self), Self> {
         match self.bits.split_at(at) {
             Ok((first, rest)) => Ok((first.into(), rest.into())),
@@ -355,6 +373,7 @@ impl BitVec {
     /// If `at` is above the length.
     #[doc = contract!(BitVec::split_at)]
     #[must_use]
+    #[track_caller]
     pub fn split_at_unchecked(self, at: usize) -> (Self, Self) {
         match self.split_at(at) {
             Ok(parts) => parts,
@@ -368,6 +387,7 @@ impl BitVec {
     /// Stops if no limb has a place that is past the end.
     #[cold]
     #[inline(never)]
+    #[track_caller]
     fn expect_limb(&self, place: usize) {
         let limbs = (self.len() + WORD_SIZE - 1) / WORD_SIZE;
         assert!(place / WORD_SIZE < limbs, "no word has a bit at {}", place);
@@ -388,11 +408,15 @@ impl BitVec {
     #[doc = contract!(BitVec::get)]
     #[must_use]
     #[inline]
+    #[track_caller]
     pub fn get_unchecked(&self, place: usize) -> u64 {
-        self.bits.get(place).unwrap_or_else(|| {
-            self.expect_limb(place);
-            0
-        })
+        match self.bits.get(place) {
+            Some(found) => found,
+            None => {
+                self.expect_limb(place);
+                0
+            }
+        }
     }
 
     /// Returns true if the bit at `place` is a one, or `None` past the end.
@@ -410,11 +434,15 @@ impl BitVec {
     #[doc = contract!(BitVec::is_bit_set)]
     #[must_use]
     #[inline]
+    #[track_caller]
     pub fn is_bit_set_unchecked(&self, place: usize) -> bool {
-        self.bits.is_bit_set(place).unwrap_or_else(|| {
-            self.expect_limb(place);
-            false
-        })
+        match self.bits.is_bit_set(place) {
+            Some(found) => found,
+            None => {
+                self.expect_limb(place);
+                false
+            }
+        }
     }
 
     /// Returns the `n` bits from `place` on as a number, the first bit lowest. `None` if the list has fewer, or `n` is
@@ -434,13 +462,18 @@ impl BitVec {
     #[doc = contract!(BitVec::get_bits)]
     #[must_use]
     #[inline]
+    #[track_caller]
     pub fn get_bits_unchecked(&self, place: usize, n: usize) -> u64 {
-        self.bits.get_bits(place, n).unwrap_or_else(|| self.partial_bits(place, n))
+        match self.bits.get_bits(place, n) {
+            Some(found) => found,
+            None => self.partial_bits(place, n),
+        }
     }
 
     /// Returns the bits that [`get_bits`](Self::get_bits) doesn't: none, or those before the end.
     #[cold]
     #[inline(never)]
+    #[track_caller]
     fn partial_bits(&self, place: usize, n: usize) -> u64 {
         assert!(n <= WORD_SIZE, "at most 64 bits can be read at once");
         if n == 0 {
@@ -464,8 +497,12 @@ impl BitVec {
     /// If no limb has one of the places, or `n` is above 64.
     #[doc = contract!(BitVec::unpack_element)]
     #[must_use]
+    #[track_caller]
     pub fn unpack_element_unchecked(&self, index: usize, n: usize) -> u64 {
-        self.bits.unpack_element(index, n).unwrap_or_else(|| self.partial_bits(index.saturating_mul(n), n))
+        match self.bits.unpack_element(index, n) {
+            Some(found) => found,
+            None => self.partial_bits(index.saturating_mul(n), n),
+        }
     }
 
     /// Returns the number of ones, in O(`len` / 64).

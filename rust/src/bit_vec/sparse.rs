@@ -41,6 +41,7 @@ impl SparseRSVec {
     /// If a place isn't above the one before it, or not below `len`.
     #[doc = contract!(SparseRSVec::new)]
     #[must_use]
+    #[track_caller]
     pub fn new(ones: &[u64], len: u64) -> Self {
         granted(Self::try_new(ones, len))
     }
@@ -62,6 +63,7 @@ impl SparseRSVec {
     /// Copies the bits of a list.
     #[doc = contract!(SparseRSVec::from_bitvec)]
     #[must_use]
+    #[track_caller]
     pub fn from_bitvec(bits: &BitVec) -> Self {
         SparseRSVec { bits: granted(proved::SparseRSVec::from_bitvec(&bits.bits)) }
     }
@@ -69,6 +71,7 @@ impl SparseRSVec {
     /// Copies the bits of a list, each inverted: for lists with few zeros.
     #[doc = contract!(SparseRSVec::from_bitvec_inverted)]
     #[must_use]
+    #[track_caller]
     pub fn from_bitvec_inverted(bits: &BitVec) -> Self {
         SparseRSVec { bits: granted(proved::SparseRSVec::from_bitvec_inverted(&bits.bits)) }
     }

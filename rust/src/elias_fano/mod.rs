@@ -43,6 +43,7 @@ impl EliasFanoVec {
     /// If a number is less than the one before it.
     #[doc = contract!(EliasFanoVec::from_slice)]
     #[must_use]
+    #[track_caller]
     pub fn from_slice(numbers: &[u64]) -> Self {
         granted(Self::try_from_slice(numbers))
     }
@@ -85,8 +86,12 @@ impl EliasFanoVec {
     #[doc = contract!(EliasFanoVec::get)]
     #[must_use]
     #[inline]
+    #[track_caller]
     pub fn get_unchecked(&self, i: usize) -> u64 {
-        self.numbers.get(i).unwrap_or_else(|| panic!("the list has no number at {}", i))
+        match self.numbers.get(i) {
+            Some(found) => found,
+            None => panic!("the list has no number at {}", i),
+        }
     }
 
     /// Returns the greatest number that is at most `v`, or `None` if there is none. O(log `len`) at worst.
@@ -103,8 +108,12 @@ impl EliasFanoVec {
     /// If there is none.
     #[doc = contract!(EliasFanoVec::predecessor)]
     #[must_use]
+    #[track_caller]
     pub fn predecessor_unchecked(&self, v: u64) -> u64 {
-        self.predecessor(v).unwrap_or_else(|| panic!("no number is at most {}", v))
+        match self.predecessor(v) {
+            Some(found) => found,
+            None => panic!("no number is at most {}", v),
+        }
     }
 
     /// Returns the least number that is at least `v`, or `None` if there is none. O(log `len`) at worst.
@@ -121,8 +130,12 @@ impl EliasFanoVec {
     /// If there is none.
     #[doc = contract!(EliasFanoVec::successor)]
     #[must_use]
+    #[track_caller]
     pub fn successor_unchecked(&self, v: u64) -> u64 {
-        self.successor(v).unwrap_or_else(|| panic!("no number is at least {}", v))
+        match self.successor(v) {
+            Some(found) => found,
+            None => panic!("no number is at least {}", v),
+        }
     }
 
     /// Returns the number at index `i` less the one before it, or the first number itself. `None` past the end.

@@ -43,6 +43,7 @@ impl BinaryRmq {
     #[doc = contract!(BinaryRmq::range_min_item)]
     #[must_use]
     #[inline]
+    #[track_caller]
     pub fn range_min_item(&self, i: usize, j: usize) -> PlacedItem {
         if i > j || j >= self.index.len() {
             no_range(i, j);
@@ -57,6 +58,7 @@ impl BinaryRmq {
     /// If `i` is above `j`, or `j` is past the end.
     #[doc = contract!(BinaryRmq::range_min_item_counted)]
     #[inline]
+    #[track_caller]
     pub fn range_min_item_counted(&self, i: usize, j: usize, tally: &mut Tally) -> PlacedItem {
         if i > j || j >= self.index.len() {
             no_range(i, j);
@@ -71,6 +73,7 @@ impl BinaryRmq {
     /// If `place` is past the end.
     #[doc = contract!(BinaryRmq::item_counted)]
     #[inline]
+    #[track_caller]
     pub fn item_counted(&self, place: usize, tally: &mut Tally) -> u64 {
         assert!(place < self.index.len(), "the list has no value at {}", place);
         self.index.item_counted(place, &mut tally.0)

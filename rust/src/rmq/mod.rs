@@ -7,6 +7,7 @@ pub mod fast_rmq;
 
 /// Returns the first and the last place of a range in a list of `len` values. Past the end the last place of the list
 /// is meant.
+#[track_caller]
 fn places(range: impl RangeBounds<usize>, len: usize) -> (usize, usize) {
     assert!(len > 0, "there are no values");
     let first = match range.start_bound() {
@@ -49,6 +50,7 @@ macro_rules! minima {
             /// If they are too many.
             #[doc = contract!($name::from_vec)]
             #[must_use]
+            #[track_caller]
             pub fn from_vec(items: Vec<u64>) -> Self {
                 granted(Self::try_from_vec(items))
             }
@@ -70,6 +72,7 @@ macro_rules! minima {
             /// # Panics
             /// If there are no values, or the range is empty.
             #[must_use]
+            #[track_caller]
             pub fn range_min_with_range<T: RangeBounds<usize>>(&self, range: T) -> usize {
                 let (first, last) = places(range, self.index.len());
                 self.range_min(first, last)
@@ -82,6 +85,7 @@ macro_rules! minima {
             #[doc = contract!($name::range_min)]
             #[must_use]
             #[inline]
+            #[track_caller]
             pub fn range_min(&self, i: usize, j: usize) -> usize {
                 if i > j || j >= self.index.len() {
                     no_range(i, j);
@@ -95,6 +99,7 @@ macro_rules! minima {
             /// If `i` is above `j`, or `j` is past the end.
             #[doc = contract!($name::range_min_counted)]
             #[inline]
+            #[track_caller]
             pub fn range_min_counted(&self, i: usize, j: usize, tally: &mut Tally) -> usize {
                 if i > j || j >= self.index.len() {
                     no_range(i, j);
@@ -106,6 +111,7 @@ macro_rules! minima {
             ///
             /// # Panics
             /// If there are no values, or the range is empty.
+            #[track_caller]
             pub fn range_min_with_range_counted<T: RangeBounds<usize>>(&self, range: T, tally: &mut Tally) -> usize {
                 let (first, last) = places(range, self.index.len());
                 self.range_min_counted(first, last, tally)
@@ -113,6 +119,7 @@ macro_rules! minima {
         }
 
         impl Clone for $name {
+            #[track_caller]
             fn clone(&self) -> Self {
                 $name { index: granted(crate::rattle::Clone::clone(&self.index)) }
             }

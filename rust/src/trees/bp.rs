@@ -56,6 +56,7 @@ impl<const BLOCK_SIZE: usize> BpTree<BLOCK_SIZE> {
     /// Indexes some parentheses, whose memory it takes over, in O(`bits.len()`). They don't have to be balanced.
     #[doc = contract!(BpTree::from_bit_vector)]
     #[must_use]
+    #[track_caller]
     pub fn from_bit_vector(bits: BitVec) -> Self {
         granted(Self::try_from_bit_vector(bits))
     }
@@ -116,6 +117,7 @@ impl<const BLOCK_SIZE: usize> BpTree<BLOCK_SIZE> {
     /// With debug assertions, if `i` is past the end.
     #[doc = contract!(BpTree::excess)]
     #[must_use]
+    #[track_caller]
     pub fn excess(&self, i: usize) -> i64 {
         debug_assert!(i < self.tree.len(), "the tree has no place {}", i);
         self.excess_before(i.saturating_add(1).min(self.tree.len()))
@@ -316,6 +318,7 @@ macro_rules! counted_nodes {
                 /// If the parentheses aren't balanced, or a place that is given has no node.
                 #[doc = contract!(BpTree::$call)]
                 #[inline]
+                #[track_caller]
                 pub fn $call(&self, $($arg: $kind,)* tally: &mut Tally) -> $answer {
                     let $tree = self;
                     assert!($condition, "the parentheses have no such node");
@@ -357,6 +360,7 @@ impl<const BLOCK_SIZE: usize> BpTree<BLOCK_SIZE> {
     /// If `i` is past the end.
     #[doc = contract!(BpTree::excess_counted)]
     #[inline]
+    #[track_caller]
     pub fn excess_counted(&self, i: usize, tally: &mut Tally) -> i64 {
         assert!(i < self.tree.len(), "the tree has no place {}", i);
         self.tree.excess_counted(i, &mut tally.0)
@@ -605,6 +609,7 @@ impl<const BLOCK_SIZE: usize> From<BpTree<BLOCK_SIZE>> for RsVec {
 }
 
 impl<const BLOCK_SIZE: usize> Clone for BpTree<BLOCK_SIZE> {
+    #[track_caller]
     fn clone(&self) -> Self {
         BpTree { tree: granted(crate::rattle::Clone::clone(&self.tree)), balanced: self.balanced }
     }
@@ -680,6 +685,7 @@ impl<const BLOCK_SIZE: usize> BpBuilder<BLOCK_SIZE> {
     /// If there is no memory for them.
     #[doc = contract!(BpBuilder::with_capacity)]
     #[must_use]
+    #[track_caller]
     pub fn with_capacity(nodes: u64) -> Self {
         let () = BpTree::<BLOCK_SIZE>::BLOCK_SIZE_FITS;
         BpBuilder { builder: granted(proved::BpBuilder::with_capacity(Global, nodes)) }
@@ -702,16 +708,19 @@ impl<const BLOCK_SIZE: usize> TreeBuilder for BpBuilder<BLOCK_SIZE> {
     type Tree = BpTree<BLOCK_SIZE>;
 
     #[doc = contract!(BpBuilder::enter_node)]
+    #[track_caller]
     fn enter_node(&mut self) {
         granted(self.builder.enter_node());
     }
 
     #[doc = contract!(BpBuilder::leave_node)]
+    #[track_caller]
     fn leave_node(&mut self) {
         granted(self.builder.leave_node());
     }
 
     #[doc = contract!(BpBuilder::build)]
+    #[track_caller]
     fn build(self) -> Result<BpTree<BLOCK_SIZE>, i64> {
         match self.builder.build() {
             Ok(tree) => Ok(BpTree::of(tree)),

@@ -64,6 +64,7 @@ impl WaveletMatrix {
     /// If `bits_per_element` is 0, or the length is no multiple of it.
     #[doc = contract!(WaveletMatrix::from_bit_vec)]
     #[must_use]
+    #[track_caller]
     pub fn from_bit_vec(bits: &BitVec, bits_per_element: u16) -> Self {
         granted(Self::try_from_bit_vec(bits, bits_per_element))
     }
@@ -89,6 +90,7 @@ impl WaveletMatrix {
     /// If `bits_per_element` is above 64.
     #[doc = contract!(WaveletMatrix::from_slice)]
     #[must_use]
+    #[track_caller]
     pub fn from_slice(numbers: &[u64], bits_per_element: u16) -> Self {
         assert!(bits_per_element <= 64, "a symbol has at most 64 bits");
         WaveletMatrix { symbols: granted(proved::WaveletMatrix::from_slice(Global, numbers, bits_per_element)) }
@@ -109,6 +111,7 @@ impl WaveletMatrix {
     /// If `bits_per_element` is above 64.
     #[doc = contract!(WaveletMatrix::from_integers)]
     #[must_use]
+    #[track_caller]
     pub fn from_integers<N: Integer>(numbers: &[N], bits_per_element: u16) -> Self {
         assert!(bits_per_element <= 64, "a symbol has at most 64 bits");
         WaveletMatrix { symbols: granted(proved::WaveletMatrix::from_integers(Global, numbers, bits_per_element)) }
@@ -149,6 +152,7 @@ impl WaveletMatrix {
     /// If `bits_per_element` is 0 or above 64, or the length is no multiple of it.
     #[doc = contract!(WaveletMatrix::from_bit_vec)]
     #[must_use]
+    #[track_caller]
     pub fn from_bit_vec_pc(bits: &BitVec, bits_per_element: u16) -> Self {
         assert!(bits_per_element <= 64, "a symbol has at most 64 bits");
         Self::from_bit_vec(bits, bits_per_element)
@@ -160,6 +164,7 @@ impl WaveletMatrix {
     /// If `bits_per_element` is above 64, or a number has more bits.
     #[doc = contract!(WaveletMatrix::from_slice)]
     #[must_use]
+    #[track_caller]
     pub fn from_slice_pc(numbers: &[u64], bits_per_element: u16) -> Self {
         if numbers.is_empty() {
             return Self::from_slice(numbers, bits_per_element);
@@ -215,6 +220,7 @@ impl WaveletMatrix {
     /// Returns the symbol at `place` as a list of bits, or `None` past the end.
     #[doc = contract!(WaveletMatrix::get_value)]
     #[must_use]
+    #[track_caller]
     pub fn get_value(&self, place: usize) -> Option<BitVec> {
         granted(self.symbols.get_value(place)).map(BitVec::from)
     }
@@ -225,8 +231,12 @@ impl WaveletMatrix {
     /// If `place` is past the end.
     #[doc = contract!(WaveletMatrix::get_value)]
     #[must_use]
+    #[track_caller]
     pub fn get_value_unchecked(&self, place: usize) -> BitVec {
-        self.get_value(place).unwrap_or_else(|| panic!("the list has no symbol at {}", place))
+        match self.get_value(place) {
+            Some(found) => found,
+            None => panic!("the list has no symbol at {}", place),
+        }
     }
 
     /// Returns the symbol at `place`. `None` past the end, and if symbols have more than 64 bits.
@@ -243,8 +253,12 @@ impl WaveletMatrix {
     /// If `place` is past the end, or symbols have more than 64 bits.
     #[doc = contract!(WaveletMatrix::get_u64)]
     #[must_use]
+    #[track_caller]
     pub fn get_u64_unchecked(&self, place: usize) -> u64 {
-        self.get_u64(place).unwrap_or_else(|| panic!("the list has no number at {}", place))
+        match self.get_u64(place) {
+            Some(found) => found,
+            None => panic!("the list has no number at {}", place),
+        }
     }
 }
 
@@ -262,6 +276,7 @@ macro_rules! batches {
                 ///
                 /// # Panics
                 /// If the two slices have different lengths.
+                #[track_caller]
                 pub fn $each(&self, $first: &mut [u64], $second: &[$kind], other: u64) {
                     assert_eq!($first.len(), $second.len(), "the slices have different lengths");
                     let mut queries: Vec<_> = $first.iter().zip($second).map(|($one, $other)| $query).collect();
@@ -273,6 +288,7 @@ macro_rules! batches {
                 ///
                 /// # Panics
                 /// If the two slices have different lengths.
+                #[track_caller]
                 pub fn $each_counted(&self, $first: &mut [u64], $second: &[$kind], other: u64, tally: &mut Tally) {
                     assert_eq!($first.len(), $second.len(), "the slices have different lengths");
                     let mut queries: Vec<_> = $first.iter().zip($second).map(|($one, $other)| $query).collect();
@@ -341,6 +357,7 @@ impl WaveletMatrix {
 /// How often a symbol occurs.
 impl WaveletMatrix {
     /// Returns the low bits of a symbol that has enough of them.
+    #[track_caller]
     fn cut(&self, symbol: &BitVec) -> BitVec {
         let width = self.bits_per_element();
         assert!(symbol.len() >= width, "the symbol has too few bits");
@@ -350,6 +367,7 @@ impl WaveletMatrix {
     }
 
     /// Returns how often a symbol occurs in a range, from which places past the end are left out.
+    #[track_caller]
     fn ranked(&self, range: Range<usize>, symbol: &BitVec) -> usize {
         assert!(range.start <= range.end, "the range is reversed");
         let range = range.start.min(self.len())..range.end.min(self.len());
@@ -363,6 +381,7 @@ impl WaveletMatrix {
     }
 
     /// Returns how often a symbol occurs in a range, from which places past the end are left out.
+    #[track_caller]
     fn ranked_u64(&self, range: Range<usize>, symbol: u64) -> usize {
         assert!(range.start <= range.end, "the range is reversed");
         assert!(self.bits_per_element() <= 64, "a symbol has more than 64 bits");
@@ -376,6 +395,7 @@ impl WaveletMatrix {
     /// If the range is reversed, or the symbol has too few bits.
     #[doc = contract!(WaveletMatrix::rank_range)]
     #[must_use]
+    #[track_caller]
     pub fn rank_range_unchecked(&self, range: Range<usize>, symbol: &BitVec) -> usize {
         self.ranked(range, symbol)
     }
@@ -394,6 +414,7 @@ impl WaveletMatrix {
     /// If the range is reversed, or symbols have more than 64 bits.
     #[doc = contract!(WaveletMatrix::rank_range_u64)]
     #[must_use]
+    #[track_caller]
     pub fn rank_range_u64_unchecked(&self, range: Range<usize>, symbol: u64) -> usize {
         self.ranked_u64(range, symbol)
     }
@@ -413,6 +434,7 @@ impl WaveletMatrix {
     /// If `offset` is above `end`, or the symbol has too few bits.
     #[doc = contract!(WaveletMatrix::rank_offset)]
     #[must_use]
+    #[track_caller]
     pub fn rank_offset_unchecked(&self, offset: usize, end: usize, symbol: &BitVec) -> usize {
         self.ranked(offset..end, symbol)
     }
@@ -430,6 +452,7 @@ impl WaveletMatrix {
     /// If `offset` is above `end`, or symbols have more than 64 bits.
     #[doc = contract!(WaveletMatrix::rank_offset_u64)]
     #[must_use]
+    #[track_caller]
     pub fn rank_offset_u64_unchecked(&self, offset: usize, end: usize, symbol: u64) -> usize {
         self.ranked_u64(offset..end, symbol)
     }
@@ -448,6 +471,7 @@ impl WaveletMatrix {
     /// If the symbol has too few bits.
     #[doc = contract!(WaveletMatrix::rank)]
     #[must_use]
+    #[track_caller]
     pub fn rank_unchecked(&self, end: usize, symbol: &BitVec) -> usize {
         self.ranked(0..end, symbol)
     }
@@ -466,6 +490,7 @@ impl WaveletMatrix {
     /// If symbols have more than 64 bits.
     #[doc = contract!(WaveletMatrix::rank_u64)]
     #[must_use]
+    #[track_caller]
     pub fn rank_u64_unchecked(&self, end: usize, symbol: u64) -> usize {
         self.ranked_u64(0..end, symbol)
     }
@@ -489,6 +514,7 @@ impl WaveletMatrix {
     /// If the symbol has too few bits.
     #[doc = contract!(WaveletMatrix::select_offset)]
     #[must_use]
+    #[track_caller]
     pub fn select_offset_unchecked(&self, offset: usize, rank: usize, symbol: &BitVec) -> usize {
         let found = if symbol.len() == self.bits_per_element() {
             self.symbols.select_offset(offset, rank, &symbol.bits)
@@ -513,6 +539,7 @@ impl WaveletMatrix {
     /// If symbols have more than 64 bits.
     #[doc = contract!(WaveletMatrix::select_offset_u64)]
     #[must_use]
+    #[track_caller]
     pub fn select_offset_u64_unchecked(&self, offset: usize, rank: usize, symbol: u64) -> usize {
         assert!(self.bits_per_element() <= 64, "a symbol has more than 64 bits");
         self.symbols.select_offset_u64(offset, rank, symbol).unwrap_or(self.len())
@@ -533,6 +560,7 @@ impl WaveletMatrix {
     /// If the symbol has too few bits.
     #[doc = contract!(WaveletMatrix::select)]
     #[must_use]
+    #[track_caller]
     pub fn select_unchecked(&self, rank: usize, symbol: &BitVec) -> usize {
         self.select_offset_unchecked(0, rank, symbol)
     }
@@ -551,6 +579,7 @@ impl WaveletMatrix {
     /// If symbols have more than 64 bits.
     #[doc = contract!(WaveletMatrix::select_u64)]
     #[must_use]
+    #[track_caller]
     pub fn select_u64_unchecked(&self, rank: usize, symbol: u64) -> usize {
         assert!(self.bits_per_element() <= 64, "a symbol has more than 64 bits");
         self.symbols.select_u64(rank, symbol).unwrap_or(self.len())
@@ -615,12 +644,14 @@ macro_rules! by_size {
                 /// `None` if there is none, or the list doesn't have the range.
                 #[doc = contract!(WaveletMatrix::$value)]
                 #[must_use]
+                #[track_caller]
                 pub fn $value(&self, $($arg: $kind),*) -> Option<BitVec> {
                     granted(self.symbols.$value($($arg),*)).map(BitVec::from)
                 }
 
                 #[doc = crate::items::counts!($value)]
                 #[doc = contract!(WaveletMatrix::$value_counted)]
+                #[track_caller]
                 pub fn $value_counted(&self, $($arg: $kind,)* tally: &mut Tally) -> Option<BitVec> {
                     granted(self.symbols.$value_counted($($arg,)* &mut tally.0)).map(BitVec::from)
                 }
@@ -631,6 +662,7 @@ macro_rules! by_size {
                 /// If there is none, or the list doesn't have the range.
                 #[doc = contract!(WaveletMatrix::$value)]
                 #[must_use]
+                #[track_caller]
                 pub fn $value_unchecked(&self, $($arg: $kind),*) -> BitVec {
                     self.$value($($arg),*).expect("the list has no such symbol")
                 }
@@ -657,6 +689,7 @@ macro_rules! by_size {
                 /// If there is none, the list doesn't have the range, or symbols have more than 64 bits.
                 #[doc = contract!(WaveletMatrix::$number)]
                 #[must_use]
+                #[track_caller]
                 pub fn $number_unchecked(&self, $($arg: $kind),*) -> u64 {
                     self.$number($($arg),*).expect("the list has no such number")
                 }
@@ -684,6 +717,7 @@ impl WaveletMatrix {
     /// the range, or `symbol` has another width.
     #[doc = contract!(WaveletMatrix::predecessor)]
     #[must_use]
+    #[track_caller]
     pub fn predecessor(&self, range: Range<usize>, symbol: &BitVec) -> Option<BitVec> {
         granted(self.symbols.predecessor(range, &symbol.bits)).map(BitVec::from)
     }
@@ -701,6 +735,7 @@ impl WaveletMatrix {
     /// the range, or `symbol` has another width.
     #[doc = contract!(WaveletMatrix::successor)]
     #[must_use]
+    #[track_caller]
     pub fn successor(&self, range: Range<usize>, symbol: &BitVec) -> Option<BitVec> {
         granted(self.symbols.successor(range, &symbol.bits)).map(BitVec::from)
     }
@@ -736,6 +771,7 @@ macro_rules! counted_lists {
             $(
                 #[doc = crate::items::counts!($of)]
                 #[doc = contract!(WaveletMatrix::$call)]
+                #[track_caller]
                 pub fn $call(&self, $($arg: $kind,)* symbol: &BitVec, tally: &mut Tally) -> $answer {
                     let $found = self.symbols.$call($($arg,)* &symbol.bits, &mut tally.0);
                     $told
@@ -758,6 +794,7 @@ counted_lists! {
 impl WaveletMatrix {
     /// Answers as [`get_value`](Self::get_value), and adds what is read to `tally`.
     #[doc = contract!(WaveletMatrix::get_value_counted)]
+    #[track_caller]
     pub fn get_value_counted(&self, place: usize, tally: &mut Tally) -> Option<BitVec> {
         granted(self.symbols.get_value_counted(place, &mut tally.0)).map(BitVec::from)
     }

@@ -3,12 +3,36 @@
 // Ranges that end before they start are asked for on purpose.
 #![allow(clippy::reversed_empty_ranges)]
 
-use std::panic::{catch_unwind, AssertUnwindSafe};
+use std::cell::Cell;
+use std::panic::{catch_unwind, set_hook, take_hook, AssertUnwindSafe};
+use std::sync::Once;
 use vers_vecs::reads::Tally;
 use vers_vecs::{BinaryRmq, BitVec, BpTree, EliasFanoVec, FastRmq, RsVec, SparseRSVec, WaveletMatrix};
 
+thread_local! {
+    /// While a call of this thread is expected to panic: whether the panic names a line of this file.
+    static IS_HERE: Cell<Option<bool>> = const { Cell::new(None) };
+}
+
+/// Notes whether an expected panic names the line of its caller, instead of printing it.
+fn note_lines() {
+    static NOTED: Once = Once::new();
+    NOTED.call_once(|| {
+        let print = take_hook();
+        set_hook(Box::new(move |panic| {
+            let is_here = panic.location().map_or(false, |line| line.file() == file!());
+            IS_HERE.with(|last| match last.get() {
+                Some(_) => last.set(Some(is_here)),
+                None => print(panic),
+            });
+        }));
+    });
+}
+
 /// Makes a call, and returns the message of its panic.
 fn message<T>(call: impl FnOnce() -> T) -> String {
+    note_lines();
+    IS_HERE.with(|last| last.set(Some(false)));
     match catch_unwind(AssertUnwindSafe(call)).map(drop).map_err(|panic| panic.downcast::<String>()) {
         Ok(()) => "no panic".into(),
         Err(Ok(text)) => *text,
@@ -20,7 +44,9 @@ macro_rules! stops {
     ($($expected:literal: $call:expr;)*) => {
         $({
             let message = message(|| $call);
+            let is_here = IS_HERE.with(Cell::take);
             assert!(message.contains($expected), "{}: {message}", stringify!($call));
+            assert_eq!(is_here, Some(true), "{} names the line of its caller", stringify!($call));
         })*
     };
 }
@@ -76,8 +102,8 @@ fn indexed_bits_stop() {
         "no 2 bits from 69 on": bits.get_bits_unchecked(69, 2);
         "no 65 bits from 0 on": bits.get_bits_unchecked(0, 65);
         "bits from": bits.get_bits_unchecked(FAR, 64);
-        "ascend, and the one at position 1 does not": SparseRSVec::new(&[5, 5], 10);
-        "position 1 is not below the length": SparseRSVec::new(&[5, 10], 10);
+        "one at position 1 is not above the one before": SparseRSVec::new(&[5, 5], 10);
+        "position 1 is not below its limit": SparseRSVec::new(&[5, 10], 10);
         "no number at 2": EliasFanoVec::from_slice(&[5, 5]).get_unchecked(2);
         "must ascend": EliasFanoVec::from_slice(&[5, 4]);
         "at most 4": EliasFanoVec::from_slice(&[5]).predecessor_unchecked(4);

@@ -48,3 +48,10 @@ fn threads_intersect_lists_of_another() {
     let both = std::thread::scope(|scope| scope.spawn(|| list.intersect(&list)).join().unwrap());
     assert_eq!(both, [1, 4, 6]);
 }
+
+#[test]
+fn documents_are_a_copy() {
+    let list = Postings::from_sorted(&[2, 5, 9], &[30, 10, 20]).unwrap();
+    assert_eq!(list.documents().iter().collect::<Vec<_>>(), [2, 5, 9]);
+    assert!(Postings::from_sorted(&[], &[]).unwrap().documents().is_empty());
+}

@@ -49,3 +49,15 @@ fn bytes_and_shorts_are_the_same_text() {
     assert_eq!(TextIndex::from_bytes(&[1, 9], 3).err(), Some(BuildError::SymbolTooWide { position: 1 }));
     assert_eq!(TextIndex::from_u16s(&[512], 9).err(), Some(BuildError::SymbolTooWide { position: 0 }));
 }
+
+#[test]
+fn bytes_ask_as_numbers_do() {
+    let text = TextIndex::from_bytes(b"abracadabra", 8).unwrap();
+    assert_eq!((text.count_bytes(b"abra"), text.count_bytes(b"x"), text.count_bytes(b"")), (2, 0, 12));
+    assert_eq!((text.places_bytes(b"a"), text.places_bytes(b"bra")), (vec![0, 3, 5, 7, 10], vec![1, 8]));
+    assert_eq!(text.count_each_bytes(&["a", "", "cad", "dab!"]), [5, 12, 1, 0]);
+    assert_eq!(text.extract_bytes(4..8), Some(b"cada".to_vec()));
+    assert_eq!((text.extract_bytes(4..12), text.extract_bytes(11..11)), (None, Some(vec![])));
+    let wide = TextIndex::from_slice(&[97, 98], 9).unwrap();
+    assert_eq!((wide.count_bytes(b"ab"), wide.extract_bytes(0..2)), (1, None));
+}
