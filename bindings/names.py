@@ -41,6 +41,9 @@ NAMES = {
     "RsVec.from_bit_vec BpTree.from_bit_vector": {"C": "of", "C++": "from_words", "Python": "from_words"},
     "BitVec.from_limbs": {"C": "of", "C++": "from_words", "Rust": "from_vec", "Python": "from_words"},
     "BitVec.set": {"Python": "[]"},
+    "BitVec.from_zeros": {"C": "of", "C++": "from_words"},
+    "BitVec.flip_bit": {"C": "set", "C++": "set", "Python": "flip"},
+    "BitVec.count_ones": {"C": None, "C++": None},
     """SparseRSVec.new EliasFanoVec.from_slice WaveletMatrix.from_slice *Rmq.from_vec Postings.from_sorted
     TextIndex.with_step""":
         {"C": "of", "C++": "from", "Python": "()"},
@@ -67,13 +70,13 @@ LEFT_OUT = {
         """*.is_one_counted *.select_counted *.rank0_with_bit *.limb_block *.items *.allocator *.select[01]_pair
         *.*gathered_* BpTree.bits BpTree.relative BpTree.measure BpTree.level_end""",
     "Words of 64 bits by `get_bits` and `append_bits`; counts by a `vers_bits`.":
-        """BitVec.append_bit BitVec.append_word BitVec.append_bit_u* BitVec.flip_bit BitVec.limb BitVec.extend*
+        """BitVec.append_bit BitVec.append_word BitVec.append_bit_u* BitVec.limb BitVec.extend*
         BitVec.from_* BitVec.new BitVec.with_capacity BitVec.count_* BitVec.split_at BitVec.pack_* BitVec.unpack_*
         BitVec.*mask_*""",
     "A structure is made of an array, and its items are written over one.":
         """RsVec.into_bit_vec RsVec.*_equals BpTree.into_parentheses_vec SparseRSVec.from_* *.from_iter
         EliasFanoVec.from_numbers InvertedIndex.from_source TextIndex.from_* TextIndex.*_with_step""",
-    "Documents of terms are combined two terms at a time, into plain numbers.":
+    "Documents of terms are combined into plain numbers, in C and C++ two terms at a time.":
         "InvertedIndex.*_of InvertedIndex.*n_numbers InvertedIndex.difference_numbers",
     "They serve saved forms, which C, C++ and Python load and save whole.":
         """TextIndex.column TextIndex.whole_row TextIndex.kept_len TextIndex.kept_row WaveletMatrix.level
@@ -102,7 +105,7 @@ except in Rust.
 def calls():
     """Returns the calls of each structure, without those that require a condition and those with a counter."""
     found = {}
-    for crate in CRATES.split():
+    for crate in CRATES:
         for owner, functions in sorted(public_calls(TOP, crate).items()):
             if owner in STRUCTURES:
                 names = [it.name for it in functions]
@@ -140,7 +143,7 @@ def has(structure, language, name):
     if language == "Rust":
         text = "".join(read(it) for it in glob(f"{TOP}/rust/src/{files}"))
         text += read(f"{TOP}/rust/src/items.rs") if "lengths!(" in text else ""
-        return "Deref" in text if name == "[]" else re.search(rf"\b(?:fn {name}\b|{name},)", text)
+        return "Deref" in text if name == "[]" else re.search(rf"(?m)\bfn {name}\b|\b{name},|^    {name}\(\w+: ", text)
     if language == "C++":
         return re.search(rf"\b{name}\(", cpp_class(read(f"{TOP}/bindings/cpp/vers.hpp"), structure))
     text = python_class("".join(read(f"{TOP}/bindings/python/vers/{it}.py") for it in ("_bases", "_lists")), structure)
@@ -161,7 +164,8 @@ def row_of(table, call):
 def shown(structure, language, name):
     """Returns a name as the table has it."""
     name = structure if (language, name) == ("Python", "()") else name
-    return f"`vers_{STRUCTURES[structure][0]}_{name}`" if language == "C" else f"`{name}`" if name else ""
+    prefix = f"vers_{STRUCTURES[structure][0]}_" if language == "C" else ""
+    return f"`{prefix}{name}`" if name else ""
 
 
 def main():

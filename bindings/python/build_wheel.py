@@ -2,7 +2,7 @@
 
 The library is linked from the proved archive: the file that VERS_C names, or libvers_c.a in the folder of that name; or
 else lib/libvers_c.a of an unpacked release, or what `tools/proofs.py vers_c` has built in crates/vers_c. The C compiler is
-that of CC, or cc. Where there is none for this processor, and where VERS_C is "cargo", cargo builds the library from the
+that of CC, or cc. If there is none for this processor, or VERS_C is "cargo", cargo builds the library from the
 same sources as plain Rust.
 """
 
@@ -39,7 +39,7 @@ def machine(path):
 
 
 def archives():
-    """The archive of the library, and that of its heap calls, beside it or in the toolchain. None where there is none."""
+    """The archive of the library, and that of its heap calls, beside it or in the toolchain. None if there is none."""
     named = os.environ.get("VERS_C", "")
     if named == "cargo":
         return None

@@ -1,4 +1,4 @@
-"""The time of a query: by a single call, in a batch of `each`, and by numpy on the plain array. Wants numpy.
+"""The time of a query: by a single call, in a batch of `each`, and by numpy on the plain array. Needs numpy.
 
     python3 speed.py [ITEMS] [QUERIES]       # a table in nanoseconds a query, at best of five
 """

@@ -4,11 +4,16 @@ import collections.abc
 import copy
 import ctypes
 import os
+import pathlib
 import pickle
 import pydoc
 import random
 import re
+import shutil
 import signal
+import subprocess
+import sys
+import tempfile
 import threading
 import time
 import tracemalloc
@@ -18,7 +23,7 @@ from array import array
 from unittest import mock
 
 import vers
-from vers import _bases, _buffers, _library
+from vers import _bases, _buffers, _library, parts
 
 try:
     import numpy
@@ -108,6 +113,46 @@ class Makers(unittest.TestCase):
         self.refuses(NUMBER_MAKERS, TypeError, " at position 1 is of type NoneType", numpy.array([0, None]))
         self.assertEqual(vers.RsVec([numpy.bool_(True), numpy.uint8(0)]).tolist(), [1, 0])
 
+    @unittest.skipIf(numpy is None, "numpy isn't there")
+    def test_dimensions(self):
+        rows = numpy.array([[1, 0], [0, 1]])
+        self.refuses(BIT_MAKERS, ValueError, "^the bits have 2 dimensions, and a list has one$", rows)
+        self.refuses(NUMBER_MAKERS, ValueError, "s have [23] dimensions, and a list has one$", rows, rows[numpy.newaxis])
+        self.refuses((vers.FastRmq,), ValueError, "^the values have 2 dimensions", memoryview(rows))
+        text = vers.TextIndex(b"abracadabra", 8)
+        for ask in (text.count, text.places, lambda it: text.first_places(it, 3), text.__contains__):
+            self.refuses((ask,), ValueError, "^the symbols have 2 dimensions, .*; use count_each for rows$", rows)
+        self.refuses((text.count_each,), ValueError, r"^the patterns have the shape \(1, 2, 2\)", rows[numpy.newaxis])
+        self.refuses((text.count_each,), ValueError, r"^the patterns have the shape \(4,\)", rows.reshape(-1))
+        self.refuses((text.count_each,), ValueError, "^the symbols have 2 dimensions", [rows])
+        self.assertEqual(text.count_each(numpy.array([b"ab", b"bra"])).tolist(), [2, 2])
+        self.refuses((text.count_each,), TypeError, "encode it", numpy.array(["ab", "bra"]))
+        for shape, counts in (((0, 3), []), ((2, 0), [12, 12])):
+            self.assertEqual(text.count_each(numpy.zeros(shape, "u1")).tolist(), counts)
+
+    def test_patterns_of_characters(self):
+        text = vers.TextIndex(b"abracadabra", 8)
+        encode = "^a text is not a list of numbers: the symbol at position 0 is of type str; encode it: b'..'$"
+        self.refuses((text.count, text.places, text.__contains__), TypeError, encode, "abra")
+        self.refuses((text.count_each, lambda it: vers.TextIndex(it[0], 8)), TypeError, encode, ["abra"])
+
+    def test_words(self):
+        makers = [kind.from_words for kind in (vers.BitVec, vers.RsVec, vers.BpTree)]
+        self.refuses([lambda it, make=make: make([5], it) for make in makers], vers.Refused,
+                     "^the length is (65|1000), and 1 words have 64 bits$", 65, 1000)
+        narrow = [bytes(8), bytearray(8), array("I", [5])]
+        if numpy is not None:
+            narrow.append(numpy.packbits([1, 0, 1] * 8, bitorder="little"))
+        size = r"^a word has 8 bytes, and the items of this buffer have [14]: pass a `.view\('u8'\)`.*bitorder='little'"
+        self.refuses(makers, TypeError, size, *narrow)
+        for make in makers:
+            for words in ([5, 1], range(5, 7), array("Q", [5, 1]), array("q", [5, 1])):
+                self.assertEqual((len(make(words)), make(words, 3).tolist()), (128, [1, 0, 1]))
+            if numpy is not None:
+                flags = numpy.array([1, 0, 1, 1] * 16)
+                packed = numpy.packbits(flags, bitorder="little").view("u8")
+                self.assertEqual(make(packed, 64).tolist(), flags.tolist())
+
     def test_reasons(self):
         reasons = {
             "^the numbers descend at position 3: 1 after 2$": lambda: vers.EliasFanoVec([1, 2, 2, 1]),
@@ -139,7 +184,7 @@ class Makers(unittest.TestCase):
         if numpy is not None:
             kinds += [lambda items, kind=kind: numpy.array(items, kind)
                       for kind in ("u1", "u2", "u4", "u8", "i2", ">u2", ">u4")]
-            kinds.append(lambda items: numpy.array(items + items, "u2").reshape(2, -1)[:1, ::1])
+            kinds.append(lambda items: numpy.array(items + items, "u2").reshape(2, -1)[0, ::1])
             kinds.append(lambda items: numpy.array([items, items], "u2").T[:, 1])
         items = [200, 7, 255, 7]
         for made in [bytes, bytearray, lambda it: memoryview(bytes(it)), *kinds]:
@@ -150,6 +195,19 @@ class Makers(unittest.TestCase):
             vers.WaveletMatrix(bytes([7, 9, 255]), 7)
         with self.assertRaisesRegex(vers.Refused, "^the symbol at position 2 is 255, and above 127"):
             vers.TextIndex(bytes([7, 9, 255]), 7)
+
+    def test_slices_of_symbols(self):
+        widths = {1: "B", 8: "B", 9: "H", 16: "H", 17: "I", 32: "I", 33: "Q", 64: "Q"}
+        for width, kind in widths.items():
+            most = (1 << width) - 1
+            items = [most, 0, 1, most, 1, most]
+            texts = [vers.TextIndex(items, width)] if width <= 16 else []
+            for made in [vers.WaveletMatrix(items, width), *texts]:
+                for part in (slice(None), slice(1, 5, 3), slice(None, None, -2), slice(4, 2), slice(9, 12)):
+                    self.assertEqual((made[part].typecode, made[part].tolist()), (kind, items[part]))
+        for made in vers.TextIndex(b"abracadabra", 8), vers.WaveletMatrix(b"abracadabra", 8):
+            self.assertEqual((bytes(made[0:4]), made[0:4].tobytes(), made[-1:]), (b"abra", b"abra", array("B", b"a")))
+        self.assertEqual(vers.WaveletMatrix([], 5)[:], array("B"))
 
     def test_narrow_symbols_are_not_widened(self):
         symbols = bytes(10 ** 6)
@@ -252,7 +310,8 @@ class Arrays(unittest.TestCase):
         symbols = vers.WaveletMatrix([3, 1, 3], 2)
         self.assertEqual(symbols.rank(numpy.array([[1], [3]]), numpy.array([1, 3])).tolist(), [[0, 1], [1, 2]])
         counts = vers.TextIndex(b"abracadabra", 8).count_each(numpy.array([list(b"ab"), list(b"ra"), list(b"ba")]))
-        self.assertEqual((counts.tolist(), counts.dtype), ([2, 2, 0], numpy.uint64))
+        self.assertEqual((counts.tolist(), counts.dtype), ([2, 2, 0], numpy.int64))
+        self.assertEqual((counts - 3).tolist(), [-1, -1, -3])
         with self.assertRaisesRegex(vers.Refused, "^no node opens at place 2, at position 1$"):
             tree.parent(numpy.array([0, 2]))
         with self.assertRaisesRegex(TypeError, "^the node at position 1 is masked$"):
@@ -298,6 +357,53 @@ class Arrays(unittest.TestCase):
         for name in ("excess", "depth", "subtree_size", "node_index"):
             self.assertEqual(tree.each(name, [0]).typecode, "q")
 
+    def test_neighbours_by_name(self):
+        bits = vers.RsVec([1, 0, 1, 1])
+        self.assertEqual(bits.each("successor1", [0, 3]).tolist(), [2, None])
+        self.assertEqual(bits.each("predecessor1", [0, 3], other=-1), array("q", [-1, 2]))
+        self.assertEqual(bits.each("successor0", [0, 1], other=9), array("q", [1, 9]))
+        self.assertIn("predecessor0(place)", vers.RsVec.__doc__)
+        with self.assertRaisesRegex(TypeError, r"^successor1 takes \(place\), and not 2 arguments$"):
+            bits.each("successor1", [0], 1)
+        if numpy is not None:
+            found = bits.each("predecessor0", numpy.array([[0, 2]]))
+            self.assertEqual((found.tolist(), found.dtype), ([[None, 1]], numpy.int64))
+
+    @unittest.skipIf(numpy is None, "numpy isn't there")
+    def test_differences(self):
+        text = vers.TextIndex(b"abracadabra", 8)
+        self.assertEqual((numpy.asarray(text.places(b"a")) - 5).tolist(), [-5, -2, 0, 2, 5])
+        index = vers.InvertedIndex([0, 0, 2], [3, 7, 3])
+        self.assertEqual((numpy.asarray(index.documents(0)) - 5).tolist(), [-2, 2])
+        self.assertEqual((index.next_at_least(0, numpy.array([0, 4])) - 5).tolist(), [-2, 2])
+        for greatest, kind in ((1 << 63) - 1, numpy.int64), (1 << 63, numpy.uint64), (vers.NONE, numpy.uint64):
+            numbers, places = [2, 5, greatest], numpy.array([0, 1])
+            documents = vers.Postings(numbers)
+            for made in vers.EliasFanoVec(numbers), documents, documents.intersect(documents):
+                self.assertEqual((numpy.asarray(made).dtype, numpy.asarray(made).tolist()), (kind, numbers))
+                self.assertEqual((made.get(places).dtype, made.get(places).tolist()), (kind, [2, 5]))
+            made = vers.EliasFanoVec(numbers)
+            for ask in made.successor, made.predecessor, made.delta, documents.next_at_least:
+                self.assertEqual(ask(places).dtype, kind, (ask, greatest))
+            self.assertEqual(made.each("get", places, other=vers.NONE).dtype, numpy.uint64)
+            self.assertEqual(numpy.asarray(made[:2]).dtype, kind)
+        self.assertEqual((numpy.asarray(text.places(b"a")[:2]) - 5).tolist(), [-5, -2])
+        self.assertEqual(numpy.asarray(vers.EliasFanoVec([])).dtype, numpy.int64)
+        self.assertEqual(vers.EliasFanoVec([4]).each("successor", [3, 5], other=-1), array("q", [4, -1]))
+        with self.assertRaisesRegex(TypeError, "^other is of type str"):
+            vers.EliasFanoVec([4]).each("successor", [3], other="a")
+        with self.assertRaisesRegex(OverflowError, "^other is -1"):
+            vers.EliasFanoVec([vers.NONE]).each("successor", [3], other=-1)
+
+    def test_signed_answers_are_arguments(self):
+        numbers = vers.EliasFanoVec([2, 5, (1 << 63) - 1])
+        self.assertEqual((numbers[:].typecode, vers.EliasFanoVec([1 << 63])[:].typecode), ("q", "Q"))
+        self.assertEqual((vers.EliasFanoVec(numbers[:]), numbers.rank(numbers[1:]).tolist()), (numbers, [1, 2]))
+        self.assertEqual(numbers[::-1], array("q", [(1 << 63) - 1, 5, 2]))
+        for wrong in ([-1, 2], [2, -1], [0] * 9 + [-(1 << 63)]):
+            with self.assertRaisesRegex(OverflowError, rf"^the number at position {wrong.index(min(wrong))} is -"):
+                numbers.rank(array("q", wrong))
+
     def test_misspelt(self):
         with self.assertRaisesRegex(vers.Unknown, "^RsVec has no query 'rnk1'; the nearest is 'rank1'$"):
             vers.RsVec([1]).each("rnk1", [0])
@@ -311,7 +417,7 @@ class Arrays(unittest.TestCase):
     def test_help(self):
         page = pydoc.plain(pydoc.render_doc(vers.RsVec))
         self.assertIn("rank1(place)", page)
-        self.assertIn("How many ones stand before a place", page)
+        self.assertIn("Returns the number of ones before a position", page)
         self.assertIn("quantile(start, end, number)", vers.WaveletMatrix.__doc__)
 
     def test_types_name_the_queries(self):
@@ -320,6 +426,90 @@ class Arrays(unittest.TestCase):
             names = [it for base in bases for it in typing.get_args(base)]
             named = next(it for it in names if typing.get_origin(it) is typing.Literal)
             self.assertEqual(set(typing.get_args(named)), set(kind._queries), kind)
+
+
+class Searches(unittest.TestCase):
+    """`in`, `count` and `index`, which queries answer."""
+
+    def setUp(self):
+        draw = random.Random(9)
+        self.bits = [draw.randrange(2) for _ in range(5000)]
+        ones = [k for k, it in enumerate(self.bits) if it]
+        ascending = sorted(draw.choice([*range(2000), vers.NONE]) for _ in range(5000))
+        symbols = [draw.randrange(7) for _ in range(5000)]
+        self.lists = [
+            (vers.RsVec(self.bits), self.bits), (vers.SparseRSVec(ones, 5000), self.bits),
+            (vers.BitVec(self.bits), self.bits), (vers.EliasFanoVec(ascending), ascending),
+            (vers.Postings(ones), ones), (vers.WaveletMatrix(symbols, 3), symbols), (vers.FastRmq(ascending), ascending),
+            (vers.RsVec([0] * 70), [0] * 70), (vers.WaveletMatrix([], 3), []), (vers.EliasFanoVec([]), []),
+        ]
+
+    def test_like_lists(self):
+        values = (0, 1, True, 1.0, 1.5, 3, 7, 8, 9, 11, 1999, vers.NONE, vers.NONE + 1, -1, "1", b"1", None, float("inf"))
+        for made, items in self.lists:
+            for value in values:
+                self.assertEqual((value in made, made.count(value)), (value in items, items.count(value)), (made, value))
+                for ends in ((0, None), (40, None), (0, 3), (-4999, -1), (4998, 6000), (10, 5), (2, 1 << 70)):
+                    places = range(*slice(*ends).indices(len(items)))
+                    place = next((k for k in places if items[k] == value), None)
+                    self.compare(made, (value, *ends), place)
+
+    def compare(self, made, arguments, place):
+        """Compares an index with a place, or with None for a ValueError."""
+        if place is not None:
+            self.assertEqual(made.index(*arguments), place, (made, arguments))
+            return
+        with self.assertRaisesRegex(ValueError, f"^{re.escape(repr(arguments[0]))} is not in the list$"):
+            made.index(*arguments)
+
+    def test_no_item_is_read(self):
+        queried = (vers.RsVec, vers.EliasFanoVec, vers.Postings, vers.WaveletMatrix)
+        with mock.patch.object(_bases.List, "_part", side_effect=AssertionError("an item is read")):
+            for made in (it for it, _ in self.lists if isinstance(it, queried)):
+                for value in (0, 1, 3, vers.NONE):
+                    self.assertEqual(made.count(value) > 0, value in made)
+            self.assertEqual(self.lists[1][0].count(0) + self.lists[1][0].count(1), 5000)
+
+
+class Texts(unittest.TestCase):
+    def test_lists_without_a_length(self):
+        for length in (1 << 63, vers.NONE):
+            made = vers.SparseRSVec([3, 1 << 62], length)
+            self.assertEqual(repr(made), f"<vers.SparseRSVec of {length} bits: [0, 0, 0, 1, 0, 0, 0, 0, ...]>")
+            self.assertEqual((bool(made), made[-1], made[2:5].tolist()), (True, 0, [0, 1, 0]))
+            self.assertEqual((made, hash(made)), (copy.copy(made), hash(vers.SparseRSVec([3, 1 << 62], length))))
+            self.assertNotEqual(made, vers.SparseRSVec([4, 1 << 62], length))
+            self.assertEqual((made.index(1), made.index(0, 3), made.index(1, 4), 7 in made), (3, 4, 1 << 62, False))
+            self.assertEqual((made.count(1), made.count(0), made.count(7)), (2, length - 2, 0))
+        self.assertFalse(vers.SparseRSVec([], 0) or vers.BitVec() or vers.InvertedIndex([], []))
+
+    def test_lists_that_are_not_made(self):
+        for kind in LISTS:
+            self.assertEqual(repr(object.__new__(kind)), f"<vers.{kind.__name__}>")
+
+    def test_bytes_that_are_not_counted(self):
+        documents = vers.Postings([1, 2])
+        for made in documents, documents.intersect(documents):
+            with self.assertRaisesRegex(vers.Unknown, f"^the library doesn't count the bytes of {type(made).__name__}$"):
+                made.heap_size()
+
+
+class Imports(unittest.TestCase):
+    def ends(self, text, library):
+        """The import of the sources alone ends in an ImportError with a text."""
+        with tempfile.TemporaryDirectory() as folder:
+            shutil.copytree(os.path.dirname(vers.__file__), os.path.join(folder, "vers"),
+                            ignore=shutil.ignore_patterns("__pycache__", "libvers.so"))
+            environment = {**os.environ, "PYTHONPATH": "", "VERS_LIBRARY": library}
+            command = [sys.executable, "-c", "import vers"]
+            done = subprocess.run(command, cwd=folder, env=environment, stderr=subprocess.PIPE, text=True, check=False)
+            self.assertRegex(done.stderr.splitlines()[-1], text)
+
+    def test_sources_without_a_library(self):
+        self.ends("^ImportError: vers: the library isn't built in .*run Python in another folder, or set VERS_LIB", "")
+
+    def test_no_such_library(self):
+        self.ends("^ImportError: vers: the library doesn't load: nowhere.so", "nowhere.so")
 
 
 class Habits(unittest.TestCase):
@@ -357,11 +547,41 @@ class Habits(unittest.TestCase):
             self.assertEqual((made[-1], made[1:].tolist()), (items[-1], items[1:]))
             if numpy is not None:
                 self.assertEqual((made[numpy.int64(-1)], made[numpy.uint8(1)]), (items[-1], items[1]))
-                self.assertEqual((numpy.asarray(made).tolist(), numpy.asarray(made).dtype), (items, numpy.uint64))
+                is_signed = isinstance(made, (vers.EliasFanoVec, vers.PlainNumbers, vers.Postings))
+                kind = numpy.int64 if is_signed else numpy.uint64
+                self.assertEqual((numpy.asarray(made).tolist(), numpy.asarray(made).dtype), (items, kind))
                 self.assertEqual(numpy.asarray(made, dtype=float).dtype, float)
                 with self.assertRaisesRegex(ValueError, "are copied"):
                     made.__array__(copy=False)
         self.assertEqual(vers.BpTree("(())").tolist(), [1, 1, 0, 0])
+
+    @unittest.skipIf(numpy is None, "numpy isn't there")
+    def test_kinds_of_arrays(self):
+        draw = random.Random(3)
+        for count in (0, 1, 63, 64, 65, _buffers.CHUNK, _buffers.CHUNK + 70, 3 * _buffers.CHUNK):
+            bits = [draw.randrange(2) for _ in range(count)]
+            ones = [k for k, it in enumerate(bits) if it]
+            for made in vers.RsVec(bits), vers.BitVec(bits), vers.SparseRSVec(ones, count):
+                for kind in (None, bool, "u1", "i4", float, object):
+                    plain = numpy.array(bits, dtype=kind or numpy.uint64)
+                    found = numpy.asarray(made, dtype=kind)
+                    self.assertEqual((found.dtype, found.tolist()), (plain.dtype, plain.tolist()))
+        symbols = [draw.randrange(256) for _ in range(_buffers.CHUNK + 70)]
+        made = vers.WaveletMatrix(symbols, 8)
+        for kind in ("u1", "u2", "i8", bool, ">u4"):
+            self.assertEqual(numpy.asarray(made, dtype=kind).tolist(), numpy.array(symbols).astype(kind).tolist())
+        self.assertEqual(numpy.asarray(vers.EliasFanoVec([3, 100]), dtype=str).tolist(), ["3", "100"])
+
+    @unittest.skipIf(numpy is None, "numpy isn't there")
+    def test_arrays_are_filled_by_chunks(self):
+        for made, kind in (vers.RsVec.from_words(array("Q", [5]) * 40_000), bool), (vers.FastRmq(range(10 ** 6)), "u4"):
+            size = len(made) * numpy.dtype(kind).itemsize
+            tracemalloc.start()
+            found = numpy.asarray(made, dtype=kind)
+            peak = tracemalloc.get_traced_memory()[1]
+            tracemalloc.stop()
+            self.assertEqual((found.nbytes, found[:3].tolist()), (size, [made[k] for k in range(3)]))
+            self.assertLess(peak, size + 4_000_000)
 
     def test_version(self):
         folder = os.path.dirname(os.path.dirname(os.path.abspath(__file__)))
@@ -379,6 +599,24 @@ class Habits(unittest.TestCase):
 
         with mock.patch.object(_library, "saved_size", size_and_change):
             self.assertEqual(vers.BitVec.from_bytes(bits.to_bytes()), vers.BitVec([1, 0] + [1] * 64))
+
+    def test_files(self):
+        with tempfile.TemporaryDirectory() as folder:
+            path = pathlib.Path(folder, "list.vers")
+            for made in some_lists():
+                if isinstance(made, vers.PlainNumbers):
+                    continue
+                made.save(path)
+                self.assertEqual((type(made).load(path), type(made).load(str(path))), (made, made))
+                parts.save(str(path), made)
+                self.assertEqual((parts.load(path, type(made)), os.listdir(folder)), (made, ["list.vers"]))
+            with self.assertRaisesRegex(vers.OtherKind, f"^{re.escape(str(path))}: .* of TextIndex, and not of RsVec$"):
+                vers.RsVec.load(path)
+            with self.assertRaisesRegex(TypeError, "has no saved form"):
+                vers.TextIndex(b"a", 8).places(b"a").save(path)
+            with self.assertRaises(FileNotFoundError):
+                vers.RsVec.load(path.with_name("absent"))
+            self.assertEqual((vers.TextIndex.load(path), os.listdir(folder)), (made, ["list.vers"]))
 
     def test_interrupt(self):
         libc, mutex = ctypes.CDLL(None), ctypes.create_string_buffer(64)

@@ -5,6 +5,7 @@ import functools
 import importlib.util
 import multiprocessing
 import os
+import pathlib
 import pickle
 import random
 import signal
@@ -228,6 +229,11 @@ class InOneProcess(Tests):
         self.assertRaises(TypeError, whole.get, 1.0)
         self.assertEqual(whole.rank1([]), [])
 
+    def test_one_path(self):
+        for path in "0.vers", b"0.vers", pathlib.Path("0.vers"):
+            with self.assertRaisesRegex(TypeError, "^the paths of parts are a list, and not one path: .*0.vers.*"):
+                parts.Bits(Counting(), path)
+
     def test_parts_that_do_not_fit(self):
         def refused(fault, text, make, *lists, **more):
             self.assertRaisesRegex(fault, text, make, Counting(), saved(self.folder, lists), **more)
@@ -236,7 +242,7 @@ class InOneProcess(Tests):
         refused(vers.NotAscending, "^part 2 begins with 3 after 4$", parts.Sorted, *lists)
         refused(vers.NotAscending, "^part 1 begins", parts.Postings, *[vers.Postings([4], [0])] * 2)
         refused(vers.Refused, "of 3 and of 4 bits", parts.Symbols, symbols([1], 4), symbols([1], 3))
-        refused(vers.OtherKind, "0.vers: The bytes are", parts.Bits, members([4]))
+        refused(vers.OtherKind, "0.vers: the bytes are the saved form of EliasFanoVec, and not of RsVec$", parts.Bits, members([4]))
         for first in ([1, 2, 4], [3]):
             text = [symbols(first, 4), symbols([3, 4], 4)]
             refused(vers.Refused, "^part 0 does not end with the first 2", parts.Texts, *text, overlap=2)

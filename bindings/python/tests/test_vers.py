@@ -1,4 +1,4 @@
-"""Compares the classes of vers with plain Python. VERS_LIBRARY names the shared library, where it isn't in the package."""
+"""Compares the classes of vers with plain Python. VERS_LIBRARY names the shared library, if it isn't in the package."""
 
 import bisect
 import copy
@@ -91,6 +91,25 @@ class Lists(unittest.TestCase):
         other = copy.copy(made)
         other.append(1)
         self.assertEqual((list(made), list(other)), (plain, plain + [1]))
+
+    def test_bit_vec_of_zeros(self):
+        for count in (0, 1, 63, 64, 65, 1000, 64 * 4096 + 70):
+            made = vers.BitVec.from_zeros(count)
+            self.assertEqual((len(made), made.count_ones(), made), (count, 0, vers.BitVec([0] * count)))
+            plain = [0] * count
+            for place in RANDOM.sample(range(count), count // 3):
+                made.flip(place)
+                plain[place] = 1
+            self.assertEqual((list(made), made.count_ones(), made.count(0)), (plain, sum(plain), count - sum(plain)))
+        made = vers.BitVec([1, 0, 1])
+        made.flip(0)
+        made.flip(-2)
+        self.assertEqual((list(made), made.count_ones(), made.count(True), made.count(2)), ([0, 1, 1], 2, 2, 0))
+        for place in (3, -4, vers.NONE):
+            with self.assertRaises(IndexError):
+                made.flip(place)
+        with self.assertRaisesRegex(OverflowError, "^the length is -1"):
+            vers.BitVec.from_zeros(-1)
 
     def test_sparse(self):
         for count in (0, 1, 100):
@@ -213,6 +232,7 @@ class Lists(unittest.TestCase):
         index = vers.InvertedIndex(*zip(*pairs), 5, 100)
         self.assertEqual((len(index), index.terms(), index.universe()), (137, 5, 100))
         self.assertEqual((index.tolist(), index.pair_number(0)), (pairs, pairs[0][1]))
+        self.assertEqual([it.typecode for it in index.pairs()], ["Q", "q"])
         for term in range(6):
             plain = lists.get(term, [])
             self.assertEqual((index.count(term), list(index.documents(term))), (len(plain), plain))
@@ -226,7 +246,17 @@ class Lists(unittest.TestCase):
                 self.assertEqual(list(index.intersection(term, other)), sorted(one & two))
                 self.assertEqual(list(index.union(term, other)), sorted(one | two))
                 self.assertEqual(list(index.difference(term, other)), sorted(one - two))
+                for more in [(0,), (3, 2), (9, 0, 3)]:
+                    sets = [set(lists.get(it, [])) for it in more]
+                    for name in "intersection", "union", "difference":
+                        found = getattr(index, name)(term, other, *more)
+                        self.assertIsInstance(found, vers.PlainNumbers)
+                        self.assertEqual(list(found), sorted(getattr(one, name)(two, *sets)))
         self.assertEqual(index.count([0, 1, 2, 9]).tolist(), [40, 0, 90, 0])
+        with self.assertRaisesRegex(OverflowError, "^the term is -1"):
+            index.intersection(0, 2, -1)
+        both = vers.Postings(index.documents(0)) & vers.Postings(index.documents(3))
+        self.assertEqual(list(both), sorted({*lists[0]} & {*lists[3]}))
 
     def test_inverted_indexes_as_objects(self):
         index = vers.InvertedIndex([0, 0, 2], [3, 7, 3])
@@ -241,7 +271,8 @@ class Lists(unittest.TestCase):
         for text, arguments in (
             ("2 terms have 1 documents", ([0, 1], [2])), ("product of the limits", ([], [], 1 << 40, 1 << 40)),
             ("term at position 1 is 4", ([0, 4], [2, 2], 4)), ("document at position 0 is 9", ([0], [9], 1, 9)),
-            ("above the one before", ([1, 0], [2, 2])), ("above the one before", ([1, 1], [2, 2])),
+            (r"^the pair at position 1 is \(0, 1\), after \(1, 0\): sort by term, then", ([1, 0], [0, 1])),
+            (r"^the pair at position 2 is \(1, 2\), after \(1, 2\): .* without repeats$", ([0, 1, 1], [4, 2, 2])),
         ):
             with self.assertRaisesRegex(vers.Refused, text):
                 vers.InvertedIndex(*arguments)
@@ -437,9 +468,9 @@ class Owners(unittest.TestCase):
         self.assertEqual(text.count([ord("a"), 1 << 60]), 0)
         patterns = [RANDOM.choices(b"abcdr", k=RANDOM.randrange(4)) for _ in range(200)] + [[], [300], plain]
         counts = [sum(list(plain[k:k + len(it)]) == list(it) for k in range(56)) for it in patterns]
-        self.assertEqual(text.count_each(patterns), array("Q", counts))
-        self.assertEqual(text.count_each(map(bytes, patterns[:200])), array("Q", counts[:200]))
-        self.assertEqual(text.count_each([]), array("Q"))
+        self.assertEqual(text.count_each(patterns), array("q", counts))
+        self.assertEqual(text.count_each(map(bytes, patterns[:200])), array("q", counts[:200]))
+        self.assertEqual((text.count_each([]), text.count_each([]).typecode), (array("q"), "q"))
         self.assertGreater(copy.copy(text).heap_size(), 55)
         for wrong in (lambda: text.extract(5, 56), lambda: text.extract(2, 1), lambda: vers.TextIndex([4], 2),
                       lambda: vers.TextIndex([], 0), lambda: vers.TextIndex([0], 17), lambda: vers.TextIndex([0], 1, 0)):
@@ -461,7 +492,7 @@ class Owners(unittest.TestCase):
         for place in (5000, -5001):
             with self.assertRaises(IndexError):
                 text[place]
-        with self.assertRaises(vers.OtherKind):
+        with self.assertRaisesRegex(vers.OtherKind, "^the bytes are the saved form of BitVec or RsVec, and not of TextI"):
             vers.TextIndex.from_bytes(vers.RsVec("01").to_bytes())
         empty = pickle.loads(pickle.dumps(vers.TextIndex(b"", 3)))
         self.assertEqual((len(empty), list(empty), empty.bits_per_symbol()), (0, [], 3))
@@ -477,6 +508,17 @@ class Owners(unittest.TestCase):
             with self.assertRaises(kind):
                 vers.RsVec.from_bytes(wrong)
         self.assertTrue(all(issubclass(kind, vers.Refused) for kind in faults))
+
+    def test_kinds_of_saved_forms(self):
+        index = vers.InvertedIndex([0], [1])
+        lists = [
+            vers.BitVec("1"), vers.RsVec("1"), vers.SparseRSVec([1], 2), vers.EliasFanoVec([1]), vers.BpTree("()"), index,
+            vers.WaveletMatrix([1], 1), vers.FastRmq([4]), vers.BinaryRmq([4]), vers.Postings([1]), vers.TextIndex([1], 1),
+        ]
+        for made in lists:
+            name, reader = type(made).__name__, vers.Postings if made is index else vers.InvertedIndex
+            with self.assertRaisesRegex(vers.OtherKind, rf"^the bytes are .* of .*\b{name}\b.*and not of {reader.__name__}$"):
+                reader.from_bytes(made.to_bytes())
 
     def test_worked_form(self):
         # the worked file of docs/FORMAT.md

@@ -16,6 +16,12 @@ minimum: Optional[int] = vers.BinaryRmq([1]).range_min(0, 0)
 ranks = bits.rank1([1, 2])
 many = bits.each("rank1", [1, 2], other=3)
 
+nearest = bits.each("successor1", [1, 2], other=-1)
+place: int = bits.index(1) + vers.EliasFanoVec([3]).count(3)
+growing: vers.BitVec = vers.BitVec.from_zeros(3)
+growing.flip(0)
+ones: int = growing.count_ones()
+
 whole = parts.Bits(parts.Renewed(ThreadPoolExecutor), ["part"])
 part_rank: int = whole.rank1(3)
 member: Optional[int] = parts.Sorted(ThreadPoolExecutor(), []).successor(3)
@@ -23,11 +29,19 @@ member: Optional[int] = parts.Sorted(ThreadPoolExecutor(), []).successor(3)
 postings = vers.Postings([1, 3])
 both: vers.Postings = postings & postings | postings - postings
 
+again: vers.RsVec = vers.RsVec.load("part")
+loaded: vers.BpTree = parts.load("part", vers.BpTree)
+index = vers.InvertedIndex([0, 1, 2], [3, 3, 5])
+three: vers.PlainNumbers = index.union(0, 1, 2)
+
 wrong: str = bits.rank1(3)  # type: ignore[assignment]
 bits.rank1("3")  # type: ignore[arg-type]
 bits.each("rnk1", [1])  # type: ignore[arg-type]
+bits.each("sucessor1", [1])  # type: ignore[arg-type]
+growing.flip("0")  # type: ignore[arg-type]
 tree.each("depht", [0])  # type: ignore[arg-type]
 tree.each("rank1", [0])  # type: ignore[arg-type]
 postings & [1]  # type: ignore[operator]
+other: vers.BpTree = vers.RsVec.load("part")  # type: ignore[assignment]
 maybe: int = bits.get(3)  # type: ignore[assignment]
 parts.Bits(3, [])  # type: ignore[arg-type]

@@ -5,13 +5,14 @@ from __future__ import annotations
 import ctypes
 import difflib
 import operator
+import os
 import sys
 from array import array
-from typing import Any, Callable, Dict, Generic, Iterator, Optional, Sequence, Tuple, TypeVar, Union
+from typing import Any, Callable, Dict, Generic, Iterator, Optional, Sequence, Tuple, Type, TypeVar, Union
 
 from . import _buffers, _codes as codes, _library as library, _queries
 from ._buffers import Numbers, number
-from ._faults import Refused, Unknown, fault
+from ._faults import OtherKind, Refused, Unknown, VersError, fault
 from ._queries import Query, query
 
 #: The greatest number of 64 bits, 2**64 - 1.
@@ -19,8 +20,16 @@ NONE = _buffers.MOST
 
 # how many items `repr` shows
 _SHOWN = 8
+# the classes by the third word of a saved form
+_FORMS = {
+    1: "BitVec or RsVec", 2: "EliasFanoVec", 3: "WaveletMatrix", 4: "SparseRSVec", 5: "FastRmq or BinaryRmq", 6: "BpTree",
+    7: "Postings", 9: "TextIndex", 10: "InvertedIndex",
+}
 # the name of a query, of which each class names its own
 Q = TypeVar("Q", bound=str)
+# the class of a list
+L = TypeVar("L", bound="List[Any]")
+Path = Union[str, "os.PathLike[str]"]
 
 
 class List(Generic[Q]):
@@ -41,7 +50,7 @@ class List(Generic[Q]):
         super().__init_subclass__()
         found = {name: getattr(getattr(cls, name, None), "query", None) for name in dir(cls)}
         cls._queries = {name: asked for name, asked in found.items() if asked is not None}
-        cls._names = {asked.code: name for name, asked in cls._queries.items()}
+        cls._names = {asked.code: name for name, asked in cls._queries.items() if asked.code != _queries.COMBINED}
         if cls._queries and cls.__doc__:
             shown = ", ".join(f"{name}({', '.join(asked.names)})" for name, asked in cls._queries.items())
             cls.__doc__ += f"\n\nQueries of a number or of an array, also by `each`: {shown}."
@@ -65,7 +74,7 @@ class List(Generic[Q]):
             free(self._at)
 
     # A call of the library costs more with each argument, and with an answer that has fields. So a query of one number
-    # is asked by the call that takes no more, and answers a number; what that can't tell is asked again.
+    # uses the call that takes no more and returns a number. If that number is ambiguous, the full call follows.
     def _find(self, code: int, a: int = 0) -> Optional[int]:
         if type(a) is not int or not 0 <= a <= NONE:
             return self._asked_otherwise(code, a)
@@ -115,8 +124,15 @@ class List(Generic[Q]):
     def __len__(self) -> int:
         return self._number(codes.LEN)
 
+    def __bool__(self) -> bool:
+        return self._length() > 0
+
+    def _length(self) -> int:
+        """The length, which `len` can't answer from 2**63 on."""
+        return self._number(codes.LEN)
+
     def to_bytes(self) -> bytes:
-        """The saved form, of which `from_bytes` makes the list again. Raises TypeError if there is none."""
+        """Returns the saved form, of which `from_bytes` makes the list again. Raises TypeError if there is none."""
         while True:
             size = library.saved_size(self._at)
             if size.status:
@@ -130,23 +146,50 @@ class List(Generic[Q]):
 
     @classmethod
     def from_bytes(cls, saved: Any) -> Any:
-        """The list of which some bytes are the saved form. If they are of no such list, raises the kind of Refused that
+        """Makes the list again of the bytes that `to_bytes` returned. Of other bytes, raises the kind of Refused that
         says why: TooShort, NotOurs, OtherVersion, OtherKind, BadLength, BadSum, BadPadding, NotAscending or
         NotAText."""
         if cls._kind is None:
             raise TypeError(f"{cls.__name__} has no saved form")
         content = bytes(memoryview(saved))
-        return cls._made(library.load, cls._kind, content, len(content))
+        try:
+            return cls._made(library.load, cls._kind, content, len(content))
+        except OtherKind:
+            kind = int.from_bytes(content[16:24], "little")
+            found = _FORMS.get(kind, f"the unknown kind {kind}")
+            raise OtherKind(f"the bytes are the saved form of {found}, and not of {cls.__name__}") from None
+
+    def save(self, path: Path) -> None:
+        """Writes the saved form to a file, which appears when all of it is written. Raises TypeError if there is none."""
+        saved, unfinished = self.to_bytes(), f"{os.fspath(path)}.unfinished"
+        with open(unfinished, "wb") as file:
+            file.write(saved)
+        os.replace(unfinished, path)
+
+    @classmethod
+    def load(cls: Type[L], path: Path) -> L:
+        """Returns the list of a saved file. Raises what `from_bytes` does, with the path."""
+        with open(path, "rb") as file:
+            saved = file.read()
+        try:
+            made: L = cls.from_bytes(saved)
+        except VersError as fault:
+            raise type(fault)(f"{os.fspath(path)}: {fault}") from None
+        return made
 
     def __reduce__(self) -> Any:
         return type(self).from_bytes, (self.to_bytes(),)
 
     def heap_size(self) -> int:
-        """How many bytes of the heap the list takes. Raises Unknown for Postings and PlainNumbers."""
-        return self._number(codes.HEAP_SIZE)
+        """Returns the number of bytes of the heap that the list takes. Raises Unknown for Postings and PlainNumbers,
+        whose bytes the library doesn't count."""
+        try:
+            return self._number(codes.HEAP_SIZE)
+        except Unknown:
+            raise Unknown(f"the library doesn't count the bytes of {type(self).__name__}") from None
 
     def tolist(self) -> Any:
-        """The items, as a list of Python's."""
+        """Returns the items as a list of Python's."""
         return [it for part in self._parts(0, len(self)) for it in part]
 
     def _part(self, start: int, end: int) -> Any:
@@ -164,14 +207,14 @@ class List(Generic[Q]):
             at = operator.index(place)
         except TypeError:
             raise TypeError(f"an index is a whole number or a slice, and not of type {type(place).__name__}") from None
-        at = at + len(self) if at < 0 else at
+        at = at + self._length() if at < 0 else at
         if not 0 <= at <= NONE:
             raise IndexError(f"no item at {place}")
         return at
 
     def _traits(self) -> Any:
         """What equal lists have in common besides their items."""
-        return len(self)
+        return self._length()
 
     def _contents(self) -> Iterator[Any]:
         """Arrays that are equal if the items of the lists are, and the traits."""
@@ -185,9 +228,14 @@ class List(Generic[Q]):
         return all(one == another for one, another in zip(self._contents(), other._contents()))
 
     def __repr__(self) -> str:
-        count = len(self)
-        shown = self._shown([*self._part(0, min(count, _SHOWN))], ", ..." if count > _SHOWN else "")
-        return f"<vers.{type(self).__name__} of {count} {self._items}: {shown}>"
+        name = type(self).__name__
+        try:
+            count = self._length()
+            shown = self._shown([*self._part(0, min(count, _SHOWN))], ", ..." if count > _SHOWN else "")
+        except (AttributeError, VersError):
+            # it isn't made yet, or there is no memory
+            return f"<vers.{name}>"
+        return f"<vers.{name} of {count} {self._items}: {shown}>"
 
     def _shown(self, items: Any, more: str) -> str:
         return f"[{', '.join(map(str, items))}{more}]"
@@ -197,7 +245,7 @@ class List(Generic[Q]):
 
         Each argument of the query is an array or a list of numbers, or one number for all. If one is a numpy array, all
         are broadcast, and the answers are an array, which is masked at the positions where a single call answers None.
-        Otherwise the answers are an array('Q'), one of 'q' for counts and places, or a list if they are truths or one
+        Otherwise the answers are an array('Q'), an array('q') if they are signed, or a list if they are truths or one
         may be None. With `other`, that number replaces None, and truths are 1 and 0. Other threads of Python run
         meanwhile.
 
@@ -219,13 +267,25 @@ class List(Generic[Q]):
 
     def _asked_many(self, name: str, numbers: Tuple[Any, ...], other: Optional[int]) -> Any:
         """The answers to arrays of numbers, as `each` says."""
-        asked = self._queries[name]
+        asked = self._with_sign(self._queries[name], other)
         columns = _buffers.columns_of(numbers, asked.names)
         answers = self._answers(asked.code, columns, asked.absent, True)
         absent = _buffers.positions_of(answers, asked.absent)
         if len(absent):
             absent = self._absent(asked, columns, absent)
         return _queries.finished(answers, asked, columns.shape, absent, other)
+
+    def _with_sign(self, asked: Query, other: Optional[int]) -> Query:
+        """A query that says whether its answers are signed. Those that are items are, if all items are, unless `other`
+        needs all 64 bits."""
+        if asked.is_signed is not None:
+            return asked
+        fits = other is None or _buffers.whole_number(other, "other") < 1 << 63
+        return asked._replace(is_signed=fits and self._is_signed())
+
+    def _is_signed(self) -> bool:
+        """Whether the items are members, documents or places that are all below 2**63."""
+        return False
 
     def _absent(self, asked: Query, columns: _buffers.Columns, positions: Any) -> Any:
         """Those positions, of some, whose query has no answer. Raises Refused for the first one that is refused."""
@@ -245,7 +305,7 @@ class List(Generic[Q]):
         return None if asked.is_optional or not asked.is_signed else 0
 
     def _answers(self, code: int, columns: _buffers.Columns, absent: int, keeps: bool) -> Any:
-        """What the library answers to many queries, `absent` where nothing is found. `keeps` the arguments."""
+        """What the library answers to many queries, `absent` if nothing is found. `keeps` the arguments."""
         first, *others = columns.columns
         if isinstance(first, int) or not all(isinstance(it, int) for it in others):
             rows = _buffers.rows_of(columns)
@@ -294,15 +354,16 @@ class Shared(List[Q]):
 class Items(List[Q], Sequence[int]):
     """A list of which each item can be asked."""
 
-    @query(codes.GET)
+    @query(codes.GET, None)
     def get(self, place: int) -> Optional[int]:
-        """The item at a place. None past the end."""
+        """Returns the item at a place. None past the end."""
         return self._find(codes.GET, place)
 
     def __getitem__(self, place: Any) -> Any:
-        """The item at a place, from the end if it is negative; or an array of those of a slice."""
+        """Returns the item at a place, which is from the end if it is negative. For a slice, returns an array of
+        items."""
         if isinstance(place, slice):
-            places = array("Q", range(*place.indices(len(self))))
+            places = array("Q", range(*place.indices(self._length())))
             return self._answers(codes.GET, _buffers.Columns([places], len(places), None), 0, False)
         item = self._find(codes.GET, self._place(place))
         if item is None:
@@ -310,19 +371,72 @@ class Items(List[Q], Sequence[int]):
         return item
 
     def __array__(self, dtype: Any = None, copy: Any = None) -> Any:
-        """The items as a numpy array, which is always a copy."""
+        """Returns the items as a numpy array, which is always a copy."""
         if copy is False:
             raise ValueError("the items of a list are copied into an array")
         numpy: Any = sys.modules["numpy"]
-        return numpy.array(self._part(0, len(self)), dtype=dtype)
+        own = numpy.dtype(numpy.int64 if self._is_signed() else numpy.uint64)
+        kind = own if dtype is None else numpy.dtype(dtype)
+        if kind.itemsize == 0:
+            # a text as long as need be
+            return self.__array__().astype(kind)
+        made = numpy.empty(len(self), kind)
+        for start in range(0, made.size, _buffers.CHUNK):
+            end = min(start + _buffers.CHUNK, made.size)
+            made[start:end] = self._numpy_part(numpy, start, end).view(own)
+        return made
+
+    def _numpy_part(self, numpy: Any, start: int, end: int) -> Any:
+        """The items from one place up to another, in a numpy array of 64 bits an item."""
+        places = numpy.arange(start, end, dtype=numpy.uint64)
+        return self._answers(codes.GET, _buffers.Columns([places], places.size, places.shape), 0, False)
 
     def __iter__(self) -> Iterator[int]:
         for part in self._parts(0, len(self)):
             yield from part
 
+    def index(self, value: Any, start: int = 0, stop: Optional[int] = None) -> int:
+        """Returns the first place of an item, from `start` on and below `stop`. Raises ValueError if there is none."""
+        place = self._first_place(value, *slice(start, stop).indices(self._length())[:2])
+        if place is None:
+            raise ValueError(f"{value!r} is not in the list")
+        return place
+
+    def count(self, value: Any) -> int:
+        """Returns the number of items that equal a value."""
+        return sum(part.count(value) for part in self._parts(0, self._length()))
+
+    def __contains__(self, value: Any) -> bool:
+        return self._first_place(value, 0, self._length()) is not None
+
+    def _first_place(self, value: Any, start: int, end: int) -> Optional[int]:
+        """The first place of an item in a range. None if there is none."""
+        for k, part in enumerate(self._parts(start, end)):
+            if value in part:
+                return start + 4096 * k + int(part.index(value))
+        return None
+
 
 class Fixed(Shared[Q], Items[Q]):
     """A list of items that doesn't change."""
+
+
+class Ascending(Fixed[Q]):
+    """Members, documents or places. The last one is below 2**63 only if all are."""
+
+    def __getitem__(self, place: Any) -> Any:
+        """Returns the item at a place, which is from the end if it is negative. For a slice, returns an array of items,
+        which is signed if all are below 2**63."""
+        found = super().__getitem__(place)
+        is_signed = isinstance(place, slice) and self._is_signed()
+        return _buffers.array_of("q", memoryview(found).cast("B")) if is_signed else found
+
+    def _all(self) -> Any:
+        """The items in an array('Q')."""
+        return self._part(0, len(self))
+
+    def _is_signed(self) -> bool:
+        return not self or self[-1] < 1 << 63
 
 
 class Bits(Items[Q]):
@@ -330,8 +444,18 @@ class Bits(Items[Q]):
 
     def _contents(self) -> Iterator[Any]:
         length = len(self)
-        for start in range(0, length // 64 * 64, 64 * 4096):
-            places = array("Q", range(start, min(start + 64 * 4096, length // 64 * 64), 64))
-            yield self._answers(codes.GET_BITS, _buffers.Columns([places, 64], len(places), None), 0, False)
-        if length % 64:
-            yield array("Q", [self._find_by(codes.GET_BITS, length // 64 * 64, length % 64) or 0])
+        for start in range(0, length, 64 * 4096):
+            yield self._words(start, min(start + 64 * 4096, length))
+
+    def _words(self, start: int, end: int) -> Any:
+        """The bits from one place up to another as words. The last word may have zeros after them."""
+        places = array("Q", range(start, end - 63, 64))
+        words = self._answers(codes.GET_BITS, _buffers.Columns([places, 64], len(places), None), 0, False)
+        rest = (end - start) % 64
+        if rest:
+            words.append(self._find_by(codes.GET_BITS, end - rest, rest) or 0)
+        return words
+
+    def _numpy_part(self, numpy: Any, start: int, end: int) -> Any:
+        words = numpy.array(self._words(start, end)).astype("<u8")
+        return numpy.unpackbits(words.view(numpy.uint8), bitorder="little")[:end - start].astype(numpy.uint64)

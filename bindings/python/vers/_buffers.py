@@ -15,8 +15,9 @@ MOST = (1 << 64) - 1
 # how many items are converted at once, which bounds the memory at work; a multiple of 64
 CHUNK = 1 << 16
 _NOWHERE = ctypes.c_uint64(0)
-# the formats of whole numbers without a sign, and the arrays of such numbers by the bytes of an item
+# the formats of whole numbers without a sign and with one, and the arrays of unsigned ones by the bytes of an item
 _UNSIGNED = {order + letter for order in ("", "<", "=", "@") for letter in "BHILQN"}
+_SIGNED = {order + letter for order in ("", "=", "@") for letter in "lqn"}
 _KINDS = {1: "B", 2: "H", 4: "I", 8: "Q"}
 # the digits of the bits 0 and 1, as a table of bytes
 _DIGITS = b"01" + bytes(254)
@@ -32,7 +33,7 @@ class Held(NamedTuple):
 
 def number(value: Any, what: str = "the number") -> int:
     """A number that fits into 64 bits."""
-    whole = _whole(value, what)
+    whole = whole_number(value, what)
     if 0 <= whole <= MOST:
         return whole
     raise OverflowError(f"{what} is {whole}, and numbers are from 0 to 2**64 - 1")
@@ -40,7 +41,7 @@ def number(value: Any, what: str = "the number") -> int:
 
 def signed_number(value: Any, what: str = "the number") -> int:
     """A number that fits into 64 bits with a sign."""
-    whole = _whole(value, what)
+    whole = whole_number(value, what)
     if -(1 << 63) <= whole < 1 << 63:
         return whole
     raise OverflowError(f"{what} is {whole}, and signed numbers are from -2**63 to 2**63 - 1")
@@ -50,17 +51,35 @@ def bit(value: Any, what: str = "the bit") -> int:
     """A bit: a truth value, or the number 0 or 1."""
     numpy = sys.modules.get("numpy")
     is_truth = numpy is not None and isinstance(value, numpy.bool_)
-    whole = int(value) if is_truth else _whole(value, what)
+    whole = int(value) if is_truth else whole_number(value, what)
     if whole in (0, 1):
         return whole
     raise ValueError(f"{what} is {whole}, and bits are 0 or 1")
 
 
-def _whole(value: Any, what: str) -> int:
+def whole_number(value: Any, what: str) -> int:
+    """A whole number."""
     try:
         return operator.index(value)
     except TypeError:
         raise TypeError(f"{what} is of type {type(value).__name__}, and not a whole number") from None
+
+
+def item_size(numbers: Any) -> Optional[int]:
+    """The bytes of an item of a buffer. None if the numbers are no buffer."""
+    try:
+        return memoryview(numbers).itemsize
+    except (TypeError, ValueError):
+        return None
+
+
+def equal_number(item: Any) -> Optional[int]:
+    """The number from 0 to 2**64 - 1 that equals an item. None if there is none."""
+    try:
+        whole = int(item)
+        return whole if whole == item and 0 <= whole <= MOST else None
+    except (TypeError, ValueError, OverflowError):
+        return None
 
 
 def is_many(value: Any) -> bool:
@@ -87,15 +106,25 @@ def copied(numbers: Any, what: str = "number", sizes: Container[int] = (8,)) -> 
         size = checked.dtype.itemsize if checked.dtype.kind == "u" and checked.dtype.itemsize in sizes else 8
         return numpy.array(checked, dtype=f"u{size}", order="C")
     if isinstance(numbers, str):
-        raise TypeError(f"a text is not a list of numbers: the {what} at position 0 is of type str")
+        hint = "; encode it: b'..'" if what == "symbol" else ""
+        raise TypeError(f"a text is not a list of numbers: the {what} at position 0 is of type str{hint}")
     try:
         view = memoryview(numbers)
         view[:1].tolist()
     except (TypeError, NotImplementedError):
         return _gathered(numbers, what)
-    if view.itemsize in sizes and view.format in _UNSIGNED and view.c_contiguous:
-        return array_of(_KINDS[view.itemsize], view.cast("B"))
+    if view.itemsize in sizes and view.c_contiguous:
+        if view.format in _UNSIGNED:
+            return array_of(_KINDS[view.itemsize], view.cast("B"))
+        if view.itemsize == 8 and view.format in _SIGNED and _has_no_sign(view.cast("B")):
+            return array_of("Q", view.cast("B"))
     return _gathered(view, what)
+
+
+def _has_no_sign(numbers: memoryview) -> bool:
+    """Whether none of some signed numbers of 64 bits is negative, by the bytes that have their signs."""
+    signs = numbers[7 if sys.byteorder == "little" else 0::8].tobytes()
+    return not signs.translate(None, bytes(range(128)))
 
 
 def _gathered(numbers: Any, what: str) -> Any:
@@ -151,6 +180,15 @@ def array_of(kind: str, content: Any) -> Any:
     return made
 
 
+def narrowed(numbers: Any, bits: int) -> Any:
+    """The numbers of an array('Q') that have some bits, in an array of the narrowest kind that has these."""
+    size = next(it for it in _KINDS if 8 * it >= bits)
+    parts = memoryview(numbers).cast("B").cast(_KINDS[size])
+    # the part with the low bits is the first one of each number, or the last one
+    step = 8 // size
+    return array_of(_KINDS[size], parts[0 if sys.byteorder == "little" else step - 1::step].tobytes())
+
+
 def address_of(made: Any) -> int:
     """The address of the numbers of an array of `copied`, and some address for those of an empty one."""
     at = made.ctypes.data if _numpy_of(made) is not None else made.buffer_info()[0]
@@ -159,19 +197,37 @@ def address_of(made: Any) -> int:
 
 def held(numbers: Any, what: str = "number", sizes: Container[int] = (8,)) -> Held:
     """The numbers in an array of their own, so that no other thread writes them while the library reads. The array is
-    that of `copied`."""
+    that of `copied`. Raises ValueError for an array of several dimensions."""
+    _refuse_dimensions(numbers, what)
     return _held(copied(numbers, what, sizes))
 
 
-def joined(lists: Any) -> Tuple[Held, Held]:
-    """The numbers of some lists, one list after another, and where each ends: as numpy arrays for the rows of one."""
-    numpy = _numpy_of(lists)
-    if numpy is not None and lists.ndim == 2:
-        rows, length = lists.shape
-        return held(lists), _held(numpy.arange(1, rows + 1, dtype=numpy.uint64) * numpy.uint64(length))
-    numbers, ends = array("Q"), array("Q")
-    for it in lists:
-        numbers.frombytes(copied(it).tobytes())
+def pattern(symbols: Any) -> Held:
+    """The symbols of a pattern, as `held`."""
+    _refuse_dimensions(symbols, "symbol", "; use count_each for rows")
+    return held(symbols, "symbol")
+
+
+def _refuse_dimensions(numbers: Any, what: str, hint: str = "") -> None:
+    """Raises ValueError for an array or a buffer of several dimensions."""
+    dimensions = getattr(numbers, "ndim", 1)
+    if isinstance(dimensions, int) and dimensions > 1:
+        raise ValueError(f"the {what}s have {dimensions} dimensions, and a list has one{hint}")
+
+
+def joined(patterns: Any) -> Tuple[Held, Held]:
+    """The symbols of some patterns, one pattern after another, and the end of each with a sign: as numpy arrays for the
+    rows of one."""
+    numpy = _numpy_of(patterns)
+    if numpy is not None and patterns.ndim == 2:
+        rows, length = patterns.shape
+        ends = numpy.arange(1, rows + 1, dtype=numpy.int64) * length
+        return _held(copied(patterns, "symbol")), _held(ends)
+    if numpy is not None and patterns.dtype.kind not in "OSU":
+        raise ValueError(f"the patterns have the shape {patterns.shape}, and rows of symbols have two dimensions")
+    numbers, ends = array("Q"), array("q")
+    for it in patterns:
+        numbers.frombytes(pattern(it).keeper.tobytes())
         ends.append(len(numbers))
     return _held(numbers), _held(ends)
 
@@ -185,6 +241,7 @@ def bits_of(bits: Any, digits: str = "01") -> Tuple[Held, int]:
 
     A text is read by its characters: of each pair of `digits`, the first one is 0 and the second one is 1.
     """
+    _refuse_dimensions(bits, "bit")
     words, count = array("Q"), 0
     for flags in _flags_of_text(bits, digits) if isinstance(bits, str) else _flags(bits):
         packed = int(flags[::-1].translate(_DIGITS), 2).to_bytes((len(flags) + 7) // 8, "little")
@@ -251,7 +308,7 @@ def above(what: str, numbers: Held, most: int) -> str:
 
 
 def descent(what: str, numbers: Held, is_strict: bool) -> str:
-    """Says where numbers don't ascend, or nothing if they do."""
+    """Says at which position numbers don't ascend, or nothing if they do."""
     flat = _flat(numbers.keeper)
     for position in range(1, numbers.size):
         before, after = int(flat[position - 1]), int(flat[position])
@@ -259,6 +316,18 @@ def descent(what: str, numbers: Held, is_strict: bool) -> str:
             return f"the {what}s descend at position {position}: {after} after {before}"
         if is_strict and after == before:
             return f"the {what}s do not ascend strictly at position {position}: {after} twice"
+    return ""
+
+
+def descent_of_pairs(terms: Held, documents: Held) -> str:
+    """Says at which position pairs don't ascend strictly, or nothing if they do."""
+    before: Optional[Tuple[int, int]] = None
+    for position, (term, document) in enumerate(zip(_flat(terms.keeper), _flat(documents.keeper))):
+        pair = int(term), int(document)
+        if before is not None and pair <= before:
+            return (f"the pair at position {position} is {pair}, after {before}: sort by term, then document, without "
+                    "repeats")
+        before = pair
     return ""
 
 

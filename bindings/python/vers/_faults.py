@@ -12,7 +12,7 @@ class Unknown(VersError, TypeError):
 
 
 class Vacant(VersError, ValueError):
-    """The object holds no list: its maker has failed."""
+    """The object has no list: its maker has failed."""
 
 
 class Refused(VersError, ValueError):
@@ -20,7 +20,7 @@ class Refused(VersError, ValueError):
 
 
 class Occupied(VersError, ValueError):
-    """The object holds a list already."""
+    """The object has a list already."""
 
 
 class NoMemory(VersError, MemoryError):
@@ -52,7 +52,7 @@ class BadLength(Refused):
 
 
 class BadSum(Refused):
-    """The sum is not that of what stands before it."""
+    """The sum is not that of the words before it."""
 
 
 class BadPadding(Refused):

@@ -1,7 +1,7 @@
 """The calls of the library vers_c, by ctypes.
 
-Single calls hold Python's lock, so that no two threads are inside one handle. Calls of many queries, and those that
-answer a list, release it and ask through a handle of their own.
+Single calls keep Python's lock, so that no two threads are inside one handle. Calls of many queries, and those that
+return a list, release it and ask through a handle of their own.
 """
 
 import ctypes
@@ -17,20 +17,32 @@ _U32, _U64, _SIZE, _POINTER = ctypes.c_uint32, ctypes.c_uint64, ctypes.c_size_t,
 
 
 class Handle(ctypes.Structure):
-    """What holds a list: all zeros for nothing."""
+    """The handle of a list: all zeros for none."""
 
     _fields_ = [("is_built", ctypes.c_bool), ("at", ctypes.c_void_p)]
 
 
 class Answer(ctypes.Structure):
-    """A status, and a number where it is 0."""
+    """A status, and a number if it is 0."""
 
     _fields_ = [("status", _U32), ("value", _U64)]
 
 
-PATH = os.environ.get("VERS_LIBRARY") or os.path.join(os.path.dirname(os.path.abspath(__file__)), "libvers.so")
-_locked = ctypes.PyDLL(PATH)
-_unlocked = ctypes.CDLL(PATH)
+def _opened() -> Tuple[ctypes.PyDLL, ctypes.CDLL]:
+    """The library that VERS_LIBRARY names, or the one that pip has built into the package: with and without Python's
+    lock."""
+    package, named = os.path.dirname(os.path.abspath(__file__)), os.environ.get("VERS_LIBRARY")
+    path = named or os.path.join(package, "libvers.so")
+    try:
+        return ctypes.PyDLL(path), ctypes.CDLL(path)
+    except OSError as fault:
+        if named or os.path.exists(path):
+            raise ImportError(f"vers: the library doesn't load: {fault}", path=path) from None
+    raise ImportError(f"vers: the library isn't built in {package}: `pip install` the package and run Python in another "
+                      "folder, or set VERS_LIBRARY to the shared library", path=path)
+
+
+_locked, _unlocked = _opened()
 # a handle's address, which ctypes passes on faster than a pointer of its own
 _AT = _POINTER
 

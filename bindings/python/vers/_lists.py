@@ -3,20 +3,21 @@
 from __future__ import annotations
 
 from array import array
-from itertools import chain, compress
-from numbers import Integral
+from itertools import chain, compress, groupby
 from operator import not_
 from typing import Any, Iterable, Iterator, Literal, Optional, Tuple
 
 from . import _buffers, _codes as codes, _library as library
-from ._bases import NONE, Bits, Fixed, Shared
+from ._bases import NONE, Ascending, Bits, Fixed, Shared
 from ._buffers import Held, Numbers, number, signed_number
 from ._faults import OtherKind, Refused
-from ._queries import Query, finished, many, query
+from ._queries import COMBINED, Query, finished, query
 
 # the queries of each class by name, as `each` takes them
 _BitVecQuery = Literal["get", "get_bits"]
-_RsVecQuery = Literal["get", "get_bits", "rank1", "rank0", "select1", "select0"]
+_RsVecQuery = Literal[
+    "get", "get_bits", "rank1", "rank0", "select1", "select0", "successor1", "successor0", "predecessor1", "predecessor0",
+]
 _SparseQuery = Literal["get", "rank1", "rank0", "select1"]
 _SortedQuery = Literal["get", "rank", "has", "predecessor", "successor", "delta"]
 _SymbolsQuery = Literal[
@@ -33,10 +34,24 @@ _TreeQuery = Literal[
 _PostingsQuery = Literal["get", "rank", "cost", "contains", "next_at_least", "cheapest"]
 _InvertedQuery = Literal["pair_number", "count", "get", "rank", "contains", "next_at_least"]
 
+# by name: the queries by which `RsVec` finds a neighbour, and the step to it
+_NEIGHBOURS = {
+    "successor1": (codes.RANK1, codes.SELECT1, 1), "predecessor1": (codes.RANK1, codes.SELECT1, -1),
+    "successor0": (codes.RANK0, codes.SELECT0, 1), "predecessor0": (codes.RANK0, codes.SELECT0, -1),
+}
+
 
 def _words(words: Numbers, length: Optional[int]) -> Tuple[Held, int]:
+    """Words of 64 bits, and a length that these have."""
+    size = _buffers.item_size(words)
+    if size not in (None, 8):
+        raise TypeError(f"a word has 8 bytes, and the items of this buffer have {size}: pass a `.view('u8')` of it, "
+                        "and pack bits by numpy.packbits with bitorder='little'")
     held = _buffers.held(words, "word")
-    return held, 64 * held.size if length is None else number(length, "the length")
+    count = 64 * held.size if length is None else number(length, "the length")
+    if count > 64 * held.size:
+        raise Refused(f"the length is {count}, and {held.size} words have {64 * held.size} bits")
+    return held, count
 
 
 def _width(bits: int) -> int:
@@ -50,19 +65,26 @@ class BitVec(Bits[_BitVecQuery]):
     _kind = codes.KIND_GROWING
 
     def __new__(cls, bits: Iterable[Any] = ()) -> Any:
-        """A list of bits: of truth values and of the numbers 0 and 1, or of a text of these two digits."""
+        """Makes a list of bits: of truth values and of the numbers 0 and 1, or of a text of these two digits."""
         return cls._made(library.growing_build, *_buffers.bits_of(bits))
 
     @classmethod
     def from_words(cls, words: Numbers, length: Optional[int] = None) -> BitVec:
-        """The first `length` bits of words of 64 bits, or all of them. The lowest bit of a word comes first."""
+        """Makes a list of the first `length` bits of words of 64 bits, or of all of them. The lowest bit of a word
+        comes first. Refuses a length above that of the words, and a buffer whose items don't have 8 bytes."""
         made: BitVec = cls._made(library.growing_build, *_words(words, length))
         return made
 
+    @classmethod
+    def from_zeros(cls, length: int) -> BitVec:
+        """Makes a list of zeros."""
+        count = number(length, "the length")
+        return cls.from_words(array("Q", [0]) * (count // 64 + 1), count)
+
     @query(codes.GET_BITS)
     def get_bits(self, place: int, count: int) -> Optional[int]:
-        """The number of the bits from a place on, the lowest first. None if there are fewer, or they are none or
-        more than 64."""
+        """Returns `count` bits from a place on as a number, the first bit as its lowest. None if there are fewer, or
+        `count` is 0 or above 64."""
         return self._find_by(codes.GET_BITS, place, count)
 
     def _change(self, code: int, a: int, b: int = 0, why: Optional[str] = None) -> None:
@@ -93,6 +115,20 @@ class BitVec(Bits[_BitVecQuery]):
             raise IndexError(f"no item at {place}")
         self._change(codes.SET, at, _buffers.bit(bit))
 
+    def flip(self, place: int) -> None:
+        """Changes the bit at a place, from the end if it is negative. Raises IndexError if there is none."""
+        self[place] = not self[place]
+
+    def count_ones(self) -> int:
+        """Returns the number of ones, by words."""
+        return sum(bin(int.from_bytes(words.tobytes(), "little")).count("1") for words in self._contents())
+
+    def count(self, value: Any) -> int:
+        """Returns the number of bits that equal a value, by words."""
+        bit = _buffers.equal_number(value)
+        ones = self.count_ones() if bit in (0, 1) else 0
+        return len(self) - ones if bit == 0 else ones
+
     def __copy__(self) -> BitVec:
         return BitVec(self)
 
@@ -107,102 +143,120 @@ class RsVec(Fixed[_RsVecQuery], Bits[_RsVecQuery]):
     _kind = codes.KIND_BITS
 
     def __new__(cls, bits: Iterable[Any]) -> Any:
-        """A list of bits: of truth values and of the numbers 0 and 1, or of a text of these two digits."""
+        """Makes a list of bits: of truth values and of the numbers 0 and 1, or of a text of these two digits."""
         return cls._made(library.bits_build, *_buffers.bits_of(bits))
 
     @classmethod
     def from_words(cls, words: Numbers, length: Optional[int] = None) -> RsVec:
-        """The first `length` bits of words of 64 bits, or all of them. The lowest bit of a word comes first."""
+        """Makes a list of the first `length` bits of words of 64 bits, or of all of them. The lowest bit of a word
+        comes first. Refuses a length above that of the words, and a buffer whose items don't have 8 bytes."""
         made: RsVec = cls._made(library.bits_build, *_words(words, length))
         return made
 
     @query(codes.GET_BITS)
     def get_bits(self, place: int, count: int) -> Optional[int]:
-        """The number of the bits from a place on, the lowest first; 0 for no bits. None if there are fewer, or
-        they are more than 64."""
+        """Returns `count` bits from a place on as a number, the first bit as its lowest; 0 for no bits. None if there
+        are fewer, or `count` is above 64."""
         return self._find_by(codes.GET_BITS, place, count)
 
     @query(codes.RANK1, True)
     def rank1(self, place: int) -> int:
-        """How many ones stand before a place; all of them past the end."""
+        """Returns the number of ones before a position; all of them past the end."""
         return self._number(codes.RANK1, place)
 
     @query(codes.RANK0, True)
     def rank0(self, place: int) -> int:
-        """How many zeros stand before a place; all of them past the end."""
+        """Returns the number of zeros before a position; all of them past the end."""
         return self._number(codes.RANK0, place)
 
     @query(codes.SELECT1, True)
     def select1(self, number: int) -> int:
-        """The place of a one by its number from 0 on; the length if there are no more, while
+        """Returns the place of a one by its number from 0 on; the length if there are no more, while
         `WaveletMatrix.select` answers None."""
         return self._number(codes.SELECT1, number)
 
     @query(codes.SELECT0, True)
     def select0(self, number: int) -> int:
-        """The place of a zero by its number from 0 on; the length if there are no more, while
+        """Returns the place of a zero by its number from 0 on; the length if there are no more, while
         `WaveletMatrix.select` answers None."""
         return self._number(codes.SELECT0, number)
 
     def iter1(self) -> Iterator[int]:
-        """The places of the ones, in order."""
+        """Returns the places of the ones, in order."""
         return self._each_below(codes.SELECT1, self.ones())
 
     def iter0(self) -> Iterator[int]:
-        """The places of the zeros, in order."""
+        """Returns the places of the zeros, in order."""
         return self._each_below(codes.SELECT0, self.zeros())
 
     def ones(self) -> int:
-        """How many ones there are."""
+        """Returns the number of ones."""
         return self.rank1(NONE)
 
     def zeros(self) -> int:
-        """How many zeros there are."""
+        """Returns the number of zeros."""
         return self.rank0(NONE)
 
-    @many
+    def count(self, value: Any) -> int:
+        """Returns the number of bits that equal a value, by a rank."""
+        bit = _buffers.equal_number(value)
+        return self.ones() if bit == 1 else self.zeros() if bit == 0 else 0
+
+    def _first_place(self, value: Any, start: int, end: int) -> Optional[int]:
+        bit = _buffers.equal_number(value)
+        if bit not in (0, 1):
+            return None
+        rank, select = (codes.RANK1, codes.SELECT1) if bit else (codes.RANK0, codes.SELECT0)
+        found = self._number(select, self._number(rank, start))
+        return found if found < end else None
+
+    @query(COMBINED, True)
     def successor1(self, place: int) -> Optional[int]:
-        """The least place of a one strictly above a place, while `EliasFanoVec.successor` is at or above. None if there
-        is none."""
-        return self._neighbour(codes.RANK1, codes.SELECT1, place, 1)
+        """Returns the least place of a one strictly above a place, while `EliasFanoVec.successor` is at or above. None
+        if there is none."""
+        return self._neighbour("successor1", place)
 
-    @many
+    @query(COMBINED, True)
     def successor0(self, place: int) -> Optional[int]:
-        """The least place of a zero strictly above a place. None if there is none."""
-        return self._neighbour(codes.RANK0, codes.SELECT0, place, 1)
+        """Returns the least place of a zero strictly above a place. None if there is none."""
+        return self._neighbour("successor0", place)
 
-    @many
+    @query(COMBINED, True)
     def predecessor1(self, place: int) -> Optional[int]:
-        """The greatest place of a one strictly below a place, which may be past the end, while
+        """Returns the greatest place of a one strictly below a place, which may be past the end, while
         `EliasFanoVec.predecessor` is at or below. None if there is none."""
-        return self._neighbour(codes.RANK1, codes.SELECT1, place, -1)
+        return self._neighbour("predecessor1", place)
 
-    @many
+    @query(COMBINED, True)
     def predecessor0(self, place: int) -> Optional[int]:
-        """The greatest place of a zero strictly below a place, which may be past the end. None if there is none."""
-        return self._neighbour(codes.RANK0, codes.SELECT0, place, -1)
+        """Returns the greatest place of a zero strictly below a place, which may be past the end. None if there is
+        none."""
+        return self._neighbour("predecessor0", place)
 
-    def _neighbour(self, rank: int, select: int, place: Any, step: int) -> Optional[int]:
-        """The next place of a bit of a kind above a place, or below it if the step is negative."""
+    def _neighbour(self, name: str, place: Any) -> Optional[int]:
+        """The answer to a query of a neighbour: the next place of a bit above a place, or below it if the step is
+        negative."""
         if _buffers.is_many(place):
-            places: Optional[int] = self._neighbours(rank, select, place, step)
+            places: Optional[int] = self._asked_many(name, (place,), None)
             return places
+        rank, select, step = _NEIGHBOURS[name]
         at = number(place, "the place")
         before = self._number(rank, min(at + 1, NONE)) if step > 0 else self._number(rank, at) - 1
         found = self._number(select, before) if before >= 0 else len(self)
         return found if found < len(self) else None
 
-    def _neighbours(self, rank: int, select: int, places: Any, step: int) -> Any:
-        """The same for many places."""
-        columns = _buffers.columns_of([places], ["place"])
+    def _asked_many(self, name: str, numbers: Tuple[Any, ...], other: Optional[int]) -> Any:
+        if name not in _NEIGHBOURS:
+            return super()._asked_many(name, numbers, other)
+        rank, select, step = _NEIGHBOURS[name]
+        columns = _buffers.columns_of(numbers, ["place"])
         if step > 0:
             columns = _buffers.stepped(columns, 1)
-        numbers = columns._replace(columns=[self._answers(rank, columns, 0, True)])
+        ranks = columns._replace(columns=[self._answers(rank, columns, 0, True)])
         if step < 0:
-            numbers = _buffers.stepped(numbers, -1)
-        found = self._answers(select, numbers, 0, True)
-        asked = self._queries["select1"]._replace(is_optional=True)
-        return finished(found, asked, columns.shape, _buffers.positions_of(found, len(self)), None)
+            ranks = _buffers.stepped(ranks, -1)
+        found = self._answers(select, ranks, 0, True)
+        return finished(found, self._queries[name], columns.shape, _buffers.positions_of(found, len(self)), other)
 
 
 class SparseRSVec(Fixed[_SparseQuery]):
@@ -213,7 +267,7 @@ class SparseRSVec(Fixed[_SparseQuery]):
     _kind = codes.KIND_SPARSE
 
     def __new__(cls, ones: Numbers, length: int) -> Any:
-        """A list of `length` bits, by the places of its ones."""
+        """Makes a list of `length` bits, by the places of its ones."""
         held, bound = _buffers.held(ones, "place"), number(length, "the length")
 
         def why() -> str:
@@ -222,76 +276,110 @@ class SparseRSVec(Fixed[_SparseQuery]):
 
     @query(codes.RANK1, True)
     def rank1(self, place: int) -> int:
-        """How many ones stand before a place; all of them past the end."""
+        """Returns the number of ones before a position; all of them past the end."""
         return self._number(codes.RANK1, place)
 
     @query(codes.RANK0)
     def rank0(self, place: int) -> int:
-        """How many zeros stand before a place; all of them past the end."""
+        """Returns the number of zeros before a position; all of them past the end."""
         return self._number(codes.RANK0, place)
 
     @query(codes.SELECT1)
     def select1(self, number: int) -> int:
-        """The place of a one by its number from 0 on; the length if there are no more, while
+        """Returns the place of a one by its number from 0 on; the length if there are no more, while
         `WaveletMatrix.select` answers None."""
         return self._number(codes.SELECT1, number)
 
     def iter1(self) -> Iterator[int]:
-        """The places of the ones, in order."""
+        """Returns the places of the ones, in order."""
         return self._each_below(codes.SELECT1, self.rank1(NONE))
 
+    def _contents(self) -> Iterator[Any]:
+        yield array("Q", self.iter1())
 
-class EliasFanoVec(Fixed[_SortedQuery]):
+    def count(self, value: Any) -> int:
+        """Returns the number of bits that equal a value, by a rank."""
+        bit = _buffers.equal_number(value)
+        return self.rank1(NONE) if bit == 1 else self.rank0(NONE) if bit == 0 else 0
+
+    def _first_place(self, value: Any, start: int, end: int) -> Optional[int]:
+        bit = _buffers.equal_number(value)
+        if bit == 0:
+            # past the ones from the start on, which are few
+            return super()._first_place(0, start, end)
+        found = self.select1(self.rank1(start)) if bit == 1 else end
+        return found if found < end else None
+
+
+class EliasFanoVec(Ascending[_SortedQuery]):
     """Numbers that ascend, equal ones allowed; Refused if they don't. `x in numbers` asks whether x is a member."""
 
     _items = "members"
     _kind = codes.KIND_SORTED
 
     def __new__(cls, numbers: Numbers) -> Any:
-        """A list of numbers that ascend."""
+        """Makes a list of numbers that ascend."""
         held = _buffers.held(numbers)
         return cls._made(library.sorted_build, held, why=lambda: _buffers.descent("number", held, False))
 
     @query(codes.RANK, True)
     def rank(self, number: int) -> int:
-        """How many members are below a number."""
+        """Returns the number of members below a number."""
         return self._number(codes.RANK, number)
 
     @query(codes.HAS)
     def has(self, number: int) -> bool:
-        """Whether a number is a member."""
+        """Returns whether a number is a member."""
         return self._truth(codes.HAS, number)
 
-    def __contains__(self, item: Any) -> bool:
-        return isinstance(item, Integral) and 0 <= int(item) <= NONE and self.has(int(item))
+    def __contains__(self, value: Any) -> bool:
+        member = _buffers.equal_number(value)
+        return member is not None and self.has(member)
 
-    @query(codes.PREDECESSOR)
+    def count(self, value: Any) -> int:
+        """Returns the number of members that equal a value, by two ranks."""
+        member = _buffers.equal_number(value)
+        return 0 if member is None else self._past(member) - self.rank(member)
+
+    def _first_place(self, value: Any, start: int, end: int) -> Optional[int]:
+        member = _buffers.equal_number(value)
+        if member is None:
+            return None
+        place = max(self.rank(member), start)
+        return place if place < min(self._past(member), end) else None
+
+    def _past(self, member: int) -> int:
+        """The number of members that are at most a number."""
+        return self.rank(member + 1) if member < NONE else len(self)
+
+    @query(codes.PREDECESSOR, None)
     def predecessor(self, number: int) -> Optional[int]:
-        """The greatest member at or below a number, while `RsVec.predecessor1` is strictly below. None if there is
-        none."""
+        """Returns the greatest member at or below a number, while `RsVec.predecessor1` is strictly below. None if there
+        is none."""
         return self._find(codes.PREDECESSOR, number)
 
-    @query(codes.SUCCESSOR)
+    @query(codes.SUCCESSOR, None)
     def successor(self, number: int) -> Optional[int]:
-        """The least member at or above a number, while `RsVec.successor1` is strictly above. None if there is none."""
+        """Returns the least member at or above a number, while `RsVec.successor1` is strictly above. None if there is
+        none."""
         return self._find(codes.SUCCESSOR, number)
 
-    @query(codes.DELTA)
+    @query(codes.DELTA, None)
     def delta(self, place: int) -> Optional[int]:
-        """The member at a place less the one before it, the first member itself. None past the end."""
+        """Returns the member at a place less the one before it; the first member itself. None past the end."""
         return self._find(codes.DELTA, place)
 
 
 class WaveletMatrix(Fixed[_SymbolsQuery]):
-    """Symbols, which are numbers of `bits_per_symbol` bits, at most 64; of no bits there are no symbols. Ranges are
-    without their end. Of a symbol that a query is passed the low bits count, as many as a symbol has."""
+    """Symbols, which are numbers of `bits_per_symbol` bits, at most 64; with a width of 0, the list is empty. Ranges
+    exclude their end. A query takes the low bits of a symbol that is wider."""
 
     _items = "symbols"
     _kind = codes.KIND_SYMBOLS
 
     def __new__(cls, symbols: Numbers, bits_per_symbol: int, *, truncate: bool = False) -> Any:
-        """A list of symbols of a width. Raises Refused for a symbol that is wider, unless its low bits are taken by
-        `truncate`."""
+        """Makes a list of symbols of a width. Raises Refused for a wider symbol, unless `truncate` takes its low
+        bits."""
         held, width = _buffers.held(symbols, "symbol", library.symbols_builds), _width(bits_per_symbol)
         size = held.keeper.itemsize
         wide = None if truncate or width >= 8 * size else _buffers.above("symbol", held, (1 << width) - 1)
@@ -303,60 +391,82 @@ class WaveletMatrix(Fixed[_SymbolsQuery]):
     def _traits(self) -> Any:
         return len(self), self.bits_per_element()
 
+    def __getitem__(self, place: Any) -> Any:
+        """Returns the symbol at a place, which is from the end if it is negative. For a slice, returns an array of the
+        narrowest kind that its symbols fit in: of bytes if they have at most 8 bits."""
+        found = super().__getitem__(place)
+        return _buffers.narrowed(found, self.bits_per_element()) if isinstance(place, slice) else found
+
+    def count(self, value: Any) -> int:
+        """Returns the number of symbols that equal a value, by a rank."""
+        symbol = self._symbol(value)
+        return 0 if symbol is None else self.rank(len(self), symbol) or 0
+
+    def _first_place(self, value: Any, start: int, end: int) -> Optional[int]:
+        symbol = self._symbol(value)
+        place = None if symbol is None else self.select_offset(start, 0, symbol)
+        return place if place is not None and place < end else None
+
+    def _symbol(self, value: Any) -> Optional[int]:
+        """The symbol that equals a value. None if there is none, since a query takes the low bits."""
+        symbol = _buffers.equal_number(value)
+        return None if symbol is None or symbol >> self.bits_per_element() else symbol
+
     def bits_per_element(self) -> int:
-        """How many bits a symbol has."""
+        """Returns the number of bits of a symbol."""
         return self._number(codes.WIDTH)
 
     @query(codes.RANK_OF, True)
     def rank(self, end: int, symbol: int) -> Optional[int]:
-        """How many of the first `end` places hold a symbol. None if there are fewer places."""
+        """Returns how often a symbol occurs before the place `end`. None past the end."""
         return self._find_by(codes.RANK_OF, end, symbol)
 
     @query(codes.RANK_RANGE, True)
     def rank_range(self, start: int, end: int, symbol: int) -> Optional[int]:
-        """How many places of a range hold a symbol. None if it starts past the last place, or ends before it starts."""
+        """Returns how often a symbol occurs in a range. None if the range starts past the last place, or ends before it
+        starts."""
         return self._find_by(codes.RANK_RANGE, start, end, symbol)
 
     @query(codes.SELECT_OF, True)
     def select(self, number: int, symbol: int) -> Optional[int]:
-        """The place of occurrence `number` of a symbol. None if there are fewer, while `RsVec.select1` answers
+        """Returns the place of occurrence `number` of a symbol. None if there are fewer, while `RsVec.select1` answers
         the length."""
         return self._find_by(codes.SELECT_OF, number, symbol)
 
     @query(codes.SELECT_FROM, True)
     def select_offset(self, offset: int, number: int, symbol: int) -> Optional[int]:
-        """The place of occurrence `number` of a symbol among the places from `offset` on."""
+        """Returns the place of occurrence `number` of a symbol among the places from `offset` on."""
         return self._find_by(codes.SELECT_FROM, offset, number, symbol)
 
     @query(codes.QUANTILE)
     def quantile(self, start: int, end: int, number: int) -> Optional[int]:
-        """Symbol `number` of a range in ascending order. None if it has fewer."""
+        """Returns symbol `number` of a range in ascending order. None if the range has fewer."""
         return self._find_by(codes.QUANTILE, start, end, number)
 
     @query(codes.LEAST)
     def range_min(self, start: int, end: int) -> Optional[int]:
-        """The least symbol of a range without its end, while `FastRmq.range_min` includes the end and answers a place.
-        None if it is empty."""
+        """Returns the least symbol of a range without its end, while `FastRmq.range_min` includes the end and answers a
+        place. None if the range is empty."""
         return self._find_by(codes.LEAST, start, end)
 
     @query(codes.GREATEST)
     def range_max(self, start: int, end: int) -> Optional[int]:
-        """The greatest symbol of a range. None if it is empty."""
+        """Returns the greatest symbol of a range. None if the range is empty."""
         return self._find_by(codes.GREATEST, start, end)
 
     @query(codes.MEDIAN)
     def range_median(self, start: int, end: int) -> Optional[int]:
-        """The middle one of a range in ascending order, the lower one of two. None if it is empty."""
+        """Returns the middle symbol of a range in ascending order, the lower one of two. None if the range is empty."""
         return self._find_by(codes.MEDIAN, start, end)
 
     @query(codes.SYMBOLS_PREDECESSOR)
     def predecessor(self, start: int, end: int, symbol: int) -> Optional[int]:
-        """The greatest symbol of a range not above a symbol. None if there is none."""
+        """Returns the greatest symbol of a range not above a symbol. None if there is none."""
         return self._find_by(codes.SYMBOLS_PREDECESSOR, start, end, symbol)
 
     @query(codes.SYMBOLS_SUCCESSOR)
     def successor(self, start: int, end: int, symbol: int) -> Optional[int]:
-        """The least symbol of a range not below a symbol. None if there is none."""
+        """Returns the least symbol of a range not below a symbol. None if there is none."""
         return self._find_by(codes.SYMBOLS_SUCCESSOR, start, end, symbol)
 
 
@@ -368,13 +478,13 @@ class FastRmq(Fixed[_MinimaQuery]):
     _build = staticmethod(library.fast_rmq_build)
 
     def __new__(cls, values: Numbers) -> Any:
-        """A list of values."""
+        """Makes a list of values."""
         return cls._made(cls._build, _buffers.held(values, "value"))
 
     @query(codes.RANGE_MIN, True)
     def range_min(self, first: int, last: int) -> Optional[int]:
-        """The first place of a least value from one place to another, both included, while `WaveletMatrix.range_min`
-        excludes the end and answers a symbol. None if that is no range of the list."""
+        """Returns the first place of a least value from one place to another, both included, while
+        `WaveletMatrix.range_min` excludes the end and answers a symbol. None if that is no range of the list."""
         return self._find_by(codes.RANGE_MIN, first, last)
 
 
@@ -385,8 +495,8 @@ class BinaryRmq(FastRmq):
     _build = staticmethod(library.binary_rmq_build)
 
 
-class PlainNumbers(Fixed[_NumbersQuery]):
-    """Plain numbers, which some calls answer."""
+class PlainNumbers(Ascending[_NumbersQuery]):
+    """Plain numbers, which some calls return."""
 
     _items = "numbers"
 
@@ -395,7 +505,7 @@ class PlainNumbers(Fixed[_NumbersQuery]):
 
 
 def _plain_again(numbers: Any) -> PlainNumbers:
-    """Returns numbers as a call answers them: documents and places, which ascend strictly, or symbols of a text."""
+    """Returns numbers as a call returned them: documents and places, which ascend strictly, or symbols of a text."""
     try:
         same = Postings(numbers)
     except Refused:
@@ -405,14 +515,15 @@ def _plain_again(numbers: Any) -> PlainNumbers:
 
 
 class BpTree(Shared[_TreeQuery]):
-    """Trees as parentheses: `BpTree("(()())")`, or of bits, of which a one opens. A node is the place where it opens.
-    Queries of nodes raise Refused if the parentheses aren't balanced, or no node opens at a place that is passed."""
+    """Trees as parentheses: `BpTree("(()())")`, or as bits, 1 for a parenthesis that opens. A node is the place at
+    which it opens. Queries of nodes raise Refused if the parentheses aren't balanced, or no node opens at such a
+    place."""
 
     _items = "parentheses"
     _kind = codes.KIND_TREE
 
     def __new__(cls, parentheses: Iterable[Any]) -> Any:
-        """Parentheses: of a text of them, or of 1 and 0; or of bits."""
+        """Makes trees of parentheses: of a text of them, of a text of 1 and 0, or of bits."""
         return cls._made(library.tree_build, *_buffers.bits_of(parentheses, "01)("))
 
     def _shown(self, items: Any, more: str) -> str:
@@ -441,61 +552,64 @@ class BpTree(Shared[_TreeQuery]):
 
     @classmethod
     def from_words(cls, words: Numbers, length: Optional[int] = None) -> BpTree:
-        """The first `length` bits of words of 64 bits, or all of them. The lowest bit of a word comes first."""
+        """Makes a list of the first `length` bits of words of 64 bits, or of all of them. The lowest bit of a word
+        comes first. Refuses a length above that of the words, and a buffer whose items don't have 8 bytes."""
         made: BpTree = cls._made(library.tree_build, *_words(words, length))
         return made
 
     @query(codes.GET)
     def is_open(self, place: int) -> Optional[bool]:
-        """Whether the parenthesis at a place opens. None past the end."""
+        """Returns whether the parenthesis at a place opens. None past the end."""
         found: Any = self._find(codes.GET, place)
         return found == 1 if type(found) is int else found
 
     def root(self) -> Optional[int]:
-        """The first root, which is place 0. None if there are no parentheses."""
+        """Returns the first root, which is place 0. None if there are no parentheses."""
         return 0 if len(self) else None
 
     def size(self) -> int:
-        """How many ones: of balanced parentheses, how many nodes."""
+        """Returns the number of ones, which is the number of nodes if the parentheses are balanced."""
         return self._number(codes.SIZE)
 
     def is_balanced(self) -> bool:
-        """Whether the parentheses are balanced."""
+        """Returns whether the parentheses are balanced."""
         return self._number(codes.IS_BALANCED) == 1
 
     @query(codes.EXCESS, True, 1 << 63)
     def excess(self, place: int) -> int:
-        """The ones less the zeros up to a place and at it. Raises Refused past the end."""
+        """Returns the number of ones less that of zeros, up to a place and at it. Raises Refused past the end."""
         value = self._number(codes.EXCESS, place)
         return value - (1 << 64) if type(value) is int and value >> 63 else value
 
     @query(codes.CLOSE, True)
     def close(self, place: int) -> Optional[int]:
-        """The place that closes what opens at a place. None if there is none."""
+        """Returns the place that closes the parenthesis that opens at a place. None if there is none."""
         return self._find(codes.CLOSE, place)
 
     @query(codes.OPEN, True)
     def open(self, place: int) -> Optional[int]:
-        """The place that opens what closes at a place. None if there is none."""
+        """Returns the place that opens the parenthesis that closes at a place. None if there is none."""
         return self._find(codes.OPEN, place)
 
     @query(codes.ENCLOSE, True)
     def enclose(self, place: int) -> Optional[int]:
-        """Where the nearest pair round a place opens. None if there is none."""
+        """Returns the place at which the nearest pair round a place opens. None if there is none."""
         return self._find(codes.ENCLOSE, place)
 
     @query(codes.NODE_HANDLE, True)
     def node_handle(self, number: int) -> int:
-        """The place of a one by its number: of balanced parentheses, that node in preorder. The length if there are no
-        more."""
+        """Returns the place of a one by its number; the length if there are no more. If the parentheses are balanced,
+        that is the node of that number in preorder."""
         return self._number(codes.NODE_HANDLE, number)
 
     def fwd_search(self, place: int, rise: int) -> Optional[int]:
-        """The first place past `place` where the excess has risen by `rise`, which may be negative."""
+        """Returns the first place past `place` at which the excess has risen by `rise`, which may be negative. None if
+        there is none."""
         return self._search(codes.FWD_SEARCH, place, rise)
 
     def bwd_search(self, place: int, rise: int) -> Optional[int]:
-        """The last place before `place` before which the excess is `rise` more, which may be negative."""
+        """Returns the last place before `place` before which the excess is `rise` more, which may be negative. None if
+        there is none."""
         return self._search(codes.BWD_SEARCH, place, rise)
 
     def _search(self, code: int, place: int, rise: int) -> Optional[int]:
@@ -503,97 +617,97 @@ class BpTree(Shared[_TreeQuery]):
 
     @query(codes.PARENT, True)
     def parent(self, node: int) -> Optional[int]:
-        """The parent of a node. None for a root."""
+        """Returns the parent of a node. None for a root."""
         return self._find(codes.PARENT, node)
 
     @query(codes.FIRST_CHILD, True)
     def first_child(self, node: int) -> Optional[int]:
-        """The first child of a node. None for a leaf."""
+        """Returns the first child of a node. None for a leaf."""
         return self._find(codes.FIRST_CHILD, node)
 
     @query(codes.LAST_CHILD, True)
     def last_child(self, node: int) -> Optional[int]:
-        """The last child of a node. None for a leaf."""
+        """Returns the last child of a node. None for a leaf."""
         return self._find(codes.LAST_CHILD, node)
 
     @query(codes.NEXT_SIBLING, True)
     def next_sibling(self, node: int) -> Optional[int]:
-        """The sibling behind a node. None for the last one."""
+        """Returns the sibling after a node. None for the last one."""
         return self._find(codes.NEXT_SIBLING, node)
 
     @query(codes.PREVIOUS_SIBLING, True)
     def previous_sibling(self, node: int) -> Optional[int]:
-        """The sibling before a node. None for the first one."""
+        """Returns the sibling before a node. None for the first one."""
         return self._find(codes.PREVIOUS_SIBLING, node)
 
     def children(self, node: int) -> Iterator[int]:
-        """The children of a node, in order."""
+        """Returns the children of a node, in order."""
         child = self.first_child(node)
         while child is not None:
             yield child
             child = self.next_sibling(child)
 
     def dfs_iter(self) -> Iterator[int]:
-        """The nodes in preorder: the places of the ones."""
+        """Returns the nodes in preorder: the places of the ones."""
         return self._each_below(codes.NODE_HANDLE, self.size())
 
     @query(codes.LEVEL_NEXT, True)
     def level_next(self, node: int) -> Optional[int]:
-        """The next node of the same depth. None if there is none."""
+        """Returns the next node of the same depth. None if there is none."""
         return self._find(codes.LEVEL_NEXT, node)
 
     @query(codes.LEVEL_PREV, True)
     def level_prev(self, node: int) -> Optional[int]:
-        """The node of the same depth before. None if there is none."""
+        """Returns the previous node of the same depth. None if there is none."""
         return self._find(codes.LEVEL_PREV, node)
 
     @query(codes.LEVEL_ANCESTOR, True)
     def level_ancestor(self, node: int, levels: int) -> Optional[int]:
-        """The ancestor of a node that many levels up, itself at 0. None if there is none."""
+        """Returns the ancestor of a node that is `levels` up; the node itself for 0. None if there is none."""
         return self._find_by(codes.LEVEL_ANCESTOR, node, levels)
 
     @query(codes.NODE_INDEX, True)
     def node_index(self, node: int) -> int:
-        """The number of a node in preorder."""
+        """Returns the number of a node in preorder."""
         return self._number(codes.NODE_INDEX, node)
 
     @query(codes.HAS_NODE)
     def has_node(self, place: int) -> bool:
-        """Whether the parentheses are balanced and a node opens at a place."""
+        """Returns whether the parentheses are balanced and a node opens at a place."""
         return self._truth(codes.HAS_NODE, place)
 
     @query(codes.IS_LEAF)
     def is_leaf(self, node: int) -> bool:
-        """Whether a node has no children."""
+        """Returns whether a node has no children."""
         return self._truth(codes.IS_LEAF, node)
 
     @query(codes.DEPTH, True)
     def depth(self, node: int) -> int:
-        """How many ancestors a node has."""
+        """Returns the number of ancestors of a node."""
         return self._number(codes.DEPTH, node)
 
     @query(codes.SUBTREE_SIZE, True)
     def subtree_size(self, node: int) -> int:
-        """How many nodes a node and those below it are."""
+        """Returns the number of nodes of the subtree of a node, with the node."""
         return self._number(codes.SUBTREE_SIZE, node)
 
     @query(codes.IS_ANCESTOR)
     def is_ancestor(self, ancestor: int, node: int) -> bool:
-        """Whether one node is above another, or is that node."""
+        """Returns whether one node is above another, or is that node."""
         return self._truth(codes.IS_ANCESTOR, ancestor, node)
 
     @query(codes.LEVEL_LEFTMOST, True)
     def level_leftmost(self, depth: int) -> Optional[int]:
-        """The first node of a depth, roots having 0. None if no node is so deep."""
+        """Returns the first node of a depth, which is 0 for roots. None if no node is so deep."""
         return self._find(codes.LEVEL_LEFTMOST, depth)
 
     @query(codes.LEVEL_RIGHTMOST, True)
     def level_rightmost(self, depth: int) -> Optional[int]:
-        """The last node of a depth, roots having 0. None if no node is so deep."""
+        """Returns the last node of a depth, which is 0 for roots. None if no node is so deep."""
         return self._find(codes.LEVEL_RIGHTMOST, depth)
 
 
-class Postings(Fixed[_PostingsQuery]):
+class Postings(Ascending[_PostingsQuery]):
     """Documents, which ascend strictly, each with a cost; Refused if they don't. `x in postings` asks for one. `&`, `|`
     and `-` make the documents of both lists, of one at least, and of the left one alone. Each has its cost in the left
     list, or in the right one if only that has it."""
@@ -602,7 +716,7 @@ class Postings(Fixed[_PostingsQuery]):
     _kind = codes.KIND_POSTINGS
 
     def __new__(cls, documents: Numbers, costs: Optional[Numbers] = None) -> Any:
-        """A list of documents, and as many costs, or costs of 0."""
+        """Makes a list of documents, with as many costs, or costs of 0."""
         held = _buffers.held(documents, "document")
         costs_held = _buffers.held(array("Q", bytes(8 * held.size)) if costs is None else costs, "cost")
 
@@ -616,34 +730,45 @@ class Postings(Fixed[_PostingsQuery]):
 
     @query(codes.RANK, True)
     def rank(self, number: int) -> int:
-        """How many documents are below a number."""
+        """Returns the number of documents below a number."""
         return self._number(codes.RANK, number)
 
     @query(codes.COST)
     def cost(self, place: int) -> Optional[int]:
-        """The cost of the document at a place. None past the end."""
+        """Returns the cost of the document at a place. None past the end."""
         return self._find(codes.COST, place)
 
     @query(codes.HAS)
     def contains(self, document: int) -> bool:
-        """Whether a document is in the list."""
+        """Returns whether a document is in the list."""
         return self._truth(codes.HAS, document)
 
-    def __contains__(self, item: Any) -> bool:
-        return isinstance(item, Integral) and 0 <= int(item) <= NONE and self.contains(int(item))
+    def __contains__(self, value: Any) -> bool:
+        document = _buffers.equal_number(value)
+        return document is not None and self.contains(document)
 
-    @query(codes.SUCCESSOR)
+    def count(self, value: Any) -> int:
+        """Returns 1 for a document that the list has, and otherwise 0."""
+        return int(value in self)
+
+    def _first_place(self, value: Any, start: int, end: int) -> Optional[int]:
+        if value not in self:
+            return None
+        place = self.rank(int(value))
+        return place if start <= place < end else None
+
+    @query(codes.SUCCESSOR, None)
     def next_at_least(self, number: int) -> Optional[int]:
-        """The first document not below a number. None if there is none."""
+        """Returns the first document not below a number. None if there is none."""
         return self._find(codes.SUCCESSOR, number)
 
-    @query(codes.CHEAPEST)
+    @query(codes.CHEAPEST, None)
     def cheapest(self, first: int, last: int) -> Optional[int]:
-        """The first document of least cost from one number to another, both included. None if there is none."""
+        """Returns the first document of least cost from one number to another, both included. None if there is none."""
         return self._find_by(codes.CHEAPEST, first, last)
 
     def intersect(self, other: Postings, *more: Postings) -> PlainNumbers:
-        """The documents that all of some other lists have too, ascending."""
+        """Returns the documents that all of some other lists have too, ascending."""
         for it in (other, *more):
             if not isinstance(it, Postings):
                 raise TypeError(f"an intersection is with Postings, and not with {type(it).__name__}")
@@ -656,12 +781,12 @@ class Postings(Fixed[_PostingsQuery]):
     def __and__(self, other: Postings) -> Postings:
         if not isinstance(other, Postings):
             return NotImplemented
-        return self._with_costs(self.intersect(other)[:])
+        return self._with_costs(self.intersect(other)._all())
 
     def __sub__(self, other: Postings) -> Postings:
         if not isinstance(other, Postings):
             return NotImplemented
-        documents = self[:]
+        documents = self._all()
         return self._with_costs(array("Q", compress(documents, map(not_, other.contains(documents)))))
 
     def __or__(self, other: Postings) -> Postings:
@@ -669,7 +794,7 @@ class Postings(Fixed[_PostingsQuery]):
             return NotImplemented
         rest = other - self
         # two runs that ascend, which a sort merges
-        rows = sorted(chain(zip(self[:], self._costs(self[:])), zip(rest[:], rest._costs(rest[:]))))
+        rows = sorted(chain(*(zip(it._all(), it._costs(it._all())) for it in (self, rest))))
         made: Postings = Postings([it for it, _ in rows], [cost for _, cost in rows])
         return made
 
@@ -693,8 +818,8 @@ class InvertedIndex(Shared[_InvertedQuery]):
 
     def __new__(cls, terms: Numbers, documents: Numbers, limit: Optional[int] = None,
                 universe: Optional[int] = None) -> Any:
-        """The index of terms below `limit` and of as many documents below `universe`; without these, the limits are
-        the greatest term plus 1, and the greatest document plus 1."""
+        """Makes the index of terms below `limit` and of as many documents below `universe`. Without these, the limits
+        are the greatest term plus 1, and the greatest document plus 1."""
         held, documents_held = _buffers.held(terms, "term"), _buffers.held(documents, "document")
         below = _above_all(held) if limit is None else number(limit, "the limit of terms")
         most = _above_all(documents_held) if universe is None else number(universe, "the limit of documents")
@@ -705,83 +830,102 @@ class InvertedIndex(Shared[_InvertedQuery]):
             if below * most > NONE:
                 return f"the product of the limits {below} and {most} is above {NONE}"
             return (_buffers.above("term", held, below - 1) or _buffers.above("document", documents_held, most - 1)
-                    or "a pair is not above the one before it")
+                    or _buffers.descent_of_pairs(held, documents_held))
         return cls._made(library.inverted_build, below, most, held, documents_held, why=why)
 
     def pairs(self) -> Tuple[Any, Any]:
-        """The terms of all pairs and their documents, in an array each."""
+        """Returns the terms of all pairs and their documents, in an array each."""
         universe = self.universe()
         numbers = self._part(0, len(self))
-        return array("Q", (it // universe for it in numbers)), array("Q", (it % universe for it in numbers))
+        documents = array("q" if self._is_signed() else "Q", (it % universe for it in numbers))
+        return array("Q", (it // universe for it in numbers)), documents
 
     def tolist(self) -> Any:
-        """The pairs of a term and a document, as a list of Python's."""
+        """Returns the pairs of a term and a document as a list of Python's."""
         return list(zip(*self.pairs()))
 
     def _traits(self) -> Any:
         return len(self), self.terms(), self.universe()
 
+    def _is_signed(self) -> bool:
+        return self.universe() <= 1 << 63
+
     def _shown(self, items: Any, more: str) -> str:
         return super()._shown([divmod(it, self.universe()) for it in items], more)
 
     def terms(self) -> int:
-        """The number of terms."""
+        """Returns the number of terms."""
         return self._number(codes.TERMS)
 
     def universe(self) -> int:
-        """The number that all documents are below."""
+        """Returns the number that all documents are below."""
         return self._number(codes.UNIVERSE)
 
     @query(codes.GET)
     def pair_number(self, place: int) -> Optional[int]:
-        """The pair at a place of all pairs as one number: the term times the universe, plus the document. None past the
-        end."""
+        """Returns the pair at a place of all pairs as one number: the term times the universe, plus the document. None
+        past the end."""
         return self._find(codes.GET, place)
 
     @query(codes.COUNT, True)
     def count(self, term: int) -> int:
-        """The number of documents of a term."""
+        """Returns the number of documents of a term."""
         return self._number(codes.COUNT, term)
 
-    @query(codes.TERM_GET)
+    @query(codes.TERM_GET, None)
     def get(self, term: int, place: int) -> Optional[int]:
-        """The document of a term at a place. None past the end."""
+        """Returns the document of a term at a place. None past the end."""
         return self._find_by(codes.TERM_GET, term, place)
 
     @query(codes.TERM_RANK, True)
     def rank(self, term: int, number: int) -> int:
-        """The number of documents of a term that are below a number."""
+        """Returns the number of documents of a term that are below a number."""
         found = self._find_by(codes.TERM_RANK, term, number)
         assert found is not None, "the query finds a number"
         return found
 
     @query(codes.TERM_HAS)
     def contains(self, term: int, document: int) -> bool:
-        """Whether a term has a document."""
+        """Returns whether a term has a document."""
         return self._truth(codes.TERM_HAS, term, document)
 
-    @query(codes.TERM_SUCCESSOR)
+    @query(codes.TERM_SUCCESSOR, None)
     def next_at_least(self, term: int, number: int) -> Optional[int]:
-        """The first document of a term that is not below a number. None if there is none."""
+        """Returns the first document of a term that is not below a number. None if there is none."""
         return self._find_by(codes.TERM_SUCCESSOR, term, number)
 
     def documents(self, term: int) -> PlainNumbers:
-        """The documents of a term, ascending."""
+        """Returns the documents of a term, ascending. `vers.Postings(index.documents(term))` has `&`, `|` and `-`."""
         own, at = self.__copy__(), number(term, "the term")
         made: PlainNumbers = PlainNumbers._made(library.documents, own._at, at)
         return made
 
-    def intersection(self, one: int, other: int) -> PlainNumbers:
-        """The documents that have both terms, ascending."""
-        return self._joined(codes.INTERSECTION, one, other)
+    def intersection(self, one: int, other: int, *more: int) -> PlainNumbers:
+        """Returns the documents that have all of some terms, ascending."""
+        return self._filtered(self._joined(codes.INTERSECTION, one, other), more, True)
 
-    def union(self, one: int, other: int) -> PlainNumbers:
-        """The documents that have one of two terms, or both, ascending."""
-        return self._joined(codes.UNION, one, other)
+    def union(self, one: int, other: int, *more: int) -> PlainNumbers:
+        """Returns the documents that have one of some terms at least, ascending."""
+        found = self._joined(codes.UNION, one, other)
+        if not more:
+            return found
+        # runs that ascend, which a sort merges
+        runs = [found, *(self.documents(it) for it in more)]
+        return _plain_again(array("Q", (it for it, _ in groupby(sorted(chain(*runs))))))
 
-    def difference(self, one: int, other: int) -> PlainNumbers:
-        """The documents that have the first term and not the other, ascending."""
-        return self._joined(codes.DIFFERENCE, one, other)
+    def difference(self, one: int, other: int, *more: int) -> PlainNumbers:
+        """Returns the documents that have the first term and none of the others, ascending."""
+        return self._filtered(self._joined(codes.DIFFERENCE, one, other), more, False)
+
+    def _filtered(self, found: PlainNumbers, terms: Tuple[int, ...], is_kept: bool) -> PlainNumbers:
+        """Those of some documents that have each of some terms, or that have none of them."""
+        if not terms:
+            return found
+        documents = found._all()
+        for it in terms:
+            has = self.contains(number(it, "the term"), documents)
+            documents = array("Q", compress(documents, has if is_kept else map(not_, has)))
+        return _plain_again(documents)
 
     def _joined(self, joint: int, one: int, other: int) -> PlainNumbers:
         own = self.__copy__()
@@ -800,14 +944,14 @@ def _above_all(held: Held) -> int:
 
 class TextIndex(Shared[str]):
     """A text of symbols of `bits_per_symbol` bits, at most 16, in which patterns are found:
-    `TextIndex(b"abracadabra", 8)`. One place is kept for each `step`. `pattern in text` asks whether a pattern has a
-    place; the one without symbols has each, and the end."""
+    `TextIndex(b"abracadabra", 8)`. The index keeps one place for each `step`. `pattern in text` is whether a pattern
+    occurs. A pattern without symbols occurs at each place and at the end."""
 
     _kind = codes.KIND_TEXT
     _items = "symbols"
 
     def __new__(cls, symbols: Numbers, bits_per_symbol: int, step: int = 32) -> Any:
-        """The index of a text. Raises Refused for a symbol that has more bits."""
+        """Makes the index of a text. Raises Refused for a symbol that has more bits."""
         held = _buffers.held(symbols, "symbol", library.text_builds)
         width, kept = _width(bits_per_symbol), number(step, "the step")
 
@@ -821,23 +965,25 @@ class TextIndex(Shared[str]):
 
     @classmethod
     def from_bytes(cls, saved: Any, step: int = 32) -> Any:
-        """The index of which some bytes are the saved form, without a sort; or the index, with a place kept for each
-        `step`, of the symbols of which they are the saved form, as versions below 0.18 saved a text. Raises the kind of
-        Refused that says why they are neither."""
+        """Makes the index again of the bytes that `to_bytes` returned, without a sort. Bytes of a `WaveletMatrix`, as
+        versions below 0.18 saved a text, make the index of its symbols, with one place kept for each `step`. Of other
+        bytes, raises the kind of Refused that says why."""
         try:
             return super().from_bytes(saved)
-        except OtherKind:
-            symbols = WaveletMatrix.from_bytes(saved)
+        except OtherKind as fault:
+            try:
+                symbols = WaveletMatrix.from_bytes(saved)
+            except OtherKind:
+                raise fault from None
             return cls(symbols[:], symbols.bits_per_element(), step)
 
     def __getitem__(self, place: Any) -> Any:
-        """The symbol at a place, from the end if it is negative; or an array of those of a slice."""
+        """Returns the symbol at a place, which is from the end if it is negative. For a slice, returns an array of the
+        narrowest kind that its symbols fit in: of bytes if they have at most 8 bits."""
         if isinstance(place, slice):
             places = range(*place.indices(len(self)))
-            if not places:
-                return array("Q")
-            first, last = sorted((places[0], places[-1]))
-            return self._part(first, last + 1)[::places.step]
+            first, last = sorted((places[0], places[-1])) if places else (0, -1)
+            return _buffers.narrowed(self._part(first, last + 1)[::places.step], self.bits_per_symbol())
         at = self._place(place)
         if at >= len(self):
             raise IndexError(f"no item at {place}")
@@ -851,27 +997,28 @@ class TextIndex(Shared[str]):
         return len(self), self.bits_per_symbol()
 
     def _part(self, start: int, end: int) -> Any:
-        return self.extract(start, end)[:]
+        return self.extract(start, end)._all()
 
     def bits_per_symbol(self) -> int:
-        """How many bits a symbol has."""
+        """Returns the number of bits of a symbol."""
         return self._number(codes.WIDTH)
 
     def step(self) -> int:
-        """Of how many places one is kept."""
+        """Returns the step: the index keeps one place for each `step`."""
         return self._number(codes.STEP)
 
     def count(self, pattern: Numbers) -> int:
-        """How many places a pattern has."""
-        held = _buffers.held(pattern)
+        """Returns how often a pattern occurs."""
+        held = _buffers.pattern(pattern)
         answer = library.count(self._at, held.address, held.size)
         library.done(answer.status)
         value: int = answer.value
         return value
 
     def count_each(self, patterns: Iterable[Numbers]) -> Any:
-        """How many places each of some patterns has: an array('Q'), or a numpy array for the rows of one. In a text of
-        some millions of symbols this takes less time than a `count` of each. Other threads of Python run meanwhile."""
+        """Returns how often each of some patterns occurs: an array('q'), or a numpy array for the rows of one. In a
+        text of some millions of symbols this takes less time than a `count` of each. Other threads of Python run
+        meanwhile."""
         symbols, ends = _buffers.joined(patterns)
         own = self.__copy__()
         library.done(library.count_each(own._at, *symbols[:2], *ends[:2]))
@@ -881,21 +1028,22 @@ class TextIndex(Shared[str]):
         return self.count(pattern) > 0
 
     def places(self, pattern: Numbers) -> PlainNumbers:
-        """The places of a pattern, ascending."""
-        held = _buffers.held(pattern)
+        """Returns the places of a pattern, ascending."""
+        held = _buffers.pattern(pattern)
         own = self.__copy__()
         made: PlainNumbers = PlainNumbers._made(library.places, own._at, *held[:2])
         return made
 
     def first_places(self, pattern: Numbers, limit: int) -> PlainNumbers:
-        """The first `limit` places of a pattern, or all if there are fewer, in the order of the suffixes there."""
-        held, most = _buffers.held(pattern), number(limit, "the limit")
+        """Returns the first `limit` places of a pattern, or all if there are fewer, in the order of the suffixes
+        there."""
+        held, most = _buffers.pattern(pattern), number(limit, "the limit")
         own = self.__copy__()
         made: PlainNumbers = PlainNumbers._made(library.first_places, own._at, *held[:2], most)
         return made
 
     def extract(self, start: int, end: int) -> PlainNumbers:
-        """The symbols from one place up to another. Refused if the text has no such places."""
+        """Returns the symbols from one place up to another. Raises Refused if the text has no such places."""
         first, past = number(start, "the start"), number(end, "the end")
         own = self.__copy__()
         made: PlainNumbers = PlainNumbers._made(

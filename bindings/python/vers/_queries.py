@@ -11,17 +11,21 @@ from ._buffers import Numbers
 R_co = TypeVar("R_co", covariant=True)
 T = TypeVar("T")
 
+# the code of a query that is put together from others
+COMBINED = -1
+
 
 class Query(NamedTuple):
     """A query: its code, its arguments by name, and the kind of its answers."""
 
     code: int
     names: Tuple[str, ...]
-    # whether an answer is a truth, a number with a sign (a count or a place), or may be None
+    # whether an answer is a truth, a number with a sign (a count or a place), or may be None; `is_signed` is None if
+    # the answers are items, which are signed in lists whose items are all below 2**63
     is_truth: bool
-    is_signed: bool
+    is_signed: Optional[bool]
     is_optional: bool
-    # the number that the library writes where there is no answer
+    # the number that the library writes if there is no answer
     absent: int
 
 
@@ -83,7 +87,7 @@ class _Decorator(Protocol):
     def __call__(self, __method: Callable[[Any, int, int, int], T]) -> _ThreeMethod[T]: ...
 
 
-def query(code: int, is_signed: bool = False, absent: int = _buffers.MOST) -> _Decorator:
+def query(code: int, is_signed: Optional[bool] = False, absent: int = _buffers.MOST) -> _Decorator:
     """Names a method as the query of a code, which takes numbers or arrays of them. The method's annotation says of
     what kind its answers are."""
     def named(method: Any) -> Any:
@@ -119,7 +123,7 @@ def finished(answers: Any, asked: Query, shape: Optional[Tuple[int, ...]], absen
 
 
 def _finished_array(answers: Any, asked: Query, absent: Any, masks: bool) -> Any:
-    """Does the same for a numpy array of one dimension. It is masked where answers are absent, if it `masks`."""
+    """Does the same for a numpy array of one dimension. Answers that are absent are masked, if it `masks`."""
     numpy: Any = sys.modules["numpy"]
     if asked.is_signed:
         answers = answers.view(numpy.int64)

@@ -29,13 +29,13 @@ from collections import Counter
 from concurrent.futures import BrokenExecutor, Executor
 from functools import lru_cache, partial
 from itertools import accumulate, repeat
-from typing import Any, Callable, Dict, Iterable, List, Optional, Protocol, Sequence, Tuple, Union
+from typing import Any, Callable, Dict, Iterable, List, Optional, Protocol, Sequence, Tuple, Type, Union
 
 from . import _bases, _buffers, _faults, _lists
+from ._bases import Path
 from ._buffers import Numbers, number
 from ._queries import many
 
-Path = Union[str, "os.PathLike[str]"]
 # makes a list of its saved form, and of further arguments
 Load = Callable[..., Any]
 # the number of a part, what it is asked, and what is added to its answer; or the answer itself
@@ -53,11 +53,13 @@ class Engine(Protocol):
 
 
 def save(path: Path, made: _bases.List[Any]) -> None:
-    """Writes the saved form of a list to a file, which appears when all of it is written."""
-    unfinished = f"{os.fspath(path)}.unfinished"
-    with open(unfinished, "wb") as file:
-        file.write(made.to_bytes())
-    os.replace(unfinished, path)
+    """Writes the saved form of a list to a file, which appears when all of it is written, as `made.save(path)`."""
+    made.save(path)
+
+
+def load(path: Path, kind: Type[_bases.L]) -> _bases.L:
+    """Returns the list of a class in a saved file, as `kind.load(path)`: `parts.load("0.vers", vers.RsVec)`."""
+    return kind.load(path)
 
 
 class Renewed:
@@ -180,6 +182,8 @@ class _Files:
     """Parts on an engine, with the facts of each."""
 
     def __init__(self, engine: Any, paths: Iterable[Path], facts: Any, load: Load, *more: Any) -> None:
+        if isinstance(paths, (str, bytes, os.PathLike)):
+            raise TypeError(f"the paths of parts are a list, and not one path: [{paths!r}]")
         rows = [(os.fspath(it), load, *more) for it in paths]
         self._engine = engine
         self._parts: List[Any] = [_Part(*it) for it in rows]
