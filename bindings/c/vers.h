@@ -2,18 +2,18 @@
  *  Succinct lists whose every call is proved: bits with rank and select, ascending numbers, sparse bits, symbols,
  *  range minima, trees of parentheses, documents with costs, texts in which patterns are found.
  *
- *  A list is made of a caller's array and held by a handle, which is all zeros while it holds nothing:
+ *  A call makes a list of the caller's array, and a handle owns it. A handle of zeros owns none:
  *
  *      vers_bits bits = {0};
  *      if (vers_bits_of(&bits, words, word_count, length) != VERS_DONE) ..
- *      vers_answer ones = vers_bits_rank1(&bits, 1000);   // ones.value, where ones.status is VERS_DONE
+ *      vers_answer ones = vers_bits_rank1(&bits, 1000);   // ones.value, if ones.status is VERS_DONE
  *      vers_bits_free(&bits);                             // all zeros again
  *
  *  Memory. A list copies what it is made of, so the caller's array is his own again when the call returns. `_free`, and
  *  nothing else, frees what a call has put into a handle (`_of`, `_load`, `_clone`, `_intersect`, `_places`,
  *  `_extract`).
- *  Answers are numbers, never pointers. Where memory is out a call answers VERS_NO_MEMORY and changes nothing. Many
- *  queries of symbols at once ask for memory too, and are answered without it, if more slowly.
+ *  Answers are numbers, never pointers. Without memory a call returns VERS_NO_MEMORY and changes nothing. A batch of
+ *  queries of symbols allocates memory too, and is answered without it, but more slowly.
  *
  *  Threads. A handle is used by one thread at a time, also for queries. Each thread asks through a handle of its
  *  own, which `_clone` makes in constant time: handles of one list may be asked and freed by many threads at once,
@@ -61,7 +61,7 @@ enum vers_status {
     VERS_OTHER_VERSION = 10, /**< The saved form is of another version. */
     VERS_OTHER_KIND = 11,    /**< The bytes are the saved form of another kind of list. */
     VERS_BAD_LENGTH = 12,    /**< No such list is as long, or the bytes go on after it. */
-    VERS_BAD_SUM = 13,       /**< The sum is not that of what stands before it. */
+    VERS_BAD_SUM = 13,       /**< The sum is not that of the bytes before it. */
     VERS_BAD_PADDING = 14,   /**< A bit is set past the end of the list. */
     VERS_NOT_ASCENDING = 15, /**< The numbers do not ascend as those of the list do. */
     VERS_NOT_A_TEXT = 16     /**< No text has the column and the rows of a saved form. */
@@ -162,7 +162,7 @@ enum vers_kind {
     VERS_KIND_INVERTED = 10 /**< A vers_inverted. */
 };
 
-/** The answer of a query: `value` counts where `status` is VERS_DONE, and is 0 else. */
+/** The answer of a query: `value` counts if `status` is VERS_DONE, and is 0 otherwise. */
 typedef struct vers_answer {
     uint32_t status;
     uint64_t value;
@@ -188,11 +188,11 @@ typedef struct vers_handle {
 /** Asks one query. VERS_UNKNOWN, VERS_VACANT, and what the query has. One handle, no array. */
 vers_answer vers_ask(vers_handle *handle, uint32_t query, uint64_t a, uint64_t b, uint64_t c);
 
-/** The value of what a query of one number answers, and UINT64_MAX where its status isn't VERS_DONE. One handle, no
+/** The value of what a query of one number answers, and UINT64_MAX if its status isn't VERS_DONE. One handle, no
  *  array. */
 uint64_t vers_value(vers_handle *handle, uint32_t query, uint64_t a);
 
-/** Replaces each number by the answer to it as a, with these b and c; `other` where the status isn't
+/** Replaces each number by the answer to it as a, with these b and c; `other` if the status isn't
  *  VERS_DONE. VERS_UNKNOWN and VERS_VACANT leave the numbers as they were. One handle; writes `numbers`. */
 uint32_t vers_ask_each(vers_handle *handle, uint32_t query, uint64_t *numbers, size_t count, uint64_t b, uint64_t c,
                        uint64_t other);
@@ -208,7 +208,7 @@ uint32_t vers_change(vers_handle *handle, uint32_t change, uint64_t a, uint64_t 
  *  The two handles differ; afterwards each is for a thread of its own. */
 uint32_t vers_clone(vers_handle *handle, vers_handle *other);
 
-/** Puts the documents that two vers_postings share into an empty third handle, as vers_numbers. VERS_REFUSED where one
+/** Puts the documents that two vers_postings share into an empty third handle, as vers_numbers. VERS_REFUSED if one
  *  of the two holds no such list, VERS_OCCUPIED, VERS_NO_MEMORY. The three handles differ. Of one list alone there have
  *  to be two handles, which `vers_postings_intersect` makes. */
 uint32_t vers_intersect(vers_handle *one, vers_handle *other, vers_handle *into);
@@ -225,7 +225,7 @@ vers_answer vers_count(vers_handle *handle, const uint64_t *pattern, size_t coun
 uint32_t vers_count_each(vers_handle *handle, const uint64_t *symbols, size_t length, uint64_t *ends, size_t count);
 
 /** Puts the places of a pattern in a vers_text, ascending, into an empty other handle, as vers_numbers. VERS_REFUSED
- *  where the first holds no text, VERS_OCCUPIED, VERS_NO_MEMORY. The two handles differ; reads `pattern`. */
+ *  if the first owns no text, VERS_OCCUPIED, VERS_NO_MEMORY. The two handles differ; reads `pattern`. */
 uint32_t vers_places(vers_handle *handle, const uint64_t *pattern, size_t count, vers_handle *into);
 
 /** Puts the first `limit` places of a pattern in a vers_text, or all if there are fewer, into an empty other handle, as
@@ -234,7 +234,7 @@ uint32_t vers_places(vers_handle *handle, const uint64_t *pattern, size_t count,
 uint32_t vers_first_places(vers_handle *handle, const uint64_t *pattern, size_t count, size_t limit, vers_handle *into);
 
 /** Puts the symbols of a vers_text from place `start` up to `end` into an empty other handle, as vers_numbers.
- *  VERS_REFUSED where the first holds no text with such places, VERS_OCCUPIED, VERS_NO_MEMORY. The two handles
+ *  VERS_REFUSED if the first owns no text with such places, VERS_OCCUPIED, VERS_NO_MEMORY. The two handles
  *  differ. */
 uint32_t vers_extract(vers_handle *handle, size_t start, size_t end, vers_handle *into);
 
@@ -252,7 +252,7 @@ uint32_t vers_joined(vers_handle *handle, uint32_t joint, uint64_t one, uint64_t
  *  use and free other handles of the list meanwhile. One handle, no array. */
 void vers_free(vers_handle *handle);
 
-/* Queries that are asked often, each by a call of its own: the answers of vers_ask, in fewer instructions where the
+/* Queries that are asked often, each by a call of its own: the answers of vers_ask, in fewer instructions if the
  * list is of that kind. Values are those of a vers_fast_rmq. One handle, no array. */
 vers_answer vers_quick_bits_get(vers_handle *handle, uint64_t place);
 vers_answer vers_quick_bits_rank0(vers_handle *handle, uint64_t place);
@@ -288,7 +288,7 @@ uint32_t vers_save(vers_handle *handle, uint8_t *bytes, size_t count);
 uint32_t vers_load(uint32_t kind, const uint8_t *bytes, size_t count, vers_handle *handle);
 
 /* The exports that build a list into an empty handle, as the calls `_of` below say: VERS_OCCUPIED, VERS_NO_MEMORY, and
- * VERS_REFUSED where those have it. One handle; each reads its arrays, of which two may be one. */
+ * VERS_REFUSED if those have it. One handle; each reads its arrays, of which two may be one. */
 uint32_t vers_growing_build(const uint64_t *words, size_t count, size_t length, vers_handle *handle);
 uint32_t vers_bits_build(const uint64_t *words, size_t count, size_t length, vers_handle *handle);
 uint32_t vers_tree_build(const uint64_t *words, size_t count, size_t length, vers_handle *handle);
@@ -319,7 +319,7 @@ static inline int64_t vers_signed(uint64_t value) {
     return value <= INT64_MAX ? (int64_t)value : -(int64_t)~value - 1;
 }
 
-/** The value of an answer, or another number where its status isn't VERS_DONE. */
+/** The value of an answer, or another number if its status isn't VERS_DONE. */
 static inline uint64_t vers_value_or(vers_answer answer, uint64_t other) {
     return answer.status == VERS_DONE ? answer.value : other;
 }
@@ -332,7 +332,7 @@ static inline const char *vers_status_text(uint32_t status) {
         "there is no memory, or the list would be too long", "the list has another handle, so it can't change",
         "the bytes are cut off", "the bytes do not begin as a saved form does",
         "the saved form is of another version", "the saved form is of another kind of list",
-        "no such list is as long, or the bytes go on after it", "the sum is not that of what stands before it",
+        "no such list is as long, or the bytes go on after it", "the sum is not that of the bytes before it",
         "a bit is set past the end of the list", "the numbers do not ascend",
         "no text has the column and the rows of a saved form",
     };
@@ -407,7 +407,7 @@ static inline uint32_t vers_asked_from(const vers_handle *handle, enum vers_quer
 }
 
 /** Writes the places that `select` finds of what `rank` counts from `start` up to `end`. The answer is how many there
- *  are, also where there is room for fewer. */
+ *  are, even if there is room for fewer. */
 static inline vers_answer vers_listed(const vers_handle *handle, enum vers_query rank, enum vers_query select,
                                       uint64_t start, uint64_t end, uint64_t *places, size_t count) {
     vers_answer first = vers_asked(handle, rank, start, 0, 0), past = vers_asked(handle, rank, end, 0, 0);
@@ -513,7 +513,7 @@ static inline uint32_t vers_growing_append(vers_growing *list, bool bit) {
     return vers_change(&list->handle, VERS_PUSH, bit, 0);
 }
 
-/** Appends the `count` low bits of a number, the lowest first. VERS_REFUSED where `count` is above 64. */
+/** Appends the `count` low bits of a number, the lowest first. VERS_REFUSED if `count` is above 64. */
 static inline uint32_t vers_growing_append_bits(vers_growing *list, uint64_t bits, uint64_t count) {
     return vers_change(&list->handle, VERS_APPEND, bits, count);
 }
@@ -528,7 +528,7 @@ static inline uint32_t vers_growing_drop_last(vers_growing *list, uint64_t count
     return vers_change(&list->handle, VERS_DROP_LAST, count, 0);
 }
 
-/** Replaces each number by the answer of a query of one number to it, `other` where there is no answer.
+/** Replaces each number by the answer of a query of one number to it, `other` if there is no answer.
  * VERS_UNKNOWN and VERS_VACANT leave the numbers as they were. */
 static inline uint32_t vers_growing_each(const vers_growing *list, enum vers_query query, uint64_t *numbers,
                                          size_t count, uint64_t other) {
@@ -604,12 +604,12 @@ static inline vers_answer vers_bits_get_bits(const vers_bits *list, uint64_t pla
     return vers_asked(&list->handle, VERS_GET_BITS, place, count, 0);
 }
 
-/** How many ones stand before a place; all of them past the end. */
+/** The number of ones before a place; of all past the end. */
 static inline vers_answer vers_bits_rank1(const vers_bits *list, uint64_t place) {
     return vers_quick_bits_rank1(vers_held(&list->handle), place);
 }
 
-/** How many zeros stand before a place; all of them past the end. */
+/** The number of zeros before a place; of all past the end. */
 static inline vers_answer vers_bits_rank0(const vers_bits *list, uint64_t place) {
     return vers_quick_bits_rank0(vers_held(&list->handle), place);
 }
@@ -673,7 +673,7 @@ static inline vers_answer vers_bits_predecessor0(const vers_bits *list, uint64_t
     return vers_previous_bit(&list->handle, VERS_RANK0, VERS_SELECT0, place);
 }
 
-/** Replaces each number by the answer of a query of one number to it, `other` where there is no answer.
+/** Replaces each number by the answer of a query of one number to it, `other` if there is no answer.
  * VERS_UNKNOWN and VERS_VACANT leave the numbers as they were. */
 static inline uint32_t vers_bits_each(const vers_bits *list, enum vers_query query, uint64_t *numbers, size_t count,
                                       uint64_t other) {
@@ -693,7 +693,7 @@ typedef struct vers_sorted {
     vers_handle handle;
 } vers_sorted;
 
-/** Makes the list of `count` numbers. VERS_REFUSED where one is below the one before it. VERS_OCCUPIED,
+/** Makes the list of `count` numbers. VERS_REFUSED if one is below the one before it. VERS_OCCUPIED,
  * VERS_NO_MEMORY. */
 static inline uint32_t vers_sorted_of(vers_sorted *list, const uint64_t *numbers, size_t count) {
     if (vers_is_missing(numbers, count)) return VERS_REFUSED;
@@ -777,7 +777,7 @@ static inline vers_answer vers_sorted_delta(const vers_sorted *list, uint64_t pl
     return vers_asked(&list->handle, VERS_DELTA, place, 0, 0);
 }
 
-/** Replaces each number by the answer of a query of one number to it, `other` where there is no answer.
+/** Replaces each number by the answer of a query of one number to it, `other` if there is no answer.
  * VERS_UNKNOWN and VERS_VACANT leave the numbers as they were. */
 static inline uint32_t vers_sorted_each(const vers_sorted *list, enum vers_query query, uint64_t *numbers,
                                         size_t count, uint64_t other) {
@@ -791,7 +791,7 @@ typedef struct vers_sparse {
     vers_handle handle;
 } vers_sparse;
 
-/** Makes the list of `length` bits whose ones are at `count` places. VERS_REFUSED where the places don't ascend
+/** Makes the list of `length` bits whose ones are at `count` places. VERS_REFUSED if the places don't ascend
  * strictly, or one isn't below `length`. VERS_OCCUPIED, VERS_NO_MEMORY. */
 static inline uint32_t vers_sparse_of(vers_sparse *list, const uint64_t *ones, size_t count, uint64_t length) {
     if (vers_is_missing(ones, count)) return VERS_REFUSED;
@@ -841,12 +841,12 @@ static inline vers_answer vers_sparse_get(const vers_sparse *list, uint64_t plac
     return vers_asked(&list->handle, VERS_GET, place, 0, 0);
 }
 
-/** How many ones stand before a place; all of them past the end. */
+/** The number of ones before a place; of all past the end. */
 static inline vers_answer vers_sparse_rank1(const vers_sparse *list, uint64_t place) {
     return vers_asked(&list->handle, VERS_RANK1, place, 0, 0);
 }
 
-/** How many zeros stand before a place; all of them past the end. */
+/** The number of zeros before a place; of all past the end. */
 static inline vers_answer vers_sparse_rank0(const vers_sparse *list, uint64_t place) {
     return vers_asked(&list->handle, VERS_RANK0, place, 0, 0);
 }
@@ -864,7 +864,7 @@ static inline vers_answer vers_sparse_places1(const vers_sparse *list, uint64_t 
     return vers_listed(&list->handle, VERS_RANK1, VERS_SELECT1, start, end, places, count);
 }
 
-/** Replaces each number by the answer of a query of one number to it, `other` where there is no answer.
+/** Replaces each number by the answer of a query of one number to it, `other` if there is no answer.
  * VERS_UNKNOWN and VERS_VACANT leave the numbers as they were. */
 static inline uint32_t vers_sparse_each(const vers_sparse *list, enum vers_query query, uint64_t *numbers,
                                         size_t count, uint64_t other) {
@@ -879,7 +879,7 @@ typedef struct vers_symbols {
     vers_handle handle;
 } vers_symbols;
 
-/** Makes the list of the `width` low bits of `count` numbers; of no bits there are no symbols. VERS_REFUSED where
+/** Makes the list of the `width` low bits of `count` numbers; if `width` is 0 there are no symbols. VERS_REFUSED if
  * `width` is above 64. VERS_OCCUPIED, VERS_NO_MEMORY. */
 static inline uint32_t vers_symbols_of(vers_symbols *list, const uint64_t *numbers, size_t count, uint32_t width) {
     if (vers_is_missing(numbers, count)) return VERS_REFUSED;
@@ -918,13 +918,13 @@ static inline uint32_t vers_symbols_clone(const vers_symbols *list, vers_symbols
     return vers_cloned(&list->handle, &other->handle);
 }
 
-/** How many bytes the saved form of the list has. VERS_ABSENT where a symbol has no bits. */
+/** How many bytes the saved form of the list has. VERS_ABSENT if a symbol has no bits. */
 static inline vers_answer vers_symbols_saved_size(const vers_symbols *list) {
     return vers_saved_size(vers_held(&list->handle));
 }
 
 /** Writes the saved form over `count` bytes, as many as `_saved_size` says. VERS_REFUSED for another count,
- * VERS_NO_MEMORY. VERS_ABSENT where a symbol has no bits. */
+ * VERS_NO_MEMORY. VERS_ABSENT if a symbol has no bits. */
 static inline uint32_t vers_symbols_save(const vers_symbols *list, uint8_t *bytes, size_t count) {
     return vers_saved(&list->handle, bytes, count);
 }
@@ -960,7 +960,7 @@ static inline vers_answer vers_symbols_rank(const vers_symbols *list, uint64_t e
     return vers_quick_symbols_rank(vers_held(&list->handle), end, symbol);
 }
 
-/** How many places of a range hold a symbol. VERS_ABSENT where it starts past the last place, or ends before it
+/** How many places of a range hold a symbol. VERS_ABSENT if it starts past the last place, or ends before it
  * starts. */
 static inline vers_answer vers_symbols_rank_range(const vers_symbols *list, uint64_t start, uint64_t end,
                                                   uint64_t symbol) {
@@ -992,12 +992,12 @@ static inline vers_answer vers_symbols_range_min(const vers_symbols *list, uint6
     return vers_asked(&list->handle, VERS_LEAST, start, end, 0);
 }
 
-/** The greatest symbol of a range. VERS_ABSENT where it is empty. */
+/** The greatest symbol of a range. VERS_ABSENT if it is empty. */
 static inline vers_answer vers_symbols_range_max(const vers_symbols *list, uint64_t start, uint64_t end) {
     return vers_asked(&list->handle, VERS_GREATEST, start, end, 0);
 }
 
-/** The middle one of a range in ascending order, the lower one of two. VERS_ABSENT where it is empty. */
+/** The middle one of a range in ascending order, the lower one of two. VERS_ABSENT if it is empty. */
 static inline vers_answer vers_symbols_range_median(const vers_symbols *list, uint64_t start, uint64_t end) {
     return vers_asked(&list->handle, VERS_MEDIAN, start, end, 0);
 }
@@ -1014,7 +1014,7 @@ static inline vers_answer vers_symbols_successor(const vers_symbols *list, uint6
     return vers_asked(&list->handle, VERS_SYMBOLS_SUCCESSOR, start, end, symbol);
 }
 
-/** Replaces each number by the answer of a query of one number to it, `other` where there is no answer.
+/** Replaces each number by the answer of a query of one number to it, `other` if there is no answer.
  * VERS_UNKNOWN and VERS_VACANT leave the numbers as they were. */
 static inline uint32_t vers_symbols_each(const vers_symbols *list, enum vers_query query, uint64_t *numbers,
                                          size_t count, uint64_t other) {
@@ -1089,7 +1089,7 @@ static inline vers_answer vers_fast_rmq_range_min(const vers_fast_rmq *list, uin
     return vers_quick_values_range_min(vers_held(&list->handle), first, last);
 }
 
-/** Replaces each number by the answer of a query of one number to it, `other` where there is no answer.
+/** Replaces each number by the answer of a query of one number to it, `other` if there is no answer.
  * VERS_UNKNOWN and VERS_VACANT leave the numbers as they were. */
 static inline uint32_t vers_fast_rmq_each(const vers_fast_rmq *list, enum vers_query query, uint64_t *numbers,
                                           size_t count, uint64_t other) {
@@ -1164,7 +1164,7 @@ static inline vers_answer vers_binary_rmq_range_min(const vers_binary_rmq *list,
     return vers_asked(&list->handle, VERS_RANGE_MIN, first, last, 0);
 }
 
-/** Replaces each number by the answer of a query of one number to it, `other` where there is no answer.
+/** Replaces each number by the answer of a query of one number to it, `other` if there is no answer.
  * VERS_UNKNOWN and VERS_VACANT leave the numbers as they were. */
 static inline uint32_t vers_binary_rmq_each(const vers_binary_rmq *list, enum vers_query query, uint64_t *numbers,
                                             size_t count, uint64_t other) {
@@ -1180,7 +1180,7 @@ static inline uint32_t vers_binary_rmq_rows(const vers_binary_rmq *list, enum ve
 /* Trees as parentheses, of which a one opens and a zero closes. */
 
 /** Trees as parentheses, of which a one opens and a zero closes. A node is the place where it opens. Queries of nodes
- * answer VERS_REFUSED where the parentheses aren't balanced or no node opens at a place that is passed. The other
+ * answer VERS_REFUSED if the parentheses aren't balanced or no node opens at a place that is passed. The other
  * queries answer of any list of bits. */
 typedef struct vers_tree {
     vers_handle handle;
@@ -1266,7 +1266,7 @@ static inline vers_answer vers_tree_enclose(const vers_tree *list, uint64_t plac
     return vers_asked(&list->handle, VERS_ENCLOSE, place, 0, 0);
 }
 
-/** The place of one number `number`: of balanced parentheses, that node in preorder. The length where there are no
+/** The place of one number `number`: of balanced parentheses, that node in preorder. The length if there are no
  * more. */
 static inline vers_answer vers_tree_node_handle(const vers_tree *list, uint64_t number) {
     return vers_asked(&list->handle, VERS_NODE_HANDLE, number, 0, 0);
@@ -1352,24 +1352,24 @@ static inline vers_answer vers_tree_is_ancestor(const vers_tree *list, uint64_t 
     return vers_asked(&list->handle, VERS_IS_ANCESTOR, ancestor, node, 0);
 }
 
-/** The first node of a depth, roots having 0. VERS_ABSENT where no node is so deep. */
+/** The first node of a depth, roots having 0. VERS_ABSENT if no node is so deep. */
 static inline vers_answer vers_tree_level_leftmost(const vers_tree *list, uint64_t depth) {
     return vers_asked(&list->handle, VERS_LEVEL_LEFTMOST, depth, 0, 0);
 }
 
-/** The last node of a depth, roots having 0. VERS_ABSENT where no node is so deep. */
+/** The last node of a depth, roots having 0. VERS_ABSENT if no node is so deep. */
 static inline vers_answer vers_tree_level_rightmost(const vers_tree *list, uint64_t depth) {
     return vers_asked(&list->handle, VERS_LEVEL_RIGHTMOST, depth, 0, 0);
 }
 
-/** The first root, which is place 0. VERS_ABSENT where the list is empty. */
+/** The first root, which is place 0. VERS_ABSENT if the list is empty. */
 static inline vers_answer vers_tree_root(const vers_tree *list) {
     vers_answer first = vers_tree_is_open(list, 0);
     first.value = 0;
     return first;
 }
 
-/** Replaces each number by the answer of a query of one number to it, `other` where there is no answer.
+/** Replaces each number by the answer of a query of one number to it, `other` if there is no answer.
  * VERS_UNKNOWN and VERS_VACANT leave the numbers as they were. */
 static inline uint32_t vers_tree_each(const vers_tree *list, enum vers_query query, uint64_t *numbers, size_t count,
                                       uint64_t other) {
@@ -1389,7 +1389,7 @@ typedef struct vers_postings {
     vers_handle handle;
 } vers_postings;
 
-/** Makes the list of `count` documents and as many costs. VERS_REFUSED where the documents don't ascend strictly.
+/** Makes the list of `count` documents and as many costs. VERS_REFUSED if the documents don't ascend strictly.
  * VERS_OCCUPIED, VERS_NO_MEMORY. */
 static inline uint32_t vers_postings_of(vers_postings *list, const uint64_t *documents, const uint64_t *costs,
                                         size_t count) {
@@ -1467,7 +1467,7 @@ static inline vers_answer vers_postings_cheapest(const vers_postings *list, uint
     return vers_asked(&list->handle, VERS_CHEAPEST, first, last, 0);
 }
 
-/** Replaces each number by the answer of a query of one number to it, `other` where there is no answer.
+/** Replaces each number by the answer of a query of one number to it, `other` if there is no answer.
  * VERS_UNKNOWN and VERS_VACANT leave the numbers as they were. */
 static inline uint32_t vers_postings_each(const vers_postings *list, enum vers_query query, uint64_t *numbers,
                                           size_t count, uint64_t other) {
@@ -1527,7 +1527,7 @@ static inline uint32_t vers_postings_intersect(const vers_postings *one, const v
     return status;
 }
 
-/** Replaces each number by the answer of a query of one number to it, `other` where there is no answer.
+/** Replaces each number by the answer of a query of one number to it, `other` if there is no answer.
  * VERS_UNKNOWN and VERS_VACANT leave the numbers as they were. */
 static inline uint32_t vers_numbers_each(const vers_numbers *list, enum vers_query query, uint64_t *numbers,
                                          size_t count, uint64_t other) {
@@ -1679,7 +1679,7 @@ typedef struct vers_text {
 } vers_text;
 
 /** Makes the text of `count` symbols of `width` bits, with one place kept for each `step`: a place of a pattern is found
- * by fewer than `step` steps. VERS_REFUSED where a symbol has more bits than `width`, `width` is 0 or above 16, `step`
+ * by fewer than `step` steps. VERS_REFUSED if a symbol has more bits than `width`, `width` is 0 or above 16, `step`
  * is 0, or the symbols are more than 2^32 - 2. VERS_OCCUPIED, VERS_NO_MEMORY. */
 static inline uint32_t vers_text_of(vers_text *text, const uint64_t *symbols, size_t count, uint32_t width,
                                     size_t step) {
@@ -1739,7 +1739,7 @@ static inline vers_answer vers_text_width(const vers_text *text) {
     return vers_asked(&text->handle, VERS_WIDTH, 0, 0, 0);
 }
 
-/** Of how many places one is kept. */
+/** The distance of two sampled places. */
 static inline vers_answer vers_text_step(const vers_text *text) {
     return vers_asked(&text->handle, VERS_STEP, 0, 0, 0);
 }
@@ -1773,7 +1773,7 @@ static inline vers_answer vers_text_contains(const vers_text *text, const uint64
     return answer;
 }
 
-/** Puts the places of a pattern, ascending, into an empty other handle. VERS_REFUSED where the first holds nothing,
+/** Puts the places of a pattern, ascending, into an empty other handle. VERS_REFUSED if the first holds nothing,
  * VERS_OCCUPIED, VERS_NO_MEMORY. */
 static inline uint32_t vers_text_places(const vers_text *text, const uint64_t *pattern, size_t count,
                                         vers_numbers *into) {
@@ -1789,7 +1789,7 @@ static inline uint32_t vers_text_first_places(const vers_text *text, const uint6
     return vers_first_places(vers_held(&text->handle), vers_array(pattern), count, limit, &into->handle);
 }
 
-/** Puts the symbols from place `start` up to `end` into an empty other handle. VERS_REFUSED where the text has no such
+/** Puts the symbols from place `start` up to `end` into an empty other handle. VERS_REFUSED if the text has no such
  * places, or the handle holds nothing, VERS_OCCUPIED, VERS_NO_MEMORY. */
 static inline uint32_t vers_text_extract(const vers_text *text, size_t start, size_t end, vers_numbers *into) {
     return vers_extract(vers_held(&text->handle), start, end, &into->handle);

@@ -594,6 +594,48 @@ static void test_constructors() {
     check("null", !vers::RsVec::from_bits(static_cast<bool *>(nullptr), 1, status) && status == Status::refused);
 }
 
+static void test_characters() {
+    const std::string bytes = "abracadabra";
+    const auto text = vers::TextIndex::from(bytes, 8);
+    check("a string", text && text->len() == 11 && text->step() == 32);
+    check("with a step", *vers::TextIndex::from(bytes, 8, 4) == *text);
+    check("too wide", !vers::TextIndex::from(bytes, 6));
+    check("a literal", text->count("abra") == 2 && text->count("x") == 0 && text->count("") == 12);
+    check("a pattern", text->count(bytes) == 1 && text->contains("cad") && !text->contains("dac"));
+    check("views", text->count(std::string_view(bytes).substr(0, 1)) == 5);
+    const auto places = text->places("abra");
+    check("places", places.len() == 2 && places[0] == 0 && places[1] == 7);
+    check("the first place", text->first_places("a", 1).len() == 1);
+    const std::vector<std::string> patterns = {"br", "a", "", "x"};
+    check("many", text->count_each(patterns) == std::vector<std::uint64_t>({2, 5, 12, 0}));
+    const auto symbols = vers::WaveletMatrix::from(bytes, 8);
+    check("symbols", symbols->rank(11, 'a') == Found(5) && (*symbols)[4] == 'c' && symbols->size() == 11);
+    const std::string high = "\xff\x80";
+    check("bytes above 127", (*vers::WaveletMatrix::from(high, 8))[0] == 255);
+}
+
+static void test_empty_objects() {
+    struct Lists {
+        vers::RsVec bits;
+        vers::EliasFanoVec numbers;
+        vers::WaveletMatrix symbols;
+        vers::SparseRSVec sparse;
+        vers::FastRmq fast;
+        vers::BinaryRmq binary;
+        vers::BpTree tree;
+        vers::Postings postings;
+        vers::InvertedIndex inverted;
+        vers::TextIndex text;
+        vers::Numbers some;
+    } lists;
+    check("nothing", lists.bits.len() == 0 && lists.bits.rank1(5) == 0 && !lists.numbers.get(0));
+    check("no text", lists.text.count("a") == 0 && lists.inverted.count(0) == 0 && !lists.tree.root());
+    check("no items", lists.symbols.is_empty() && lists.sparse[3] == 0 && lists.fast.size() == 0);
+    check("as nothing", lists.binary == vers::BinaryRmq() && lists.postings == vers::Postings() && lists.some.len() == 0);
+    lists.bits = vers::RsVec::from_bits({true, false, true});
+    check("moved to", lists.bits.ones() == 2 && lists.bits[2] == 1 && lists.bits[3] == 0);
+}
+
 static void test_constructors_of_postings() {
     const Numbers documents = {2, 3, 5}, costs = {7, 1, 4};
     const std::list<std::uint32_t> narrow(documents.begin(), documents.end());
@@ -733,6 +775,8 @@ int main() {
     test_moved_from();
     test_missing_arrays();
     test_constructors();
+    test_characters();
+    test_empty_objects();
     test_constructors_of_postings();
     test_equality();
     test_iterators();

@@ -38,6 +38,7 @@
 #include <iterator>
 #include <new>
 #include <optional>
+#include <string_view>
 #include <type_traits>
 #include <utility>
 #include <vector>
@@ -152,6 +153,17 @@ private:
     std::size_t count_ = 0, room_ = 0;
 };
 
+/** Characters that are adjacent in memory as bytes, and any other range itself. */
+template <class Range>
+decltype(auto) symbols_of(Range &range) {
+    if constexpr (std::is_same_v<Item<Range>, char>) {
+        const auto *bytes = reinterpret_cast<const std::uint8_t *>(std::data(range));
+        return Between<const std::uint8_t *>{bytes, bytes + std::size(range)};
+    } else {
+        return (range);
+    }
+}
+
 template <class Range, class = void>
 constexpr bool is_array_of_numbers = false;
 template <class Range>
@@ -257,14 +269,19 @@ public:
         return made(status, [&](Raw *raw) { return vers_clone(handle(), &raw->handle); });
     }
 
-    /** How many items. */
+    /** The number of items. `size` is the same, except that a BpTree has as many nodes. */
     std::uint64_t len() const noexcept { return ask(VERS_LEN).value; }
+    std::uint64_t size() const noexcept { return len(); }
     bool is_empty() const noexcept { return len() == 0; }
+    /** The item at a place; 0 past the end, for which `get` answers nullopt. */
+    std::uint64_t operator[](std::uint64_t place) const noexcept {
+        return static_cast<const List &>(*this).get(place).value_or(0);
+    }
     /** How many bytes of the heap the list takes. 0 for Postings and Numbers, which have no such query. */
     std::uint64_t heap_size() const noexcept { return ask(VERS_HEAP_SIZE).value; }
 
     /** Replaces each number by the answer of a query of one number to it, and `other` where there is no answer.
-     *  Status::unknown where the list has no such query, and the numbers stay. */
+     *  Status::unknown if the list has no such query, and the numbers stay. */
     Status each(vers_query query, std::uint64_t *numbers, std::size_t count,
                 std::uint64_t other = none) const noexcept {
         return static_cast<Status>(vers_asked_each(&raw_.handle, query, numbers, count, 0, 0, other));
@@ -281,7 +298,7 @@ public:
     /** Writes the saved form over `count` bytes, as many as `saved_size` says; Status::refused for another count. */
     Status save(std::uint8_t *bytes, std::size_t count) const { return thrown(vers_saved(handle(), bytes, count)); }
 
-    /** The list of which bytes are the saved form. nullopt where they are of no such list; the status says why. */
+    /** Loads a list from its saved form. nullopt if they are of no such list; the status says why. */
     static std::optional<List> load(const std::uint8_t *bytes, std::size_t count) {
         Status status;
         return wanted(load(bytes, count, status), status);
@@ -400,6 +417,10 @@ inline constexpr auto narrow_build<vers_text_build, std::uint8_t> = vers_text_bu
 template <>
 inline constexpr auto narrow_build<vers_text_build, std::uint16_t> = vers_text_build_u16s;
 
+/** Whether `Build` takes characters as bytes. */
+template <auto Build>
+inline constexpr bool takes_characters = narrow_build<Build, std::uint8_t> != nullptr;
+
 /** Whether `Build` has such a call for the items of a range that are adjacent in memory. */
 template <auto Build, class Range, class = void>
 inline constexpr bool is_narrow = false;
@@ -437,7 +458,9 @@ public:
     }
     template <class Range = std::initializer_list<std::uint64_t>, class = Item<Range>>
     static std::optional<List> from(Range &&range, More... more, Status &status) {
-        if constexpr (is_narrow<Build, Range>) {
+        if constexpr (takes_characters<Build> && std::is_same_v<Item<Range>, char>) {
+            return from(symbols_of(range), more..., status);
+        } else if constexpr (is_narrow<Build, Range>) {
             return List::made(status, [&](auto *raw) {
                 const auto *numbers = static_cast<const Item<Range> *>(vers_some(std::data(range)));
                 return narrow_build<Build, Item<Range>>(numbers, std::size(range), more..., &raw->handle);
@@ -549,7 +572,7 @@ public:
     }
 
     Status append(bool bit) { return change(VERS_PUSH, bit); }
-    /** Appends the low bits of a number, the lowest first. Status::refused where they are more than 64. */
+    /** Appends the low bits of a number, the lowest first. Status::refused if they are more than 64. */
     Status append_bits(std::uint64_t bits, std::uint64_t count) { return change(VERS_APPEND, bits, count); }
     /** Status::refused for a place past the end. */
     Status set(std::uint64_t place, bool bit) { return change(VERS_SET, place, bit); }
@@ -569,6 +592,9 @@ private:
 class RsVec : public detail::Owner<RsVec, vers_bits, VERS_KIND_BITS>,
               public detail::FromBits<RsVec, vers_bits_build> {
 public:
+    /** Owns nothing, until a list is moved to it. */
+    RsVec() noexcept = default;
+
     /** The bit at a place, 1 or 0. */
     std::optional<std::uint64_t> get(std::uint64_t place) const noexcept {
         return detail::found(vers_bits_get(&raw_, place));
@@ -578,7 +604,7 @@ public:
     std::optional<std::uint64_t> get_bits(std::uint64_t place, std::uint64_t count) const noexcept {
         return find(VERS_GET_BITS, place, count);
     }
-    /** How many ones, or zeros, stand before a place; all of them past the end. */
+    /** The number of ones, or zeros, before a place; of all past the end. */
     std::uint64_t rank1(std::uint64_t place) const noexcept { return vers_bits_rank1(&raw_, place).value; }
     std::uint64_t rank0(std::uint64_t place) const noexcept { return vers_bits_rank0(&raw_, place).value; }
     /** The place of a one, or zero, by its number from 0 on; the length if there are no more, while that of symbols is
@@ -620,9 +646,12 @@ class SparseRSVec : public detail::Owner<SparseRSVec, vers_sparse, VERS_KIND_SPA
                     public detail::FromNumbers<SparseRSVec, std::optional<SparseRSVec>, vers_sparse_build,
                                                std::uint64_t> {
 public:
+    /** Owns nothing, until a list is moved to it. */
+    SparseRSVec() noexcept = default;
+
     /** The bit at a place, 1 or 0. */
     std::optional<std::uint64_t> get(std::uint64_t place) const noexcept { return find(VERS_GET, place); }
-    /** How many ones, or zeros, stand before a place; all of them past the end. */
+    /** The number of ones, or zeros, before a place; of all past the end. */
     std::uint64_t rank1(std::uint64_t place) const noexcept { return ask(VERS_RANK1, place).value; }
     std::uint64_t rank0(std::uint64_t place) const noexcept { return ask(VERS_RANK0, place).value; }
     /** The place of a one by its number from 0 on; the length if there are no more, while that of symbols is
@@ -645,6 +674,9 @@ private:
 class EliasFanoVec : public detail::Owner<EliasFanoVec, vers_sorted, VERS_KIND_SORTED>,
                      public detail::FromNumbers<EliasFanoVec, std::optional<EliasFanoVec>, vers_sorted_build> {
 public:
+    /** Owns nothing, until a list is moved to it. */
+    EliasFanoVec() noexcept = default;
+
     std::optional<std::uint64_t> get(std::uint64_t place) const noexcept {
         return detail::found(vers_sorted_get(&raw_, place));
     }
@@ -678,6 +710,9 @@ class WaveletMatrix : public detail::Owner<WaveletMatrix, vers_symbols, VERS_KIN
                       public detail::FromNumbers<WaveletMatrix, std::optional<WaveletMatrix>, vers_symbols_build,
                                                  std::uint32_t> {
 public:
+    /** Owns nothing, until a list is moved to it. */
+    WaveletMatrix() noexcept = default;
+
     using Found = std::optional<std::uint64_t>;
 
     Found get(std::uint64_t place) const noexcept { return detail::found(vers_symbols_get(&raw_, place)); }
@@ -735,6 +770,9 @@ private:
 class FastRmq : public detail::Owner<FastRmq, vers_fast_rmq, VERS_KIND_FAST>,
                 public detail::FromNumbers<FastRmq, FastRmq, vers_fast_rmq_build> {
 public:
+    /** Owns nothing, until a list is moved to it. */
+    FastRmq() noexcept = default;
+
     std::optional<std::uint64_t> get(std::uint64_t place) const noexcept {
         return detail::found(vers_fast_rmq_get(&raw_, place));
     }
@@ -757,6 +795,9 @@ private:
 class BinaryRmq : public detail::Owner<BinaryRmq, vers_binary_rmq, VERS_KIND_BINARY>,
                   public detail::FromNumbers<BinaryRmq, BinaryRmq, vers_binary_rmq_build> {
 public:
+    /** Owns nothing, until a list is moved to it. */
+    BinaryRmq() noexcept = default;
+
     std::optional<std::uint64_t> get(std::uint64_t place) const noexcept { return find(VERS_GET, place); }
     /** The first place of a least value from one place to another, both included, while that of symbols excludes the
      *  end and is a symbol. nullopt for no such range. */
@@ -773,17 +814,20 @@ private:
 };
 
 /** Trees as parentheses, of which a one opens and a zero closes. A node is the place where it opens. Queries of nodes
- *  answer nullopt also where the parentheses aren't balanced, or no node opens at a place that is passed. */
+ *  answer nullopt also if the parentheses aren't balanced, or no node opens at a place that is passed. */
 class BpTree : public detail::Owner<BpTree, vers_tree, VERS_KIND_TREE>,
                public detail::FromBits<BpTree, vers_tree_build> {
 public:
+    /** Owns nothing, until a list is moved to it. */
+    BpTree() noexcept = default;
+
     using Found = std::optional<std::uint64_t>;
 
     /** The parenthesis at a place, 1 if it opens and 0 if it closes. */
     Found get(std::uint64_t place) const noexcept { return detail::found(vers_tree_is_open(&raw_, place)); }
     /** Whether the parenthesis at a place opens. nullopt past the end. */
     std::optional<bool> is_open(std::uint64_t place) const noexcept { return truth(get(place)); }
-    /** The first root. nullopt where there are no parentheses. */
+    /** The first root. nullopt if there are no parentheses. */
     Found root() const noexcept { return detail::found(vers_tree_root(&raw_)); }
     /** How many ones: of balanced parentheses, how many nodes. */
     std::uint64_t size() const noexcept { return ask(VERS_SIZE).value; }
@@ -799,7 +843,7 @@ public:
     Found open(std::uint64_t place) const noexcept { return find(VERS_OPEN, place); }
     /** Where the nearest pair round a place opens. */
     Found enclose(std::uint64_t place) const noexcept { return find(VERS_ENCLOSE, place); }
-    /** Node `number` in preorder: the place of that one; the length where there are no more. */
+    /** Node `number` in preorder: the place of that one; the length if there are no more. */
     std::uint64_t node_handle(std::uint64_t number) const noexcept { return ask(VERS_NODE_HANDLE, number).value; }
     /** The first place past `place` where the excess has risen by `rise`. */
     Found fwd_search(std::uint64_t place, std::int64_t rise) const noexcept {
@@ -855,6 +899,9 @@ private:
 /** Plain numbers, which some calls answer. */
 class Numbers : public detail::Owner<Numbers, vers_numbers> {
 public:
+    /** Owns nothing, until a list is moved to it. */
+    Numbers() noexcept = default;
+
     std::optional<std::uint64_t> get(std::uint64_t place) const noexcept { return find(VERS_GET, place); }
     detail::Items<Numbers> begin() const noexcept { return {this, 0}; }
     detail::Items<Numbers> end() const noexcept { return {this, len()}; }
@@ -878,6 +925,9 @@ class Postings : public detail::Owner<Postings, vers_postings, VERS_KIND_POSTING
     using Numbers64 = std::initializer_list<std::uint64_t>;
 
 public:
+    /** Owns nothing, until a list is moved to it. */
+    Postings() noexcept = default;
+
     /** `count` documents and as many costs. Refused if the documents don't ascend strictly, or there are more or fewer
      *  costs. */
     static std::optional<Postings> from(const std::uint64_t *documents, const std::uint64_t *costs, std::size_t count) {
@@ -958,6 +1008,9 @@ class InvertedIndex : public detail::Owner<InvertedIndex, vers_inverted, VERS_KI
     using Numbers64 = std::initializer_list<std::uint64_t>;
 
 public:
+    /** Owns nothing, until a list is moved to it. */
+    InvertedIndex() noexcept = default;
+
     /** `count` terms and as many documents. */
     static std::optional<InvertedIndex> from(std::uint64_t limit, std::uint64_t universe, const std::uint64_t *terms,
                                              const std::uint64_t *documents, std::size_t count) {
@@ -1066,12 +1119,15 @@ class TextIndex : public detail::Owner<TextIndex, vers_text, VERS_KIND_TEXT>,
                   public detail::FromText,
                   public detail::FromTextByStep {
 public:
+    /** Owns nothing, until a list is moved to it. */
+    TextIndex() noexcept = default;
+
     using detail::FromText::from;
     using detail::FromTextByStep::from;
 
     /** How many bits a symbol has. */
     std::uint64_t width() const noexcept { return ask(VERS_WIDTH).value; }
-    /** Of how many places one is kept. */
+    /** The distance of two sampled places. */
     std::uint64_t step() const noexcept { return ask(VERS_STEP).value; }
     /** How many places a pattern has. */
     std::uint64_t count(const std::uint64_t *pattern, std::size_t length) const noexcept {
@@ -1080,13 +1136,15 @@ public:
     template <class Range = std::initializer_list<std::uint64_t>, class = detail::Item<Range>>
     std::uint64_t count(Range &&pattern) const {
         Status status = Status::done;
-        const auto counted = detail::with_numbers(pattern, status, [&](const std::uint64_t *numbers, std::size_t size) {
+        auto &&symbols = detail::symbols_of(pattern);
+        const auto counted = detail::with_numbers(symbols, status, [&](const std::uint64_t *numbers, std::size_t size) {
             return std::optional<std::uint64_t>(count(numbers, size));
         });
         detail::thrown(static_cast<std::uint32_t>(status));
         if (!counted) std::abort();
         return *counted;
     }
+    std::uint64_t count(std::string_view pattern) const { return count<std::string_view &>(pattern); }
     /** Counts many patterns, which are joined in `length` symbols: replaces each of `count` ends of a pattern by how
      *  many places the pattern has. Status::refused if the ends descend, or one is above `length`. */
     Status count_each(const std::uint64_t *symbols, std::size_t length, std::uint64_t *ends,
@@ -1098,8 +1156,9 @@ public:
     std::vector<std::uint64_t> count_each(const Patterns &patterns) const {
         std::vector<std::uint64_t> symbols, ends;
         for (const auto &pattern : patterns) {
-            static_assert(std::is_unsigned_v<detail::Item<decltype(pattern)>>, "the items are unsigned whole numbers");
-            symbols.insert(symbols.end(), std::begin(pattern), std::end(pattern));
+            auto &&items = detail::symbols_of(pattern);
+            static_assert(std::is_unsigned_v<detail::Item<decltype(items)>>, "the items are unsigned whole numbers");
+            symbols.insert(symbols.end(), std::begin(items), std::end(items));
             ends.push_back(symbols.size());
         }
         if (count_each(symbols.data(), symbols.size(), ends.data(), ends.size()) != Status::done)
@@ -1113,6 +1172,7 @@ public:
     bool contains(Range &&pattern) const {
         return count(pattern) > 0;
     }
+    bool contains(std::string_view pattern) const { return count(pattern) > 0; }
     /** The places of a pattern, ascending. */
     Numbers places(const std::uint64_t *pattern, std::size_t length) const {
         Status status;
@@ -1128,6 +1188,7 @@ public:
         Status status;
         return Numbers::needed(places(pattern, status), status);
     }
+    Numbers places(std::string_view pattern) const { return places<std::string_view &>(pattern); }
     /** The first `limit` places of a pattern, or all if there are fewer, in the order of the suffixes there. */
     Numbers first_places(const std::uint64_t *pattern, std::size_t length, std::size_t limit) const {
         Status status;
@@ -1142,17 +1203,22 @@ public:
     template <class Range = std::initializer_list<std::uint64_t>, class = detail::Item<Range>>
     Numbers first_places(Range &&pattern, std::size_t limit) const {
         Status status;
-        return Numbers::needed(detail::with_numbers(pattern, status, [&](const std::uint64_t *numbers, std::size_t length) {
+        auto &&symbols = detail::symbols_of(pattern);
+        return Numbers::needed(detail::with_numbers(symbols, status, [&](const std::uint64_t *numbers, std::size_t length) {
             return first_places(numbers, length, limit, status);
         }), status);
     }
+    Numbers first_places(std::string_view pattern, std::size_t limit) const {
+        return first_places<std::string_view &>(pattern, limit);
+    }
     template <class Range = std::initializer_list<std::uint64_t>, class = detail::Item<Range>>
     std::optional<Numbers> places(Range &&pattern, Status &status) const {
-        return detail::with_numbers(pattern, status, [&](const std::uint64_t *numbers, std::size_t length) {
+        auto &&symbols = detail::symbols_of(pattern);
+        return detail::with_numbers(symbols, status, [&](const std::uint64_t *numbers, std::size_t length) {
             return places(numbers, length, status);
         });
     }
-    /** The symbols from a place up to another. nullopt where the text has no such places. */
+    /** The symbols from a place up to another. nullopt if the text has no such places. */
     std::optional<Numbers> extract(std::size_t start, std::size_t end) const {
         Status status;
         return Numbers::wanted(extract(start, end, status), status);

@@ -154,7 +154,7 @@ pub fn fault_line(fault: &LoadError) -> &'static str
         LoadError::OtherKind => "OtherKind: there is no such kind of list, or none of this width",
         LoadError::BadLength =>
             "BadLength: no list of this kind is as long, or the file goes on after it",
-        LoadError::BadSum => "BadSum: the sum is not that of what stands before it",
+        LoadError::BadSum => "BadSum: the sum is not that of the bytes before it",
         LoadError::BadPadding => "BadPadding: a bit is set past the end of the list",
         LoadError::NotAscending => "NotAscending: the numbers do not ascend",
         LoadError::NotAText => "NotAText: no text has the column and the rows of the file",
