@@ -20,7 +20,7 @@ from ._lists import (
     TextIndex, WaveletMatrix,
 )
 
-__version__ = "0.22.0"
+__version__ = "0.23.0"
 
 __all__ = [
     "BadLength", "BadPadding", "BadSum", "BinaryRmq", "BitVec", "BpTree", "EliasFanoVec", "FastRmq", "InvertedIndex",
