@@ -34,7 +34,7 @@ BELOW, COUNTERS = "vers_bits", "vers_tally"
 WHOLE = {
     "RsVec::clone", "RsVec::into_bit_vec", "RsVec::eq", "EliasFanoVec::clone", "EliasFanoVec::low_parts", "BinaryRmq::clone",
     "BinaryRmq::as_slice", "FastRmq::clone", "FastRmq::as_slice", "MinMaxTree::copied", "PackedNumbers::clone", "WordRank::bits",
-    "WordRank::clone", "WaveletTree::clone",
+    "WordRank::clone", "WaveletTree::clone", "WaveletTree::to_integers",
 }
 # Functions that make a counter, besides the calls whose names end in `_unchecked`: those without a counted form, and
 # lists that are made of counted numbers.

@@ -11,3 +11,4 @@ pub mod Batches
 pub mod PublicLaws
 pub mod Saving
 pub mod Rebuilding
+pub mod Reading

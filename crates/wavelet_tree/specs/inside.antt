@@ -3,3 +3,4 @@ pub mod Nodes
 pub mod Growing
 pub mod Batches
 pub mod Rebuilding
+pub mod Reading

@@ -9,6 +9,7 @@ pub mod laws;
 mod loads;
 mod node;
 mod part;
+mod read;
 mod rebuild;
 mod starts;
 mod tree;

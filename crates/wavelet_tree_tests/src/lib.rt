@@ -11,4 +11,6 @@ mod memory;
 #[cfg(test)]
 mod queries;
 #[cfg(test)]
+mod reads;
+#[cfg(test)]
 mod shapes;

@@ -3,8 +3,8 @@ use crate::lists::{LOOKS, Look, symbols_of, tree_of};
 use crate::loads::loaded;
 use std::alloc::{AllocError, Allocator, Global};
 use test_alloc::{
-    Check, Ending, Making, Refusing, Size, Sizing, Spare, Trial, first_wrong_size,
-    first_wrong_trial, spare_of, try_clone_checked, try_making,
+    Check, Ending, Making, Refusing, Size, Sizing, Spare, Trial, Tried, first_wrong_size,
+    first_wrong_trial, spare_of, tried_on, try_clone_checked, try_making,
 };
 use wavelet_tree::{PartsError, WaveletTree};
 
@@ -65,6 +65,54 @@ impl<A: Allocator + Copy> Making for Loading<'_, A> {
     }
 }
 
+// The call that returns the symbols of a tree.
+#[derive(Drop)]
+struct Reading<'a, A: Allocator + Copy> {
+    alloc: A,
+    tree: &'a WaveletTree<A>,
+    symbols: &'a [u8],
+}
+
+impl<A: Allocator + Copy> Making for Reading<'_, A> {
+    type Made = Vec<u8, A>;
+
+    type Fault = AllocError;
+
+    fn make(&self) -> Result<Vec<u8, A>, AllocError> {
+        if self.tree.bit_len() > 8 {
+            return Err(AllocError);
+        }
+        self.tree.to_integers(self.alloc)
+    }
+
+    fn is_right(&self, found: &Vec<u8, A>) -> bool {
+        found.as_slice() == self.symbols
+    }
+}
+
+// The same, of any tree.
+#[derive(Drop)]
+struct Read<'a> {
+    heap: &'a Heap,
+    symbols: &'a [u8],
+}
+
+impl<'a> Tried<WaveletTree<&'a Heap>> for Read<'a> {
+    fn tried(&self, tree: &WaveletTree<&'a Heap>) -> Ending {
+        let reading = Reading {
+            alloc: self.heap,
+            tree,
+            symbols: self.symbols,
+        };
+        try_making(self.heap, &reading)
+    }
+}
+
+fn tried_reading(heap: &Heap, symbols: &[u8]) -> Ending {
+    let read = Read { heap, symbols };
+    tried_on(tree_of(heap, symbols), &read)
+}
+
 fn tried_parts(heap: &Heap, symbols: &[u8]) -> Ending {
     let loading = Loading {
         alloc: heap,
@@ -104,21 +152,24 @@ enum Call {
     Make(Look),
     Load(Look),
     Clone(Look),
+    Read(Look),
 }
 
-const CALLS: [Call; 6] = [
+const CALLS: [Call; 8] = [
     Call::Make(Look::Turning),
     Call::Make(Look::Skewed),
     Call::Load(Look::Turning),
     Call::Load(Look::Skewed),
     Call::Clone(Look::Turning),
     Call::Clone(Look::Equal),
+    Call::Read(Look::Equal),
+    Call::Read(Look::Skewed),
 ];
 
 impl Trial<Global> for Call {
     fn run(self, heap: &Heap, len: usize) -> Ending {
         let look = match self {
-            Call::Make(look) | Call::Load(look) | Call::Clone(look) => look,
+            Call::Make(look) | Call::Load(look) | Call::Clone(look) | Call::Read(look) => look,
         };
         let Ok(symbols) = symbols_of(heap, look, len) else {
             return Ending::Wrong;
@@ -127,11 +178,13 @@ impl Trial<Global> for Call {
             Call::Make(_) => tried(heap, symbols.as_slice()),
             Call::Load(_) => tried_parts(heap, symbols.as_slice()),
             Call::Clone(_) => cloned(heap, symbols.as_slice()),
+            Call::Read(_) => tried_reading(heap, symbols.as_slice()),
         }
     }
 
-    fn takes_memory(self, _len: usize) -> bool {
-        true
+    // No symbols take no memory.
+    fn takes_memory(self, len: usize) -> bool {
+        !matches!(self, Call::Read(_)) || len > 0
     }
 }
 

@@ -1,6 +1,7 @@
 //! Lists of symbols that the tests run over, and their plain queries.
 
 use crate::rattle::prelude::*;
+
 use crate::rattle::AllocError;
 use crate::rattle::Allocator;
 use crate::proved::wavelet_tree::WaveletTree;
@@ -59,6 +60,28 @@ pub fn tree_of_shorts<A: Allocator + Copy>(
     numbers: &[u16],
 ) -> Result<WaveletTree<A>, AllocError> {
     WaveletTree::from_integers(alloc, numbers, 16)
+}
+
+// Returns true if each number has at most `width` bits.
+fn are_narrow(numbers: &[u16], width: u16) -> bool {
+    for number in numbers {
+        if u32::from(*number) >= 1 << width {
+            return false;
+        }
+    }
+    true
+}
+
+/// Returns the tree of numbers of at most 16 bits. Errors: `AllocError` also if one of them has more than `width` bits.
+pub fn narrow_tree_of<A: Allocator + Copy>(
+    alloc: A,
+    numbers: &[u16],
+    width: u16,
+) -> Result<WaveletTree<A>, AllocError> {
+    if width > 16 || !are_narrow(numbers, width) {
+        return Err(AllocError);
+    }
+    WaveletTree::from_integers(alloc, numbers, width)
 }
 
 /// Returns the number of occurrences of a symbol in the first `place` positions.

@@ -12,4 +12,6 @@ mod memory;
 #[cfg(test)]
 mod queries;
 #[cfg(test)]
+mod reads;
+#[cfg(test)]
 mod shapes;

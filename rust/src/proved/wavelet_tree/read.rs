@@ -1,0 +1,119 @@
+//! All symbols of a tree in order, read fork by fork.
+
+use crate::rattle::prelude::*;
+
+use crate::proved::wavelet_tree::node::{LEAVES, Node};
+use crate::proved::wavelet_tree::tree::WaveletTree;
+use crate::rattle::AllocError;
+use crate::rattle::Allocator;
+use crate::proved::vers_bits::bit_vec::BitVec;
+use crate::proved::vers_tally::tally::Uncounted;
+use crate::proved::vers_wavelet::wavelet::Integer;
+use crate::proved::word_rank::WordRank;
+
+impl<A: Allocator + Copy> WaveletTree<A> {
+    /// Returns the symbols in order, as numbers of a type. Reads each bit of the tree once, fork by fork, instead of a
+    /// walk from the root for each symbol. Allocates a second list of the same length, which it drops. Precondition:
+    /// `bit_len()` is at most the number of bits of the type.
+    ///
+    /// # Errors
+    ///
+    /// `AllocError` if the allocator refuses a request.
+    pub fn to_integers<T: Integer>(&self, alloc: A) -> Result<Vec<T, A>, AllocError> {
+        let mut items = blank_items(alloc, self.len)?;
+        let mut scratch = Vec::from_slice(alloc, items.as_slice())?;
+        let nodes = self.nodes.as_slice(Uncounted);
+        read_tree(
+            nodes,
+            &self.bits,
+            self.root,
+            0,
+            items.as_mut_slice(),
+            scratch.as_mut_slice(),
+        );
+        Ok(items)
+    }
+}
+
+// Returns numbers that are overwritten later.
+fn blank_items<T: Integer, A: Allocator + Copy>(
+    alloc: A,
+    many: usize,
+) -> Result<Vec<T, A>, AllocError> {
+    let mut items = Vec::with_capacity(alloc, many)?;
+    for _ in 0..many {
+        items.push(T::of(0))?;
+    }
+    Ok(items)
+}
+
+// Writes the symbols of a tree whose bits begin at bit `start`, and returns where its bits end. The subtrees of a fork
+// are read into `scratch`, one after the other, and merged.
+fn read_tree<T: Integer, A: Allocator + Copy>(
+    nodes: &[Node],
+    bits: &WordRank<A>,
+    link: u32,
+    start: usize,
+    items: &mut [T],
+    scratch: &mut [T],
+) -> usize {
+    if link >= LEAVES {
+        write_symbol(items, u64::from(link - LEAVES));
+        return start;
+    }
+    let node = nodes[link as usize];
+    let end = start + items.len();
+    let high_len = bits.rank1(end) - bits.rank1(start);
+    let low_len = items.len() - high_len;
+    let (low_items, high_items) = items.split_at_mut(low_len);
+    let (low_scratch, high_scratch) = scratch.split_at_mut(low_len);
+    let low_end = read_tree(nodes, bits, node.low_link, end, low_scratch, low_items);
+    let high_end = read_tree(
+        nodes,
+        bits,
+        node.high_link,
+        low_end,
+        high_scratch,
+        high_items,
+    );
+    merge(bits.bits(), start, low_len, scratch, items);
+    high_end
+}
+
+// Overwrites each element by a symbol.
+fn write_symbol<T: Integer>(items: &mut [T], symbol: u64) {
+    for item in items.iter_mut() {
+        *item = T::of(symbol);
+    }
+}
+
+// Merges the elements of a fork whose bits begin at bit `start`: a zero takes the next of the first `low_len` elements,
+// and a one the next of the others. No branch depends on a bit, and the bits are read a word at a time.
+fn merge<T: Integer, A: Allocator + Copy>(
+    bits: &BitVec<A>,
+    start: usize,
+    low_len: usize,
+    parts: &[T],
+    merged: &mut [T],
+) {
+    let mut low = 0;
+    let mut high = low_len;
+    let mut place = 0;
+    while place < merged.len() {
+        let many = (merged.len() - place).min(64);
+        let word = bits.get_bits_unchecked(start + place, many);
+        for k in 0..many {
+            let is_one = word >> k & 1 == 1;
+            merged[place + k] = parts[source(is_one, low, high)];
+            high += usize::from(is_one);
+            low += usize::from(!is_one);
+        }
+        place += many;
+    }
+}
+
+// Returns the next position on the left, or on the right if the bit is a one.
+#[inline(always)]
+fn source(is_one: bool, low: usize, high: usize) -> usize {
+    if is_one { high } else { low }
+}
