@@ -30,7 +30,7 @@ unfoldable pub use Rattle.text_index.specs.Texts.{begins_with, below, by_suffix,
 pub use Rattle.text_index.specs.inside.Building.{OrdersBy, PairedUpTo, RankedUpTo, SameOrder, rank_of}
 pub use Rattle.text_index.specs.inside.Checking.{CheckedUpTo, HeadsAt, HeadsUpTo, LeadsBack, follows, led}
 pub use Rattle.text_index.specs.inside.Groups.{AreQueries, AsksFor, HasComeTo, HaveMoved, HaveRows, IsAbsent, taken_reads}
-pub use Rattle.text_index.specs.inside.Paths.{AreLinked, HasCome, HaveCome, IsKeptPath, IsNext, IsOnePath, IsWalk, NextUpTo, SteppedUpTo, led_by}
+pub use Rattle.text_index.specs.inside.Paths.{AreLinked, HasCome, HaveCome, IsKeptPath, IsLoaded, IsNext, IsOnePath, IsWalk, NextUpTo, SteppedUpTo, led_by}
 unfoldable pub use Rattle.text_index.specs.inside.Paths.{walked, walked_on}
 pub use Rattle.text_index.specs.inside.Samples.{AreNumbers, AreSamplesOf, HoldRanks, HoldRows, IsPacked, PutRows, Walked, between, unpacked}
 pub use Rattle.text_index.specs.inside.Suffixes.{Found, IsIndexOf, StepsBack, back, column_place, is_not_after, lesser, passing, preceding, seen, text_in}

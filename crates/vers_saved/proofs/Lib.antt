@@ -21,6 +21,8 @@ pub mod PostingLists
 pub mod SymbolLists
 pub mod SymbolLevels
 pub mod TextLists
+pub mod ColumnForms
+pub mod TreeForms
 pub mod TextLoads
 pub mod Streams
 pub mod ReadForms

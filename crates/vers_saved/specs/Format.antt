@@ -11,7 +11,9 @@ use Rattle.postings.specs.Posted.{Posted}
 use Rattle.inverted.specs.Lists.{Lists}
 use Rattle.text_index.specs.Texts.{Text, row_of}
 use Rattle.text_index.specs.Sizes.{column_of, kept_rows}
-use Rattle.vers_saved.specs.declared.TheConstants.{MAGIC, VERSION, LEVELS_VERSION, PARTS_VERSION, START, FACTOR, TURN}
+use Rattle.vers_wavelet.specs.Symbols.{Symbols}
+use Rattle.wavelet_tree.specs.Trees.{bits_of, starts_of}
+use Rattle.vers_saved.specs.declared.TheConstants.{MAGIC, VERSION, LEVELS_VERSION, PARTS_VERSION, TREE_VERSION, START, FACTOR, TURN}
 
 -- the eight bytes of a word, the lowest first
 unfoldable pub word_bytes : ℕ → List ℕ
@@ -132,25 +134,41 @@ posting_words posted = posted.documents ++ posted.costs
 abbrev pub saved_postings : Posted → List ℕ
 saved_postings posted = saved VERSION POSTINGS (length posted.documents) 128 (posting_words posted)
 
--- three numbers of a text: its length, the step of the samples, and the row of the whole text
-abbrev pub text_numbers : Text → List ℕ
-text_numbers text = length text.items ∷ text.step ∷ row_of text.items 0 ∷ []
+-- the column of a text (its BWT) as symbols
+abbrev pub column_symbols : Text → Symbols
+column_symbols text = record { width = text.width; items = column_of text.items }
 
--- the limbs of its column (BWT), one symbol after another
-abbrev pub column_limbs : Text → List ℕ
-column_limbs text = limbs (pack (column_of text.items) text.width)
+-- the limbs of the bits of the wavelet tree of the column
+abbrev pub tree_limbs : Text → List ℕ
+tree_limbs text = limbs (bits_of (column_symbols text))
 
 -- the limbs of the rows of its sampled positions, 32 bits each
 abbrev pub row_limbs : Text → List ℕ
 row_limbs text = limbs (pack (kept_rows text.step text.items) 32)
 
--- the words of the index of a text
+-- the numbers of a text: its length, the step of the samples, the row of the whole text, how many bits the tree has, and for each symbol how many elements of the column are below it
+abbrev pub text_numbers : Text → List ℕ
+text_numbers text = length text.items ∷ text.step ∷ row_of text.items 0 ∷ length (bits_of (column_symbols text)) ∷ starts_of (column_symbols text)
+
+-- the words of the index of a text: its numbers, its tree, and its rows
 abbrev pub text_words : Text → List ℕ
-text_words text = text_numbers text ++ column_limbs text ++ row_limbs text
+text_words text = text_numbers text ++ (tree_limbs text ++ row_limbs text)
 
 -- the saved form of the index of a text
 abbrev pub saved_text : Text → List ℕ
-saved_text text = saved VERSION TEXTS (length (text_words text)) text.width (text_words text)
+saved_text text = saved TREE_VERSION TEXTS (length (text_words text)) text.width (text_words text)
+
+-- the limbs of the column, one symbol after another
+abbrev pub column_limbs : Text → List ℕ
+column_limbs text = limbs (pack (column_of text.items) text.width)
+
+-- the words of the first version: the length, the step, the row of the whole text, the column, and the rows
+abbrev pub column_words : Text → List ℕ
+column_words text = length text.items ∷ text.step ∷ row_of text.items 0 ∷ (column_limbs text ++ row_limbs text)
+
+-- the first version of that form
+abbrev pub column_form : Text → List ℕ
+column_form text = saved VERSION TEXTS (length (column_words text)) text.width (column_words text)
 
 -- the words of an inverted index: the number of terms, the number that all documents are below, and the words of the list of all numbers
 abbrev pub inverted_words : Lists → List ℕ

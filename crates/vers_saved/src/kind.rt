@@ -2,7 +2,7 @@
 ghost use Rattle.std.specs.Prelude.{◌≡◌, ◌<◌, ◌≤◌, ◌*◌, ◌&&◌, ℕ, true, IfSome, None};
 ghost use Rattle.vers_saved.specs.Faults.{at_version, first_order, has_first, takes_width, takes_count, item_bits, row_bits, row_words, rows_of, words_for};
 
-use crate::{LEVELS_VERSION, PARTS_VERSION, VERSION};
+use crate::{LEVELS_VERSION, PARTS_VERSION, TREE_VERSION, VERSION};
 use vers_bits::bit_vec::MAX_LEN;
 use vers_rmq::rmq::{binary_rmq, fast_rmq};
 
@@ -306,11 +306,11 @@ pub const PACKED_SYMBOLS: Kind = Kind {
     order: Order::Any,
 };
 
-/// Indexes of texts: three numbers, the column (BWT) and the rows of the sampled positions. Their items are words,
-/// and their width is that of a symbol.
+/// Indexes of texts: numbers, the bits of the wavelet tree of the column (BWT), and the rows of the sampled positions.
+/// Their items are words, and their width is that of a symbol.
 pub const TEXT_INDEXES: Kind = Kind {
     number: TEXTS,
-    version: VERSION,
+    version: TREE_VERSION,
     least_width: 1,
     greatest_width: 16,
     item_bits: 64,

@@ -2,6 +2,7 @@
 #![tactic(auto)]
 
 pub mod bits;
+mod columns;
 pub mod documents;
 pub mod fault;
 pub mod form;
@@ -31,6 +32,9 @@ pub const LEVELS_VERSION: u64 = 2;
 
 /// The version of the form of ascending lists by their parts.
 pub const PARTS_VERSION: u64 = 2;
+
+/// The version of the form of texts by the wavelet trees of their columns.
+pub const TREE_VERSION: u64 = 2;
 
 /// The sum of no words.
 pub const START: u64 = 0xcbf2_9ce4_8422_2325;

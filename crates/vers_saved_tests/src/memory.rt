@@ -1,6 +1,7 @@
 //! Each request for memory refused, and heads that say more than there is.
 use crate::stored::{
-    BITS, HOSTILE, INVERTED, PADDING, POSTINGS, SORTED, SPARSE, SYMBOLS, TEXT, VALUES, WIDE_TEXT,
+    BITS, COLUMN_TEXT, HOSTILE, INVERTED, PADDING, POSTINGS, SORTED, SPARSE, SYMBOLS, TEXT, VALUES,
+    WIDE_COLUMN_TEXT,
 };
 use crate::texts::tried_text;
 use crate::trees::tried_tree;
@@ -38,7 +39,7 @@ pub enum Form {
     Text(u16),
 }
 
-const FORMS: [Form; 12] = [
+const FORMS: [Form; 13] = [
     Form::Bits,
     Form::Indexed,
     Form::Ascending,
@@ -50,6 +51,7 @@ const FORMS: [Form; 12] = [
     Form::Inverted,
     Form::Symbols(3),
     Form::Text(2),
+    Form::Text(8),
     Form::Text(9),
 ];
 
@@ -76,7 +78,8 @@ fn tried_form<'a>(heap: &'a Heap, form: Form) -> Ending {
         Form::Inverted => tried::<InvertedIndex<&'a Heap>>(heap, &INVERTED),
         Form::Symbols(_) => tried::<WaveletMatrix<&'a Heap>>(heap, &SYMBOLS),
         Form::Text(2) => tried_text(heap, &TEXT, 6),
-        Form::Text(_) => tried_text(heap, &WIDE_TEXT, 3),
+        Form::Text(8) => tried_text(heap, &COLUMN_TEXT, 6),
+        Form::Text(_) => tried_text(heap, &WIDE_COLUMN_TEXT, 3),
     }
 }
 

@@ -3,12 +3,12 @@
 use crate::devices::Pieces;
 use crate::memory::Heap;
 use crate::rows::{changes_are_told, is_saved_as};
-use crate::stored::{EMPTY_TEXT, SYMBOLS, TEXT, WIDE_TEXT};
+use crate::stored::{COLUMN_TEXT, EMPTY_COLUMN_TEXT, EMPTY_TEXT, SYMBOLS, TEXT, WIDE_COLUMN_TEXT};
 use crate::streams::is_written;
 use std::alloc::{AllocError, Allocator, Global};
 use test_alloc::{Ending, Refusing, asked, done_if, out_of_memory_if};
 use text_index::TextIndex;
-use vers_saved::fault::LoadError;
+use vers_saved::fault::{LoadError, SaveError};
 use vers_saved::saved::save_to_vec;
 use vers_saved::texts::{load_text, load_text_from_slice};
 use vers_saved::{FACTOR, START, TURN};
@@ -16,13 +16,44 @@ use vers_saved::{FACTOR, START, TURN};
 // Lengths of texts, up to one of more sampled rows than the walks of a group.
 const LENGTHS: [usize; 6] = [0, 1, 2, 63, 65, 200];
 
-// Returns true if a loaded index is saved as the same bytes.
-fn is_loaded(alloc: Global, bytes: &[u8]) -> bool {
+// Returns true if a loaded index is saved as other bytes, which may be the same.
+fn is_loaded_as(alloc: Global, bytes: &[u8], again: &[u8]) -> bool {
     let is_saved = asked(
         load_text_from_slice(alloc, bytes),
-        |text: &TextIndex<Global>| { is_saved_as(alloc, text, bytes) },
+        |text: &TextIndex<Global>| { is_saved_as(alloc, text, again) },
     );
     is_saved == Ok(true)
+}
+
+// Returns the saved form of a loaded index.
+fn saved_again(alloc: Global, bytes: &[u8]) -> Result<Vec<u8>, SaveError> {
+    let mut out: Vec<u8> = Vec::new(alloc);
+    let saved = asked(
+        load_text_from_slice(alloc, bytes),
+        |text: &TextIndex<Global>| { save_to_vec(text, &mut out) },
+    );
+    match saved {
+        Ok(Ok(())) => Ok(out),
+        Ok(Err(fault)) => Err(fault),
+        Err(_) => Err(SaveError::NoForm),
+    }
+}
+
+// Returns true if a loaded index is saved as the same bytes, or if that of a form of the first version is saved as a
+// form of its own.
+fn is_loaded(alloc: Global, bytes: &[u8]) -> bool {
+    match saved_again(alloc, bytes) {
+        Ok(again) => {
+            let form = again.as_slice();
+            (is_first(bytes) || form == bytes) && !is_first(form) && is_loaded_as(alloc, form, form)
+        }
+        Err(_) => false,
+    }
+}
+
+// Returns true if a form is of the first version.
+fn is_first(bytes: &[u8]) -> bool {
+    bytes.get(8) == Some(&1)
 }
 
 fn reader_fault(alloc: Global, bytes: &[u8]) -> Option<LoadError> {
@@ -44,11 +75,28 @@ fn text_fault(alloc: Global, bytes: &[u8]) -> Option<LoadError> {
 #[test]
 fn stored_texts(rt: HostRuntime) {
     let alloc = rt.alloc();
-    assert!(rt; is_loaded(alloc, &TEXT) && is_loaded(alloc, &EMPTY_TEXT));
-    assert!(rt; is_loaded(alloc, &WIDE_TEXT));
-    assert!(rt; changes_are_told(alloc, &TEXT, |bytes: &[u8]| text_fault(alloc, bytes)));
-    assert!(rt; changes_are_told(alloc, &EMPTY_TEXT, |bytes: &[u8]| text_fault(alloc, bytes)));
+    assert!(rt; is_loaded_as(alloc, &TEXT, &TEXT) && is_loaded_as(alloc, &EMPTY_TEXT, &EMPTY_TEXT));
+    for bytes in [
+        &TEXT[..],
+        &EMPTY_TEXT[..],
+        &COLUMN_TEXT[..],
+        &EMPTY_COLUMN_TEXT[..],
+    ] {
+        assert!(rt; changes_are_told(alloc, bytes, |bytes: &[u8]| text_fault(alloc, bytes)));
+    }
     assert!(rt; text_fault(alloc, &SYMBOLS) == Some(LoadError::OtherKind));
+}
+
+#[test]
+fn texts_of_the_first_version(rt: HostRuntime) {
+    let alloc = rt.alloc();
+    assert!(rt; is_loaded_as(alloc, &COLUMN_TEXT, &TEXT));
+    assert!(rt; is_loaded_as(alloc, &EMPTY_COLUMN_TEXT, &EMPTY_TEXT));
+    let wide = asked(
+        load_text_from_slice(alloc, &WIDE_COLUMN_TEXT),
+        |text: &TextIndex<Global>| { is_same(text, &[300, 5, 300], 9, 1) },
+    );
+    assert!(rt; wide == Ok(true) && is_loaded(alloc, &WIDE_COLUMN_TEXT));
 }
 
 /// Returns the words of bytes, eight for each.
@@ -102,13 +150,15 @@ fn count_others(alloc: Global, bytes: &[u8]) -> Option<usize> {
     Some(count)
 }
 
-// One is that of 1 0 3 0 2 0. Of 300 5 300, 18 texts with one bit changed have its order of suffixes. The empty text
-// has the same words with each step but 0.
+// With one bit changed, the numbers of lesser elements are those of 1 0 3 0 3 0, and the column is that of 1 0 3 0 2 0;
+// of 300 5 300, 18 texts have the same order of suffixes. The empty text has the same words with each step but 0.
 #[test]
 fn changed_texts_are_no_texts(rt: HostRuntime) {
     assert!(rt; count_others(rt.alloc(), &TEXT) == Some(1));
-    assert!(rt; count_others(rt.alloc(), &WIDE_TEXT) == Some(18));
     assert!(rt; count_others(rt.alloc(), &EMPTY_TEXT) == Some(63));
+    assert!(rt; count_others(rt.alloc(), &COLUMN_TEXT) == Some(1));
+    assert!(rt; count_others(rt.alloc(), &WIDE_COLUMN_TEXT) == Some(18));
+    assert!(rt; count_others(rt.alloc(), &EMPTY_COLUMN_TEXT) == Some(63));
 }
 
 // Returns bytes whose head says one word more, with a zero at the end.
@@ -126,7 +176,12 @@ fn longer(alloc: Global, bytes: &[u8]) -> Result<Vec<u8>, AllocError> {
 
 #[test]
 fn longer_forms_are_refused(rt: HostRuntime) {
-    for bytes in [&TEXT[..], &EMPTY_TEXT[..], &WIDE_TEXT[..]] {
+    for bytes in [
+        &TEXT[..],
+        &EMPTY_TEXT[..],
+        &COLUMN_TEXT[..],
+        &WIDE_COLUMN_TEXT[..],
+    ] {
         let refused = match longer(rt.alloc(), bytes) {
             Ok(other) => text_fault(rt.alloc(), other.as_slice()) == Some(LoadError::NotAText),
             Err(_) => false,
@@ -234,7 +289,7 @@ fn texts_in_pieces(rt: HostRuntime) {
     assert!(rt;
         piece_fault(alloc, &TEXT, 1, 0).is_none() && piece_fault(alloc, &TEXT, 7, 0).is_none()
     );
-    for n in 1..98 {
+    for n in 1..146 {
         assert!(rt; piece_fault(alloc, &TEXT, 1, n) == Some(LoadError::Read));
     }
     let is_right = asked(

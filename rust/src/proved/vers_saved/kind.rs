@@ -2,7 +2,7 @@
 
 use crate::rattle::prelude::*;
 
-use crate::proved::vers_saved::{LEVELS_VERSION, PARTS_VERSION, VERSION};
+use crate::proved::vers_saved::{LEVELS_VERSION, PARTS_VERSION, TREE_VERSION, VERSION};
 use crate::proved::vers_bits::bit_vec::MAX_LEN;
 use crate::proved::vers_rmq::rmq::{binary_rmq, fast_rmq};
 
@@ -278,11 +278,11 @@ pub const PACKED_SYMBOLS: Kind = Kind {
     order: Order::Any,
 };
 
-/// Indexes of texts: three numbers, the column (BWT) and the rows of the sampled positions. Their items are words,
-/// and their width is that of a symbol.
+/// Indexes of texts: numbers, the bits of the wavelet tree of the column (BWT), and the rows of the sampled positions.
+/// Their items are words, and their width is that of a symbol.
 pub const TEXT_INDEXES: Kind = Kind {
     number: TEXTS,
-    version: VERSION,
+    version: TREE_VERSION,
     least_width: 1,
     greatest_width: 16,
     item_bits: 64,

@@ -2,7 +2,8 @@
 
 use crate::rattle::prelude::*;
 use crate::proved_tests::vers_saved_tests::stored::{
-    BITS, HOSTILE, INVERTED, PADDING, POSTINGS, SORTED, SPARSE, SYMBOLS, TEXT, VALUES, WIDE_TEXT,
+    BITS, COLUMN_TEXT, HOSTILE, INVERTED, PADDING, POSTINGS, SORTED, SPARSE, SYMBOLS, TEXT, VALUES,
+    WIDE_COLUMN_TEXT,
 };
 use crate::proved_tests::vers_saved_tests::texts::tried_text;
 use crate::proved_tests::vers_saved_tests::trees::tried_tree;
@@ -42,7 +43,7 @@ pub enum Form {
     Text(u16),
 }
 
-const FORMS: [Form; 12] = [
+const FORMS: [Form; 13] = [
     Form::Bits,
     Form::Indexed,
     Form::Ascending,
@@ -54,6 +55,7 @@ const FORMS: [Form; 12] = [
     Form::Inverted,
     Form::Symbols(3),
     Form::Text(2),
+    Form::Text(8),
     Form::Text(9),
 ];
 
@@ -80,7 +82,8 @@ fn tried_form<'a>(heap: &'a Heap, form: Form) -> Ending {
         Form::Inverted => tried::<InvertedIndex<&'a Heap>>(heap, &INVERTED),
         Form::Symbols(_) => tried::<WaveletMatrix<&'a Heap>>(heap, &SYMBOLS),
         Form::Text(2) => tried_text(heap, &TEXT, 6),
-        Form::Text(_) => tried_text(heap, &WIDE_TEXT, 3),
+        Form::Text(8) => tried_text(heap, &COLUMN_TEXT, 6),
+        Form::Text(_) => tried_text(heap, &WIDE_COLUMN_TEXT, 3),
     }
 }
 

@@ -5,14 +5,14 @@ use crate::rattle::prelude::*;
 use crate::proved_tests::vers_saved_tests::devices::Pieces;
 use crate::proved_tests::vers_saved_tests::memory::Heap;
 use crate::proved_tests::vers_saved_tests::rows::{changes_are_told, is_saved_as};
-use crate::proved_tests::vers_saved_tests::stored::{EMPTY_TEXT, SYMBOLS, TEXT, WIDE_TEXT};
+use crate::proved_tests::vers_saved_tests::stored::{COLUMN_TEXT, EMPTY_COLUMN_TEXT, EMPTY_TEXT, SYMBOLS, TEXT, WIDE_COLUMN_TEXT};
 use crate::proved_tests::vers_saved_tests::streams::is_written;
 use crate::rattle::AllocError;
 use crate::rattle::Allocator;
 use crate::rattle::Global;
 use crate::proved_tests::test_alloc::{Ending, Refusing, asked, done_if, out_of_memory_if};
 use crate::proved::text_index::TextIndex;
-use crate::proved::vers_saved::fault::LoadError;
+use crate::proved::vers_saved::fault::{LoadError, SaveError};
 use crate::proved::vers_saved::saved::save_to_vec;
 use crate::proved::vers_saved::texts::{load_text, load_text_from_slice};
 use crate::proved::vers_saved::{FACTOR, START, TURN};
@@ -20,13 +20,44 @@ use crate::proved::vers_saved::{FACTOR, START, TURN};
 // Lengths of texts, up to one of more sampled rows than the walks of a group.
 const LENGTHS: [usize; 6] = [0, 1, 2, 63, 65, 200];
 
-// Returns true if a loaded index is saved as the same bytes.
-fn is_loaded(alloc: Global, bytes: &[u8]) -> bool {
+// Returns true if a loaded index is saved as other bytes, which may be the same.
+fn is_loaded_as(alloc: Global, bytes: &[u8], again: &[u8]) -> bool {
     let is_saved = asked(
         load_text_from_slice(alloc, bytes),
-        |text: &TextIndex<Global>| { is_saved_as(alloc, text, bytes) },
+        |text: &TextIndex<Global>| { is_saved_as(alloc, text, again) },
     );
     is_saved == Ok(true)
+}
+
+// Returns the saved form of a loaded index.
+fn saved_again(alloc: Global, bytes: &[u8]) -> Result<Vec<u8>, SaveError> {
+    let mut out: Vec<u8> = Vec::new(alloc);
+    let saved = asked(
+        load_text_from_slice(alloc, bytes),
+        |text: &TextIndex<Global>| { save_to_vec(text, &mut out) },
+    );
+    match saved {
+        Ok(Ok(())) => Ok(out),
+        Ok(Err(fault)) => Err(fault),
+        Err(_) => Err(SaveError::NoForm),
+    }
+}
+
+// Returns true if a loaded index is saved as the same bytes, or if that of a form of the first version is saved as a
+// form of its own.
+fn is_loaded(alloc: Global, bytes: &[u8]) -> bool {
+    match saved_again(alloc, bytes) {
+        Ok(again) => {
+            let form = again.as_slice();
+            (is_first(bytes) || form == bytes) && !is_first(form) && is_loaded_as(alloc, form, form)
+        }
+        Err(_) => false,
+    }
+}
+
+// Returns true if a form is of the first version.
+fn is_first(bytes: &[u8]) -> bool {
+    bytes.get(8) == Some(&1)
 }
 
 fn reader_fault(alloc: Global, bytes: &[u8]) -> Option<LoadError> {
@@ -49,11 +80,29 @@ fn text_fault(alloc: Global, bytes: &[u8]) -> Option<LoadError> {
 fn stored_texts() {
     let rt = HostRuntime;
     let alloc = rt.alloc();
-    assert!(is_loaded(alloc, &TEXT) && is_loaded(alloc, &EMPTY_TEXT));
-    assert!(is_loaded(alloc, &WIDE_TEXT));
-    assert!(changes_are_told(alloc, &TEXT, |bytes: &[u8]| text_fault(alloc, bytes)));
-    assert!(changes_are_told(alloc, &EMPTY_TEXT, |bytes: &[u8]| text_fault(alloc, bytes)));
+    assert!(is_loaded_as(alloc, &TEXT, &TEXT) && is_loaded_as(alloc, &EMPTY_TEXT, &EMPTY_TEXT));
+    for bytes in [
+        &TEXT[..],
+        &EMPTY_TEXT[..],
+        &COLUMN_TEXT[..],
+        &EMPTY_COLUMN_TEXT[..],
+    ] {
+        assert!(changes_are_told(alloc, bytes, |bytes: &[u8]| text_fault(alloc, bytes)));
+    }
     assert!(text_fault(alloc, &SYMBOLS) == Some(LoadError::OtherKind));
+}
+
+#[test]
+fn texts_of_the_first_version() {
+    let rt = HostRuntime;
+    let alloc = rt.alloc();
+    assert!(is_loaded_as(alloc, &COLUMN_TEXT, &TEXT));
+    assert!(is_loaded_as(alloc, &EMPTY_COLUMN_TEXT, &EMPTY_TEXT));
+    let wide = asked(
+        load_text_from_slice(alloc, &WIDE_COLUMN_TEXT),
+        |text: &TextIndex<Global>| { is_same(text, &[300, 5, 300], 9, 1) },
+    );
+    assert!(wide == Ok(true) && is_loaded(alloc, &WIDE_COLUMN_TEXT));
 }
 
 /// Returns the words of bytes, eight for each.
@@ -107,14 +156,16 @@ fn count_others(alloc: Global, bytes: &[u8]) -> Option<usize> {
     Some(count)
 }
 
-// One is that of 1 0 3 0 2 0. Of 300 5 300, 18 texts with one bit changed have its order of suffixes. The empty text
-// has the same words with each step but 0.
+// With one bit changed, the numbers of lesser elements are those of 1 0 3 0 3 0, and the column is that of 1 0 3 0 2 0;
+// of 300 5 300, 18 texts have the same order of suffixes. The empty text has the same words with each step but 0.
 #[test]
 fn changed_texts_are_no_texts() {
     let rt = HostRuntime;
     assert!(count_others(rt.alloc(), &TEXT) == Some(1));
-    assert!(count_others(rt.alloc(), &WIDE_TEXT) == Some(18));
     assert!(count_others(rt.alloc(), &EMPTY_TEXT) == Some(63));
+    assert!(count_others(rt.alloc(), &COLUMN_TEXT) == Some(1));
+    assert!(count_others(rt.alloc(), &WIDE_COLUMN_TEXT) == Some(18));
+    assert!(count_others(rt.alloc(), &EMPTY_COLUMN_TEXT) == Some(63));
 }
 
 // Returns bytes whose head says one word more, with a zero at the end.
@@ -133,7 +184,12 @@ fn longer(alloc: Global, bytes: &[u8]) -> Result<Vec<u8>, AllocError> {
 #[test]
 fn longer_forms_are_refused() {
     let rt = HostRuntime;
-    for bytes in [&TEXT[..], &EMPTY_TEXT[..], &WIDE_TEXT[..]] {
+    for bytes in [
+        &TEXT[..],
+        &EMPTY_TEXT[..],
+        &COLUMN_TEXT[..],
+        &WIDE_COLUMN_TEXT[..],
+    ] {
         let refused = match longer(rt.alloc(), bytes) {
             Ok(other) => text_fault(rt.alloc(), other.as_slice()) == Some(LoadError::NotAText),
             Err(_) => false,
@@ -243,7 +299,7 @@ fn texts_in_pieces() {
     let alloc = rt.alloc();
     assert!(piece_fault(alloc, &TEXT, 1, 0).is_none() && piece_fault(alloc, &TEXT, 7, 0).is_none()
     );
-    for n in 1..98 {
+    for n in 1..146 {
         assert!(piece_fault(alloc, &TEXT, 1, n) == Some(LoadError::Read));
     }
     let is_right = asked(
