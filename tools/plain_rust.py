@@ -9,6 +9,7 @@ The script reads a text as tokens in balanced brackets. It leaves out what is gh
 its tables list, and keeps all else as it is, comments included. It refuses items, words, macros, attributes, paths and
 methods that no table names.
 """
+import functools
 import re
 import sys
 from pathlib import Path
@@ -89,6 +90,8 @@ KEPT_ATTRIBUTES = {"inline", "cfg", "test"}
 DROPPED_ATTRIBUTES = {"tactic"}
 # Those of exports: in the build of wrong bodies Rust's own tests call them.
 EXPORT_ATTRIBUTES = {"repr", "unsafe"}
+# A macro of a program for other crates; their modules are in one crate there.
+EXPORTED_MACRO = re.compile(r"#\[macro_export\]\nmacro_rules! (\w+)")
 DERIVES = {"Clone", "Copy", "PartialEq", "Eq", "Debug"}
 MACROS = {"unreachable", "matches"}
 GHOST_MACROS = {"prove", "prove_eq", "prove_ne"}
@@ -189,6 +192,12 @@ def is_program(crate):
     return crate in PROGRAMS + PROGRAM_TESTS
 
 
+@functools.cache
+def exported_macros():
+    """Returns the names of the macros that programs export."""
+    return {name for crate in PROGRAMS for it in read_crate(TOP, crate) for name in EXPORTED_MACRO.findall(it.text)}
+
+
 class Writer:
     """What is written of one file. It notes the methods that are called and the functions that are defined.
 
@@ -199,13 +208,14 @@ class Writer:
     def __init__(self, crate, name):
         self.crate, self.name, self.calls, self.defines, self.chunked = crate, name, {}, set(), set()
         self.refused, self.uses, self.renamed, self.macros = REFUSED, USES, {}, MACROS
-        self.dropped = DROPPED_ATTRIBUTES
+        self.dropped, self.kept = DROPPED_ATTRIBUTES, KEPT_ATTRIBUTES
         self.forms = {"#": self.attribute, "pub": self.ghost, "ghost": self.ghost, "impl": self.model,
                       "use": self.use, "fn": self.function, "requires": self.clauses, "ensures": self.clauses,
                       "+": self.bound, ":": self.bound, ".": self.call}
         if is_program(crate):
             self.refused, self.uses, self.renamed = REFUSED - IN_PROGRAMS, PROGRAM_USES, RENAMED
             self.dropped = DROPPED_ATTRIBUTES | EXPORT_ATTRIBUTES
+            self.kept, self.macros = KEPT_ATTRIBUTES | {"macro_export"}, MACROS | exported_macros()
             self.forms.update({"macro_rules": self.own_macro, "extern": self.export})
         else:
             # the forms that the oldest rustc lacks, which never compiles programs
@@ -362,7 +372,7 @@ class Writer:
             whole = f"{tokens[k].blank}#[derive({', '.join(names)})]" if names else ""
         elif name.text in self.dropped:
             whole = ""
-        elif name.text not in KEPT_ATTRIBUTES or is_inward:
+        elif name.text not in self.kept or is_inward:
             self.refuse(name, f"the attribute {whole}")
         if is_inward:
             return tokens[k].blank.rstrip(), end - k
@@ -374,6 +384,8 @@ class Writer:
         """Writes a `use`, by the list of translations of std."""
         end = next(n for n in range(k, len(tokens)) if tokens[n].text == ";")
         path = " ".join(source_of(tokens[k + 1:end]).split())
+        if is_program(self.crate) and path.split("::")[-1] in exported_macros():
+            return f"{tokens[k].blank}use crate::{path.split('::')[-1]};", end + 1 - k
         if path.split("::")[0] not in ("std", "core", "alloc", *["vers_io"] * (not is_program(self.crate))):
             return None
         whole = re.fullmatch(r"(.*::)\{(.*?),? ?\}", path)
@@ -521,6 +533,8 @@ TRIED_IN_PROGRAMS = {
         "fn f() -> Box<u8, A> {\n    let Err(A { b }) = Vec::from_elem(alloc, 0u8, N)? else { return; };\n    r.read_all(&mut b)\n}\n",
     "macro_rules! m {\n    ($x:expr) => {\n        $x\n    };\n}\n\nfn f() -> u8 {\n    m!(1)\n}\n":
         "macro_rules! m {\n    ($x:expr) => {\n        $x\n    };\n}\n\nfn f() -> u8 {\n    m!(1)\n}\n",
+    "use catalogue::with_list;\n\nfn f() -> u8 {\n    with_list!(s, list => 1)\n}\n":
+        "use crate::with_list;\n\nfn f() -> u8 {\n    with_list!(s, list => 1)\n}\n",
     "#[unsafe(no_mangle)]\npub extern \"C\" fn f(x: u8) -> u8\n    ensures { result ≡ x }\n{\n    x\n}\n": "pub fn f(x: u8) -> u8 {\n    x\n}\n",
     "#[repr(C)]\npub struct S {\n    a: u8,\n    pub ghost low: { a < 2 },\n}\n": "pub struct S {\n    a: u8,\n}\n",
     "fn f() -> u8 { m!(1) }": None,

@@ -49,23 +49,31 @@ pub enum Kept {
     Numbers(Vec<u64>),
 }
 
+/// Evaluates an expression with the structure that a `Kept` owns, which has the given name there. Plain numbers have an
+/// expression of their own.
+macro_rules! with_list {
+    ($kept:expr, $list:ident => $done:expr, $numbers:pat => $of_numbers:expr) => {
+        match $kept {
+            Kept::Growing($list) => $done,
+            Kept::Bits($list) => $done,
+            Kept::Sparse($list) => $done,
+            Kept::Sorted($list) => $done,
+            Kept::Symbols($list) => $done,
+            Kept::Tree($list) => $done,
+            Kept::Fast($list) => $done,
+            Kept::Binary($list) => $done,
+            Kept::Posted($list) => $done,
+            Kept::Inverted($list) => $done,
+            Kept::Text($list) => $done,
+            Kept::Numbers($numbers) => $of_numbers,
+        }
+    };
+}
+
 impl Kept {
     /// What the structure answers to the query of a code.
     pub fn answer(&self, query: u32, a: u64, b: u64, c: u64) -> Answer {
-        match self {
-            Kept::Growing(bits) => bits.answer(query, a, b, c),
-            Kept::Bits(bits) => bits.answer(query, a, b, c),
-            Kept::Sparse(bits) => bits.answer(query, a, b, c),
-            Kept::Sorted(members) => members.answer(query, a, b, c),
-            Kept::Symbols(symbols) => symbols.answer(query, a, b, c),
-            Kept::Tree(tree) => tree.answer(query, a, b, c),
-            Kept::Fast(values) => values.answer(query, a, b, c),
-            Kept::Binary(values) => values.answer(query, a, b, c),
-            Kept::Posted(posted) => posted.answer(query, a, b, c),
-            Kept::Inverted(index) => index.answer(query, a, b, c),
-            Kept::Text(text) => text.answer(query, a, b, c),
-            Kept::Numbers(numbers) => numbers.as_slice().answer(query, a, b, c),
-        }
+        with_list!(self, list => list.answer(query, a, b, c), numbers => numbers.as_slice().answer(query, a, b, c))
     }
 
     /// Puts into each row what is answered to its numbers. `UNKNOWN` leaves the rows as they were.
@@ -74,19 +82,12 @@ impl Kept {
             return UNKNOWN;
         }
         match self {
-            Kept::Growing(bits) => rows.answer_each(bits, query),
             Kept::Bits(bits) => rows.of_bits(bits, query),
-            Kept::Sparse(bits) => rows.answer_each(bits, query),
             Kept::Sorted(members) => rows.of_members(members, query),
             Kept::Symbols(symbols) => rows.of_symbols(symbols, query),
-            Kept::Tree(tree) => rows.answer_each(tree, query),
             Kept::Fast(values) if query == RANGE_MIN => rows.answer_each(values, RANGE_MIN),
-            Kept::Fast(values) => rows.answer_each(values, query),
-            Kept::Binary(values) => rows.answer_each(values, query),
-            Kept::Posted(posted) => rows.answer_each(posted, query),
-            Kept::Inverted(index) => rows.answer_each(index, query),
-            Kept::Text(text) => rows.answer_each(text, query),
-            Kept::Numbers(numbers) => rows.answer_each(numbers.as_slice(), query),
+            _ => with_list!(self, list => rows.answer_each(list, query),
+                numbers => rows.answer_each(numbers.as_slice(), query)),
         }
         DONE
     }
@@ -192,38 +193,12 @@ impl Kept {
 
     /// How many bytes the saved form has. None where there is none.
     pub fn saved_size(&self) -> Option<usize> {
-        match self {
-            Kept::Growing(bits) => saved_size(bits),
-            Kept::Bits(bits) => saved_size(bits),
-            Kept::Sparse(bits) => saved_size(bits),
-            Kept::Sorted(members) => saved_size(members),
-            Kept::Symbols(symbols) => saved_size(symbols),
-            Kept::Tree(tree) => saved_size(tree),
-            Kept::Fast(values) => saved_size(values),
-            Kept::Binary(values) => saved_size(values),
-            Kept::Posted(posted) => saved_size(posted),
-            Kept::Inverted(index) => saved_size(index),
-            Kept::Text(text) => saved_size(text),
-            Kept::Numbers(_) => None,
-        }
+        with_list!(self, list => saved_size(list), _ => None)
     }
 
     /// The saved form.
     fn form(&self) -> Result<Vec<u8>, SaveError> {
-        match self {
-            Kept::Growing(bits) => form_of(bits),
-            Kept::Bits(bits) => form_of(bits),
-            Kept::Sparse(bits) => form_of(bits),
-            Kept::Sorted(members) => form_of(members),
-            Kept::Symbols(symbols) => form_of(symbols),
-            Kept::Tree(tree) => form_of(tree),
-            Kept::Fast(values) => form_of(values),
-            Kept::Binary(values) => form_of(values),
-            Kept::Posted(posted) => form_of(posted),
-            Kept::Inverted(index) => form_of(index),
-            Kept::Text(text) => form_of(text),
-            Kept::Numbers(_) => Err(SaveError::NoForm),
-        }
+        with_list!(self, list => form_of(list), _ => Err(SaveError::NoForm))
     }
 
     /// Writes the saved form over bytes, which have to be as many.

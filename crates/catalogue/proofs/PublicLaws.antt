@@ -9,11 +9,10 @@ use Rattle.text_index.specs.Texts.{Text}
 use Rattle.vers_wavelet.specs.Symbols.{Symbols}
 use Rattle.vers_saved.specs.Format.{bytes_of, check_sum}
 unfoldable use Rattle.vers_saved.specs.Format.{bytes_word, saved, with_sum, word_bytes, words_of}
-use Rattle.catalogue.specs.Contents.{Content, GrowingBits, IndexedBits, SparseBits, SortedMembers, SymbolList, Parentheses, BlockValues, TableValues, Documents, DocumentLists, IndexedText, PlainNumbers}
-use Rattle.catalogue.specs.Forms.{HasForm, kind_of, saved_form}
-use Rattle.catalogue.specs.declared.kind.Kind.{Kind}
-use Rattle.catalogue.specs.declared.kind.Kind.TheVariants as kind
-use Rattle.catalogue.specs.declared.kind.TheConstants.{KINDS}
+use Rattle.catalogue.specs.Structures.{Content, GrowingBits, IndexedBits, SparseBits, SortedMembers, SymbolList, Parentheses, BlockValues, TableValues, Documents, DocumentLists, IndexedText, PlainNumbers, HasForm, kind_of, saved_form}
+use Rattle.catalogue.specs.declared.structure.Kind.{Kind}
+use Rattle.catalogue.specs.declared.structure.Kind.TheVariants as kind
+use Rattle.catalogue.specs.declared.structure.TheConstants.{KINDS}
 
 -- a property of the structure of a kind with each list
 abbrev pub OfEach : (Content → Type 0) → Option Kind → Type 0
@@ -68,6 +67,6 @@ number_is_code (Parentheses bits) whole changes table = rw (third_word 1 6 _ _ _
 number_is_code (BlockValues values) whole changes table = rw (third_word 1 5 _ _ _ (omega arith)) refl
 number_is_code (TableValues values) whole changes table = absurd (table refl)
 number_is_code (Documents posted) whole changes table = rw (third_word 1 7 _ _ _ (omega arith)) refl
-number_is_code (IndexedText text) whole changes table = rw (third_word 1 9 _ _ _ (omega arith)) refl
+number_is_code (IndexedText text) whole changes table = rw (third_word 2 9 _ _ _ (omega arith)) refl
 number_is_code (DocumentLists index) whole changes table = rw (third_word 1 10 _ _ _ (omega arith)) refl
 number_is_code (PlainNumbers numbers) whole changes table = absurd whole

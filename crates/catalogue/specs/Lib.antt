@@ -1,14 +1,11 @@
 pub mod Answers
 pub mod BitsAnswers
-pub mod Contents
-pub mod Forms
 pub mod Joined
-pub mod Kinds
 pub mod ListsAnswers
 pub mod MinimaAnswers
 pub mod PostingsAnswers
-pub mod Queries
 pub mod SortedAnswers
+pub mod Structures
 pub mod SymbolsAnswers
 pub mod TextAnswers
 pub mod TreeAnswers

@@ -8,7 +8,7 @@ use vers_bits::bit_vec::BitVec;
 use vers_rank::fast_rs_vec::RsVec;
 
 impl<A: Allocator + Copy> Queryable for BitVec<A> {
-    ghost use Rattle.catalogue.specs.Contents.{GrowingBits};
+    ghost use Rattle.catalogue.specs.Structures.{GrowingBits};
 
     ghost content = { GrowingBits };
 
@@ -25,7 +25,7 @@ impl<A: Allocator + Copy> Queryable for BitVec<A> {
 }
 
 impl<A: Allocator + Copy> Queryable for RsVec<A> {
-    ghost use Rattle.catalogue.specs.Contents.{IndexedBits};
+    ghost use Rattle.catalogue.specs.Structures.{IndexedBits};
 
     ghost content = { IndexedBits };
 

@@ -1,15 +1,14 @@
 //! The catalogue of structures: one owner of any of them, the queries that each answers, and its saved form.
 //!
 //! The line program, the programs on files and the C library use the structures through this crate. Another structure
-//! adds a variant to `Structure`, an `impl` of `Queryable`, and a clause to each definition of `specs/Contents.antt`,
-//! `specs/Queries.antt` and `specs/Forms.antt`.
+//! adds a row to each table of `structure` and of `specs/Structures.antt`, and an `impl` of `Queryable` in a file of
+//! its own, with its answers in `specs`.
 #![tactic(auto)]
 
 pub mod answer;
 mod bits;
 pub mod documents;
 pub mod forms;
-pub mod kind;
 mod lists;
 mod minima;
 mod posted;

@@ -9,7 +9,7 @@ use inverted::InvertedIndex;
 use std::alloc::Allocator;
 
 impl<A: Allocator + Copy> Queryable for InvertedIndex<A> {
-    ghost use Rattle.catalogue.specs.Contents.{DocumentLists};
+    ghost use Rattle.catalogue.specs.Structures.{DocumentLists};
 
     ghost content = { DocumentLists };
 

@@ -10,7 +10,7 @@ use vers_rmq::rmq::binary_rmq::BinaryRmq;
 use vers_rmq::rmq::fast_rmq::FastRmq;
 
 impl<A: Allocator + Copy> Queryable for FastRmq<A> {
-    ghost use Rattle.catalogue.specs.Contents.{BlockValues};
+    ghost use Rattle.catalogue.specs.Structures.{BlockValues};
 
     ghost content = { BlockValues };
 
@@ -39,7 +39,7 @@ fn fast_least<A: Allocator + Copy>(values: &FastRmq<A>, i: usize, j: usize) -> O
 }
 
 impl<A: Allocator + Copy> Queryable for BinaryRmq<A> {
-    ghost use Rattle.catalogue.specs.Contents.{TableValues};
+    ghost use Rattle.catalogue.specs.Structures.{TableValues};
 
     ghost content = { TableValues };
 
@@ -68,7 +68,7 @@ fn binary_least<A: Allocator + Copy>(values: &BinaryRmq<A>, i: usize, j: usize) 
 }
 
 impl<A: Allocator + Copy> Queryable for Vec<u64, A> {
-    ghost use Rattle.catalogue.specs.Contents.{PlainNumbers};
+    ghost use Rattle.catalogue.specs.Structures.{PlainNumbers};
 
     ghost content = { λ numbers. PlainNumbers numbers.items };
 

@@ -7,7 +7,7 @@ use postings::Postings;
 use std::alloc::Allocator;
 
 impl<A: Allocator + Copy> Queryable for Postings<A> {
-    ghost use Rattle.catalogue.specs.Contents.{Documents};
+    ghost use Rattle.catalogue.specs.Structures.{Documents};
 
     ghost content = { Documents };
 

@@ -1,11 +1,9 @@
 //! Queries and their codes.
 ghost use Rattle.std.specs.Prelude.{◌≡◌, ℕ, slice_get};
 ghost use Rattle.catalogue.specs.Answers.{is_known};
-ghost use Rattle.catalogue.specs.Contents.{Content};
-ghost use Rattle.catalogue.specs.Forms.{kind_of};
-ghost use Rattle.catalogue.specs.Queries.{answer};
+ghost use Rattle.catalogue.specs.Structures.{Content, kind_of, answer};
 
-use crate::kind::Kind;
+use crate::structure::Kind;
 use vers_trees::trees::bp::{LevelEnd, Measure, Relative};
 
 /// A query of a structure.

@@ -1,13 +1,13 @@
 //! Structures that can be queried.
 ghost use Rattle.std.specs.Prelude.{◌≡◌};
-ghost use Rattle.catalogue.specs.Queries.{answer as answer_of};
+ghost use Rattle.catalogue.specs.Structures.{answer as answer_of};
 
 use crate::answer::Answer;
 use crate::query::Query;
 
 /// A structure that can be queried.
 pub trait Queryable {
-    ghost use Rattle.catalogue.specs.Contents.{Content};
+    ghost use Rattle.catalogue.specs.Structures.{Content};
 
     // The plain list of the structure.
     ghost content: { Self → Content };

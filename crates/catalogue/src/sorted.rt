@@ -7,7 +7,7 @@ use std::alloc::Allocator;
 use vers_sorted::elias_fano::EliasFanoVec;
 
 impl<A: Allocator + Copy> Queryable for EliasFanoVec<A> {
-    ghost use Rattle.catalogue.specs.Contents.{SortedMembers};
+    ghost use Rattle.catalogue.specs.Structures.{SortedMembers};
 
     ghost content = { SortedMembers };
 

@@ -7,7 +7,7 @@ use std::alloc::Allocator;
 use vers_sorted::sparse::SparseRSVec;
 
 impl<A: Allocator + Copy> Queryable for SparseRSVec<A> {
-    ghost use Rattle.catalogue.specs.Contents.{SparseBits};
+    ghost use Rattle.catalogue.specs.Structures.{SparseBits};
 
     ghost content = { SparseBits };
 

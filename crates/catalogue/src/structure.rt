@@ -1,19 +1,24 @@
-//! One owner of any structure.
-ghost use Rattle.std.specs.Prelude.{◌≡◌};
-ghost use Rattle.catalogue.specs.Contents.{content_of, length_of};
-ghost use Rattle.catalogue.specs.Queries.{answer};
+//! One owner of any structure: what it owns, its kind and its saved form.
+ghost use Rattle.std.specs.Prelude.{◌≡◌, ◌≢◌, ◌⊎◌, None, Err, IfOk, IfErr, IfSome, OnOk, length, slice_get};
+ghost use Rattle.std.specs.Io.KnownBytes.{Keeps};
+ghost use Rattle.vers_saved.specs.Streams.{Writes};
+ghost use Rattle.catalogue.specs.Structures.{Fits, HasForm, answer, content_of, kind_of, length_of, name_of, saved_form, width_of};
 
 use crate::answer::Answer;
+use crate::forms::{bytes_of, write_form};
 use crate::query::Query;
 use crate::queryable::answer_once;
 use inverted::InvertedIndex;
 use postings::Postings;
 use std::alloc::Allocator;
+use std::io::Write;
 use text_index::TextIndex;
 use vers_bits::bit_vec::BitVec;
 use vers_rank::fast_rs_vec::RsVec;
 use vers_rmq::rmq::binary_rmq::BinaryRmq;
 use vers_rmq::rmq::fast_rmq::FastRmq;
+use vers_saved::fault::SaveError;
+use vers_saved::saved::saved_size;
 use vers_sorted::elias_fano::EliasFanoVec;
 use vers_sorted::sparse::SparseRSVec;
 use vers_trees::trees::bp::BpTree;
@@ -49,44 +54,205 @@ pub enum Structure<'a, A: Allocator + Copy> {
     Numbers(Vec<u64, A>),
 }
 
+/// Evaluates an expression with the list that a structure owns, which has the given name there. Plain numbers can have
+/// an expression of their own.
+#[macro_export]
+macro_rules! with_list {
+    ($structure:expr, $list:ident => $done:expr) => {
+        with_list!($structure, $list => $done, $list => $done)
+    };
+    ($structure:expr, $list:ident => $done:expr, $numbers:pat => $of_numbers:expr) => {
+        match $structure {
+            $crate::structure::Structure::Growing($list) => $done,
+            $crate::structure::Structure::Bits($list) => $done,
+            $crate::structure::Structure::Sparse($list) => $done,
+            $crate::structure::Structure::Sorted($list) => $done,
+            $crate::structure::Structure::Symbols($list) => $done,
+            $crate::structure::Structure::Tree(tree) => {
+                let $list = &**tree;
+                $done
+            }
+            $crate::structure::Structure::Fast($list) => $done,
+            $crate::structure::Structure::Binary($list) => $done,
+            $crate::structure::Structure::Postings($list) => $done,
+            $crate::structure::Structure::Inverted($list) => $done,
+            $crate::structure::Structure::Text($list) => $done,
+            $crate::structure::Structure::Numbers($numbers) => $of_numbers,
+        }
+    };
+}
+
 impl<A: Allocator + Copy> Structure<'_, A> {
     /// Returns the number of items.
     pub fn len(&self) -> u64
         ensures { result ≡ length_of (content_of self.now) }
     {
-        match self {
-            Structure::Growing(bits) => bits.len() as u64,
-            Structure::Bits(bits) => bits.len() as u64,
-            Structure::Sparse(bits) => bits.len(),
-            Structure::Sorted(members) => members.len() as u64,
-            Structure::Symbols(symbols) => symbols.len() as u64,
-            Structure::Tree(tree) => tree.len() as u64,
-            Structure::Fast(values) => values.len() as u64,
-            Structure::Binary(values) => values.len() as u64,
-            Structure::Postings(posted) => posted.len() as u64,
-            Structure::Inverted(index) => index.len() as u64,
-            Structure::Text(text) => text.len() as u64,
-            Structure::Numbers(numbers) => numbers.len() as u64,
-        }
+        with_list!(self, list => list.len() as u64)
     }
 
     /// Returns the answer to a query with three numbers.
     pub fn answer(&self, query: Query, a: u64, b: u64, c: u64) -> Answer
         ensures { result ≡ answer (content_of self.now) query a b c }
     {
+        with_list!(self, list => answer_once(list, query, a, b, c))
+    }
+
+    /// Returns the kind, or `None` if such structures have no saved form.
+    pub fn kind(&self) -> Option<Kind>
+        ensures { result ≡ kind_of (content_of self.now) }
+    {
         match self {
-            Structure::Growing(bits) => answer_once(bits, query, a, b, c),
-            Structure::Bits(bits) => answer_once(bits, query, a, b, c),
-            Structure::Sparse(bits) => answer_once(bits, query, a, b, c),
-            Structure::Sorted(members) => answer_once(members, query, a, b, c),
-            Structure::Symbols(symbols) => answer_once(symbols, query, a, b, c),
-            Structure::Tree(tree) => answer_once(&**tree, query, a, b, c),
-            Structure::Fast(values) => answer_once(values, query, a, b, c),
-            Structure::Binary(values) => answer_once(values, query, a, b, c),
-            Structure::Postings(posted) => answer_once(posted, query, a, b, c),
-            Structure::Inverted(index) => answer_once(index, query, a, b, c),
-            Structure::Text(text) => answer_once(text, query, a, b, c),
-            Structure::Numbers(numbers) => answer_once(numbers, query, a, b, c),
+            Structure::Growing(_) => Some(Kind::Growing),
+            Structure::Bits(_) => Some(Kind::Bits),
+            Structure::Sparse(_) => Some(Kind::Sparse),
+            Structure::Sorted(_) => Some(Kind::Sorted),
+            Structure::Symbols(_) => Some(Kind::Symbols),
+            Structure::Tree(_) => Some(Kind::Tree),
+            Structure::Fast(_) => Some(Kind::Fast),
+            Structure::Binary(_) => Some(Kind::Binary),
+            Structure::Postings(_) => Some(Kind::Postings),
+            Structure::Inverted(_) => Some(Kind::Inverted),
+            Structure::Text(_) => Some(Kind::Text),
+            Structure::Numbers(_) => None,
+        }
+    }
+
+    /// Returns the number of bits of an item in the saved form, or of a block of a tree.
+    pub fn item_width(&self) -> u64
+        ensures { result ≡ width_of (content_of self.now) }
+    {
+        match self {
+            Structure::Growing(_) | Structure::Bits(_) => 1,
+            Structure::Symbols(symbols) => symbols.bits_per_element() as u64,
+            Structure::Tree(_) => 512,
+            Structure::Postings(_) => 128,
+            Structure::Text(text) => u64::from(text.bits_per_symbol()),
+            Structure::Sparse(_)
+            | Structure::Sorted(_)
+            | Structure::Fast(_)
+            | Structure::Binary(_)
+            | Structure::Inverted(_)
+            | Structure::Numbers(_) => 64,
+        }
+    }
+
+    /// Returns the number of bytes of the saved form, or `None` if there is none.
+    pub fn saved_size(&self) -> Option<usize>
+        ensures size { IfSome result (λ size. size ≡ length (saved_form (content_of self.now))) }
+        ensures some { IfSome result (λ _. HasForm (content_of self.now)) }
+        ensures none { result ≡ None → ¬ HasForm (content_of self.now) }
+    {
+        with_list!(self, list => saved_size(list), _ => None)
+    }
+
+    /// Returns the saved form.
+    ///
+    /// # Errors
+    ///
+    /// `NoForm` if there is none; `Memory` if the allocator refuses a request.
+    pub fn to_bytes<B: Allocator>(&self, alloc: B) -> Result<Vec<u8, B>, SaveError>
+        ensures saved { IfOk result (λ out. out.items ≡ saved_form (content_of self.now)) }
+        ensures whole { OnOk result (HasForm (content_of self.now)) }
+        ensures fits { OnOk result (Fits (content_of self.now)) }
+        ensures refused { IfErr result (λ e. (e ≡ SaveError.Memory)
+            ⊎ ((e ≡ SaveError.NoForm) × ¬ HasForm (content_of self.now))) }
+    {
+        with_list!(self, list => bytes_of(alloc, list), _ => Err(SaveError::NoForm))
+    }
+
+    /// Writes the saved form, in blocks of 64 KiB.
+    ///
+    /// # Errors
+    ///
+    /// `NoForm` if there is none, and `Memory` if the allocator refuses a request: nothing was written. `Write` if
+    /// the writer fails: a prefix of the form was written.
+    pub fn save<B: Allocator, W: Write>(&self, alloc: B, writer: &mut W) -> Result<(), SaveError>
+        ensures written { result ≢ Err SaveError.NoForm → Writes result (W.contents writer.old)
+            (W.contents writer.new) (saved_form (content_of self.now)) }
+        ensures kept { IfErr result (λ e. (e ≡ SaveError.Write)
+            ⊎ Keeps (W.contents writer.old) (W.contents writer.new)) }
+        ensures form { OnOk result (HasForm (content_of self.now)) }
+        ensures fits { OnOk result (Fits (content_of self.now)) }
+        ensures none { IfErr result (λ e. e ≡ SaveError.NoForm → ¬ HasForm (content_of self.now)) }
+    {
+        with_list!(self, list => write_form(alloc, list, writer), _ => Err(SaveError::NoForm))
+    }
+}
+
+/// The structure as which a saved form is loaded.
+#[derive(Clone, Copy, Drop)]
+pub enum Kind {
+    /// Bits that can change.
+    Growing,
+    /// Bits with rank and select.
+    Bits,
+    /// An ascending list.
+    Sorted,
+    /// A list of symbols.
+    Symbols,
+    /// Bits with few ones.
+    Sparse,
+    /// Values, with range minima from blocks.
+    Fast,
+    /// Parentheses.
+    Tree,
+    /// Documents with costs.
+    Postings,
+    /// Values, with range minima from a sparse table.
+    Binary,
+    /// A text index.
+    Text,
+    /// A list of documents for each term.
+    Inverted,
+}
+
+/// The kind of each code, which is its index here. From 1 to 7, and from 9 on, the codes are the numbers of saved
+/// forms; the two types that share the form of another one have 0 and 8.
+pub const KINDS: [Kind; 11] = [
+    Kind::Growing,
+    Kind::Bits,
+    Kind::Sorted,
+    Kind::Symbols,
+    Kind::Sparse,
+    Kind::Fast,
+    Kind::Tree,
+    Kind::Postings,
+    Kind::Binary,
+    Kind::Text,
+    Kind::Inverted,
+];
+
+impl Kind {
+    // Returns the kind at a position of a table.
+    fn at(table: &[Kind], place: usize) -> Option<Kind>
+        ensures { result ≡ slice_get table.now place }
+    {
+        table.get(place).copied()
+    }
+
+    /// Returns the kind of a code, or `None` if there is none.
+    pub fn of(code: usize) -> Option<Kind>
+        ensures { result ≡ slice_get KINDS code }
+    {
+        Kind::at(&KINDS, code)
+    }
+
+    /// Returns the name: the first word of its load line, if the line program has one.
+    pub fn name(self) -> &'static str
+        ensures { result.now ≡ name_of self }
+    {
+        match self {
+            Kind::Growing => "growing",
+            Kind::Bits => "bits",
+            Kind::Sorted => "sorted",
+            Kind::Symbols => "symbols",
+            Kind::Sparse => "sparse",
+            Kind::Fast => "values",
+            Kind::Tree => "tree",
+            Kind::Postings => "postings",
+            Kind::Binary => "binary",
+            Kind::Text => "text",
+            Kind::Inverted => "inverted",
         }
     }
 }

@@ -10,7 +10,7 @@ use vers_wavelet::wavelet::WaveletMatrix;
 
 #[tactic(auto, unfolding(vers_wavelet::specs::Symbols::as_word))]
 impl<A: Allocator + Copy> Queryable for WaveletMatrix<A> {
-    ghost use Rattle.catalogue.specs.Contents.{SymbolList};
+    ghost use Rattle.catalogue.specs.Structures.{SymbolList};
 
     ghost content = { SymbolList };
 

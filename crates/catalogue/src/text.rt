@@ -7,7 +7,7 @@ use std::alloc::Allocator;
 use text_index::TextIndex;
 
 impl<A: Allocator + Copy> Queryable for TextIndex<A> {
-    ghost use Rattle.catalogue.specs.Contents.{IndexedText};
+    ghost use Rattle.catalogue.specs.Structures.{IndexedText};
 
     ghost content = { IndexedText };
 

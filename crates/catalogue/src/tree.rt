@@ -11,7 +11,7 @@ use vers_trees::trees::bp::BpTree;
 // Calls of a tree about the relatives of a node require that the tree's size is below 2^63. It depends on the size of
 // the allocator, which is known for a reference and for `Global`.
 impl<A: Allocator> Queryable for BpTree<512, &A> {
-    ghost use Rattle.catalogue.specs.Contents.{Parentheses};
+    ghost use Rattle.catalogue.specs.Structures.{Parentheses};
 
     ghost content = { Parentheses };
 
@@ -38,7 +38,7 @@ impl<A: Allocator> Queryable for BpTree<512, &A> {
 }
 
 impl Queryable for BpTree<512, Global> {
-    ghost use Rattle.catalogue.specs.Contents.{Parentheses};
+    ghost use Rattle.catalogue.specs.Structures.{Parentheses};
 
     ghost content = { Parentheses };
 

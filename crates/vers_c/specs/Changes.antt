@@ -4,7 +4,7 @@ use Rattle.vers_bits.specs.Bits.{low_bits}
 use Rattle.vers_c.specs.declared.change.Change.{Change}
 use Rattle.vers_c.specs.declared.change.Change.TheVariants.{Push, Append, Set, DropLast}
 use Rattle.vers_c.specs.declared.change.TheConstants.{CHANGES}
-use Rattle.catalogue.specs.Contents.{Content, GrowingBits}
+use Rattle.catalogue.specs.Structures.{Content, GrowingBits}
 
 -- the list after a change with two numbers, unless these are refused
 abbrev pub bits_changed : List Bool → Change → ℕ → ℕ → Option (List Bool)

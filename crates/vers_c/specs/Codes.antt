@@ -1,8 +1,7 @@
 -- The queries of a handle's structure, by their codes.
 use Rattle.std.specs.Prelude.{ℕ, Option, Some, None, slice_get, if◌then◌else◌}
 use Rattle.catalogue.specs.Answers.{is_known}
-use Rattle.catalogue.specs.Contents.{Content}
-use Rattle.catalogue.specs.Queries.{answer}
+use Rattle.catalogue.specs.Structures.{Content, answer}
 use Rattle.catalogue.specs.declared.answer.Answer.{Answer}
 use Rattle.catalogue.specs.declared.answer.Answer.TheVariants.{Unknown}
 use Rattle.catalogue.specs.declared.query.Query.{Query}

@@ -2,7 +2,7 @@
 use Rattle.std.specs.Prelude.{ℕ, Option, Some, None, slice_get}
 use Rattle.inverted.specs.Lists.{list_of}
 use Rattle.postings.specs.Posted.{common}
-use Rattle.catalogue.specs.Contents.{Content, Documents, DocumentLists, PlainNumbers}
+use Rattle.catalogue.specs.Structures.{Content, Documents, DocumentLists, PlainNumbers}
 use Rattle.catalogue.specs.Joined.{joined}
 use Rattle.catalogue.specs.declared.documents.Joint.{Joint}
 use Rattle.catalogue.specs.declared.documents.TheConstants.{JOINTS}

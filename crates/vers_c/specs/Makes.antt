@@ -8,7 +8,7 @@ use Rattle.vers_sorted.specs.Ones.{ones_at}
 use Rattle.vers_sorted.specs.Sorted.{each_next}
 use Rattle.vers_wavelet.specs.Makers.{low_symbols}
 use Rattle.vers_c.specs.Answers.{IsToldAs}
-use Rattle.catalogue.specs.Contents.{Content, SparseBits, SortedMembers, SymbolList, Documents, DocumentLists}
+use Rattle.catalogue.specs.Structures.{Content, SparseBits, SortedMembers, SymbolList, Documents, DocumentLists}
 
 -- of numbers, which have to ascend
 abbrev pub sorted_made : List ℕ → Option Content

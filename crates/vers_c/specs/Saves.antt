@@ -1,11 +1,10 @@
 -- The saved form of a handle's structure.
 use Rattle.std.specs.Prelude.{◌≡◌, ◌≢◌, ◌↔◌, ◌⊎◌, ℕ, List, length, Option, Some, None, IsSome, IfSome, slice_get, option_map}
 use Rattle.std.specs.Option.{option_and_then}
-use Rattle.catalogue.specs.Contents.{Content}
-use Rattle.catalogue.specs.Forms.{Fits, HasForm, HasSomeForm, IsSomeForm, kind_of, saved_form, saved_kind}
-use Rattle.catalogue.specs.declared.kind.Kind.{Kind}
-use Rattle.catalogue.specs.declared.kind.Kind.TheVariants as kind
-use Rattle.catalogue.specs.declared.kind.TheConstants.{KINDS}
+use Rattle.catalogue.specs.Structures.{Content, Fits, HasForm, HasSomeForm, IsSomeForm, kind_of, saved_form, saved_kind}
+use Rattle.catalogue.specs.declared.structure.Kind.{Kind}
+use Rattle.catalogue.specs.declared.structure.Kind.TheVariants as kind
+use Rattle.catalogue.specs.declared.structure.TheConstants.{KINDS}
 use Rattle.vers_saved.specs.Faults.{fault_of}
 use Rattle.vers_saved.specs.declared.fault.LoadError.{LoadError}
 use Rattle.vers_saved.specs.declared.fault.LoadError.TheVariants.{TooShort, NotOurs, OtherVersion, OtherKind, BadLength, BadSum, BadPadding, NotAscending, NotAText, Memory, Read}

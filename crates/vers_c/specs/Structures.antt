@@ -1,6 +1,6 @@
 -- The structure of a handle, as the plain list that it represents.
 use Rattle.std.specs.Prelude.{Option, Some, None, if◌then◌else◌}
-use Rattle.catalogue.specs.Contents.{Content, Parentheses, content_of}
+use Rattle.catalogue.specs.Structures.{Content, Parentheses, content_of}
 use Rattle.vers_c.specs.declared.handle.VersHandle.{VersHandle}
 use Rattle.vers_c.specs.declared.kept.Kept.{Kept}
 use Rattle.vers_c.specs.declared.kept.Kept.TheVariants as kept

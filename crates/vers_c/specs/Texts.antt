@@ -3,7 +3,7 @@ use Rattle.std.specs.Prelude.{◌≡◌, ◌⊎◌, ℕ, ◌==◌, ◌<◌, ◌�
 use Rattle.std.specs.List.{slice_range}
 use Rattle.text_index.specs.Texts.{places_in_order, places_of}
 use Rattle.text_index.specs.Makers.{is_text}
-use Rattle.catalogue.specs.Contents.{Content, IndexedText, PlainNumbers}
+use Rattle.catalogue.specs.Structures.{Content, IndexedText, PlainNumbers}
 use Rattle.catalogue.specs.declared.answer.Answer.{Answer}
 use Rattle.catalogue.specs.declared.answer.Answer.TheVariants.{Found, Unknown}
 use Rattle.vers_c.specs.declared.answer.VersAnswer.{VersAnswer}

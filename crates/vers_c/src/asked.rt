@@ -1,6 +1,6 @@
 //! Many queries of one structure.
 ghost use Rattle.std.specs.Prelude.{◌≡◌, ℕ, map};
-ghost use Rattle.catalogue.specs.Queries.{answer as answer_of};
+ghost use Rattle.catalogue.specs.Structures.{answer as answer_of};
 ghost use Rattle.vers_c.specs.Batches.{told_row};
 ghost use Rattle.vers_c.specs.Structures.{content};
 

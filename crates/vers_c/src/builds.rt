@@ -2,7 +2,7 @@
 ghost use Rattle.std.specs.Prelude.{◌≡◌, map, Some, take};
 ghost use Rattle.vers_bits.specs.Bits.{pack};
 ghost use Rattle.vers_c.specs.Makes.{IsMade, posted_made, sorted_made, sparse_made, symbols_made};
-ghost use Rattle.catalogue.specs.Contents.{BlockValues, GrowingBits, IndexedBits, Parentheses, TableValues};
+ghost use Rattle.catalogue.specs.Structures.{BlockValues, GrowingBits, IndexedBits, Parentheses, TableValues};
 ghost use Rattle.vers_c.specs.Structures.{contents};
 
 use crate::handle::VersHandle;

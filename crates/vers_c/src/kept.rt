@@ -1,8 +1,6 @@
 //! The structures of handles.
 ghost use Rattle.std.specs.Prelude.{◌≡◌, ◌≢◌, map, Some, None, IfOk, IfSome, IsErr, IsSome, option_map};
-ghost use Rattle.catalogue.specs.Contents.{PlainNumbers, content_of};
-ghost use Rattle.catalogue.specs.Forms.{kind_of};
-ghost use Rattle.catalogue.specs.Queries.{answer as answer_of};
+ghost use Rattle.catalogue.specs.Structures.{PlainNumbers, content_of, kind_of, answer as answer_of};
 ghost use Rattle.vers_c.specs.Answers.{IsToldAs};
 ghost use Rattle.vers_c.specs.Batches.{told_row};
 ghost use Rattle.vers_c.specs.Changes.{IsChanged, changed_by_code, coded_status};
@@ -19,10 +17,10 @@ use crate::status::{DONE, UNKNOWN};
 use crate::text::as_numbers;
 use catalogue::answer::Answer;
 use catalogue::documents::{Joint, documents_of, joined_documents};
-use catalogue::kind::Kind;
 use catalogue::query::Query;
 use catalogue::queryable::{Queryable, answer_once};
-use catalogue::structure::Structure;
+use catalogue::structure::{Kind, Structure};
+use catalogue::with_list;
 use std::alloc::{AllocError, Global};
 use std::sync::Arc;
 
@@ -133,18 +131,11 @@ fn each_other<R: Row>(
         ≡ map (told_row R.ask R.told (answer_of (content_of structure.now) query) other b c) rows.old }
 {
     match structure {
-        Structure::Growing(bits) => answer_each(bits, query, rows, b, c, other),
         Structure::Bits(bits) => each_of_bits(bits, query, rows, b, c, other),
-        Structure::Sparse(bits) => answer_each(bits, query, rows, b, c, other),
         Structure::Sorted(members) => each_of_members(members, query, rows, b, c, other),
         Structure::Symbols(symbols) => each_of_symbols(alloc, symbols, query, rows, b, c, other),
-        Structure::Tree(tree) => answer_each(&**tree, query, rows, b, c, other),
         Structure::Fast(values) => each_of_values(values, query, rows, b, c, other),
-        Structure::Binary(values) => answer_each(values, query, rows, b, c, other),
-        Structure::Postings(posted) => answer_each(posted, query, rows, b, c, other),
-        Structure::Inverted(index) => answer_each(index, query, rows, b, c, other),
-        Structure::Text(text) => answer_each(text, query, rows, b, c, other),
-        Structure::Numbers(numbers) => answer_each(numbers, query, rows, b, c, other),
+        _ => with_list!(structure, list => answer_each(list, query, rows, b, c, other)),
     }
 }
 

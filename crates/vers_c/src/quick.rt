@@ -12,8 +12,8 @@ use crate::answer::VersAnswer;
 use crate::handle::VersHandle;
 use crate::kept::answer_as;
 use crate::owners::{put, taken};
-use catalogue::kind::Kind;
 use catalogue::query::{Query, SymbolsQuery, TreeQuery};
+use catalogue::structure::Kind;
 use std::alloc::Global;
 use vers_trees::trees::bp::{Measure, Relative};
 

@@ -1,8 +1,7 @@
 //! Saved forms of the structures of handles.
 ghost use Rattle.std.specs.Prelude.{◌≡◌, ◌≢◌, ◌↔◌, ◌⊎◌, Bool, List, Some, None, IfOk, IfErr, IfSome, OnOk, MatchResult, length, option_map};
-ghost use Rattle.catalogue.specs.Contents.{Content};
-ghost use Rattle.catalogue.specs.declared.kind.Kind.TheVariants as kinds;
-ghost use Rattle.catalogue.specs.Forms.{Fits, HasForm, kind_of, saved_form, saved_kind};
+ghost use Rattle.catalogue.specs.Structures.{Content, Fits, HasForm, kind_of, saved_form, saved_kind};
+ghost use Rattle.catalogue.specs.declared.structure.Kind.TheVariants as kinds;
 ghost use Rattle.vers_bits.specs.Bits.{limbs};
 ghost use Rattle.vers_saved.specs.Faults.{fault_of};
 ghost use Rattle.vers_saved.specs.Format.{saved_parentheses};
@@ -22,8 +21,7 @@ use crate::status::{
 };
 use catalogue::answer::Answer;
 use catalogue::forms::bytes_of;
-use catalogue::kind::Kind;
-use catalogue::structure::Structure;
+use catalogue::structure::{Kind, Structure};
 use std::alloc::Global;
 use vers_saved::fault::{LoadError, SaveError};
 use vers_saved::saved::{load_from_slice, saved_size};
@@ -195,7 +193,7 @@ pub extern "C" fn vers_load(alloc: Global, code: u32, bytes: &[u8], handle: &mut
     if handle.is_built {
         return OCCUPIED;
     }
-    let Some(kind) = Kind::of(code) else {
+    let Some(kind) = Kind::of(code as usize) else {
         return UNKNOWN;
     };
     match load(alloc, kind, bytes) {

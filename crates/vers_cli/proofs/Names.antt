@@ -11,7 +11,7 @@ pub use Rattle.std.specs.Option.{option_and_then}
 pub use Rattle.std.specs.Prelude.{All, MatchResult, if◌then◌else◌, nat_le, option_map, ◌&&◌, ◌||◌}
 pub use Rattle.vers_bits.specs.Bits.{number, pack, part}
 unfoldable pub use Rattle.vers_bits.specs.Bits.{part_number}
-pub use Rattle.catalogue.specs.Contents.{SparseBits, SymbolList}
+pub use Rattle.catalogue.specs.Structures.{SparseBits, SymbolList}
 pub use Rattle.vers_cli.specs.Holding.{is_accepted}
 pub use Rattle.vers_cli.specs.Loads.{first_numbers, first_then, if_admitted, in_order, posted_first, posted_of, rising_count, symbols_loaded}
 pub use Rattle.vers_sorted.proofs.PublicLaws.{each_next-ascending, each_next-rising, ones_at-same}

@@ -4,7 +4,7 @@ use Rattle.vers_words.specs.Arguments.{bits_of, all_numbers}
 use Rattle.vers_words.specs.Loading.{map_loading}
 use Rattle.vers_words.specs.declared.loading.Loading.{Loading}
 use Rattle.vers_words.specs.declared.loading.Loading.TheVariants.{Malformed, Inadmissible, Accepted}
-use Rattle.catalogue.specs.Contents.{Content, IndexedBits, SparseBits, SortedMembers, SymbolList, Parentheses, BlockValues, Documents, DocumentLists, content_of, length_of}
+use Rattle.catalogue.specs.Structures.{Content, IndexedBits, SparseBits, SortedMembers, SymbolList, Parentheses, BlockValues, Documents, DocumentLists, content_of, length_of}
 use Rattle.vers_cli.specs.declared.held.Held.{Held}
 use Rattle.vers_cli.specs.declared.held.Held.TheVariants as held
 use Rattle.vers_cli.specs.declared.name.Load.{Load}

@@ -9,7 +9,7 @@ use Rattle.vers_trees.specs.Nodes.{children, subtree}
 use Rattle.vers_trees.specs.Traversals.{postorder, subtree_post}
 use Rattle.vers_wavelet.specs.Symbols.{Symbols, by_size}
 use Rattle.vers_words.specs.Reply.{PlainReply, WrongStructure, Refused, Absent, Numbers}
-use Rattle.catalogue.specs.Contents.{Content, SparseBits, SortedMembers, SymbolList, Parentheses, Documents, DocumentLists}
+use Rattle.catalogue.specs.Structures.{Content, SparseBits, SortedMembers, SymbolList, Parentheses, Documents, DocumentLists}
 use Rattle.catalogue.specs.Joined.{joined}
 use Rattle.catalogue.specs.declared.documents.Joint.{Joint}
 use Rattle.vers_cli.specs.declared.name.Listing.{Listing}

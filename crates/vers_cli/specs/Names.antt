@@ -1,7 +1,7 @@
 -- The names of lines.
 use Rattle.std.specs.Prelude.{ℕ, Bool, ◌||◌, List, [], map, Option, None, is_some}
 use Rattle.vers_words.specs.Names.{named}
-use Rattle.catalogue.specs.Contents.{Content, IndexedBits, SparseBits, SortedMembers, SymbolList, Parentheses, BlockValues, Documents, DocumentLists}
+use Rattle.catalogue.specs.Structures.{Content, IndexedBits, SparseBits, SortedMembers, SymbolList, Parentheses, BlockValues, Documents, DocumentLists}
 use Rattle.vers_cli.specs.declared.name.Line.{Line}
 use Rattle.vers_cli.specs.declared.name.Load.{Load}
 use Rattle.vers_cli.specs.declared.name.TheConstants.{LOADS, BITS_LINES, SORTED_LINES, SPARSE_LINES, VALUES_LINES, TREE_LINES, SYMBOLS_LINES, POSTINGS_LINES, INVERTED_LINES}

@@ -16,7 +16,7 @@ use Rattle.vers_trees.specs.declared.trees.bp.relatives.LevelEnd.TheVariants.{Ri
 use Rattle.vers_words.specs.Text.{number_of, signed_number_of}
 use Rattle.vers_engine.specs.Lines.{lines_of}
 use Rattle.vers_engine.specs.Replies.{answer_to_parts, holding_after_parts}
-use Rattle.catalogue.specs.Contents.{IndexedBits, SparseBits, SortedMembers, SymbolList, Parentheses, BlockValues, Documents, DocumentLists}
+use Rattle.catalogue.specs.Structures.{IndexedBits, SparseBits, SortedMembers, SymbolList, Parentheses, BlockValues, Documents, DocumentLists}
 use Rattle.inverted.specs.Makers.{lists_from}
 use Rattle.sets.specs.Sets.{is_member}
 use Rattle.vers_cli.specs.Holding.{Holding}

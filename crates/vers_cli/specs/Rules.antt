@@ -12,8 +12,7 @@ use Rattle.vers_words.specs.declared.loading.Loading.{Loading}
 use Rattle.vers_words.specs.declared.loading.Loading.TheVariants.{Malformed, Inadmissible, Accepted}
 use Rattle.vers_words.specs.Arguments.{no_arguments, one_number, two_numbers, three_numbers, number_and_signed, all_numbers}
 use Rattle.vers_words.specs.Reply.{PlainReply, BadLine, WrongStructure, Refused, Absent, Number, Signed, if_well_formed}
-use Rattle.catalogue.specs.Contents.{Content, length_of}
-use Rattle.catalogue.specs.Queries.{answer}
+use Rattle.catalogue.specs.Structures.{Content, length_of, answer}
 use Rattle.catalogue.specs.declared.answer.Answer.{Answer}
 use Rattle.catalogue.specs.declared.answer.Answer.TheVariants as answer
 use Rattle.vers_cli.specs.declared.name.Arguments.{Arguments}

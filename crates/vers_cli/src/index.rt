@@ -4,7 +4,7 @@ ghost use Rattle.std.specs.Option.{option_and_then};
 ghost use Rattle.vers_words.specs.Text.{words_in};
 ghost use Rattle.vers_words.specs.Arguments.{all_numbers as numbers_all};
 ghost use Rattle.vers_words.specs.Loading.{map_loading};
-ghost use Rattle.catalogue.specs.Contents.{content_of};
+ghost use Rattle.catalogue.specs.Structures.{content_of};
 ghost use Rattle.vers_cli.specs.Holding.{loaded, is_accepted as accepts};
 ghost use Rattle.vers_cli.specs.Loads.{first_numbers, index_parts, inverted_loaded, pairs_in};
 

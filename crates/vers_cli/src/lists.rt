@@ -1,7 +1,7 @@
 //! The replies that are lists.
 ghost use Rattle.std.specs.Prelude.{◌≡◌, ℕ, List, true, unwrap_or, option_map, IfOk, IsErr, MatchResult};
 ghost use Rattle.std.specs.Iterator.{Drains, IsFinite};
-ghost use Rattle.catalogue.specs.Contents.{content_of, Documents, Parentheses, SortedMembers, SymbolList};
+ghost use Rattle.catalogue.specs.Structures.{content_of, Documents, Parentheses, SortedMembers, SymbolList};
 ghost use Rattle.postings.specs.Posted.{common};
 ghost use Rattle.vers_bits.specs.Bits.{places};
 ghost use Rattle.vers_trees.specs.Forest.{IsBalanced, forest_of};

@@ -1,6 +1,6 @@
 //! Load lines.
 ghost use Rattle.std.specs.Prelude.{◌≡◌, IfOk};
-ghost use Rattle.catalogue.specs.Contents.{content_of};
+ghost use Rattle.catalogue.specs.Structures.{content_of};
 ghost use Rattle.vers_words.specs.Text.{words_in};
 ghost use Rattle.vers_words.specs.Loading.{map_loading};
 ghost use Rattle.vers_cli.specs.Holding.{loaded, is_accepted as accepts};

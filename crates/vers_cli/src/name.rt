@@ -1,6 +1,6 @@
 //! The names of lines.
 ghost use Rattle.std.specs.Prelude.{◌≡◌};
-ghost use Rattle.catalogue.specs.Contents.{content_of};
+ghost use Rattle.catalogue.specs.Structures.{content_of};
 ghost use Rattle.vers_cli.specs.Names.{is_query as is_known, line_of as named_line, load_of as named_load};
 
 use Arguments::{NoNumber, OneNumber, ThreeNumbers, TwoNumbers, WithSigned};

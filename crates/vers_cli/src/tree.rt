@@ -3,7 +3,7 @@ ghost use Rattle.std.specs.Prelude.{◌≡◌, true, IfOk, IsErr, MatchResult};
 ghost use Rattle.vers_words.specs.Text.{words_in};
 ghost use Rattle.vers_words.specs.Arguments.{bits_of};
 ghost use Rattle.vers_words.specs.Loading.{map_loading};
-ghost use Rattle.catalogue.specs.Contents.{content_of};
+ghost use Rattle.catalogue.specs.Structures.{content_of};
 ghost use Rattle.vers_cli.specs.Holding.{loaded, is_accepted as accepts};
 ghost use Rattle.vers_cli.specs.Loads.{tree_loaded};
 

@@ -1,6 +1,5 @@
 pub mod OfLines
 pub mod Cuts
-pub mod Numbered
 pub mod Boxes
 pub mod Fronts
 pub mod Named

@@ -6,8 +6,7 @@ use Rattle.vers_words.specs.declared.loading.Loading.TheVariants.{Accepted}
 use Rattle.vers_saved.specs.declared.fault.SaveError.{SaveError}
 use Rattle.vers_saved.specs.declared.fault.SaveError.TheVariants as error
 use Rattle.vers_saved.specs.Streams.{Writes}
-use Rattle.catalogue.specs.Contents.{Content}
-use Rattle.catalogue.specs.Forms.{HasForm, saved_form}
+use Rattle.catalogue.specs.Structures.{Content, HasForm, saved_form}
 use Rattle.vers_files.specs.SavedLines.{IfAccepted, SaysWhy, IsFormless, has_no_bits, line_saved}
 
 pub line_written : (loading : Loading Content) (held : Content) (b : Bool) (r : Result (Unit {0}) SaveError) (old new : Option (List ℕ)) → loading ≡ Accepted held

@@ -3,15 +3,16 @@ use Rattle.std.proofs.Common.{◌≡◌, ◌<◌, ◌≤◌, ℕ, Bool, true, fa
 use Rattle.std.specs.Prelude.{◌≢◌, ◌⊎◌, Option, Some, None, IfErr, IfOk, IfSome}
 use Rattle.std.specs.Fmt.{option_append}
 use Rattle.std.specs.Io.KnownBytes.{Appends, Consumes, IsAtEnd}
+use Rattle.text_index.specs.Makers.{IsSymbolWidth}
 use Rattle.text_index.specs.Texts.{Text}
+use Rattle.text_index.specs.declared.index.TheConstants.{MAX_LEN}
 use Rattle.vers_wavelet.specs.Symbols.{Symbols}
 use Rattle.vers_saved.specs.Format.{saved_text, text_words}
 use Rattle.vers_saved.specs.Kinds.{may_be_saved}
-use Rattle.vers_saved.specs.TextForms.{IsTextFault, IsTextRefused}
+use Rattle.vers_saved.specs.TextForms.{IsTextFault, IsTextForm, IsTextRefused}
 use Rattle.vers_saved.specs.declared.fault.LoadError.{LoadError}
 use Rattle.vers_saved.specs.declared.kind.TheConstants.{TEXTS, TEXT_INDEXES}
-use Rattle.catalogue.specs.Contents.{Content, SymbolList}
-use Rattle.catalogue.specs.Forms.{IsSomeForm}
+use Rattle.catalogue.specs.Structures.{Content, SymbolList, IsSomeForm}
 use Rattle.vers_files.specs.declared.saving.SaveFault.{SaveFault}
 use Rattle.vers_files.specs.declared.saving.SaveFault.TheVariants as save
 use Rattle.vers_files.specs.declared.texts.TextFault.{TextFault}
@@ -21,6 +22,7 @@ use Rattle.vers_files.specs.Indexed.{AreTooMany, text_of_bytes}
 use Rattle.vers_files.specs.declared.showing.Shown.{Shown}
 use Rattle.vers_files.specs.Shown.{IsListShown, IsTextShown}
 use Rattle.vers_files.specs.TextFiles.{AreSymbolsOf, AreTextOf, IsNoSymbolText, IsNoText, IsNoTextForm}
+use Rattle.vers_texts.specs.Fasta.{fasta_fault, fasta_text as text_of_fasta}
 use Rattle.vers_files.proofs.Fronts.{of_all, of_number}
 
 -- what follows for known bytes
@@ -46,6 +48,33 @@ too_many (Ok u) left text of_bytes none = tt
 too_many (Err fault) left text of_bytes none = λ is.
     if_known left (λ bytes. text ≡ text_of_bytes bytes) AreTooMany
     (λ bytes same. inr (subst (λ (t : Text). may_be_saved TEXT_INDEXES (length (text_words t)) t.width ≡ false) same (none is))) of_bytes
+
+-- an index of the bytes that were read, as they were in a reader
+pub too_many_read : {T : Type 0} (made : Result T SaveFault) (left : Option (List ℕ)) (bytes all : List ℕ) → IfSome left (λ read. read ≡ all) → bytes ≡ all → IfErr made (λ e. e ≡ save.TooLong → AreTooMany bytes)
+    → IfErr made (λ e. e ≡ save.TooLong → IfSome left AreTooMany)
+too_many_read (Ok t) left bytes all read same none = tt
+too_many_read (Err e) left bytes all read same none = λ is. if_known left (λ read. read ≡ all) AreTooMany (λ known here. subst AreTooMany (same ∙ sym here) (none is)) read
+
+-- an index of the text of a FASTA file
+pub fasta_put : (left : Option (List ℕ)) (text items : List ℕ) (old new : Option (List ℕ)) → IfSome left (λ bytes. (fasta_fault bytes ≡ None) × (items ≡ text_of_fasta bytes)) → text ≡ items
+    → Appends old new (saved_text (text_of_bytes text)) → IfSome left (λ bytes. (fasta_fault bytes ≡ None) × Appends old new (saved_text (text_of_bytes (text_of_fasta bytes))))
+fasta_put left text items old new read same put =
+    if_known left (λ bytes. (fasta_fault bytes ≡ None) × (items ≡ text_of_fasta bytes)) (λ bytes. (fasta_fault bytes ≡ None) × Appends old new (saved_text (text_of_bytes (text_of_fasta bytes))))
+    (λ bytes known. (known.0, subst (λ (l : List ℕ). Appends old new (saved_text (text_of_bytes l))) (same ∙ known.1) put)) read
+
+pub fasta_too_many : {T : Type 0} (made : Result T SaveFault) (left : Option (List ℕ)) (text items : List ℕ) → IfSome left (λ bytes. (fasta_fault bytes ≡ None) × (items ≡ text_of_fasta bytes)) → text ≡ items
+    → IfErr made (λ e. e ≡ save.TooLong → AreTooMany text) → IfErr made (λ e. e ≡ save.TooLong → IfSome left (λ bytes. AreTooMany (text_of_fasta bytes)))
+fasta_too_many (Ok t) left text items read same none = tt
+fasta_too_many (Err e) left text items read same none = λ is.
+    if_known left (λ bytes. (fasta_fault bytes ≡ None) × (items ≡ text_of_fasta bytes)) (λ bytes. AreTooMany (text_of_fasta bytes)) (λ bytes known. subst AreTooMany (same ∙ known.1) (none is)) read
+
+-- an index of symbols that were loaded
+pub unindexed : {T : Type 0} (made : Result T TextFault) (left : Option (List ℕ)) (symbols : Symbols) (items : List ℕ) → items ≡ symbols.items → AreSymbolsOf left symbols → IsSymbolWidth symbols.width
+    → IfErr made (λ e. (e ≡ Memory) ⊎ ((e ≡ TooLong) × (MAX_LEN < length items))) → IfErr made (λ e. IsNoSymbolText left e)
+unindexed (Ok t) left symbols items same loaded width why = tt
+unindexed (Err e) left symbols items same loaded width (inl memory) = subst (λ (f : TextFault). IsNoSymbolText left f) (sym memory) tt
+unindexed (Err e) left symbols items same loaded width (inr long) =
+    subst (λ (f : TextFault). IsNoSymbolText left f) (sym long.0) (symbols, loaded, width, subst (λ (l : List ℕ). MAX_LEN < length l) same long.1)
 
 -- a form of the bytes in front and those behind is one of all bytes
 form_of_all : (old mid whole : Option (List ℕ)) (front : List ℕ) → whole ≡ option_append (Some front) mid → Consumes old mid front → (held : Content) → IsFormOf whole held → IsFormOf old held
@@ -111,7 +140,7 @@ list_shown (Err e) old mid whole front is c told = tt
 pub text_shown : (r : Result Shown LoadError) (old mid whole : Option (List ℕ)) (front : List ℕ) → whole ≡ option_append (Some front) mid → Consumes old mid front
     → IfOk r (λ shown. IsTextShown whole shown) → IfOk r (λ shown. IsListShown old shown ⊎ IsTextShown old shown)
 text_shown (Ok shown) old mid whole front is c told =
-    inr (told.0, (told.1.0, of_all old mid whole front is c (λ bytes. bytes ≡ saved_text told.0) told.1.1), told.2)
+    inr (told.0, (told.1.0, of_all old mid whole front is c (IsTextForm told.0) told.1.1), told.2)
 text_shown (Err e) old mid whole front is c told = tt
 
 pub text_not_shown : (r : Result Shown LoadError) (old mid whole : Option (List ℕ)) (front : List ℕ) → whole ≡ option_append (Some front) mid → Consumes old mid front

@@ -4,8 +4,7 @@ use Rattle.vers_words.specs.declared.loading.Loading.{Loading}
 use Rattle.vers_words.specs.declared.loading.Loading.TheVariants.{Malformed, Inadmissible, Accepted}
 use Rattle.vers_saved.specs.declared.fault.SaveError.{SaveError}
 use Rattle.vers_saved.specs.declared.fault.SaveError.TheVariants as error
-use Rattle.catalogue.specs.Contents.{Content, SymbolList}
-use Rattle.catalogue.specs.Forms.{HasForm}
+use Rattle.catalogue.specs.Structures.{Content, SymbolList, HasForm}
 use Rattle.vers_files.specs.declared.saving.SaveFault.{SaveFault}
 use Rattle.vers_files.specs.declared.saving.SaveFault.TheVariants.{BadLine, Refused, NoBits, TooLong, OutOfMemory, Read, Write, Begin, Sync, Put, Settle}
 

@@ -1,9 +1,7 @@
 -- The description of a structure in a file.
 use Rattle.std.specs.Prelude.{◌≡◌, ℕ, List, length, Option, Some}
 use Rattle.text_index.specs.Texts.{Text}
-use Rattle.catalogue.specs.Contents.{Content, IndexedText, length_of}
-use Rattle.catalogue.specs.Forms.{HasForm, kind_of, saved_form}
-use Rattle.catalogue.specs.Kinds.{width_of}
+use Rattle.catalogue.specs.Structures.{Content, IndexedText, length_of, HasForm, kind_of, saved_form, width_of}
 use Rattle.vers_files.specs.declared.showing.Shown.{Shown}
 use Rattle.vers_files.specs.Forms.{IsFormOf}
 use Rattle.vers_files.specs.TextFiles.{IsIndexOf}

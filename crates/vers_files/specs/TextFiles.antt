@@ -4,13 +4,12 @@ use Rattle.vers_wavelet.specs.Symbols.{Symbols}
 use Rattle.text_index.specs.Makers.{IsSymbolWidth, symbols_of}
 use Rattle.text_index.specs.Texts.{Text}
 use Rattle.text_index.specs.declared.index.TheConstants.{MAX_LEN}
-use Rattle.vers_saved.specs.Format.{saved_text}
 use Rattle.vers_saved.specs.Kinds.{HasTextForm}
-use Rattle.vers_saved.specs.TextForms.{IsTextFault}
+use Rattle.vers_saved.specs.TextForms.{IsTextFault, IsTextForm}
 use Rattle.vers_saved.specs.declared.fault.LoadError.{LoadError}
 use Rattle.vers_saved.specs.declared.fault.LoadError.TheVariants.{Read, Memory as NoMemory}
 use Rattle.vers_saved.specs.declared.kind.TheConstants.{TEXTS}
-use Rattle.catalogue.specs.Contents.{Content, SymbolList}
+use Rattle.catalogue.specs.Structures.{Content, SymbolList}
 use Rattle.vers_files.specs.declared.texts.TextFault.{TextFault}
 use Rattle.vers_files.specs.declared.texts.TextFault.TheVariants.{File, NoSymbols, OtherWidth, TooLong, Memory}
 use Rattle.vers_files.specs.Forms.{IsFormOf, IsNoForm, fault_text, form_fault, number_of_kind}
@@ -19,9 +18,9 @@ use Rattle.vers_files.specs.Forms.{IsFormOf, IsNoForm, fault_text, form_fault, n
 abbrev pub AreSymbolsOf : Option (List ℕ) → Symbols → Type 0
 AreSymbolsOf left symbols = IsFormOf left (SymbolList symbols)
 
--- the bytes left in a reader are the saved form of the index of this text
+-- the bytes left in a reader are a saved form of the index of this text
 abbrev pub IsIndexOf : Option (List ℕ) → Text → Type 0
-IsIndexOf left text = HasTextForm text × IfSome left (λ bytes. bytes ≡ saved_text text)
+IsIndexOf left text = HasTextForm text × IfSome left (IsTextForm text)
 
 -- the bytes left in a reader are a saved form of a text of these symbols: that of the symbols, or that of an index
 abbrev pub AreTextOf : Option (List ℕ) → Symbols → Type 0

@@ -1,7 +1,7 @@
 //! Query lines about the list of a file.
 ghost use Rattle.std.specs.Prelude.{◌≡◌, Some, ◌<◌, ◌↔◌, IsTrue, false, IfOk, IfErr, OnErr};
 ghost use Rattle.vers_io.specs.Device.{FollowsReadFault, FollowsWriteFault};
-ghost use Rattle.catalogue.specs.Contents.{Content};
+ghost use Rattle.catalogue.specs.Structures.{Content};
 ghost use Rattle.vers_cli.specs.Answers.{by_the_rules};
 ghost use Rattle.vers_files.specs.Forms.{IsFormOf, IsNoForm};
 ghost use Rattle.vers_files.specs.Asked.{AnswersFrom};

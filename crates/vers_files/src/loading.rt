@@ -3,16 +3,14 @@ ghost use Rattle.std.specs.Prelude.{◌≡◌, Bool, List, ℕ, ◌⊎◌, Err, 
 ghost use Rattle.vers_saved.specs.Format.{bytes_word};
 ghost use Rattle.vers_saved.specs.Kinds.{tree_kind};
 ghost use Rattle.vers_saved.specs.Streams.{IsRefused};
-ghost use Rattle.catalogue.specs.Contents.{Content, Parentheses, content_of};
-ghost use Rattle.catalogue.specs.Forms.{Fits, HasForm, saved_form};
-ghost use Rattle.vers_files.specs.Forms.{IsFormOf, IsNoForm, IsOfFile, fault_text, kind_numbered, number_of_kind};
+ghost use Rattle.catalogue.specs.Structures.{Content, Parentheses, content_of, Fits, HasForm, kind_of, saved_form};
+ghost use Rattle.vers_files.specs.Forms.{IsFormOf, IsNoForm, IsOfFile, fault_text, kind_in_file, kind_numbered, number_of_kind};
 
-use catalogue::structure::Structure;
+use catalogue::structure::{Kind, Structure};
 use std::alloc::Allocator;
 use std::io::{ErrorKind, Read};
 use vers_cli::Source;
 use vers_saved::fault::LoadError;
-use vers_saved::kind::{INVERTED, PARENTHESES, POSTINGS, SORTED, SPARSE, SYMBOLS, VALUES};
 use vers_saved::stream::{fill, load as load_list};
 use vers_saved::trees::load_tree;
 
@@ -76,8 +74,34 @@ fn tree_of_reader<'a, A: Allocator + Copy, R: Source>(
     loaded_as!(boxed(alloc, load_tree(alloc, reader)), Structure::Tree)
 }
 
-// Loads a list of the kind with a number from its saved form, the rest of a reader, as a structure.
-#[tactic(auto, using(crate::proofs::Numbered::kinds, catalogue::proofs::PublicLaws::third_word))]
+// Loads a list of a kind from its saved form, the rest of a reader, as a structure. Those of which files have no lists
+// count as bits.
+fn load_kind<'a, A: Allocator + Copy, R: Source>(
+    alloc: &'a A,
+    kind: Kind,
+    reader: &mut R,
+) -> Result<Structure<'a, A>, LoadError>
+    ensures loaded { IfOk result (λ held. IsFormOf (R.remaining reader.old) (content_of held)) }
+    ensures refused { IfErr result (IsRefused (kind_in_file kind) (R.remaining reader.old)) }
+    ensures back { (x : Content) → IsOfFile x → HasForm x → Fits x → kind_of x ≡ Some kind
+        → R.remaining reader.old ≡ Some (saved_form x)
+        → MatchResult result (λ held. content_of held ≡ x) (λ e. (e ≡ LoadError.Read) ⊎ (e ≡ LoadError.Memory)) }
+{
+    match kind {
+        Kind::Sorted => loaded_as!(load_list(*alloc, reader), Structure::Sorted),
+        Kind::Symbols => loaded_as!(load_list(*alloc, reader), Structure::Symbols),
+        Kind::Sparse => loaded_as!(load_list(*alloc, reader), Structure::Sparse),
+        Kind::Fast => loaded_as!(load_list(*alloc, reader), Structure::Fast),
+        Kind::Tree => tree_of_reader(alloc, reader),
+        Kind::Postings => loaded_as!(load_list(*alloc, reader), Structure::Postings),
+        Kind::Inverted => loaded_as!(load_list(*alloc, reader), Structure::Inverted),
+        Kind::Growing | Kind::Bits | Kind::Binary | Kind::Text => {
+            loaded_as!(load_list(*alloc, reader), Structure::Bits)
+        }
+    }
+}
+
+// Loads a list of the kind with a number, or of bits if there is none, as `load_kind` does.
 fn load_numbered<'a, A: Allocator + Copy, R: Source>(
     alloc: &'a A,
     number: u64,
@@ -89,16 +113,8 @@ fn load_numbered<'a, A: Allocator + Copy, R: Source>(
         → R.remaining reader.old ≡ Some (saved_form x)
         → MatchResult result (λ held. content_of held ≡ x) (λ e. (e ≡ LoadError.Read) ⊎ (e ≡ LoadError.Memory)) }
 {
-    match number {
-        SORTED => loaded_as!(load_list(*alloc, reader), Structure::Sorted),
-        SYMBOLS => loaded_as!(load_list(*alloc, reader), Structure::Symbols),
-        SPARSE => loaded_as!(load_list(*alloc, reader), Structure::Sparse),
-        VALUES => loaded_as!(load_list(*alloc, reader), Structure::Fast),
-        PARENTHESES => tree_of_reader(alloc, reader),
-        POSTINGS => loaded_as!(load_list(*alloc, reader), Structure::Postings),
-        INVERTED => loaded_as!(load_list(*alloc, reader), Structure::Inverted),
-        _ => loaded_as!(load_list(*alloc, reader), Structure::Bits),
-    }
+    let kind = Kind::of(number as usize).unwrap_or(Kind::Bits);
+    load_kind(alloc, kind, reader)
 }
 
 /// Returns all bytes that a reader has left.
@@ -148,10 +164,11 @@ pub fn fault_line(fault: &LoadError) -> &'static str
     ensures { result.now ≡ fault_text fault.now }
 {
     match fault {
-        LoadError::TooShort => "TooShort: the file is cut off",
+        LoadError::TooShort => "TooShort: the file is no saved form, or is cut off",
         LoadError::NotOurs => "NotOurs: the file does not begin as a saved list does",
         LoadError::OtherVersion => "OtherVersion: the list was saved by another version",
-        LoadError::OtherKind => "OtherKind: there is no such kind of list, or none of this width",
+        LoadError::OtherKind =>
+            "OtherKind: the file has a structure of another kind, or items of another width",
         LoadError::BadLength =>
             "BadLength: no list of this kind is as long, or the file goes on after it",
         LoadError::BadSum => "BadSum: the sum is not that of the bytes before it",

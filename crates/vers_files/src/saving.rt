@@ -3,8 +3,7 @@ ghost use Rattle.std.specs.Prelude.{◌≡◌, ◌≢◌, true, OnOk, OnErr, IfE
 ghost use Rattle.std.specs.Io.KnownBytes.{Appends, Keeps};
 ghost use Rattle.vers_words.specs.Text.{words_of};
 ghost use Rattle.vers_saved.specs.Streams.{Writes};
-ghost use Rattle.catalogue.specs.Contents.{content_of};
-ghost use Rattle.catalogue.specs.Forms.{HasForm, saved_form};
+ghost use Rattle.catalogue.specs.Structures.{content_of, HasForm, saved_form};
 ghost use Rattle.vers_cli.specs.Holding.{is_accepted};
 ghost use Rattle.vers_cli.specs.Rules.{line_loaded};
 ghost use Rattle.vers_files.specs.SavedLines.{IfAccepted, SaysWhy, IsFormless, IsOfLine, IsPut, has_no_bits, line_saved};

@@ -1,16 +1,13 @@
 //! Descriptions of the structures of files.
 ghost use Rattle.std.specs.Prelude.{◌≡◌, ◌⊎◌, length, Some, IfOk, IfErr};
-ghost use Rattle.catalogue.specs.Contents.{content_of, length_of};
-ghost use Rattle.catalogue.specs.Forms.{HasForm, HasSomeForm, kind_of, saved_form};
-ghost use Rattle.catalogue.specs.Kinds.{width_of};
+ghost use Rattle.catalogue.specs.Structures.{content_of, length_of, HasForm, HasSomeForm, kind_of, saved_form, width_of};
 ghost use Rattle.vers_saved.specs.TextForms.{IsTextRefused};
 ghost use Rattle.vers_files.specs.Forms.{IsNoForm};
 ghost use Rattle.vers_files.specs.Shown.{IsListShown, IsTextShown};
 ghost use Rattle.vers_files.specs.TextFiles.{IsNoTextForm};
 
 use crate::loading::{NAMED, load_file, number_of_kind};
-use catalogue::kind::Kind;
-use catalogue::structure::Structure;
+use catalogue::structure::{Kind, Structure};
 use std::alloc::Allocator;
 use std::io::Read;
 use vers_cli::Source;

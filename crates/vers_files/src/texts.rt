@@ -3,7 +3,7 @@ ghost use Rattle.std.specs.Prelude.{◌≡◌, ◌<◌, ◌≤◌, ◌↔◌, �
 ghost use Rattle.vers_io.specs.Device.{FollowsReadFault, FollowsWriteFault};
 ghost use Rattle.vers_wavelet.specs.Symbols.{Symbols};
 ghost use Rattle.text_index.specs.Makers.{IsSymbolWidth, symbols_of};
-ghost use Rattle.catalogue.specs.Contents.{Content, SymbolList, content_of};
+ghost use Rattle.catalogue.specs.Structures.{Content, SymbolList, content_of};
 ghost use Rattle.vers_texts.specs.Answers.{by_the_rules};
 ghost use Rattle.vers_files.specs.Asked.{AnswersFrom};
 ghost use Rattle.vers_files.specs.Forms.{IsFormOf, IsNoForm};

@@ -1,5 +1,8 @@
 //! Files, byte by byte.
+use std::alloc::{AllocError, Global};
 pub use test_alloc::{BITS, INVERTED, PACKED_SYMBOLS, POSTINGS, SYMBOLS, VALUES};
+use vers_saved::kind::TEXTS;
+use vers_saved::{FACTOR, MAGIC, START, TREE_VERSION, TURN};
 
 /// The ascending list 4, 4, 9, by its parts.
 pub const SORTED: [u8; 88] = [
@@ -70,11 +73,48 @@ pub const WIDE_SYMBOLS: [u8; 184] = [
     242, 10,
 ];
 
-/// The index of the bytes of `ba`, with a sample every 32 positions: the length, the step, the row of the whole text,
-/// the column `ab`, and the row of position 0.
-pub const INDEX: [u8; 88] = [
+/// The index of the bytes of `ba`, with a sample every 32 positions, in the first version: the length, the step, the
+/// row of the whole text, the column `ab`, and the row of position 0.
+pub const COLUMN_INDEX: [u8; 88] = [
     119, 111, 108, 116, 115, 106, 101, 109, 1, 0, 0, 0, 0, 0, 0, 0, 9, 0, 0, 0, 0, 0, 0, 0, 8, 0,
     0, 0, 0, 0, 0, 0, 5, 0, 0, 0, 0, 0, 0, 0, 2, 0, 0, 0, 0, 0, 0, 0, 32, 0, 0, 0, 0, 0, 0, 0, 2,
     0, 0, 0, 0, 0, 0, 0, 97, 98, 0, 0, 0, 0, 0, 0, 2, 0, 0, 0, 0, 0, 0, 0, 80, 59, 220, 222, 75,
     155, 166, 164,
 ];
+
+// The words of the index of the bytes of `ba` before their sum.
+const INDEX_WORDS: u64 = 268;
+
+// Returns a word of the index of the bytes of `ba`, with a sample every 32 positions.
+fn index_word(k: u64) -> u64 {
+    match k {
+        0 => MAGIC,
+        1 => TREE_VERSION,
+        2 => TEXTS,
+        3 => 8,
+        4 => 263,
+        // The length, the step, the row of the whole text, and the number of bits of the tree.
+        5 => 2,
+        6 => 32,
+        7 | 8 => 2,
+        // The number of bytes below each symbol: the column is `ab`, 97 and 98.
+        9..=106 => 0,
+        107 => 1,
+        108..=265 => 2,
+        // The bits 01 of the tree, and the row of position 0.
+        _ => 2,
+    }
+}
+
+/// Returns the saved form of that index.
+pub fn index(alloc: Global) -> Result<Vec<u8>, AllocError> {
+    let mut form = Vec::new(alloc);
+    let mut sum = START;
+    for k in 0..INDEX_WORDS {
+        let word = index_word(k);
+        form.extend_from_slice(&word.to_le_bytes())?;
+        sum = (sum ^ word).wrapping_mul(FACTOR).rotate_left(TURN);
+    }
+    form.extend_from_slice(&sum.to_le_bytes())?;
+    Ok(form)
+}

@@ -1,6 +1,6 @@
 //! Indexes of bytes that are saved to a place, of which each call fails in turn, and each request for memory is
 //! refused.
-use crate::files::INDEX;
+use crate::files::index;
 use crate::places::holding;
 use std::alloc::Global;
 use test_alloc::{Ending, Refusing, done_if, each_refused, out_of_memory_if};
@@ -12,6 +12,9 @@ type Heap = Refusing<Global>;
 // Returns true if an index whose call with this number fails, if it gets that far, leaves the place unchanged or
 // replaces it completely, leaves no temporary file, and succeeds only if the place is settled.
 fn is_whole_or_not_at_all(alloc: Global, fails_at: u64) -> bool {
+    let Ok(index) = index(alloc) else {
+        return false;
+    };
     let Ok(mut place) = holding(alloc, b"old", fails_at) else {
         return false;
     };
@@ -22,12 +25,16 @@ fn is_whole_or_not_at_all(alloc: Global, fails_at: u64) -> bool {
         2 => Err(SaveFault::Sync),
         3 => Err(SaveFault::Put),
         4 => Err(SaveFault::Settle),
-        5..=14 => Err(SaveFault::Write),
+        5..=244 => Err(SaveFault::Write),
         _ => Ok(()),
     };
     let is_put = result.is_ok() || result == Err(SaveFault::Settle);
-    let bytes: &[u8] = if is_put { &INDEX } else { b"old" };
-    let settled: &[u8] = if result.is_ok() { &INDEX } else { b"old" };
+    let bytes: &[u8] = if is_put { index.as_slice() } else { b"old" };
+    let settled: &[u8] = if result.is_ok() {
+        index.as_slice()
+    } else {
+        b"old"
+    };
     result == expected
         && place.bytes.as_slice() == bytes
         && place.settled.as_slice() == settled
@@ -36,7 +43,7 @@ fn is_whole_or_not_at_all(alloc: Global, fails_at: u64) -> bool {
 
 #[test]
 fn a_place_has_an_index_or_what_it_had(rt: HostRuntime) {
-    for fails_at in 0..17u64 {
+    for fails_at in [0, 1, 2, 3, 4, 5, 6, 243, 244, 245, 246] {
         assert!(rt; is_whole_or_not_at_all(rt.alloc(), fails_at));
     }
 }
@@ -44,6 +51,9 @@ fn a_place_has_an_index_or_what_it_had(rt: HostRuntime) {
 // Tests an index with a refused request: the place has its old bytes, with no temporary file, or the index is put
 // there and settled.
 fn tried_indexing(alloc: Global, heap: &Heap) -> Ending {
+    let Ok(index) = index(alloc) else {
+        return Ending::Wrong;
+    };
     let Ok(mut place) = holding(alloc, b"old", 0) else {
         return Ending::Wrong;
     };
@@ -52,7 +62,7 @@ fn tried_indexing(alloc: Global, heap: &Heap) -> Ending {
     let result = index_to(heap, &mut file, &mut place);
     let holds = |it: &[u8]| place.bytes.as_slice() == it && place.settled.as_slice() == it;
     match result {
-        Ok(()) => done_if(holds(&INDEX) && !place.is_begun),
+        Ok(()) => done_if(holds(index.as_slice()) && !place.is_begun),
         Err(SaveFault::OutOfMemory) => out_of_memory_if(holds(b"old") && !place.is_begun),
         Err(_) => Ending::Wrong,
     }

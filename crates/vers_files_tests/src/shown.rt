@@ -1,9 +1,9 @@
 //! The descriptions of files.
 use crate::files::{
-    BITS, INDEX, INVERTED, OTHER_KIND, PACKED_SYMBOLS, POSTINGS, SORTED, SPARSE, SYMBOLS, TREE,
-    VALUES,
+    BITS, COLUMN_INDEX, INVERTED, OTHER_KIND, PACKED_SYMBOLS, POSTINGS, SORTED, SPARSE, SYMBOLS,
+    TREE, VALUES, index,
 };
-use std::alloc::Global;
+use std::alloc::{AllocError, Global};
 use vers_files::show;
 use vers_saved::fault::LoadError;
 
@@ -26,6 +26,16 @@ fn is_shown(alloc: Global, file: &[u8], kind: &str, len: u64, width: u64) -> boo
     is_shown_as(alloc, file, kind, len, width, file)
 }
 
+// Returns true if an index has its description in both versions, with the size of the latest.
+fn is_index_shown(alloc: Global) -> Result<bool, AllocError> {
+    let form = index(alloc)?;
+    let bytes = form.as_slice();
+    Ok(
+        is_shown(alloc, bytes, "text", 2, 8)
+            && is_shown_as(alloc, &COLUMN_INDEX, "text", 2, 8, bytes),
+    )
+}
+
 #[test]
 fn files_are_shown(rt: HostRuntime) {
     let alloc = rt.alloc();
@@ -38,7 +48,7 @@ fn files_are_shown(rt: HostRuntime) {
     assert!(rt; is_shown(alloc, &TREE, "tree", 6, 512));
     assert!(rt; is_shown(alloc, &POSTINGS, "postings", 3, 128));
     assert!(rt; is_shown(alloc, &INVERTED, "inverted", 3, 64));
-    assert!(rt; is_shown(alloc, &INDEX, "text", 2, 8));
+    assert!(rt; is_index_shown(alloc) == Ok(true));
 }
 
 // Returns the error in a file that is described.
@@ -52,6 +62,6 @@ fn other_files_are_not_shown(rt: HostRuntime) {
     let alloc = rt.alloc();
     assert!(rt; fault_of(alloc, &OTHER_KIND) == Some(LoadError::OtherKind));
     assert!(rt; fault_of(alloc, &BITS[..55]) == Some(LoadError::TooShort));
-    assert!(rt; fault_of(alloc, &INDEX[..87]) == Some(LoadError::TooShort));
+    assert!(rt; fault_of(alloc, &COLUMN_INDEX[..87]) == Some(LoadError::TooShort));
     assert!(rt; fault_of(alloc, &[0; 48]) == Some(LoadError::NotOurs));
 }

@@ -1,6 +1,6 @@
 //! Lines about the text of a file, files without a text, and runs that are refused memory.
 use crate::files::{
-    BITS, INDEX, NARROW_TEXT, OTHER_KIND, POSTINGS, SORTED, SYMBOLS, TREE, WIDE_SYMBOLS,
+    BITS, COLUMN_INDEX, NARROW_TEXT, OTHER_KIND, POSTINGS, SORTED, SYMBOLS, TREE, WIDE_SYMBOLS,
 };
 use std::alloc::{Allocator, Global};
 use std::process::Abort;
@@ -61,7 +61,7 @@ fn assert_answered(rt: &impl Abort, alloc: Global, file: &[u8], rows: &str) -> R
 fn a_text_is_held_before_the_first_line(rt: HostRuntime) -> Result<(), Fail> {
     let cases: [(&[u8], &str); 3] = [
         (
-            &INDEX,
+            &COLUMN_INDEX,
             "len -> 2; count \"ba\" -> 1; places 97 -> 1; places -> 0 1 2; extract 0 2 -> 98 97",
         ),
         (
@@ -103,8 +103,20 @@ fn files_without_a_text_are_told(rt: HostRuntime) {
     assert!(rt; is_fault(alloc, &WIDE_SYMBOLS, TextFault::OtherWidth));
     assert!(rt; is_fault(alloc, &OTHER_KIND, TextFault::File(LoadError::OtherKind)));
     assert!(rt; is_fault(alloc, &SYMBOLS[..71], TextFault::File(LoadError::TooShort)));
-    assert!(rt; is_fault(alloc, &INDEX[..87], TextFault::File(LoadError::TooShort)));
-    assert!(rt; is_fault(alloc, &INDEX[..23], TextFault::File(LoadError::TooShort)));
+    assert!(rt;
+        is_fault(
+            alloc,
+            &COLUMN_INDEX[..87],
+            TextFault::File(LoadError::TooShort)
+        )
+    );
+    assert!(rt;
+        is_fault(
+            alloc,
+            &COLUMN_INDEX[..23],
+            TextFault::File(LoadError::TooShort)
+        )
+    );
     assert!(rt; is_fault(alloc, b"", TextFault::File(LoadError::TooShort)));
     assert!(rt; text_fault_line(&TextFault::NoSymbols).starts_with("NoSymbols: "));
     assert!(rt; text_fault_line(&TextFault::File(LoadError::TooShort)).starts_with("TooShort: "));

@@ -1,6 +1,6 @@
 use Rattle.vers_c.proofs.Names.{arith, slice_set, map_over_more, value_or, asked, told_row}
 use Rattle.std.proofs.Common.{◌∙◌, ap}
-use Rattle.catalogue.specs.Queries.{answer}
+use Rattle.catalogue.specs.Structures.{answer}
 use Rattle.vers_c.proofs.asked.answer_each.Goals as goal
 
 pub loop-i-preserved : goal.loop-i-preserved

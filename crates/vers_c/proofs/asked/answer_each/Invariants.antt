@@ -1,6 +1,6 @@
 use Rattle.vers_c.proofs.Names.{map, take, told_row}
 use Rattle.std.proofs.Common.{◌≡◌, ◌++◌, drop}
-use Rattle.catalogue.specs.Queries.{answer}
+use Rattle.catalogue.specs.Structures.{answer}
 use Rattle.vers_c.proofs.asked.answer_each.Given as goal
 
 abbrev pub invariant-loop-i : goal.invariant-loop-i

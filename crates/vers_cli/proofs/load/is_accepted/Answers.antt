@@ -1,5 +1,5 @@
 use Rattle.vers_cli.proofs.Names.{◌∙◌, all_numbers, words_in}
-use Rattle.catalogue.specs.Contents.{DocumentLists}
+use Rattle.catalogue.specs.Structures.{DocumentLists}
 use Rattle.vers_cli.specs.Loads.{inverted_loaded}
 use Rattle.vers_cli.proofs.Orders.{accepted_mapped}
 use Rattle.vers_cli.proofs.load.is_accepted.Goals as goal

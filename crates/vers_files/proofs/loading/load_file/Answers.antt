@@ -1,6 +1,6 @@
 use Rattle.std.proofs.Common.{◌∙◌, take, sym, arith}
 use Rattle.std.proofs.lemmas.List.{length-take}
-use Rattle.catalogue.specs.Forms.{saved_form}
+use Rattle.catalogue.specs.Structures.{saved_form}
 use Rattle.vers_files.proofs.Fronts.{named_fault, front_form}
 use Rattle.vers_files.proofs.loading.load_file.Goals as goal
 

@@ -1,5 +1,5 @@
 use Rattle.std.proofs.Common.{◌≡◌, sym, ap, ◌∙◌}
-use Rattle.catalogue.specs.Contents.{content_of}
+use Rattle.catalogue.specs.Structures.{content_of}
 use Rattle.vers_words.specs.Text.{words_of}
 use Rattle.vers_words.specs.Loading.{map_loading}
 use Rattle.vers_words.specs.declared.loading.Loading.TheVariants.{Accepted}

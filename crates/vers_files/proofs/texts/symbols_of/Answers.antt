@@ -3,7 +3,7 @@ use Rattle.std.specs.Prelude.{◌⊎◌, Option, IfErr}
 use Rattle.std.proofs.lemmas.Result.{IfOk-weaker}
 use Rattle.vers_wavelet.specs.Symbols.{Symbols}
 use Rattle.text_index.specs.Makers.{IsSymbolWidth}
-use Rattle.catalogue.specs.Contents.{Content, SymbolList}
+use Rattle.catalogue.specs.Structures.{Content, SymbolList}
 use Rattle.vers_files.specs.declared.texts.TextFault.{TextFault}
 use Rattle.vers_files.specs.declared.texts.TextFault.TheVariants.{NoSymbols, OtherWidth, Memory}
 use Rattle.vers_files.specs.Forms.{IsFormOf}
