@@ -3,6 +3,7 @@
 import collections.abc
 import copy
 import ctypes
+import errno
 import os
 import pathlib
 import pickle
@@ -11,6 +12,7 @@ import random
 import re
 import shutil
 import signal
+import stat
 import subprocess
 import sys
 import tempfile
@@ -20,6 +22,7 @@ import tracemalloc
 import typing
 import unittest
 from array import array
+from concurrent.futures import ThreadPoolExecutor
 from unittest import mock
 
 import vers
@@ -50,6 +53,22 @@ def some_lists():
         vers.WaveletMatrix([1, 0, 5], 3), vers.FastRmq([4, 2]), vers.BinaryRmq([4, 2]), vers.BpTree("(()())"), postings,
         postings.intersect(postings), vers.InvertedIndex([0, 0, 2], [3, 7, 3]), vers.TextIndex(b"abracadabra", 8),
     ]
+
+
+class Column:
+    """What a library of tables has: an object with an array, over whose items it iterates."""
+
+    def __init__(self, items):
+        self._items = numpy.array(items)
+
+    def __array__(self, dtype=None, copy=None):
+        return numpy.asarray(self._items, dtype)
+
+    def __iter__(self):
+        return iter(self._items)
+
+    def __len__(self):
+        return len(self._items)
 
 
 class Makers(unittest.TestCase):
@@ -89,6 +108,9 @@ class Makers(unittest.TestCase):
                 change()
         with self.assertRaisesRegex(ValueError, "^the bit is 2"):
             bits[0] = 2
+        for part in 0, slice(1):
+            with self.assertRaisesRegex(TypeError, "^'BitVec' object doesn't support item deletion; `drop_last` drops"):
+                del bits[part]
         self.assertEqual(bits.tolist(), [1, 0])
 
     def test_numbers_by_position(self):
@@ -109,9 +131,36 @@ class Makers(unittest.TestCase):
         twos = numpy.array([0, 2]), numpy.array([1, 2], numpy.uint8)
         self.refuses(BIT_MAKERS, ValueError, "^the bit at position 1 is 2", *twos)
         self.refuses(BIT_MAKERS + NUMBER_MAKERS, OverflowError, " at position 1 is -1", numpy.array([0, -1]))
-        self.refuses(BIT_MAKERS + NUMBER_MAKERS, TypeError, "an array of float64 has no whole", numpy.array([0, 1.0]))
+        kind = "^an array of float64 has no whole numbers$"
+        self.refuses(BIT_MAKERS + NUMBER_MAKERS, TypeError, kind, numpy.array([0, 1.0]))
         self.refuses(NUMBER_MAKERS, TypeError, " at position 1 is of type NoneType", numpy.array([0, None]))
         self.assertEqual(vers.RsVec([numpy.bool_(True), numpy.uint8(0)]).tolist(), [1, 0])
+
+    @unittest.skipIf(numpy is None, "numpy isn't there")
+    def test_empty_arrays(self):
+        for kind in (float, object, "U1", "m8[s]", bool, "i1"):
+            for make in BIT_MAKERS[:3] + NUMBER_MAKERS:
+                self.assertEqual(make(numpy.array([], kind)), make([]))
+            self.assertEqual(vers.RsVec("10").rank1(numpy.array([], kind)).dtype, numpy.int64)
+            self.assertEqual(len(vers.TextIndex(b"ab", 8).count_each(numpy.array([], kind))), 0)
+
+    @unittest.skipIf(numpy is None, "numpy isn't there")
+    def test_objects_with_arrays(self):
+        numbers, bits, nested = Column([2, 5, 9]), Column([True, False, True]), Column([b"ab", b"bra"])
+        for make in NUMBER_MAKERS:
+            self.assertEqual(make(numbers), make([2, 5, 9]))
+        for make in BIT_MAKERS[:3]:
+            self.assertEqual(make(bits), make([1, 0, 1]))
+        places, found = Column([0, 3]), vers.RsVec("1011").successor1(Column([0, 3]))
+        self.assertEqual((found.tolist(), type(found)), ([2, None], numpy.ma.MaskedArray))
+        self.assertIsInstance(vers.RsVec("1011").rank1(places), numpy.ndarray)
+        self.assertEqual(vers.WaveletMatrix([3, 1, 3], 2).rank(3, Column([1, 3])).tolist(), [1, 2])
+        text = vers.TextIndex(Column(numpy.frombuffer(b"abracadabra", "u1")), 8)
+        self.assertEqual((text.count(Column([97, 98])), text.count_each(nested).tolist()), (2, [2, 2]))
+        self.refuses(NUMBER_MAKERS, TypeError, "^an array of float64 has no whole numbers$", Column([0.5]))
+        self.refuses([vers.RsVec.from_words], TypeError, "^a word has 8 bytes", Column(numpy.zeros(8, "u1")))
+        # a list of this package is a sequence, whose answers are those of a list
+        self.assertIsInstance(vers.RsVec("1011").rank1(vers.EliasFanoVec([0, 3])), array)
 
     @unittest.skipIf(numpy is None, "numpy isn't there")
     def test_dimensions(self):
@@ -139,7 +188,7 @@ class Makers(unittest.TestCase):
     def test_words(self):
         makers = [kind.from_words for kind in (vers.BitVec, vers.RsVec, vers.BpTree)]
         self.refuses([lambda it, make=make: make([5], it) for make in makers], vers.Refused,
-                     "^the length is (65|1000), and 1 words have 64 bits$", 65, 1000)
+                     "^the length is (65|1000), above the 64 bits of 1 word$", 65, 1000)
         narrow = [bytes(8), bytearray(8), array("I", [5])]
         if numpy is not None:
             narrow.append(numpy.packbits([1, 0, 1] * 8, bitorder="little"))
@@ -156,15 +205,18 @@ class Makers(unittest.TestCase):
     def test_reasons(self):
         reasons = {
             "^the numbers descend at position 3: 1 after 2$": lambda: vers.EliasFanoVec([1, 2, 2, 1]),
-            "^the places do not ascend strictly at position 1: 3 twice$": lambda: vers.SparseRSVec([3, 3], 10),
-            "^the place at position 1 is 10, and above 9$": lambda: vers.SparseRSVec([2, 10], 10),
+            "^the ones do not ascend strictly at position 1: 3 twice$": lambda: vers.SparseRSVec([3, 3], 10),
+            "^the one at position 1 is 10, and above 9$": lambda: vers.SparseRSVec([2, 10], 10),
             "^the documents descend at position 1: 1 after 4$": lambda: vers.Postings([4, 1], [0, 0]),
-            "^2 documents have 1 costs$": lambda: vers.Postings([1, 2], [0]),
+            "^2 documents with 1 cost$": lambda: vers.Postings([1, 2], [0]),
             "^the symbol at position 1 is 4, and above 3$": lambda: vers.TextIndex([3, 4], 2),
             "^the width is 17, and it is from 1 to 16$": lambda: vers.TextIndex([3], 17),
             "^the step is 0$": lambda: vers.TextIndex([3], 2, 0),
             "^the width is 65, and it is at most 64$": lambda: vers.WaveletMatrix([3], 65),
             "^the count is 65, and it is at most 64$": lambda: vers.BitVec().append_bits(0, 65),
+            "^1 term with 2 documents$": lambda: vers.InvertedIndex([0], [1, 2]),
+            "^position 1 is past the end of 1 parenthesis$": lambda: vers.BpTree("(").excess(1),
+            "^0 to 2 is no range of 1 symbol$": lambda: vers.TextIndex([3], 2).extract(0, 2),
             "^5 to 12 is no range of 11 symbols$": lambda: vers.TextIndex(b"abracadabra", 8).extract(5, 12),
         }
         for reason, call in reasons.items():
@@ -259,14 +311,14 @@ class Arrays(unittest.TestCase):
     def test_refused_by_position(self):
         tree, other = vers.BpTree("(()())"), vers.BpTree(")(")
         refused = {
-            "^place 5 is past the end of 2 parentheses, at position 2$": lambda: other.each("excess", [0, 1, 5]),
-            "^no node opens at place 2, at position 1$": lambda: tree.each("parent", [0, 2]),
-            "^no node opens at place 9, at position 0$": lambda: tree.each("next_sibling", [9, 0]),
-            "^the parentheses are not balanced, at position 0$": lambda: other.each("depth", [1]),
-            "^the parentheses are not balanced, at position 0": lambda: other.each("level_leftmost", [0]),
-            "^no node opens at place 5, at position 2$": lambda: tree.each("is_ancestor", 0, [0, 1, 5]),
-            "^no node opens at place 2$": lambda: tree.parent(2),
-            "^place 5 is past the end of 2 parentheses$": lambda: other.excess(5),
+            "^position 5 is past the end of 2 parentheses, in the query at position 2$": lambda: other.each("excess", [0, 1, 5]),
+            "^no node opens at position 2, in the query at position 1$": lambda: tree.each("parent", [0, 2]),
+            "^no node opens at position 9, in the query at position 0$": lambda: tree.each("next_sibling", [9, 0]),
+            "^the parentheses are not balanced, in the query at position 0$": lambda: other.each("depth", [1]),
+            "^the parentheses are not balanced, in the query at position 0": lambda: other.each("level_leftmost", [0]),
+            "^no node opens at position 5, in the query at position 2$": lambda: tree.each("is_ancestor", 0, [0, 1, 5]),
+            "^no node opens at position 2$": lambda: tree.parent(2),
+            "^position 5 is past the end of 2 parentheses$": lambda: other.excess(5),
         }
         for reason, call in refused.items():
             with self.assertRaisesRegex(vers.Refused, reason):
@@ -312,7 +364,7 @@ class Arrays(unittest.TestCase):
         counts = vers.TextIndex(b"abracadabra", 8).count_each(numpy.array([list(b"ab"), list(b"ra"), list(b"ba")]))
         self.assertEqual((counts.tolist(), counts.dtype), ([2, 2, 0], numpy.int64))
         self.assertEqual((counts - 3).tolist(), [-1, -1, -3])
-        with self.assertRaisesRegex(vers.Refused, "^no node opens at place 2, at position 1$"):
+        with self.assertRaisesRegex(vers.Refused, "^no node opens at position 2, in the query at position 1$"):
             tree.parent(numpy.array([0, 2]))
         with self.assertRaisesRegex(TypeError, "^the node at position 1 is masked$"):
             tree.parent(numpy.ma.array([0, 1], mask=[False, True]))
@@ -340,7 +392,7 @@ class Arrays(unittest.TestCase):
             try:
                 wanted.append(getattr(made, name)(*arguments[:column], number, *arguments[column + 1:]))
             except vers.Refused as fault:
-                refused = refused or f"^{re.escape(str(fault))}, at position {k}$"
+                refused = refused or f"^{re.escape(str(fault))}, in the query at position {k}$"
         kinds = [list] if numpy is None else [list, lambda it: numpy.array(it, numpy.uint64)]
         for kind in kinds:
             passed = [kind(it) if k == column else it for k, it in enumerate(arguments)]
@@ -483,6 +535,17 @@ class Texts(unittest.TestCase):
             self.assertEqual((made.count(1), made.count(0), made.count(7)), (2, length - 2, 0))
         self.assertFalse(vers.SparseRSVec([], 0) or vers.BitVec() or vers.InvertedIndex([], []))
 
+    def test_one_item(self):
+        shown = {
+            vers.RsVec("1"): "RsVec of 1 bit: [1]", vers.EliasFanoVec([3]): "EliasFanoVec of 1 member: [3]",
+            vers.FastRmq([3]): "FastRmq of 1 value: [3]", vers.Postings([3]): "Postings of 1 document: [3]",
+            vers.TextIndex([3], 2): "TextIndex of 1 symbol: [3]", vers.BpTree("("): "BpTree of 1 parenthesis: (",
+            vers.InvertedIndex([0], [3]): "InvertedIndex of 1 pair: [(0, 3)]",
+            vers.Postings([3]).intersect(vers.Postings([3])): "PlainNumbers of 1 number: [3]",
+        }
+        for made, text in shown.items():
+            self.assertEqual(repr(made), f"<vers.{text}>")
+
     def test_lists_that_are_not_made(self):
         for kind in LISTS:
             self.assertEqual(repr(object.__new__(kind)), f"<vers.{kind.__name__}>")
@@ -617,6 +680,51 @@ class Habits(unittest.TestCase):
             with self.assertRaises(FileNotFoundError):
                 vers.RsVec.load(path.with_name("absent"))
             self.assertEqual((vers.TextIndex.load(path), os.listdir(folder)), (made, ["list.vers"]))
+
+    def test_paths_of_files(self):
+        bits = vers.RsVec("1011")
+        with tempfile.TemporaryDirectory() as folder:
+            path, link = os.path.join(folder, "list.vers"), os.path.join(folder, "link")
+            bits.save(os.fsencode(path))
+            self.assertEqual((vers.RsVec.load(os.fsencode(path)), os.listdir(folder)), (bits, ["list.vers"]))
+            self.assertEqual(len(parts.Bits(parts.Renewed(ThreadPoolExecutor), [os.fsencode(path)])), 4)
+            os.chmod(path, 0o640)
+            os.symlink(path, link)
+            vers.RsVec("01").save(link)
+            self.assertEqual((vers.RsVec.load(path).tolist(), os.path.islink(link)), ([0, 1], True))
+            self.assertEqual(stat.S_IMODE(os.stat(path).st_mode), 0o640)
+            with open(os.path.join(folder, "plain"), "wb"):
+                bits.save(os.path.join(folder, "other"))
+            self.assertEqual(*(os.stat(os.path.join(folder, it)).st_mode for it in ("plain", "other")))
+
+    def test_files_that_cannot_be_written(self):
+        bits = vers.RsVec("1011")
+        with tempfile.TemporaryDirectory() as folder:
+            path, room = os.path.join(folder, "list.vers"), os.path.join(folder, "room")
+            os.mkdir(room)
+            bits.save(path)
+            absent = os.path.join(folder, "absent", "list.vers")
+            for wrong, kind in (room, IsADirectoryError), (absent, FileNotFoundError), (path + "/x", NotADirectoryError):
+                with self.assertRaises(kind) as raised:
+                    bits.save(wrong)
+                self.assertEqual((raised.exception.filename, raised.exception.filename2), (wrong, None))
+            with mock.patch.object(os, "fsync", side_effect=OSError(errno.ENOSPC, "full")):
+                with self.assertRaisesRegex(OSError, f"full: {path!r}$"):
+                    vers.RsVec("0").save(path)
+            self.assertEqual((vers.RsVec.load(path), sorted(os.listdir(folder))), (bits, ["list.vers", "room"]))
+
+    def test_concurrent_saves(self):
+        lists = [vers.EliasFanoVec(range(start, start + 5000)) for start in range(8)]
+        with tempfile.TemporaryDirectory() as folder:
+            path = os.path.join(folder, "list.vers")
+            with ThreadPoolExecutor(8) as pool:
+                list(pool.map(lambda it: it.save(path), lists * 4))
+            self.assertEqual((vers.EliasFanoVec.load(path) in lists, os.listdir(folder)), (True, ["list.vers"]))
+
+    def test_no_memory(self):
+        for length in 1 << 60, vers.NONE:
+            with self.assertRaisesRegex(vers.NoMemory, f"^there is no memory for {length} bits$"):
+                vers.BitVec.from_zeros(length)
 
     def test_interrupt(self):
         libc, mutex = ctypes.CDLL(None), ctypes.create_string_buffer(64)

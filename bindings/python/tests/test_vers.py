@@ -252,6 +252,10 @@ class Lists(unittest.TestCase):
                         found = getattr(index, name)(term, other, *more)
                         self.assertIsInstance(found, vers.PlainNumbers)
                         self.assertEqual(list(found), sorted(getattr(one, name)(two, *sets)))
+        for name in "intersection", "union", "difference":
+            self.assertEqual(list(getattr(index, name)(3)), lists[3])
+            with self.assertRaises(TypeError):
+                getattr(index, name)()
         self.assertEqual(index.count([0, 1, 2, 9]).tolist(), [40, 0, 90, 0])
         with self.assertRaisesRegex(OverflowError, "^the term is -1"):
             index.intersection(0, 2, -1)
@@ -269,7 +273,7 @@ class Lists(unittest.TestCase):
         empty = vers.InvertedIndex([], [])
         self.assertEqual((len(empty), empty.terms(), empty.tolist(), list(empty.union(0, 1))), (0, 0, [], []))
         for text, arguments in (
-            ("2 terms have 1 documents", ([0, 1], [2])), ("product of the limits", ([], [], 1 << 40, 1 << 40)),
+            ("^2 terms with 1 document$", ([0, 1], [2])), ("product of the limits", ([], [], 1 << 40, 1 << 40)),
             ("term at position 1 is 4", ([0, 4], [2, 2], 4)), ("document at position 0 is 9", ([0], [9], 1, 9)),
             (r"^the pair at position 1 is \(0, 1\), after \(1, 0\): sort by term, then", ([1, 0], [0, 1])),
             (r"^the pair at position 2 is \(1, 2\), after \(1, 2\): .* without repeats$", ([0, 1, 1], [4, 2, 2])),

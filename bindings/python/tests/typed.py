@@ -30,9 +30,11 @@ postings = vers.Postings([1, 3])
 both: vers.Postings = postings & postings | postings - postings
 
 again: vers.RsVec = vers.RsVec.load("part")
+again.save(b"part")
 loaded: vers.BpTree = parts.load("part", vers.BpTree)
 index = vers.InvertedIndex([0, 1, 2], [3, 3, 5])
 three: vers.PlainNumbers = index.union(0, 1, 2)
+one: vers.PlainNumbers = index.intersection(0)
 
 wrong: str = bits.rank1(3)  # type: ignore[assignment]
 bits.rank1("3")  # type: ignore[arg-type]

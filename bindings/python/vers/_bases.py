@@ -5,14 +5,14 @@ from __future__ import annotations
 import ctypes
 import difflib
 import operator
-import os
 import sys
 from array import array
 from typing import Any, Callable, Dict, Generic, Iterator, Optional, Sequence, Tuple, Type, TypeVar, Union
 
-from . import _buffers, _codes as codes, _library as library, _queries
+from . import _buffers, _codes as codes, _files, _library as library, _queries
 from ._buffers import Numbers, number
 from ._faults import OtherKind, Refused, Unknown, VersError, fault
+from ._files import Path
 from ._queries import Query, query
 
 #: The greatest number of 64 bits, 2**64 - 1.
@@ -29,7 +29,6 @@ _FORMS = {
 Q = TypeVar("Q", bound=str)
 # the class of a list
 L = TypeVar("L", bound="List[Any]")
-Path = Union[str, "os.PathLike[str]"]
 
 
 class List(Generic[Q]):
@@ -132,7 +131,7 @@ class List(Generic[Q]):
         return self._number(codes.LEN)
 
     def to_bytes(self) -> bytes:
-        """Returns the saved form, of which `from_bytes` makes the list again. Raises TypeError if there is none."""
+        """Returns the saved form, from which `from_bytes` rebuilds the list. Raises TypeError if there is none."""
         while True:
             size = library.saved_size(self._at)
             if size.status:
@@ -146,7 +145,7 @@ class List(Generic[Q]):
 
     @classmethod
     def from_bytes(cls, saved: Any) -> Any:
-        """Makes the list again of the bytes that `to_bytes` returned. Of other bytes, raises the kind of Refused that
+        """Rebuilds the list from the bytes that `to_bytes` returned. Of other bytes, raises the kind of Refused that
         says why: TooShort, NotOurs, OtherVersion, OtherKind, BadLength, BadSum, BadPadding, NotAscending or
         NotAText."""
         if cls._kind is None:
@@ -160,11 +159,10 @@ class List(Generic[Q]):
             raise OtherKind(f"the bytes are the saved form of {found}, and not of {cls.__name__}") from None
 
     def save(self, path: Path) -> None:
-        """Writes the saved form to a file, which appears when all of it is written. Raises TypeError if there is none."""
-        saved, unfinished = self.to_bytes(), f"{os.fspath(path)}.unfinished"
-        with open(unfinished, "wb") as file:
-            file.write(saved)
-        os.replace(unfinished, path)
+        """Writes the saved form to a file, which appears when all of it is on the disk. A file that is replaced keeps
+        its permissions, and a link its target. Raises TypeError if there is no saved form, and OSError with the
+        path."""
+        _files.write(path, self.to_bytes())
 
     @classmethod
     def load(cls: Type[L], path: Path) -> L:
@@ -174,7 +172,7 @@ class List(Generic[Q]):
         try:
             made: L = cls.from_bytes(saved)
         except VersError as fault:
-            raise type(fault)(f"{os.fspath(path)}: {fault}") from None
+            raise type(fault)(f"{_files.shown(path)}: {fault}") from None
         return made
 
     def __reduce__(self) -> Any:
@@ -189,11 +187,11 @@ class List(Generic[Q]):
             raise Unknown(f"the library doesn't count the bytes of {type(self).__name__}") from None
 
     def tolist(self) -> Any:
-        """Returns the items as a list of Python's."""
+        """Returns the items as a Python list."""
         return [it for part in self._parts(0, len(self)) for it in part]
 
     def _part(self, start: int, end: int) -> Any:
-        """The items from one place up to another, in an array."""
+        """The items from one position up to another, in an array."""
         places = array("Q", range(start, end))
         return self._answers(codes.GET, _buffers.Columns([places], len(places), None), 0, False)
 
@@ -202,7 +200,7 @@ class List(Generic[Q]):
             yield self._part(first, min(first + 4096, end))
 
     def _place(self, place: Any) -> int:
-        """A place, which is from the end if it is negative."""
+        """A position, which is from the end if it is negative."""
         try:
             at = operator.index(place)
         except TypeError:
@@ -235,7 +233,7 @@ class List(Generic[Q]):
         except (AttributeError, VersError):
             # it isn't made yet, or there is no memory
             return f"<vers.{name}>"
-        return f"<vers.{name} of {count} {self._items}: {shown}>"
+        return f"<vers.{name} of {_buffers.counted(count, self._items)}: {shown}>"
 
     def _shown(self, items: Any, more: str) -> str:
         return f"[{', '.join(map(str, items))}{more}]"
@@ -284,7 +282,7 @@ class List(Generic[Q]):
         return asked._replace(is_signed=fits and self._is_signed())
 
     def _is_signed(self) -> bool:
-        """Whether the items are members, documents or places that are all below 2**63."""
+        """Whether the items are members, documents or positions that are all below 2**63."""
         return False
 
     def _absent(self, asked: Query, columns: _buffers.Columns, positions: Any) -> Any:
@@ -293,7 +291,7 @@ class List(Generic[Q]):
         refused = self._first_refused(asked, queries)
         if refused is not None:
             a, b = [*(it if isinstance(it, int) else int(it[refused]) for it in queries.columns), 0][:2]
-            raise Refused(f"{self._reason(asked.code, a, b)}, at position {positions[refused]}")
+            raise Refused(f"{self._reason(asked.code, a, b)}, in the query at position {positions[refused]}")
         if asked.is_signed:
             return positions
         again = self._answers(asked.code, queries, 0, True)
@@ -356,11 +354,11 @@ class Items(List[Q], Sequence[int]):
 
     @query(codes.GET, None)
     def get(self, place: int) -> Optional[int]:
-        """Returns the item at a place. None past the end."""
+        """Returns the item at a position. None past the end."""
         return self._find(codes.GET, place)
 
     def __getitem__(self, place: Any) -> Any:
-        """Returns the item at a place, which is from the end if it is negative. For a slice, returns an array of
+        """Returns the item at a position, which is from the end if it is negative. For a slice, returns an array of
         items."""
         if isinstance(place, slice):
             places = array("Q", range(*place.indices(self._length())))
@@ -387,7 +385,7 @@ class Items(List[Q], Sequence[int]):
         return made
 
     def _numpy_part(self, numpy: Any, start: int, end: int) -> Any:
-        """The items from one place up to another, in a numpy array of 64 bits an item."""
+        """The items from one position up to another, in a numpy array of 64 bits an item."""
         places = numpy.arange(start, end, dtype=numpy.uint64)
         return self._answers(codes.GET, _buffers.Columns([places], places.size, places.shape), 0, False)
 
@@ -396,7 +394,8 @@ class Items(List[Q], Sequence[int]):
             yield from part
 
     def index(self, value: Any, start: int = 0, stop: Optional[int] = None) -> int:
-        """Returns the first place of an item, from `start` on and below `stop`. Raises ValueError if there is none."""
+        """Returns the first position of an item, from `start` on and below `stop`. Raises ValueError if there is
+        none."""
         place = self._first_place(value, *slice(start, stop).indices(self._length())[:2])
         if place is None:
             raise ValueError(f"{value!r} is not in the list")
@@ -410,7 +409,7 @@ class Items(List[Q], Sequence[int]):
         return self._first_place(value, 0, self._length()) is not None
 
     def _first_place(self, value: Any, start: int, end: int) -> Optional[int]:
-        """The first place of an item in a range. None if there is none."""
+        """The first position of an item in a range. None if there is none."""
         for k, part in enumerate(self._parts(start, end)):
             if value in part:
                 return start + 4096 * k + int(part.index(value))
@@ -422,11 +421,11 @@ class Fixed(Shared[Q], Items[Q]):
 
 
 class Ascending(Fixed[Q]):
-    """Members, documents or places. The last one is below 2**63 only if all are."""
+    """Members, documents or positions. The last one is below 2**63 only if all are."""
 
     def __getitem__(self, place: Any) -> Any:
-        """Returns the item at a place, which is from the end if it is negative. For a slice, returns an array of items,
-        which is signed if all are below 2**63."""
+        """Returns the item at a position, which is from the end if it is negative. For a slice, returns an array of
+        items, which is signed if all are below 2**63."""
         found = super().__getitem__(place)
         is_signed = isinstance(place, slice) and self._is_signed()
         return _buffers.array_of("q", memoryview(found).cast("B")) if is_signed else found
@@ -448,7 +447,7 @@ class Bits(Items[Q]):
             yield self._words(start, min(start + 64 * 4096, length))
 
     def _words(self, start: int, end: int) -> Any:
-        """The bits from one place up to another as words. The last word may have zeros after them."""
+        """The bits from one position up to another as words. The last word may have zeros after them."""
         places = array("Q", range(start, end - 63, 64))
         words = self._answers(codes.GET_BITS, _buffers.Columns([places, 64], len(places), None), 0, False)
         rest = (end - start) % 64

@@ -82,6 +82,12 @@ def equal_number(item: Any) -> Optional[int]:
         return None
 
 
+def counted(count: int, items: str) -> str:
+    """A count of items, whose name is singular if there is one."""
+    one = {"parentheses": "parenthesis"}.get(items, items[:-1])
+    return f"{count} {one if count == 1 else items}"
+
+
 def is_many(value: Any) -> bool:
     """Whether an argument is many numbers, and not one."""
     try:
@@ -97,9 +103,20 @@ def _numpy_of(numbers: Any) -> Any:
     return numpy if numpy is not None and isinstance(numbers, numpy.ndarray) else None
 
 
+def plain(numbers: Any) -> Any:
+    """The numpy array of an object with `__array__` that is no sequence, such as a Series of pandas; other numbers as
+    they are, also the lists of this package."""
+    numpy = sys.modules.get("numpy")
+    if numpy is None or not hasattr(numbers, "__array__") or isinstance(numbers, (numpy.ndarray, Sequence)):
+        return numbers
+    return numpy.asarray(numbers)
+
+
 def copied(numbers: Any, what: str = "number", sizes: Container[int] = (8,)) -> Any:
-    """The numbers in an array of their own: a numpy array of the same shape for one, otherwise an array. Its items
-    have as many bytes as those of the caller's buffer if `sizes` has that number, and otherwise 8."""
+    """The numbers in an array of their own: a numpy array of the same shape for one, or for an object that has one,
+    otherwise an array. Its items have as many bytes as those of the caller's buffer if `sizes` has that number, and
+    otherwise 8."""
+    numbers = plain(numbers)
     numpy = _numpy_of(numbers)
     if numpy is not None:
         checked = _checked(numpy, numbers, what)
@@ -153,7 +170,8 @@ def _chunks(items: Any) -> Iterator[Any]:
 
 
 def _checked(numpy: Any, numbers: Any, what: str) -> Any:
-    """A numpy array of whole numbers without a mask. Raises the fault of the first number that is none."""
+    """A numpy array of whole numbers without a mask. Raises the fault of the first number that is none. Without items,
+    an array of any type is one of whole numbers."""
     mask = numpy.ma.getmask(numbers)
     if mask is not numpy.ma.nomask and mask.any():
         raise TypeError(f"the {what} at position {first(mask)} is masked")
@@ -161,7 +179,9 @@ def _checked(numpy: Any, numbers: Any, what: str) -> Any:
     if numbers.dtype.kind == "O":
         return numpy.array(_gathered(numbers.ravel().tolist(), what), dtype=numpy.uint64).reshape(numbers.shape)
     if numbers.dtype.kind not in "iub":
-        raise TypeError(f"an array of {numbers.dtype} has no whole numbers: see the {what} at position 0")
+        if numbers.size:
+            raise TypeError(f"an array of {numbers.dtype} has no whole numbers")
+        return numpy.zeros(numbers.shape, numpy.uint64)
     if numbers.dtype.kind == "i" and numbers.size and numbers.min() < 0:
         position = first(numbers < 0)
         number(numbers.flat[position], f"the {what} at position {position}")
@@ -218,12 +238,13 @@ def _refuse_dimensions(numbers: Any, what: str, hint: str = "") -> None:
 def joined(patterns: Any) -> Tuple[Held, Held]:
     """The symbols of some patterns, one pattern after another, and the end of each with a sign: as numpy arrays for the
     rows of one."""
+    patterns = plain(patterns)
     numpy = _numpy_of(patterns)
     if numpy is not None and patterns.ndim == 2:
         rows, length = patterns.shape
         ends = numpy.arange(1, rows + 1, dtype=numpy.int64) * length
         return _held(copied(patterns, "symbol")), _held(ends)
-    if numpy is not None and patterns.dtype.kind not in "OSU":
+    if numpy is not None and patterns.size and patterns.dtype.kind not in "OSU":
         raise ValueError(f"the patterns have the shape {patterns.shape}, and rows of symbols have two dimensions")
     numbers, ends = array("Q"), array("q")
     for it in patterns:
@@ -265,6 +286,7 @@ def _flags_of_array(numpy: Any, bits: Any) -> Iterator[bytes]:
 
 def _flags(bits: Any) -> Iterator[bytes]:
     """The bits of an iterable, as bytes that are 0 or 1."""
+    bits = plain(bits)
     numpy = _numpy_of(bits)
     if numpy is not None:
         yield from _flags_of_array(numpy, bits)

@@ -10,7 +10,7 @@ from typing import Any, Iterable, Iterator, Literal, Optional, Tuple
 from . import _buffers, _codes as codes, _library as library
 from ._bases import NONE, Ascending, Bits, Fixed, Shared
 from ._buffers import Held, Numbers, number, signed_number
-from ._faults import OtherKind, Refused
+from ._faults import NoMemory, OtherKind, Refused
 from ._queries import COMBINED, Query, finished, query
 
 # the queries of each class by name, as `each` takes them
@@ -43,14 +43,16 @@ _NEIGHBOURS = {
 
 def _words(words: Numbers, length: Optional[int]) -> Tuple[Held, int]:
     """Words of 64 bits, and a length that these have."""
-    size = _buffers.item_size(words)
-    if size not in (None, 8):
+    plain = _buffers.plain(words)
+    size = _buffers.item_size(plain)
+    if size not in (None, 8) and len(plain):
         raise TypeError(f"a word has 8 bytes, and the items of this buffer have {size}: pass a `.view('u8')` of it, "
                         "and pack bits by numpy.packbits with bitorder='little'")
-    held = _buffers.held(words, "word")
+    held = _buffers.held(plain, "word")
     count = 64 * held.size if length is None else number(length, "the length")
     if count > 64 * held.size:
-        raise Refused(f"the length is {count}, and {held.size} words have {64 * held.size} bits")
+        bits, size_shown = 64 * held.size, _buffers.counted(held.size, "words")
+        raise Refused(f"the length is {count}, above the {bits} bits of {size_shown}")
     return held, count
 
 
@@ -77,13 +79,16 @@ class BitVec(Bits[_BitVecQuery]):
 
     @classmethod
     def from_zeros(cls, length: int) -> BitVec:
-        """Makes a list of zeros."""
+        """Makes a list of zeros. Raises NoMemory if there are too many."""
         count = number(length, "the length")
-        return cls.from_words(array("Q", [0]) * (count // 64 + 1), count)
+        try:
+            return cls.from_words(array("Q", [0]) * (count // 64 + 1), count)
+        except MemoryError:
+            raise NoMemory(f"there is no memory for {_buffers.counted(count, 'bits')}") from None
 
     @query(codes.GET_BITS)
     def get_bits(self, place: int, count: int) -> Optional[int]:
-        """Returns `count` bits from a place on as a number, the first bit as its lowest. None if there are fewer, or
+        """Returns `count` bits from a position on as a number, the first bit as its lowest. None if there are fewer, or
         `count` is 0 or above 64."""
         return self._find_by(codes.GET_BITS, place, count)
 
@@ -115,8 +120,11 @@ class BitVec(Bits[_BitVecQuery]):
             raise IndexError(f"no item at {place}")
         self._change(codes.SET, at, _buffers.bit(bit))
 
+    def __delitem__(self, place: Any) -> None:
+        raise TypeError("'BitVec' object doesn't support item deletion; `drop_last` drops the last bits")
+
     def flip(self, place: int) -> None:
-        """Changes the bit at a place, from the end if it is negative. Raises IndexError if there is none."""
+        """Changes the bit at a position, from the end if it is negative. Raises IndexError if there is none."""
         self[place] = not self[place]
 
     def count_ones(self) -> int:
@@ -155,8 +163,8 @@ class RsVec(Fixed[_RsVecQuery], Bits[_RsVecQuery]):
 
     @query(codes.GET_BITS)
     def get_bits(self, place: int, count: int) -> Optional[int]:
-        """Returns `count` bits from a place on as a number, the first bit as its lowest; 0 for no bits. None if there
-        are fewer, or `count` is above 64."""
+        """Returns `count` bits from a position on as a number, the first bit as its lowest; 0 for no bits. None if
+        there are fewer, or `count` is above 64."""
         return self._find_by(codes.GET_BITS, place, count)
 
     @query(codes.RANK1, True)
@@ -171,22 +179,22 @@ class RsVec(Fixed[_RsVecQuery], Bits[_RsVecQuery]):
 
     @query(codes.SELECT1, True)
     def select1(self, number: int) -> int:
-        """Returns the place of a one by its number from 0 on; the length if there are no more, while
+        """Returns the position of a one by its number from 0 on; the length if there are no more, while
         `WaveletMatrix.select` answers None."""
         return self._number(codes.SELECT1, number)
 
     @query(codes.SELECT0, True)
     def select0(self, number: int) -> int:
-        """Returns the place of a zero by its number from 0 on; the length if there are no more, while
+        """Returns the position of a zero by its number from 0 on; the length if there are no more, while
         `WaveletMatrix.select` answers None."""
         return self._number(codes.SELECT0, number)
 
     def iter1(self) -> Iterator[int]:
-        """Returns the places of the ones, in order."""
+        """Returns the positions of the ones, in order."""
         return self._each_below(codes.SELECT1, self.ones())
 
     def iter0(self) -> Iterator[int]:
-        """Returns the places of the zeros, in order."""
+        """Returns the positions of the zeros, in order."""
         return self._each_below(codes.SELECT0, self.zeros())
 
     def ones(self) -> int:
@@ -212,29 +220,29 @@ class RsVec(Fixed[_RsVecQuery], Bits[_RsVecQuery]):
 
     @query(COMBINED, True)
     def successor1(self, place: int) -> Optional[int]:
-        """Returns the least place of a one strictly above a place, while `EliasFanoVec.successor` is at or above. None
-        if there is none."""
+        """Returns the least position of a one strictly above a position, while `EliasFanoVec.successor` is at or above.
+        None if there is none."""
         return self._neighbour("successor1", place)
 
     @query(COMBINED, True)
     def successor0(self, place: int) -> Optional[int]:
-        """Returns the least place of a zero strictly above a place. None if there is none."""
+        """Returns the least position of a zero strictly above a position. None if there is none."""
         return self._neighbour("successor0", place)
 
     @query(COMBINED, True)
     def predecessor1(self, place: int) -> Optional[int]:
-        """Returns the greatest place of a one strictly below a place, which may be past the end, while
+        """Returns the greatest position of a one strictly below a position, which may be past the end, while
         `EliasFanoVec.predecessor` is at or below. None if there is none."""
         return self._neighbour("predecessor1", place)
 
     @query(COMBINED, True)
     def predecessor0(self, place: int) -> Optional[int]:
-        """Returns the greatest place of a zero strictly below a place, which may be past the end. None if there is
-        none."""
+        """Returns the greatest position of a zero strictly below a position, which may be past the end. None if there
+        is none."""
         return self._neighbour("predecessor0", place)
 
     def _neighbour(self, name: str, place: Any) -> Optional[int]:
-        """The answer to a query of a neighbour: the next place of a bit above a place, or below it if the step is
+        """The answer to a query of a neighbour: the next position of a bit above a position, or below it if the step is
         negative."""
         if _buffers.is_many(place):
             places: Optional[int] = self._asked_many(name, (place,), None)
@@ -260,18 +268,18 @@ class RsVec(Fixed[_RsVecQuery], Bits[_RsVecQuery]):
 
 
 class SparseRSVec(Fixed[_SparseQuery]):
-    """A list of bits with few ones, by their places: `SparseRSVec([3, 17], 100)`. Refused if the places don't ascend
-    strictly, or one isn't below the length."""
+    """A list of bits with few ones, by their positions: `SparseRSVec([3, 17], 100)`. Refused if the positions don't
+    ascend strictly, or one isn't below the length."""
 
     _items = "bits"
     _kind = codes.KIND_SPARSE
 
     def __new__(cls, ones: Numbers, length: int) -> Any:
-        """Makes a list of `length` bits, by the places of its ones."""
-        held, bound = _buffers.held(ones, "place"), number(length, "the length")
+        """Makes a list of `length` bits, by the positions of its ones."""
+        held, bound = _buffers.held(ones, "one"), number(length, "the length")
 
         def why() -> str:
-            return _buffers.descent("place", held, True) or _buffers.above("place", held, bound - 1) or "refused"
+            return _buffers.descent("one", held, True) or _buffers.above("one", held, bound - 1) or "refused"
         return cls._made(library.sparse_build, held, bound, why=why)
 
     @query(codes.RANK1, True)
@@ -286,12 +294,12 @@ class SparseRSVec(Fixed[_SparseQuery]):
 
     @query(codes.SELECT1)
     def select1(self, number: int) -> int:
-        """Returns the place of a one by its number from 0 on; the length if there are no more, while
+        """Returns the position of a one by its number from 0 on; the length if there are no more, while
         `WaveletMatrix.select` answers None."""
         return self._number(codes.SELECT1, number)
 
     def iter1(self) -> Iterator[int]:
-        """Returns the places of the ones, in order."""
+        """Returns the positions of the ones, in order."""
         return self._each_below(codes.SELECT1, self.rank1(NONE))
 
     def _contents(self) -> Iterator[Any]:
@@ -366,7 +374,7 @@ class EliasFanoVec(Ascending[_SortedQuery]):
 
     @query(codes.DELTA, None)
     def delta(self, place: int) -> Optional[int]:
-        """Returns the member at a place less the one before it; the first member itself. None past the end."""
+        """Returns the member at a position less the one before it; the first member itself. None past the end."""
         return self._find(codes.DELTA, place)
 
 
@@ -392,8 +400,8 @@ class WaveletMatrix(Fixed[_SymbolsQuery]):
         return len(self), self.bits_per_element()
 
     def __getitem__(self, place: Any) -> Any:
-        """Returns the symbol at a place, which is from the end if it is negative. For a slice, returns an array of the
-        narrowest kind that its symbols fit in: of bytes if they have at most 8 bits."""
+        """Returns the symbol at a position, which is from the end if it is negative. For a slice, returns an array of
+        the narrowest kind that its symbols fit in: of bytes if they have at most 8 bits."""
         found = super().__getitem__(place)
         return _buffers.narrowed(found, self.bits_per_element()) if isinstance(place, slice) else found
 
@@ -418,24 +426,24 @@ class WaveletMatrix(Fixed[_SymbolsQuery]):
 
     @query(codes.RANK_OF, True)
     def rank(self, end: int, symbol: int) -> Optional[int]:
-        """Returns how often a symbol occurs before the place `end`. None past the end."""
+        """Returns how often a symbol occurs before the position `end`. None past the end."""
         return self._find_by(codes.RANK_OF, end, symbol)
 
     @query(codes.RANK_RANGE, True)
     def rank_range(self, start: int, end: int, symbol: int) -> Optional[int]:
-        """Returns how often a symbol occurs in a range. None if the range starts past the last place, or ends before it
-        starts."""
+        """Returns how often a symbol occurs in a range. None if the range starts past the last position, or ends before
+        it starts."""
         return self._find_by(codes.RANK_RANGE, start, end, symbol)
 
     @query(codes.SELECT_OF, True)
     def select(self, number: int, symbol: int) -> Optional[int]:
-        """Returns the place of occurrence `number` of a symbol. None if there are fewer, while `RsVec.select1` answers
-        the length."""
+        """Returns the position of occurrence `number` of a symbol. None if there are fewer, while `RsVec.select1`
+        answers the length."""
         return self._find_by(codes.SELECT_OF, number, symbol)
 
     @query(codes.SELECT_FROM, True)
     def select_offset(self, offset: int, number: int, symbol: int) -> Optional[int]:
-        """Returns the place of occurrence `number` of a symbol among the places from `offset` on."""
+        """Returns the position of occurrence `number` of a symbol among the positions from `offset` on."""
         return self._find_by(codes.SELECT_FROM, offset, number, symbol)
 
     @query(codes.QUANTILE)
@@ -446,7 +454,7 @@ class WaveletMatrix(Fixed[_SymbolsQuery]):
     @query(codes.LEAST)
     def range_min(self, start: int, end: int) -> Optional[int]:
         """Returns the least symbol of a range without its end, while `FastRmq.range_min` includes the end and answers a
-        place. None if the range is empty."""
+        position. None if the range is empty."""
         return self._find_by(codes.LEAST, start, end)
 
     @query(codes.GREATEST)
@@ -483,7 +491,7 @@ class FastRmq(Fixed[_MinimaQuery]):
 
     @query(codes.RANGE_MIN, True)
     def range_min(self, first: int, last: int) -> Optional[int]:
-        """Returns the first place of a least value from one place to another, both included, while
+        """Returns the first position of a least value from one position to another, both included, while
         `WaveletMatrix.range_min` excludes the end and answers a symbol. None if that is no range of the list."""
         return self._find_by(codes.RANGE_MIN, first, last)
 
@@ -505,7 +513,7 @@ class PlainNumbers(Ascending[_NumbersQuery]):
 
 
 def _plain_again(numbers: Any) -> PlainNumbers:
-    """Returns numbers as a call returned them: documents and places, which ascend strictly, or symbols of a text."""
+    """Returns numbers as a call returned them: documents and positions, which ascend strictly, or symbols of a text."""
     try:
         same = Postings(numbers)
     except Refused:
@@ -515,9 +523,9 @@ def _plain_again(numbers: Any) -> PlainNumbers:
 
 
 class BpTree(Shared[_TreeQuery]):
-    """Trees as parentheses: `BpTree("(()())")`, or as bits, 1 for a parenthesis that opens. A node is the place at
+    """Trees as parentheses: `BpTree("(()())")`, or as bits, 1 for a parenthesis that opens. A node is the position at
     which it opens. Queries of nodes raise Refused if the parentheses aren't balanced, or no node opens at such a
-    place."""
+    position."""
 
     _items = "parentheses"
     _kind = codes.KIND_TREE
@@ -531,10 +539,10 @@ class BpTree(Shared[_TreeQuery]):
 
     def _reason(self, code: int, a: int, b: int) -> str:
         if code == codes.EXCESS:
-            return f"place {a} is past the end of {len(self)} parentheses"
+            return f"position {a} is past the end of {_buffers.counted(len(self), 'parentheses')}"
         if not self.is_balanced():
             return "the parentheses are not balanced"
-        return f"no node opens at place {a if not self.has_node(a) else b}"
+        return f"no node opens at position {a if not self.has_node(a) else b}"
 
     def _first_refused(self, asked: Query, queries: _buffers.Columns) -> Optional[int]:
         if not asked.is_optional:
@@ -559,12 +567,12 @@ class BpTree(Shared[_TreeQuery]):
 
     @query(codes.GET)
     def is_open(self, place: int) -> Optional[bool]:
-        """Returns whether the parenthesis at a place opens. None past the end."""
+        """Returns whether the parenthesis at a position opens. None past the end."""
         found: Any = self._find(codes.GET, place)
         return found == 1 if type(found) is int else found
 
     def root(self) -> Optional[int]:
-        """Returns the first root, which is place 0. None if there are no parentheses."""
+        """Returns the first root, which is position 0. None if there are no parentheses."""
         return 0 if len(self) else None
 
     def size(self) -> int:
@@ -577,39 +585,39 @@ class BpTree(Shared[_TreeQuery]):
 
     @query(codes.EXCESS, True, 1 << 63)
     def excess(self, place: int) -> int:
-        """Returns the number of ones less that of zeros, up to a place and at it. Raises Refused past the end."""
+        """Returns the number of ones less that of zeros, up to a position and at it. Raises Refused past the end."""
         value = self._number(codes.EXCESS, place)
         return value - (1 << 64) if type(value) is int and value >> 63 else value
 
     @query(codes.CLOSE, True)
     def close(self, place: int) -> Optional[int]:
-        """Returns the place that closes the parenthesis that opens at a place. None if there is none."""
+        """Returns the position that closes the parenthesis that opens at a position. None if there is none."""
         return self._find(codes.CLOSE, place)
 
     @query(codes.OPEN, True)
     def open(self, place: int) -> Optional[int]:
-        """Returns the place that opens the parenthesis that closes at a place. None if there is none."""
+        """Returns the position that opens the parenthesis that closes at a position. None if there is none."""
         return self._find(codes.OPEN, place)
 
     @query(codes.ENCLOSE, True)
     def enclose(self, place: int) -> Optional[int]:
-        """Returns the place at which the nearest pair round a place opens. None if there is none."""
+        """Returns the position at which the nearest pair round a position opens. None if there is none."""
         return self._find(codes.ENCLOSE, place)
 
     @query(codes.NODE_HANDLE, True)
     def node_handle(self, number: int) -> int:
-        """Returns the place of a one by its number; the length if there are no more. If the parentheses are balanced,
-        that is the node of that number in preorder."""
+        """Returns the position of a one by its number; the length if there are no more. If the parentheses are
+        balanced, that is the node of that number in preorder."""
         return self._number(codes.NODE_HANDLE, number)
 
     def fwd_search(self, place: int, rise: int) -> Optional[int]:
-        """Returns the first place past `place` at which the excess has risen by `rise`, which may be negative. None if
-        there is none."""
+        """Returns the first position past `place` at which the excess has risen by `rise`, which may be negative. None
+        if there is none."""
         return self._search(codes.FWD_SEARCH, place, rise)
 
     def bwd_search(self, place: int, rise: int) -> Optional[int]:
-        """Returns the last place before `place` before which the excess is `rise` more, which may be negative. None if
-        there is none."""
+        """Returns the last position before `place` before which the excess is `rise` more, which may be negative. None
+        if there is none."""
         return self._search(codes.BWD_SEARCH, place, rise)
 
     def _search(self, code: int, place: int, rise: int) -> Optional[int]:
@@ -648,7 +656,7 @@ class BpTree(Shared[_TreeQuery]):
             child = self.next_sibling(child)
 
     def dfs_iter(self) -> Iterator[int]:
-        """Returns the nodes in preorder: the places of the ones."""
+        """Returns the nodes in preorder: the positions of the ones."""
         return self._each_below(codes.NODE_HANDLE, self.size())
 
     @query(codes.LEVEL_NEXT, True)
@@ -673,7 +681,7 @@ class BpTree(Shared[_TreeQuery]):
 
     @query(codes.HAS_NODE)
     def has_node(self, place: int) -> bool:
-        """Returns whether the parentheses are balanced and a node opens at a place."""
+        """Returns whether the parentheses are balanced and a node opens at a position."""
         return self._truth(codes.HAS_NODE, place)
 
     @query(codes.IS_LEAF)
@@ -721,7 +729,8 @@ class Postings(Ascending[_PostingsQuery]):
         costs_held = _buffers.held(array("Q", bytes(8 * held.size)) if costs is None else costs, "cost")
 
         def why() -> str:
-            return _buffers.descent("document", held, True) or f"{held.size} documents have {costs_held.size} costs"
+            return _buffers.descent("document", held, True) or (
+                f"{_buffers.counted(held.size, 'documents')} with {_buffers.counted(costs_held.size, 'costs')}")
         return cls._made(library.postings_build, held, costs_held, why=why)
 
     def _contents(self) -> Iterator[Any]:
@@ -735,7 +744,7 @@ class Postings(Ascending[_PostingsQuery]):
 
     @query(codes.COST)
     def cost(self, place: int) -> Optional[int]:
-        """Returns the cost of the document at a place. None past the end."""
+        """Returns the cost of the document at a position. None past the end."""
         return self._find(codes.COST, place)
 
     @query(codes.HAS)
@@ -768,7 +777,7 @@ class Postings(Ascending[_PostingsQuery]):
         return self._find_by(codes.CHEAPEST, first, last)
 
     def intersect(self, other: Postings, *more: Postings) -> PlainNumbers:
-        """Returns the documents that all of some other lists have too, ascending."""
+        """Returns the documents that this list and all the others have, ascending."""
         for it in (other, *more):
             if not isinstance(it, Postings):
                 raise TypeError(f"an intersection is with Postings, and not with {type(it).__name__}")
@@ -826,7 +835,8 @@ class InvertedIndex(Shared[_InvertedQuery]):
 
         def why() -> str:
             if held.size != documents_held.size:
-                return f"{held.size} terms have {documents_held.size} documents"
+                documents_shown = _buffers.counted(documents_held.size, "documents")
+                return f"{_buffers.counted(held.size, 'terms')} with {documents_shown}"
             if below * most > NONE:
                 return f"the product of the limits {below} and {most} is above {NONE}"
             return (_buffers.above("term", held, below - 1) or _buffers.above("document", documents_held, most - 1)
@@ -841,7 +851,7 @@ class InvertedIndex(Shared[_InvertedQuery]):
         return array("Q", (it // universe for it in numbers)), documents
 
     def tolist(self) -> Any:
-        """Returns the pairs of a term and a document as a list of Python's."""
+        """Returns the pairs of a term and a document as a Python list."""
         return list(zip(*self.pairs()))
 
     def _traits(self) -> Any:
@@ -863,8 +873,8 @@ class InvertedIndex(Shared[_InvertedQuery]):
 
     @query(codes.GET)
     def pair_number(self, place: int) -> Optional[int]:
-        """Returns the pair at a place of all pairs as one number: the term times the universe, plus the document. None
-        past the end."""
+        """Returns the pair at a position of all pairs as one number: the term times the universe, plus the document.
+        None past the end."""
         return self._find(codes.GET, place)
 
     @query(codes.COUNT, True)
@@ -874,7 +884,7 @@ class InvertedIndex(Shared[_InvertedQuery]):
 
     @query(codes.TERM_GET, None)
     def get(self, term: int, place: int) -> Optional[int]:
-        """Returns the document of a term at a place. None past the end."""
+        """Returns the document of a term at a position. None past the end."""
         return self._find_by(codes.TERM_GET, term, place)
 
     @query(codes.TERM_RANK, True)
@@ -900,22 +910,22 @@ class InvertedIndex(Shared[_InvertedQuery]):
         made: PlainNumbers = PlainNumbers._made(library.documents, own._at, at)
         return made
 
-    def intersection(self, one: int, other: int, *more: int) -> PlainNumbers:
-        """Returns the documents that have all of some terms, ascending."""
-        return self._filtered(self._joined(codes.INTERSECTION, one, other), more, True)
+    def intersection(self, one: int, *others: int) -> PlainNumbers:
+        """Returns the documents that have all of one or more terms, ascending."""
+        return self._filtered(self._joined(codes.INTERSECTION, one, others), others[1:], True)
 
-    def union(self, one: int, other: int, *more: int) -> PlainNumbers:
-        """Returns the documents that have one of some terms at least, ascending."""
-        found = self._joined(codes.UNION, one, other)
-        if not more:
+    def union(self, one: int, *others: int) -> PlainNumbers:
+        """Returns the documents that have at least one of one or more terms, ascending."""
+        found = self._joined(codes.UNION, one, others)
+        if len(others) < 2:
             return found
         # runs that ascend, which a sort merges
-        runs = [found, *(self.documents(it) for it in more)]
+        runs = [found, *(self.documents(it) for it in others[1:])]
         return _plain_again(array("Q", (it for it, _ in groupby(sorted(chain(*runs))))))
 
-    def difference(self, one: int, other: int, *more: int) -> PlainNumbers:
+    def difference(self, one: int, *others: int) -> PlainNumbers:
         """Returns the documents that have the first term and none of the others, ascending."""
-        return self._filtered(self._joined(codes.DIFFERENCE, one, other), more, False)
+        return self._filtered(self._joined(codes.DIFFERENCE, one, others), others[1:], False)
 
     def _filtered(self, found: PlainNumbers, terms: Tuple[int, ...], is_kept: bool) -> PlainNumbers:
         """Those of some documents that have each of some terms, or that have none of them."""
@@ -927,10 +937,13 @@ class InvertedIndex(Shared[_InvertedQuery]):
             documents = array("Q", compress(documents, has if is_kept else map(not_, has)))
         return _plain_again(documents)
 
-    def _joined(self, joint: int, one: int, other: int) -> PlainNumbers:
+    def _joined(self, joint: int, one: int, others: Tuple[int, ...]) -> PlainNumbers:
+        """The documents of the first term, joined with those of the second one if there is one."""
+        if not others:
+            return self.documents(one)
         own = self.__copy__()
         made: PlainNumbers = PlainNumbers._made(
-            library.joined, own._at, joint, number(one, "the first term"), number(other, "the other term"))
+            library.joined, own._at, joint, number(one, "the first term"), number(others[0], "the other term"))
         return made
 
 
@@ -944,8 +957,8 @@ def _above_all(held: Held) -> int:
 
 class TextIndex(Shared[str]):
     """A text of symbols of `bits_per_symbol` bits, at most 16, in which patterns are found:
-    `TextIndex(b"abracadabra", 8)`. The index keeps one place for each `step`. `pattern in text` is whether a pattern
-    occurs. A pattern without symbols occurs at each place and at the end."""
+    `TextIndex(b"abracadabra", 8)`. The index keeps one position for each `step`. `pattern in text` is whether a pattern
+    occurs. A pattern without symbols occurs at each position and at the end."""
 
     _kind = codes.KIND_TEXT
     _items = "symbols"
@@ -965,9 +978,9 @@ class TextIndex(Shared[str]):
 
     @classmethod
     def from_bytes(cls, saved: Any, step: int = 32) -> Any:
-        """Makes the index again of the bytes that `to_bytes` returned, without a sort. Bytes of a `WaveletMatrix`, as
-        versions below 0.18 saved a text, make the index of its symbols, with one place kept for each `step`. Of other
-        bytes, raises the kind of Refused that says why."""
+        """Rebuilds the index from the bytes that `to_bytes` returned, without a sort. Bytes of a `WaveletMatrix`, as
+        versions below 0.18 saved a text, make the index of its symbols, with one position kept for each `step`. Of
+        other bytes, raises the kind of Refused that says why."""
         try:
             return super().from_bytes(saved)
         except OtherKind as fault:
@@ -978,8 +991,8 @@ class TextIndex(Shared[str]):
             return cls(symbols[:], symbols.bits_per_element(), step)
 
     def __getitem__(self, place: Any) -> Any:
-        """Returns the symbol at a place, which is from the end if it is negative. For a slice, returns an array of the
-        narrowest kind that its symbols fit in: of bytes if they have at most 8 bits."""
+        """Returns the symbol at a position, which is from the end if it is negative. For a slice, returns an array of
+        the narrowest kind that its symbols fit in: of bytes if they have at most 8 bits."""
         if isinstance(place, slice):
             places = range(*place.indices(len(self)))
             first, last = sorted((places[0], places[-1])) if places else (0, -1)
@@ -1004,7 +1017,7 @@ class TextIndex(Shared[str]):
         return self._number(codes.WIDTH)
 
     def step(self) -> int:
-        """Returns the step: the index keeps one place for each `step`."""
+        """Returns the step: the index keeps one position for each `step`."""
         return self._number(codes.STEP)
 
     def count(self, pattern: Numbers) -> int:
@@ -1028,14 +1041,14 @@ class TextIndex(Shared[str]):
         return self.count(pattern) > 0
 
     def places(self, pattern: Numbers) -> PlainNumbers:
-        """Returns the places of a pattern, ascending."""
+        """Returns the positions of a pattern, ascending."""
         held = _buffers.pattern(pattern)
         own = self.__copy__()
         made: PlainNumbers = PlainNumbers._made(library.places, own._at, *held[:2])
         return made
 
     def first_places(self, pattern: Numbers, limit: int) -> PlainNumbers:
-        """Returns the first `limit` places of a pattern, or all if there are fewer, in the order of the suffixes
+        """Returns the first `limit` positions of a pattern, or all if there are fewer, in the order of the suffixes
         there."""
         held, most = _buffers.pattern(pattern), number(limit, "the limit")
         own = self.__copy__()
@@ -1043,9 +1056,10 @@ class TextIndex(Shared[str]):
         return made
 
     def extract(self, start: int, end: int) -> PlainNumbers:
-        """Returns the symbols from one place up to another. Raises Refused if the text has no such places."""
+        """Returns the symbols from one position up to another. Raises Refused if the text has no such positions."""
         first, past = number(start, "the start"), number(end, "the end")
         own = self.__copy__()
         made: PlainNumbers = PlainNumbers._made(
-            library.extract, own._at, first, past, why=lambda: f"{first} to {past} is no range of {len(self)} symbols")
+            library.extract, own._at, first, past, why=lambda: (
+                f"{first} to {past} is no range of {_buffers.counted(len(self), 'symbols')}"))
         return made

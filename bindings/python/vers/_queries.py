@@ -20,7 +20,7 @@ class Query(NamedTuple):
 
     code: int
     names: Tuple[str, ...]
-    # whether an answer is a truth, a number with a sign (a count or a place), or may be None; `is_signed` is None if
+    # whether an answer is a truth, a number with a sign (a count or a position), or may be None; `is_signed` is None if
     # the answers are items, which are signed in lists whose items are all below 2**63
     is_truth: bool
     is_signed: Optional[bool]

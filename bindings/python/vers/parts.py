@@ -13,7 +13,7 @@ replaces a pool that lost a process), or a `Client` of Dask.
 - Each process of a pool loads the parts that its queries use, and keeps the last 1024 (`keep`).
 - Dask places each part on a worker, which it prefers for queries. If the worker is lost, another one loads its parts.
 
-The file of a part does not change: if another one has replaced it, a query raises `Refused`. Queries of one place or
+The file of a part does not change: if another one has replaced it, a query raises `Refused`. Queries of one position or
 number take an array too, and return a list. A query asks each part at most once in a round.
 
 Each query says how it merges the answers of parts. The library proves the laws that it names. A merge that is called
@@ -31,9 +31,9 @@ from functools import lru_cache, partial
 from itertools import accumulate, repeat
 from typing import Any, Callable, Dict, Iterable, List, Optional, Protocol, Sequence, Tuple, Type, Union
 
-from . import _bases, _buffers, _faults, _lists
-from ._bases import Path
+from . import _bases, _buffers, _faults, _files, _lists
 from ._buffers import Numbers, number
+from ._files import Path
 from ._queries import many
 
 # makes a list of its saved form, and of further arguments
@@ -184,7 +184,7 @@ class _Files:
     def __init__(self, engine: Any, paths: Iterable[Path], facts: Any, load: Load, *more: Any) -> None:
         if isinstance(paths, (str, bytes, os.PathLike)):
             raise TypeError(f"the paths of parts are a list, and not one path: [{paths!r}]")
-        rows = [(os.fspath(it), load, *more) for it in paths]
+        rows = [(_files.shown(it), load, *more) for it in paths]
         self._engine = engine
         self._parts: List[Any] = [_Part(*it) for it in rows]
         if rows and _is_dask(engine):
@@ -235,7 +235,7 @@ class _Parts:
 
     @many
     def get(self, place: int) -> Optional[int]:
-        """Returns the item at a place. None past the end. Asks one part. The merge is tested."""
+        """Returns the item at a position. None past the end. Asks one part. The merge is tested."""
         item: Optional[int] = self._asked("get", place, lambda it: _route(self._starts, it, None, None))
         return item
 
@@ -278,24 +278,25 @@ class Bits(_Parts):
 
     @many
     def rank1(self, place: int) -> int:
-        """Returns how many ones precede a place; all of them past the end. Merged by the law `CountsOfSpansAddUp`:
-        the ones before the part, plus those in it before the place."""
+        """Returns how many ones precede a position; all of them past the end. Merged by the law `CountsOfSpansAddUp`:
+        the ones before the part, plus those in it before the position."""
         return self._rank(1, place)
 
     @many
     def rank0(self, place: int) -> int:
-        """Returns how many zeros precede a place; all of them past the end. Merged as `rank1`."""
+        """Returns how many zeros precede a position; all of them past the end. Merged as `rank1`."""
         return self._rank(0, place)
 
     @many
     def select1(self, number: int) -> int:
-        """Returns the place of a one by its number from 0 on; the length if there are no more. Merged by the law
+        """Returns the position of a one by its number from 0 on; the length if there are no more. Merged by the law
         `CountsOfSpansAddUp`: its number is that in its part, plus the ones before the part."""
         return self._select(1, number)
 
     @many
     def select0(self, number: int) -> int:
-        """Returns the place of a zero by its number from 0 on; the length if there are no more. Merged as `select1`."""
+        """Returns the position of a zero by its number from 0 on; the length if there are no more. Merged as
+        `select1`."""
         return self._select(0, number)
 
     def ones(self) -> int:
@@ -453,14 +454,14 @@ class Symbols(_Parts):
         self._width = widths[0] if widths else 0
 
     def rank(self, end: Any, symbol: int) -> Any:
-        """Returns how often a symbol occurs before the place `end`. None past the end. Asks the parts up to the last
-        such place at once. The merge is tested: the counts of the parts before, plus that in the part."""
+        """Returns how often a symbol occurs before the position `end`. None past the end. Asks the parts up to the last
+        such position at once. The merge is tested: the counts of the parts before, plus that in the part."""
         if not _buffers.is_many(end):
             return self.rank([end], symbol)[0]
         # the part that an end is in, or ends; -1 for the end 0
         cut = [(bisect_left(self._starts, it) - 1, it) for it in map(number, end)]
         inside = [(part, it - self._starts[part]) for part, it in cut if 0 <= part < len(self._files)]
-        # each part answers all of its places, and the ends in it
+        # each part answers all of its positions, and the ends in it
         asked = [[it] for it in self._lengths[:max((part for part, _ in inside), default=-1) + 1]]
         for part, it in inside:
             asked[part].append(it)
@@ -469,7 +470,7 @@ class Symbols(_Parts):
         return [0 if part < 0 else None if it > len(self) else before[part] + next(answers[part]) for part, it in cut]
 
     def rank_range(self, start: int, end: int, symbol: int) -> Optional[int]:
-        """Returns how often a symbol occurs in a range. None if the range starts past the last place, ends before it
+        """Returns how often a symbol occurs in a range. None if the range starts past the last position, ends before it
         starts, or ends past the end. Asks the parts of the range. The merge is tested: the sum of their counts."""
         if not number(start) <= number(end) <= len(self) or start == len(self):
             return None
@@ -486,8 +487,8 @@ class Symbols(_Parts):
         return self._files.call("rank", range(len(self._files)), self._lengths, repeat(number(symbol)))
 
     def select(self, number: Any, symbol: int) -> Any:
-        """Returns the place of occurrence `number` of a symbol. None if there are fewer. Asks all parts for counts, and
-        then one part. The merge is tested: its number is that in its part, plus the occurrences before the part."""
+        """Returns the position of occurrence `number` of a symbol. None if there are fewer. Asks all parts for counts,
+        and then one part. The merge is tested: its number is that in its part, plus the occurrences before the part."""
         before = _sums(self._counts(symbol))
         return self._asked("select", number, lambda it: _route(before, it, self._starts, None), symbol)
 
@@ -516,7 +517,7 @@ def _edges(overlap: int, text: _lists.TextIndex) -> Tuple[int, int, Any, Any]:
 
 
 def _own_places(part: _Part, expected: bytes, pattern: List[int], own: int) -> Any:
-    """Returns the places of a pattern among a part's own symbols, in an array."""
+    """Returns the positions of a pattern among a part's own symbols, in an array."""
     found = part.loaded(expected).places(pattern)
     return found[:bisect_left(found, own)]
 
@@ -535,9 +536,9 @@ def _by_document(part: _Part, expected: bytes, starts: _Part, starts_sum: bytes,
 class Texts:
     """A text in parts. Each is a saved `WaveletMatrix` of its own symbols and of the `overlap` symbols that follow, or
     of all that follow if they are fewer: `text[start:end + overlap]`. A worker makes the `TextIndex`, which keeps one
-    place for each `step`. A query asks all parts.
+    position for each `step`. A query asks all parts.
 
-    `documents` are paths as well: for each part a saved `EliasFanoVec` of the places in it, the overlap included, at
+    `documents` are paths as well: for each part a saved `EliasFanoVec` of the positions in it, the overlap included, at
     which a document begins."""
 
     def __init__(self, engine: Engine, paths: Iterable[Path], overlap: int, step: int = 32,
@@ -587,7 +588,7 @@ class Texts:
         return counted - sum(it.count(symbols) for it in self._shared) + (not symbols)
 
     def places(self, pattern: Numbers) -> List[int]:
-        """Returns the places of a pattern, ascending. Refused as by `count`. The merge is tested: the places of
+        """Returns the positions of a pattern, ascending. Refused as by `count`. The merge is tested: the positions of
         occurrences that begin in a part's own symbols, one part after another."""
         symbols = self._pattern(pattern)
         found = self._files.ask(_own_places, range(len(self._files)), repeat(symbols), self._own)

@@ -1,0 +1,46 @@
+"""Files that are replaced completely or not at all."""
+
+import contextlib
+import os
+import shutil
+import tempfile
+from typing import Union
+
+#: The path of a file.
+Path = Union[str, bytes, "os.PathLike[str]", "os.PathLike[bytes]"]
+
+
+def shown(path: Path) -> str:
+    """A path as a text."""
+    return os.fsdecode(path)
+
+
+def write(path: Path, content: bytes) -> None:
+    """Replaces what a file has, or the file that it links to. Raises OSError with the path, and leaves no other
+    file."""
+    target = os.path.realpath(shown(path))
+    folder = os.path.dirname(target)
+    try:
+        # a folder of its own gives each writer another file, which has the permissions of a new one
+        with tempfile.TemporaryDirectory(prefix=".vers-", dir=folder) as room:
+            unfinished = os.path.join(room, "unfinished")
+            with open(unfinished, "wb") as file:
+                with contextlib.suppress(FileNotFoundError):
+                    shutil.copymode(target, unfinished)
+                file.write(content)
+                file.flush()
+                os.fsync(file.fileno())
+            os.replace(unfinished, target)
+        _sync(folder)
+    except OSError as fault:
+        raise OSError(fault.errno, fault.strerror, shown(path)) from None
+
+
+def _sync(folder: str) -> None:
+    """Writes the names of a folder to the disk, if the system opens folders."""
+    if os.name == "posix":
+        opened = os.open(folder, os.O_RDONLY)
+        try:
+            os.fsync(opened)
+        finally:
+            os.close(opened)
