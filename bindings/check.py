@@ -10,8 +10,8 @@
 - The codes of statuses, queries and changes in vers.h, in the Python package and in bindings/c/src are those of
   crates/vers_c, one after another.
 - vers.h says of each export which handles differ, and which arrays it reads and writes.
-- C and C++ are compiled without a warning, C++ as C++17 and C++20; their tests pass, also under memcheck and helgrind.
-  What C++ refuses doesn't compile.
+- C and C++ are compiled without a warning, C++ as C++17 and C++20, also for a sanitizer; their tests pass, also under
+  memcheck and helgrind. What C++ refuses doesn't compile.
 - The packages for pkg-config and CMake lead to headers and libraries, in a prefix and, by CMake, in the folder in which
   cargo builds. CMake finds no other version, and no library that is not there.
 - Python's tests pass, with each Python that is there, also of parts on processes and on Dask's workers; its examples
@@ -47,7 +47,7 @@ REFUSING = "-Wl,--wrap=malloc,--wrap=realloc"
 TABLES = (
     ("vers_c/src/status.rt", "vers_status", "", r"()pub const (\w+): u32 = \d+;"),
     ("catalogue/src/query.rt", "vers_query", "", r"(?m)^    Query::(?:(\w+)\(\w+::)?(\w+)\)?,$"),
-    ("catalogue/src/kind.rt", "vers_kind", "KIND_", r"(?m)^    ()Kind::(\w+),$"),
+    ("catalogue/src/structure.rt", "vers_kind", "KIND_", r"(?m)^    ()Kind::(\w+),$"),
     ("vers_c/src/change.rt", "vers_change_code", "", r"()Change::(\w+)(?=[,\]])"),
     ("catalogue/src/documents.rt", "vers_joint", "", r"()Joint::(\w+)(?=[,\]])"),
 )
@@ -174,10 +174,12 @@ def code_tables(source):
 
 
 def written_header(text, tables):
-    """The header with the codes of the tables. A code whose comment it hasn't yet gets an empty one."""
+    """The header with the codes of the tables. A code whose comment it hasn't yet gets an empty one, and a kind that of
+    the type of its name."""
     for enum, names in tables.items():
         head, body, tail = re.split(rf"(?s)(?<=enum {enum} {{\n)(.*?)(?=^}};)", text, maxsplit=1, flags=re.M)
-        about = dict(re.findall(r"VERS_(\w+) = \d+,? +(/\*\*<.*\*/)", body))
+        about = {it: f"/**< A vers_{it[5:].lower()}. */" for it in names if it.startswith("KIND_")}
+        about.update(re.findall(r"VERS_(\w+) = \d+,? +(/\*\*<.*\*/)", body))
         rows = [f"    VERS_{name} = {k}{',' if k < len(names) - 1 else ''}" for k, name in enumerate(names)]
         width = max(map(len, rows))
         text = head + "".join(f"{row:<{width}} {about.get(name, '/**< . */')}\n"
@@ -269,7 +271,7 @@ def valgrind(checks, what, program, has_threads):
 
 
 def check_cpp(checks, link):
-    """C++: tests in C++20 and C++17, and the header without exceptions."""
+    """C++: tests in C++20 and C++17, and the header without exceptions and for a sanitizer."""
     for compiler in ("g++", "clang++"):
         if not checks.has(compiler, f"C++ by {compiler}"):
             continue
@@ -281,8 +283,10 @@ def check_cpp(checks, link):
         if has_passed:
             valgrind(checks, f"C++ by {compiler}", made, compiler == "g++")
         check_refused(checks, compiler)
-        bare = ["-fno-exceptions", "-fno-rtti", "-fsyntax-only", os.path.join(CPP, "example.cpp")]
-        checks.run(f"C++ by {compiler} without exceptions", [compiler, "-std=c++17", *STRICT, f"-I{CPP}", *bare])
+        compiling = [compiler, "-std=c++17", *STRICT, f"-I{CPP}", "-fsyntax-only"]
+        bare = ["-fno-exceptions", "-fno-rtti", os.path.join(CPP, "example.cpp")]
+        checks.run(f"C++ by {compiler} without exceptions", [*compiling, *bare])
+        checks.run(f"C++ by {compiler} for a sanitizer", [*compiling, "-fsanitize=undefined", test])
 
 
 def check_refused(checks, compiler):

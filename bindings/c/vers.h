@@ -1,6 +1,7 @@
 /** @file vers.h
- *  Succinct lists whose every call is proved: bits with rank and select, ascending numbers, sparse bits, symbols,
- *  range minima, trees of parentheses, documents with costs, texts in which patterns are found.
+ *  Succinct data structures: bits with rank and select, ascending numbers, sparse bits, symbols, range minima, trees
+ *  of parentheses, documents with costs, texts in which patterns are found. They are proved in Rattle. The library of
+ *  cargo is their translation to plain Rust, which is tested, and so are the helpers of this header.
  *
  *  A call makes a list of the caller's array, and a handle owns it. A handle of zeros owns none:
  *
@@ -9,8 +10,8 @@
  *      vers_answer ones = vers_bits_rank1(&bits, 1000);   // ones.value, if ones.status is VERS_DONE
  *      vers_bits_free(&bits);                             // all zeros again
  *
- *  Memory. A list copies what it is made of, so the caller's array is his own again when the call returns. `_free`, and
- *  nothing else, frees what a call has put into a handle (`_of`, `_load`, `_clone`, `_intersect`, `_places`,
+ *  Memory. A list copies what it is made of, so the caller may change or free the array when the call returns. `_free`,
+ *  and nothing else, frees what a call has put into a handle (`_of`, `_load`, `_clone`, `_intersect`, `_places`,
  *  `_extract`).
  *  Answers are numbers, never pointers. Without memory a call returns VERS_NO_MEMORY and changes nothing. A batch of
  *  queries of symbols allocates memory too, and is answered without it, but more slowly.
@@ -30,11 +31,11 @@
  *    count is 0. A typed call answers VERS_REFUSED to null with another count, which an export can't test;
  *  - the handles of an export differ, as each export says. A typed call accepts one handle twice;
  *  - no call from a signal handler, nor from the forked child of a process with threads.
- *  All else is tested, and told by the status: places past the end, numbers that don't ascend, queries of another
- *  list, handles that hold nothing or are full, memory that is refused.
+ *  The library tests all else, and the status says what is wrong: positions past the end, numbers that don't ascend,
+ *  queries of another list, handles that own nothing or are full, memory that is refused.
  *
- *  Places count from 0. A range from `start` to `end` is without `end`; one from `first` to `last` is with `last`.
- *  C99; also C++, for which vers.hpp is more at home. Link with `pkg-config --libs vers`. */
+ *  Positions count from 0. A range from `start` to `end` is without `end`; one from `first` to `last` is with `last`.
+ *  C99; C++ programs should include vers.hpp instead. Link with `pkg-config --libs vers`. */
 #ifndef VERS_H
 #define VERS_H
 
@@ -71,12 +72,12 @@ enum vers_status {
 enum vers_query {
     VERS_LEN = 0,                  /**< How many items. */
     VERS_GET = 1,                  /**< Item a; of a tree, whether a parenthesis opens; not of a text. */
-    VERS_GET_BITS = 2,             /**< Growing, bits: the number of the b bits from place a on. */
+    VERS_GET_BITS = 2,             /**< Growing, bits: the number of the b bits from position a on. */
     VERS_HEAP_SIZE = 3,            /**< How many bytes of the heap the list takes. */
-    VERS_RANK0 = 4,                /**< Bits, sparse: zeros before place a. */
-    VERS_RANK1 = 5,                /**< Bits, sparse: ones before place a. */
-    VERS_SELECT0 = 6,              /**< Bits: the place of zero number a. */
-    VERS_SELECT1 = 7,              /**< Bits, sparse: the place of one number a. */
+    VERS_RANK0 = 4,                /**< Bits, sparse: zeros before position a. */
+    VERS_RANK1 = 5,                /**< Bits, sparse: ones before position a. */
+    VERS_SELECT0 = 6,              /**< Bits: the position of zero number a. */
+    VERS_SELECT1 = 7,              /**< Bits, sparse: the position of one number a. */
     VERS_RANK = 8,                 /**< Sorted, postings: members below a. */
     VERS_HAS = 9,                  /**< Sorted, postings: whether a is a member, 1 or 0. */
     VERS_PREDECESSOR = 10,         /**< Sorted: the greatest member not above a. */
@@ -84,9 +85,9 @@ enum vers_query {
     VERS_DELTA = 12,               /**< Sorted: member a less the one before it. */
     VERS_WIDTH = 13,               /**< Symbols, text: how many bits a symbol has. */
     VERS_RANK_OF = 14,             /**< Symbols: how many of the first a are symbol b. */
-    VERS_SELECT_OF = 15,           /**< Symbols: the place of occurrence a of symbol b. */
+    VERS_SELECT_OF = 15,           /**< Symbols: the position of occurrence a of symbol b. */
     VERS_RANK_RANGE = 16,          /**< Symbols: how many of a..b are symbol c. */
-    VERS_SELECT_FROM = 17,         /**< Symbols: the place of occurrence b of symbol c from place a on. */
+    VERS_SELECT_FROM = 17,         /**< Symbols: the position of occurrence b of symbol c from position a on. */
     VERS_QUANTILE = 18,            /**< Symbols: number c of a..b in ascending order. */
     VERS_LEAST = 19,               /**< Symbols: the least of a..b. */
     VERS_GREATEST = 20,            /**< Symbols: the greatest of a..b. */
@@ -95,13 +96,13 @@ enum vers_query {
     VERS_SYMBOLS_SUCCESSOR = 23,   /**< Symbols: the least of a..b not below c. */
     VERS_SIZE = 24,                /**< Tree: how many ones. */
     VERS_IS_BALANCED = 25,         /**< Tree: whether the parentheses are balanced, 1 or 0. */
-    VERS_EXCESS = 26,              /**< Tree: ones less zeros up to place a, signed. */
+    VERS_EXCESS = 26,              /**< Tree: ones less zeros up to position a, signed. */
     VERS_CLOSE = 27,               /**< Tree: where what opens at a is closed. */
     VERS_OPEN = 28,                /**< Tree: where what closes at a opens. */
     VERS_ENCLOSE = 29,             /**< Tree: where the nearest pair round a opens. */
     VERS_NODE_HANDLE = 30,         /**< Tree: node number a in preorder. */
-    VERS_FWD_SEARCH = 31,          /**< Tree: the first place past a with the excess b more, b signed. */
-    VERS_BWD_SEARCH = 32,          /**< Tree: the last place before a with the excess b more, b signed. */
+    VERS_FWD_SEARCH = 31,          /**< Tree: the first position past a with the excess b more, b signed. */
+    VERS_BWD_SEARCH = 32,          /**< Tree: the last position before a with the excess b more, b signed. */
     VERS_PARENT = 33,              /**< Tree: of node a. */
     VERS_FIRST_CHILD = 34,         /**< Tree: of node a. */
     VERS_LAST_CHILD = 35,          /**< Tree: of node a. */
@@ -117,15 +118,15 @@ enum vers_query {
     VERS_LEVEL_LEFTMOST = 45,      /**< Tree: the first node of depth a. */
     VERS_LEVEL_RIGHTMOST = 46,     /**< Tree: the last node of depth a. */
     VERS_IS_ANCESTOR = 47,         /**< Tree: whether a is above b or is b, 1 or 0. */
-    VERS_RANGE_MIN = 48,           /**< Minima: the first place of a least value from a to b. */
+    VERS_RANGE_MIN = 48,           /**< Minima: the first position of a least value from a to b. */
     VERS_CHEAPEST = 49,            /**< Postings: the first document of least cost from a to b. */
-    VERS_COST = 50,                /**< Postings: the cost of the document at place a. */
+    VERS_COST = 50,                /**< Postings: the cost of the document at position a. */
     VERS_HAS_NODE = 51,            /**< Tree: whether the parentheses are balanced and a node opens at a, 1 or 0. */
-    VERS_STEP = 52,                /**< Text: of how many places one is kept. */
+    VERS_STEP = 52,                /**< Text: of how many positions one is kept. */
     VERS_TERMS = 53,               /**< Inverted: the number of terms. */
     VERS_UNIVERSE = 54,            /**< Inverted: the number that all documents are below. */
     VERS_COUNT = 55,               /**< Inverted: the number of documents of term a. */
-    VERS_TERM_GET = 56,            /**< Inverted: the document of term a at place b. */
+    VERS_TERM_GET = 56,            /**< Inverted: the document of term a at position b. */
     VERS_TERM_RANK = 57,           /**< Inverted: documents of term a below b. */
     VERS_TERM_HAS = 58,            /**< Inverted: whether term a has document b, 1 or 0. */
     VERS_TERM_SUCCESSOR = 59       /**< Inverted: the least document of term a not below b. */
@@ -213,28 +214,28 @@ uint32_t vers_clone(vers_handle *handle, vers_handle *other);
  *  to be two handles, which `vers_postings_intersect` makes. */
 uint32_t vers_intersect(vers_handle *one, vers_handle *other, vers_handle *into);
 
-/** How many places a pattern of `count` symbols has in a vers_text. VERS_UNKNOWN of another list, VERS_VACANT.
+/** How many positions a pattern of `count` symbols has in a vers_text. VERS_UNKNOWN of another list, VERS_VACANT.
  *  One handle; reads `pattern`. */
 vers_answer vers_count(vers_handle *handle, const uint64_t *pattern, size_t count);
 
 /** Counts many patterns in a vers_text at once: in a text of some millions of symbols this takes less time than one
  *  count after another. `symbols` has the patterns, joined, and `ends` says where each ends: the first pattern begins
- *  at 0, each other one where the one before ends. Each end is replaced by how many places its pattern has.
+ *  at 0, each other one where the one before ends. Each end is replaced by how many positions its pattern has.
  *  VERS_REFUSED if the ends descend, or one is above `length`, VERS_UNKNOWN of another list, and VERS_VACANT: the ends
  *  stay. One handle; reads `symbols`, and writes `ends`. */
 uint32_t vers_count_each(vers_handle *handle, const uint64_t *symbols, size_t length, uint64_t *ends, size_t count);
 
-/** Puts the places of a pattern in a vers_text, ascending, into an empty other handle, as vers_numbers. VERS_REFUSED
+/** Puts the positions of a pattern in a vers_text, ascending, into an empty other handle, as vers_numbers. VERS_REFUSED
  *  if the first owns no text, VERS_OCCUPIED, VERS_NO_MEMORY. The two handles differ; reads `pattern`. */
 uint32_t vers_places(vers_handle *handle, const uint64_t *pattern, size_t count, vers_handle *into);
 
-/** Puts the first `limit` places of a pattern in a vers_text, or all if there are fewer, into an empty other handle, as
- *  vers_numbers, in the order of the suffixes that begin there. VERS_REFUSED if the first holds no text, VERS_OCCUPIED,
- *  VERS_NO_MEMORY. The two handles differ; reads `pattern`. */
+/** Puts the first `limit` positions of a pattern in a vers_text, or all if there are fewer, into an empty other handle,
+ *  as vers_numbers, in the order of the suffixes that begin there. VERS_REFUSED if the first holds no text,
+ *  VERS_OCCUPIED, VERS_NO_MEMORY. The two handles differ; reads `pattern`. */
 uint32_t vers_first_places(vers_handle *handle, const uint64_t *pattern, size_t count, size_t limit, vers_handle *into);
 
-/** Puts the symbols of a vers_text from place `start` up to `end` into an empty other handle, as vers_numbers.
- *  VERS_REFUSED if the first owns no text with such places, VERS_OCCUPIED, VERS_NO_MEMORY. The two handles
+/** Puts the symbols of a vers_text from position `start` up to `end` into an empty other handle, as vers_numbers.
+ *  VERS_REFUSED if the first owns no text with such positions, VERS_OCCUPIED, VERS_NO_MEMORY. The two handles
  *  differ. */
 uint32_t vers_extract(vers_handle *handle, size_t start, size_t end, vers_handle *into);
 
@@ -330,7 +331,7 @@ static inline const char *vers_status_text(uint32_t status) {
         "done", "there is no such thing", "the list has no such query or change", "the handle holds nothing",
         "the numbers are refused", "the handle holds a list already",
         "there is no memory, or the list would be too long", "the list has another handle, so it can't change",
-        "the bytes are cut off", "the bytes do not begin as a saved form does",
+        "the bytes are no saved form, or are cut off", "the bytes do not begin as a saved form does",
         "the saved form is of another version", "the saved form is of another kind of list",
         "no such list is as long, or the bytes go on after it", "the sum is not that of the bytes before it",
         "a bit is set past the end of the list", "the numbers do not ascend",
@@ -372,7 +373,7 @@ static inline vers_answer vers_asked(const vers_handle *handle, enum vers_query 
     return vers_ask(vers_held(handle), (uint32_t)query, a, b, c);
 }
 
-/** The least place above another one with a bit of a kind, which `rank` counts and `select` finds. */
+/** The least position above another one with a bit of a kind, which `rank` counts and `select` finds. */
 static inline vers_answer vers_next_bit(const vers_handle *handle, enum vers_query rank, enum vers_query select,
                                         uint64_t place) {
     vers_answer before = vers_asked(handle, rank, place < UINT64_MAX ? place + 1 : place, 0, 0);
@@ -380,7 +381,7 @@ static inline vers_answer vers_next_bit(const vers_handle *handle, enum vers_que
     return found.status == VERS_DONE && found.value == vers_asked(handle, VERS_LEN, 0, 0, 0).value ? none : found;
 }
 
-/** The greatest place below another one with a bit of a kind, which `rank` counts and `select` finds. */
+/** The greatest position below another one with a bit of a kind, which `rank` counts and `select` finds. */
 static inline vers_answer vers_previous_bit(const vers_handle *handle, enum vers_query rank, enum vers_query select,
                                             uint64_t place) {
     vers_answer before = vers_asked(handle, rank, place, 0, 0), none = {VERS_ABSENT, 0};
@@ -406,8 +407,8 @@ static inline uint32_t vers_asked_from(const vers_handle *handle, enum vers_quer
     return vers_asked_each(handle, query, numbers, count, 0, 0, 0);
 }
 
-/** Writes the places that `select` finds of what `rank` counts from `start` up to `end`. The answer is how many there
- *  are, even if there is room for fewer. */
+/** Writes the positions that `select` finds of what `rank` counts from `start` up to `end`. The answer is how many
+ *  there are, even if there is room for fewer. */
 static inline vers_answer vers_listed(const vers_handle *handle, enum vers_query rank, enum vers_query select,
                                       uint64_t start, uint64_t end, uint64_t *places, size_t count) {
     vers_answer first = vers_asked(handle, rank, start, 0, 0), past = vers_asked(handle, rank, end, 0, 0);
@@ -497,12 +498,12 @@ static inline vers_answer vers_growing_heap_size(const vers_growing *list) {
     return vers_asked(&list->handle, VERS_HEAP_SIZE, 0, 0, 0);
 }
 
-/** The bit at a place, 1 or 0. VERS_ABSENT past the end. */
+/** The bit at a position, 1 or 0. VERS_ABSENT past the end. */
 static inline vers_answer vers_growing_get(const vers_growing *list, uint64_t place) {
     return vers_asked(&list->handle, VERS_GET, place, 0, 0);
 }
 
-/** The number of the `count` bits from a place on, the lowest first. VERS_ABSENT if there are fewer, or they
+/** The number of the `count` bits from a position on, the lowest first. VERS_ABSENT if there are fewer, or they
  * are none or more than 64. */
 static inline vers_answer vers_growing_get_bits(const vers_growing *list, uint64_t place, uint64_t count) {
     return vers_asked(&list->handle, VERS_GET_BITS, place, count, 0);
@@ -518,7 +519,7 @@ static inline uint32_t vers_growing_append_bits(vers_growing *list, uint64_t bit
     return vers_change(&list->handle, VERS_APPEND, bits, count);
 }
 
-/** Makes the bit at a place this one. VERS_REFUSED past the end. */
+/** Makes the bit at a position this one. VERS_REFUSED past the end. */
 static inline uint32_t vers_growing_set(vers_growing *list, uint64_t place, bool bit) {
     return vers_change(&list->handle, VERS_SET, place, bit);
 }
@@ -593,48 +594,48 @@ static inline vers_answer vers_bits_heap_size(const vers_bits *list) {
     return vers_asked(&list->handle, VERS_HEAP_SIZE, 0, 0, 0);
 }
 
-/** The bit at a place, 1 or 0. VERS_ABSENT past the end. */
+/** The bit at a position, 1 or 0. VERS_ABSENT past the end. */
 static inline vers_answer vers_bits_get(const vers_bits *list, uint64_t place) {
     return vers_quick_bits_get(vers_held(&list->handle), place);
 }
 
-/** The number of the `count` bits from a place on, the lowest first; 0 for none. VERS_ABSENT if there are
+/** The number of the `count` bits from a position on, the lowest first; 0 for none. VERS_ABSENT if there are
  * fewer, or they are more than 64. */
 static inline vers_answer vers_bits_get_bits(const vers_bits *list, uint64_t place, uint64_t count) {
     return vers_asked(&list->handle, VERS_GET_BITS, place, count, 0);
 }
 
-/** The number of ones before a place; of all past the end. */
+/** The number of ones before a position; of all past the end. */
 static inline vers_answer vers_bits_rank1(const vers_bits *list, uint64_t place) {
     return vers_quick_bits_rank1(vers_held(&list->handle), place);
 }
 
-/** The number of zeros before a place; of all past the end. */
+/** The number of zeros before a position; of all past the end. */
 static inline vers_answer vers_bits_rank0(const vers_bits *list, uint64_t place) {
     return vers_quick_bits_rank0(vers_held(&list->handle), place);
 }
 
-/** The place of one number `number`, counted from 0; the length if there are no more, while vers_symbols_select
+/** The position of one number `number`, counted from 0; the length if there are no more, while vers_symbols_select
  * answers VERS_ABSENT. */
 static inline vers_answer vers_bits_select1(const vers_bits *list, uint64_t number) {
     return vers_quick_bits_select1(vers_held(&list->handle), number);
 }
 
-/** Writes the places of ones from `start` up to `end` over an array of `count`, ascending, as many as it has room for.
- * The answer is how many there are. */
+/** Writes the positions of ones from `start` up to `end` over an array of `count`, ascending, as many as it has room
+ * for. The answer is how many there are. */
 static inline vers_answer vers_bits_places1(const vers_bits *list, uint64_t start, uint64_t end, uint64_t *places,
                                            size_t count) {
     return vers_listed(&list->handle, VERS_RANK1, VERS_SELECT1, start, end, places, count);
 }
 
-/** The place of zero number `number`, counted from 0; the length if there are no more, while vers_symbols_select
+/** The position of zero number `number`, counted from 0; the length if there are no more, while vers_symbols_select
  * answers VERS_ABSENT. */
 static inline vers_answer vers_bits_select0(const vers_bits *list, uint64_t number) {
     return vers_quick_bits_select0(vers_held(&list->handle), number);
 }
 
-/** Writes the places of zeros from `start` up to `end` over an array of `count`, ascending, as many as it has room for.
- * The answer is how many there are. */
+/** Writes the positions of zeros from `start` up to `end` over an array of `count`, ascending, as many as it has room
+ * for. The answer is how many there are. */
 static inline vers_answer vers_bits_places0(const vers_bits *list, uint64_t start, uint64_t end, uint64_t *places,
                                            size_t count) {
     return vers_listed(&list->handle, VERS_RANK0, VERS_SELECT0, start, end, places, count);
@@ -650,24 +651,24 @@ static inline vers_answer vers_bits_zeros(const vers_bits *list) {
     return vers_bits_rank0(list, UINT64_MAX);
 }
 
-/** The least place of a one strictly above a place, while vers_sorted_successor is at or above. VERS_ABSENT if there is
- * none. Takes a rank and a select. */
+/** The least position of a one strictly above a position, while vers_sorted_successor is at or above. VERS_ABSENT if
+ * there is none. Takes a rank and a select. */
 static inline vers_answer vers_bits_successor1(const vers_bits *list, uint64_t place) {
     return vers_next_bit(&list->handle, VERS_RANK1, VERS_SELECT1, place);
 }
 
-/** The greatest place of a one strictly below a place, which may be past the end, while vers_sorted_predecessor is at
- * or below. VERS_ABSENT if there is none. Takes a rank and a select. */
+/** The greatest position of a one strictly below a position, which may be past the end, while vers_sorted_predecessor
+ * is at or below. VERS_ABSENT if there is none. Takes a rank and a select. */
 static inline vers_answer vers_bits_predecessor1(const vers_bits *list, uint64_t place) {
     return vers_previous_bit(&list->handle, VERS_RANK1, VERS_SELECT1, place);
 }
 
-/** The least place of a zero above a place. VERS_ABSENT if there is none. Takes a rank and a select. */
+/** The least position of a zero above a position. VERS_ABSENT if there is none. Takes a rank and a select. */
 static inline vers_answer vers_bits_successor0(const vers_bits *list, uint64_t place) {
     return vers_next_bit(&list->handle, VERS_RANK0, VERS_SELECT0, place);
 }
 
-/** The greatest place of a zero below a place, which may lie past the end. VERS_ABSENT if there is none. Takes a
+/** The greatest position of a zero below a position, which may lie past the end. VERS_ABSENT if there is none. Takes a
  * rank and a select. */
 static inline vers_answer vers_bits_predecessor0(const vers_bits *list, uint64_t place) {
     return vers_previous_bit(&list->handle, VERS_RANK0, VERS_SELECT0, place);
@@ -738,7 +739,7 @@ static inline vers_answer vers_sorted_heap_size(const vers_sorted *list) {
     return vers_asked(&list->handle, VERS_HEAP_SIZE, 0, 0, 0);
 }
 
-/** The member at a place. VERS_ABSENT past the end. */
+/** The member at a position. VERS_ABSENT past the end. */
 static inline vers_answer vers_sorted_get(const vers_sorted *list, uint64_t place) {
     return vers_quick_sorted_get(vers_held(&list->handle), place);
 }
@@ -772,7 +773,7 @@ static inline vers_answer vers_sorted_successor(const vers_sorted *list, uint64_
     return vers_quick_sorted_successor(vers_held(&list->handle), number);
 }
 
-/** The member at a place less the one before it, the first member itself. VERS_ABSENT past the end. */
+/** The member at a position less the one before it, the first member itself. VERS_ABSENT past the end. */
 static inline vers_answer vers_sorted_delta(const vers_sorted *list, uint64_t place) {
     return vers_asked(&list->handle, VERS_DELTA, place, 0, 0);
 }
@@ -784,14 +785,14 @@ static inline uint32_t vers_sorted_each(const vers_sorted *list, enum vers_query
     return vers_asked_each(&list->handle, query, numbers, count, 0, 0, other);
 }
 
-/* A list of bits with few ones, kept by their places. */
+/* A list of bits with few ones, kept by their positions. */
 
-/** A list of bits with few ones, kept by their places. */
+/** A list of bits with few ones, kept by their positions. */
 typedef struct vers_sparse {
     vers_handle handle;
 } vers_sparse;
 
-/** Makes the list of `length` bits whose ones are at `count` places. VERS_REFUSED if the places don't ascend
+/** Makes the list of `length` bits whose ones are at `count` positions. VERS_REFUSED if the positions don't ascend
  * strictly, or one isn't below `length`. VERS_OCCUPIED, VERS_NO_MEMORY. */
 static inline uint32_t vers_sparse_of(vers_sparse *list, const uint64_t *ones, size_t count, uint64_t length) {
     if (vers_is_missing(ones, count)) return VERS_REFUSED;
@@ -836,29 +837,29 @@ static inline vers_answer vers_sparse_heap_size(const vers_sparse *list) {
     return vers_asked(&list->handle, VERS_HEAP_SIZE, 0, 0, 0);
 }
 
-/** The bit at a place, 1 or 0. VERS_ABSENT past the end. */
+/** The bit at a position, 1 or 0. VERS_ABSENT past the end. */
 static inline vers_answer vers_sparse_get(const vers_sparse *list, uint64_t place) {
     return vers_asked(&list->handle, VERS_GET, place, 0, 0);
 }
 
-/** The number of ones before a place; of all past the end. */
+/** The number of ones before a position; of all past the end. */
 static inline vers_answer vers_sparse_rank1(const vers_sparse *list, uint64_t place) {
     return vers_asked(&list->handle, VERS_RANK1, place, 0, 0);
 }
 
-/** The number of zeros before a place; of all past the end. */
+/** The number of zeros before a position; of all past the end. */
 static inline vers_answer vers_sparse_rank0(const vers_sparse *list, uint64_t place) {
     return vers_asked(&list->handle, VERS_RANK0, place, 0, 0);
 }
 
-/** The place of one number `number`, counted from 0; the length if there are no more, while vers_symbols_select
+/** The position of one number `number`, counted from 0; the length if there are no more, while vers_symbols_select
  * answers VERS_ABSENT. */
 static inline vers_answer vers_sparse_select1(const vers_sparse *list, uint64_t number) {
     return vers_asked(&list->handle, VERS_SELECT1, number, 0, 0);
 }
 
-/** Writes the places of ones from `start` up to `end` over an array of `count`, ascending, as many as it has room for.
- * The answer is how many there are. */
+/** Writes the positions of ones from `start` up to `end` over an array of `count`, ascending, as many as it has room
+ * for. The answer is how many there are. */
 static inline vers_answer vers_sparse_places1(const vers_sparse *list, uint64_t start, uint64_t end, uint64_t *places,
                                              size_t count) {
     return vers_listed(&list->handle, VERS_RANK1, VERS_SELECT1, start, end, places, count);
@@ -950,30 +951,30 @@ static inline vers_answer vers_symbols_heap_size(const vers_symbols *list) {
     return vers_asked(&list->handle, VERS_HEAP_SIZE, 0, 0, 0);
 }
 
-/** The symbol at a place. VERS_ABSENT past the end. */
+/** The symbol at a position. VERS_ABSENT past the end. */
 static inline vers_answer vers_symbols_get(const vers_symbols *list, uint64_t place) {
     return vers_quick_symbols_get(vers_held(&list->handle), place);
 }
 
-/** How many of the first `end` places hold a symbol. VERS_ABSENT if there are fewer places. */
+/** How many of the first `end` positions hold a symbol. VERS_ABSENT if there are fewer positions. */
 static inline vers_answer vers_symbols_rank(const vers_symbols *list, uint64_t end, uint64_t symbol) {
     return vers_quick_symbols_rank(vers_held(&list->handle), end, symbol);
 }
 
-/** How many places of a range hold a symbol. VERS_ABSENT if it starts past the last place, or ends before it
+/** How many positions of a range hold a symbol. VERS_ABSENT if it starts past the last position, or ends before it
  * starts. */
 static inline vers_answer vers_symbols_rank_range(const vers_symbols *list, uint64_t start, uint64_t end,
                                                   uint64_t symbol) {
     return vers_asked(&list->handle, VERS_RANK_RANGE, start, end, symbol);
 }
 
-/** The place of occurrence `number` of a symbol. VERS_ABSENT if there are fewer, while vers_bits_select1 answers
+/** The position of occurrence `number` of a symbol. VERS_ABSENT if there are fewer, while vers_bits_select1 answers
  * the length. */
 static inline vers_answer vers_symbols_select(const vers_symbols *list, uint64_t number, uint64_t symbol) {
     return vers_asked(&list->handle, VERS_SELECT_OF, number, symbol, 0);
 }
 
-/** The place of occurrence `number` of a symbol among the places from `offset` on. VERS_ABSENT if there are
+/** The position of occurrence `number` of a symbol among the positions from `offset` on. VERS_ABSENT if there are
  * fewer. */
 static inline vers_answer vers_symbols_select_offset(const vers_symbols *list, uint64_t offset, uint64_t number,
                                                      uint64_t symbol) {
@@ -986,7 +987,7 @@ static inline vers_answer vers_symbols_quantile(const vers_symbols *list, uint64
     return vers_quick_symbols_quantile(vers_held(&list->handle), start, end, number);
 }
 
-/** The least symbol of a range without its end, while vers_fast_rmq_range_min includes the end and answers a place.
+/** The least symbol of a range without its end, while vers_fast_rmq_range_min includes the end and answers a position.
  * VERS_ABSENT if it is empty. */
 static inline vers_answer vers_symbols_range_min(const vers_symbols *list, uint64_t start, uint64_t end) {
     return vers_asked(&list->handle, VERS_LEAST, start, end, 0);
@@ -1078,12 +1079,12 @@ static inline vers_answer vers_fast_rmq_heap_size(const vers_fast_rmq *list) {
     return vers_asked(&list->handle, VERS_HEAP_SIZE, 0, 0, 0);
 }
 
-/** The value at a place. VERS_ABSENT past the end. */
+/** The value at a position. VERS_ABSENT past the end. */
 static inline vers_answer vers_fast_rmq_get(const vers_fast_rmq *list, uint64_t place) {
     return vers_quick_values_get(vers_held(&list->handle), place);
 }
 
-/** The first place of a least value from `first` to `last`, both included, while vers_symbols_range_min excludes the
+/** The first position of a least value from `first` to `last`, both included, while vers_symbols_range_min excludes the
  * end and answers a symbol. VERS_ABSENT if `last` is before `first` or past the end. */
 static inline vers_answer vers_fast_rmq_range_min(const vers_fast_rmq *list, uint64_t first, uint64_t last) {
     return vers_quick_values_range_min(vers_held(&list->handle), first, last);
@@ -1153,12 +1154,12 @@ static inline vers_answer vers_binary_rmq_heap_size(const vers_binary_rmq *list)
     return vers_asked(&list->handle, VERS_HEAP_SIZE, 0, 0, 0);
 }
 
-/** The value at a place. VERS_ABSENT past the end. */
+/** The value at a position. VERS_ABSENT past the end. */
 static inline vers_answer vers_binary_rmq_get(const vers_binary_rmq *list, uint64_t place) {
     return vers_asked(&list->handle, VERS_GET, place, 0, 0);
 }
 
-/** The first place of a least value from `first` to `last`, both included, while vers_symbols_range_min excludes the
+/** The first position of a least value from `first` to `last`, both included, while vers_symbols_range_min excludes the
  * end and answers a symbol. VERS_ABSENT if `last` is before `first` or past the end. */
 static inline vers_answer vers_binary_rmq_range_min(const vers_binary_rmq *list, uint64_t first, uint64_t last) {
     return vers_asked(&list->handle, VERS_RANGE_MIN, first, last, 0);
@@ -1179,8 +1180,8 @@ static inline uint32_t vers_binary_rmq_rows(const vers_binary_rmq *list, enum ve
 
 /* Trees as parentheses, of which a one opens and a zero closes. */
 
-/** Trees as parentheses, of which a one opens and a zero closes. A node is the place where it opens. Queries of nodes
- * answer VERS_REFUSED if the parentheses aren't balanced or no node opens at a place that is passed. The other
+/** Trees as parentheses, of which a one opens and a zero closes. A node is the position where it opens. Queries of
+ * nodes answer VERS_REFUSED if the parentheses aren't balanced or no node opens at a position that is passed. The other
  * queries answer of any list of bits. */
 typedef struct vers_tree {
     vers_handle handle;
@@ -1226,7 +1227,7 @@ static inline vers_answer vers_tree_len(const vers_tree *list) {
     return vers_asked(&list->handle, VERS_LEN, 0, 0, 0);
 }
 
-/** Whether the parenthesis at a place opens, 1 or 0. VERS_ABSENT past the end. */
+/** Whether the parenthesis at a position opens, 1 or 0. VERS_ABSENT past the end. */
 static inline vers_answer vers_tree_is_open(const vers_tree *list, uint64_t place) {
     return vers_quick_tree_get(vers_held(&list->handle), place);
 }
@@ -1246,38 +1247,38 @@ static inline vers_answer vers_tree_is_balanced(const vers_tree *list) {
     return vers_asked(&list->handle, VERS_IS_BALANCED, 0, 0, 0);
 }
 
-/** The ones less the zeros up to a place and at it: read `value` by vers_signed. VERS_REFUSED past the end. */
+/** The ones less the zeros up to a position and at it: read `value` by vers_signed. VERS_REFUSED past the end. */
 static inline vers_answer vers_tree_excess(const vers_tree *list, uint64_t place) {
     return vers_asked(&list->handle, VERS_EXCESS, place, 0, 0);
 }
 
-/** The place that closes what opens at a place. VERS_ABSENT if there is none. */
+/** The position that closes what opens at a position. VERS_ABSENT if there is none. */
 static inline vers_answer vers_tree_close(const vers_tree *list, uint64_t place) {
     return vers_quick_tree_close(vers_held(&list->handle), place);
 }
 
-/** The place that opens what closes at a place. VERS_ABSENT if there is none. */
+/** The position that opens what closes at a position. VERS_ABSENT if there is none. */
 static inline vers_answer vers_tree_open(const vers_tree *list, uint64_t place) {
     return vers_asked(&list->handle, VERS_OPEN, place, 0, 0);
 }
 
-/** Where the nearest pair round a place opens. VERS_ABSENT if there is none. */
+/** Where the nearest pair round a position opens. VERS_ABSENT if there is none. */
 static inline vers_answer vers_tree_enclose(const vers_tree *list, uint64_t place) {
     return vers_asked(&list->handle, VERS_ENCLOSE, place, 0, 0);
 }
 
-/** The place of one number `number`: of balanced parentheses, that node in preorder. The length if there are no
+/** The position of one number `number`: of balanced parentheses, that node in preorder. The length if there are no
  * more. */
 static inline vers_answer vers_tree_node_handle(const vers_tree *list, uint64_t number) {
     return vers_asked(&list->handle, VERS_NODE_HANDLE, number, 0, 0);
 }
 
-/** The first place past `place` where the excess has risen by `rise`. VERS_ABSENT if there is none. */
+/** The first position past `place` where the excess has risen by `rise`. VERS_ABSENT if there is none. */
 static inline vers_answer vers_tree_fwd_search(const vers_tree *list, uint64_t place, int64_t rise) {
     return vers_asked(&list->handle, VERS_FWD_SEARCH, place, (uint64_t)rise, 0);
 }
 
-/** The last place before `place` before which the excess is `rise` more. VERS_ABSENT if there is none. */
+/** The last position before `place` before which the excess is `rise` more. VERS_ABSENT if there is none. */
 static inline vers_answer vers_tree_bwd_search(const vers_tree *list, uint64_t place, int64_t rise) {
     return vers_asked(&list->handle, VERS_BWD_SEARCH, place, (uint64_t)rise, 0);
 }
@@ -1327,7 +1328,7 @@ static inline vers_answer vers_tree_node_index(const vers_tree *list, uint64_t n
     return vers_asked(&list->handle, VERS_NODE_INDEX, node, 0, 0);
 }
 
-/** Whether the parentheses are balanced and a node opens at a place, 1 or 0. */
+/** Whether the parentheses are balanced and a node opens at a position, 1 or 0. */
 static inline vers_answer vers_tree_has_node(const vers_tree *list, uint64_t place) {
     return vers_asked(&list->handle, VERS_HAS_NODE, place, 0, 0);
 }
@@ -1362,7 +1363,7 @@ static inline vers_answer vers_tree_level_rightmost(const vers_tree *list, uint6
     return vers_asked(&list->handle, VERS_LEVEL_RIGHTMOST, depth, 0, 0);
 }
 
-/** The first root, which is place 0. VERS_ABSENT if the list is empty. */
+/** The first root, which is position 0. VERS_ABSENT if the list is empty. */
 static inline vers_answer vers_tree_root(const vers_tree *list) {
     vers_answer first = vers_tree_is_open(list, 0);
     first.value = 0;
@@ -1430,12 +1431,12 @@ static inline vers_answer vers_postings_len(const vers_postings *list) {
     return vers_asked(&list->handle, VERS_LEN, 0, 0, 0);
 }
 
-/** The document at a place. VERS_ABSENT past the end. */
+/** The document at a position. VERS_ABSENT past the end. */
 static inline vers_answer vers_postings_get(const vers_postings *list, uint64_t place) {
     return vers_asked(&list->handle, VERS_GET, place, 0, 0);
 }
 
-/** The cost of the document at a place. VERS_ABSENT past the end. */
+/** The cost of the document at a position. VERS_ABSENT past the end. */
 static inline vers_answer vers_postings_cost(const vers_postings *list, uint64_t place) {
     return vers_asked(&list->handle, VERS_COST, place, 0, 0);
 }
@@ -1503,7 +1504,7 @@ static inline vers_answer vers_numbers_len(const vers_numbers *list) {
     return vers_asked(&list->handle, VERS_LEN, 0, 0, 0);
 }
 
-/** The number at a place. VERS_ABSENT past the end. */
+/** The number at a position. VERS_ABSENT past the end. */
 static inline vers_answer vers_numbers_get(const vers_numbers *list, uint64_t place) {
     return vers_asked(&list->handle, VERS_GET, place, 0, 0);
 }
@@ -1599,8 +1600,8 @@ static inline vers_answer vers_inverted_heap_size(const vers_inverted *index) {
     return vers_asked(&index->handle, VERS_HEAP_SIZE, 0, 0, 0);
 }
 
-/** The pair at a place of all pairs as one number: the term times the universe, plus the document. VERS_ABSENT past the
- * end. */
+/** The pair at a position of all pairs as one number: the term times the universe, plus the document. VERS_ABSENT past
+ * the end. */
 static inline vers_answer vers_inverted_pair_number(const vers_inverted *index, uint64_t place) {
     return vers_asked(&index->handle, VERS_GET, place, 0, 0);
 }
@@ -1610,7 +1611,7 @@ static inline vers_answer vers_inverted_count(const vers_inverted *index, uint64
     return vers_asked(&index->handle, VERS_COUNT, term, 0, 0);
 }
 
-/** The document of a term at a place. VERS_ABSENT past the end. */
+/** The document of a term at a position. VERS_ABSENT past the end. */
 static inline vers_answer vers_inverted_get(const vers_inverted *index, uint64_t term, uint64_t place) {
     return vers_asked(&index->handle, VERS_TERM_GET, term, place, 0);
 }
@@ -1672,15 +1673,15 @@ static inline uint32_t vers_inverted_rows(const vers_inverted *index, enum vers_
 
 /* A text of symbols, in which patterns are found. */
 
-/** A text of symbols of at most 16 bits, in which patterns are found. A pattern occurs at a place where the text goes
- * on with its symbols; the one without symbols at each place, and at the end. */
+/** A text of symbols of at most 16 bits, in which patterns are found. A pattern occurs at a position where the text
+ * goes on with its symbols; the one without symbols at each position, and at the end. */
 typedef struct vers_text {
     vers_handle handle;
 } vers_text;
 
-/** Makes the text of `count` symbols of `width` bits, with one place kept for each `step`: a place of a pattern is found
- * by fewer than `step` steps. VERS_REFUSED if a symbol has more bits than `width`, `width` is 0 or above 16, `step`
- * is 0, or the symbols are more than 2^32 - 2. VERS_OCCUPIED, VERS_NO_MEMORY. */
+/** Makes the text of `count` symbols of `width` bits, with one position kept for each `step`: a position of a pattern
+ * is found by fewer than `step` steps. VERS_REFUSED if a symbol has more bits than `width`, `width` is 0 or above 16,
+ * `step` is 0, or the symbols are more than 2^32 - 2. VERS_OCCUPIED, VERS_NO_MEMORY. */
 static inline uint32_t vers_text_of(vers_text *text, const uint64_t *symbols, size_t count, uint32_t width,
                                     size_t step) {
     if (vers_is_missing(symbols, count)) return VERS_REFUSED;
@@ -1739,7 +1740,7 @@ static inline vers_answer vers_text_width(const vers_text *text) {
     return vers_asked(&text->handle, VERS_WIDTH, 0, 0, 0);
 }
 
-/** The distance of two sampled places. */
+/** The distance of two sampled positions. */
 static inline vers_answer vers_text_step(const vers_text *text) {
     return vers_asked(&text->handle, VERS_STEP, 0, 0, 0);
 }
@@ -1749,7 +1750,7 @@ static inline vers_answer vers_text_heap_size(const vers_text *text) {
     return vers_asked(&text->handle, VERS_HEAP_SIZE, 0, 0, 0);
 }
 
-/** How many places a pattern of `count` symbols has. */
+/** How many positions a pattern of `count` symbols has. */
 static inline vers_answer vers_text_count(const vers_text *text, const uint64_t *pattern, size_t count) {
     vers_answer missing = {VERS_REFUSED, 0};
     if (vers_is_missing(pattern, count)) return missing;
@@ -1757,7 +1758,7 @@ static inline vers_answer vers_text_count(const vers_text *text, const uint64_t 
 }
 
 /** Counts many patterns, which are joined in `length` symbols: replaces each of `count` ends of a pattern by how many
- *  places the pattern has. VERS_REFUSED if the ends descend, or one is above `length`: they stay. */
+ *  positions the pattern has. VERS_REFUSED if the ends descend, or one is above `length`: they stay. */
 static inline uint32_t vers_text_count_each(const vers_text *text, const uint64_t *symbols, size_t length,
                                             uint64_t *ends, size_t count) {
     if (vers_is_missing(symbols, length) || vers_is_missing(ends, count)) return VERS_REFUSED;
@@ -1766,14 +1767,14 @@ static inline uint32_t vers_text_count_each(const vers_text *text, const uint64_
     return vers_count_each(vers_held(&text->handle), vers_array(symbols), length, ends, count);
 }
 
-/** Whether a pattern of `count` symbols has a place, 1 or 0. */
+/** Whether a pattern of `count` symbols has a position, 1 or 0. */
 static inline vers_answer vers_text_contains(const vers_text *text, const uint64_t *pattern, size_t count) {
     vers_answer answer = vers_text_count(text, pattern, count);
     answer.value = answer.value > 0;
     return answer;
 }
 
-/** Puts the places of a pattern, ascending, into an empty other handle. VERS_REFUSED if the first holds nothing,
+/** Puts the positions of a pattern, ascending, into an empty other handle. VERS_REFUSED if the first holds nothing,
  * VERS_OCCUPIED, VERS_NO_MEMORY. */
 static inline uint32_t vers_text_places(const vers_text *text, const uint64_t *pattern, size_t count,
                                         vers_numbers *into) {
@@ -1781,16 +1782,16 @@ static inline uint32_t vers_text_places(const vers_text *text, const uint64_t *p
     return vers_places(vers_held(&text->handle), vers_array(pattern), count, &into->handle);
 }
 
-/** Puts the first `limit` places of a pattern, or all if there are fewer, into an empty other handle, in the order of
- * the suffixes that begin there: in less time than all of them take. VERS_OCCUPIED, VERS_NO_MEMORY. */
+/** Puts the first `limit` positions of a pattern, or all if there are fewer, into an empty other handle, in the order
+ * of the suffixes that begin there: in less time than all of them take. VERS_OCCUPIED, VERS_NO_MEMORY. */
 static inline uint32_t vers_text_first_places(const vers_text *text, const uint64_t *pattern, size_t count,
                                               size_t limit, vers_numbers *into) {
     if (vers_is_missing(pattern, count)) return VERS_REFUSED;
     return vers_first_places(vers_held(&text->handle), vers_array(pattern), count, limit, &into->handle);
 }
 
-/** Puts the symbols from place `start` up to `end` into an empty other handle. VERS_REFUSED if the text has no such
- * places, or the handle holds nothing, VERS_OCCUPIED, VERS_NO_MEMORY. */
+/** Puts the symbols from position `start` up to `end` into an empty other handle. VERS_REFUSED if the text has no such
+ * positions, or the handle holds nothing, VERS_OCCUPIED, VERS_NO_MEMORY. */
 static inline uint32_t vers_text_extract(const vers_text *text, size_t start, size_t end, vers_numbers *into) {
     return vers_extract(vers_held(&text->handle), start, end, &into->handle);
 }

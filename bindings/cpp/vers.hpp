@@ -10,16 +10,19 @@
  *  from owns nothing: it answers 0 or nullopt, its clone owns nothing either, and so do the Numbers that it answers.
  *
  *  Constructors. `from`, `from_words` and `from_bits` take a pointer and a length, two iterators, or a range: a
- *  container, a span, a view, numbers in braces. The arguments that a class names follow, such as a width. They return
- *  the list, or std::optional of it if the arguments can be refused: then nullopt. With a Status last they return
- *  std::optional, throw only what an iterator throws, and the status says why there is no list.
+ *  container, a span, a view, numbers in braces. The other arguments that a class names follow, such as a width; only
+ *  InvertedIndex takes its limits first: `from(limit, universe, terms, documents)`. They return the list, or
+ *  std::optional of it if the arguments can be refused: then nullopt. With a Status last they return std::optional,
+ *  throw only what an iterator throws, and the status says why there is no list.
  *  Null is for a length of 0. Null with another length is refused, or the list owns nothing. An array of 64-bit
  *  numbers is read without a copy. Iterators and ranges are over unsigned whole numbers, those of `from_bits` over
  *  whole numbers or truth values: others, and the characters of a text, don't compile.
  *
  *  Patterns. That of a TextIndex is a pointer and a length, or such a range.
  *
- *  Ranges. A list with `begin` and `end` is a range, with random access in C++20. Lists compare by their contents.
+ *  Ranges. A list with `begin` and `end` is a range, with random access in C++20. An iterator refers to the object of
+ *  its list: it is invalid once that object is moved from, moved to or destroyed, as by a container of lists that grows.
+ *  Lists compare by their contents.
  *
  *  Exceptions. Only std::bad_alloc, if memory is out. If exceptions are off, or VERS_NO_EXCEPTIONS is defined, nothing
  *  throws: a change answers Status::no_memory, and a constructor without a Status, or == of a TextIndex, ends the
@@ -200,7 +203,7 @@ auto with_bits(Range &range, Status &status, Make &&make) -> decltype(make(nullp
     return make(words.data(), words.size(), length);
 }
 
-/** An iterator over the items of a list, by their places. C++17 demands a reference of all but an input iterator. */
+/** An iterator over the items of a list, by their positions. C++17 demands a reference of all but an input iterator. */
 template <class List>
 class Items {
 public:
@@ -273,7 +276,7 @@ public:
     std::uint64_t len() const noexcept { return ask(VERS_LEN).value; }
     std::uint64_t size() const noexcept { return len(); }
     bool is_empty() const noexcept { return len() == 0; }
-    /** The item at a place; 0 past the end, for which `get` answers nullopt. */
+    /** The item at a position; 0 past the end, for which `get` answers nullopt. */
     std::uint64_t operator[](std::uint64_t place) const noexcept {
         return static_cast<const List &>(*this).get(place).value_or(0);
     }
@@ -417,16 +420,20 @@ inline constexpr auto narrow_build<vers_text_build, std::uint8_t> = vers_text_bu
 template <>
 inline constexpr auto narrow_build<vers_text_build, std::uint16_t> = vers_text_build_u16s;
 
+/** Whether there is such a call, by its type: under -fsanitize=undefined, g++ compares no address in a constant. */
+template <auto Build, class Number>
+inline constexpr bool has_narrow_build = !std::is_same_v<decltype(narrow_build<Build, Number>), const std::nullptr_t>;
+
 /** Whether `Build` takes characters as bytes. */
 template <auto Build>
-inline constexpr bool takes_characters = narrow_build<Build, std::uint8_t> != nullptr;
+inline constexpr bool takes_characters = has_narrow_build<Build, std::uint8_t>;
 
 /** Whether `Build` has such a call for the items of a range that are adjacent in memory. */
 template <auto Build, class Range, class = void>
 inline constexpr bool is_narrow = false;
 template <auto Build, class Range>
 inline constexpr bool is_narrow<Build, Range, std::void_t<decltype(std::data(std::declval<Range &>()))>> =
-    narrow_build<Build, Item<Range>> != nullptr;
+    has_narrow_build<Build, Item<Range>>;
 
 /** The constructors `from` of a list of numbers, which `Build` makes, of further arguments `More`. */
 template <class List, class Made, auto Build, class... More>
@@ -563,9 +570,9 @@ public:
     /** No bits. */
     BitVec() : BitVec(from_words(nullptr, 0, 0)) {}
 
-    /** The bit at a place, 1 or 0. */
+    /** The bit at a position, 1 or 0. */
     std::optional<std::uint64_t> get(std::uint64_t place) const noexcept { return find(VERS_GET, place); }
-    /** The number of the `count` bits from a place on, the lowest first. nullopt if there are fewer, or they
+    /** The number of the `count` bits from a position on, the lowest first. nullopt if there are fewer, or they
      *  are none or more than 64. */
     std::optional<std::uint64_t> get_bits(std::uint64_t place, std::uint64_t count) const noexcept {
         return find(VERS_GET_BITS, place, count);
@@ -574,7 +581,7 @@ public:
     Status append(bool bit) { return change(VERS_PUSH, bit); }
     /** Appends the low bits of a number, the lowest first. Status::refused if they are more than 64. */
     Status append_bits(std::uint64_t bits, std::uint64_t count) { return change(VERS_APPEND, bits, count); }
-    /** Status::refused for a place past the end. */
+    /** Status::refused for a position past the end. */
     Status set(std::uint64_t place, bool bit) { return change(VERS_SET, place, bit); }
     /** Drops the last `count` bits, or all. */
     Status drop_last(std::uint64_t count) { return change(VERS_DROP_LAST, count); }
@@ -595,35 +602,35 @@ public:
     /** Owns nothing, until a list is moved to it. */
     RsVec() noexcept = default;
 
-    /** The bit at a place, 1 or 0. */
+    /** The bit at a position, 1 or 0. */
     std::optional<std::uint64_t> get(std::uint64_t place) const noexcept {
         return detail::found(vers_bits_get(&raw_, place));
     }
-    /** The number of the `count` bits from a place on, the lowest first; 0 for none. nullopt if there are
+    /** The number of the `count` bits from a position on, the lowest first; 0 for none. nullopt if there are
      *  fewer, or they are more than 64. */
     std::optional<std::uint64_t> get_bits(std::uint64_t place, std::uint64_t count) const noexcept {
         return find(VERS_GET_BITS, place, count);
     }
-    /** The number of ones, or zeros, before a place; of all past the end. */
+    /** The number of ones, or zeros, before a position; of all past the end. */
     std::uint64_t rank1(std::uint64_t place) const noexcept { return vers_bits_rank1(&raw_, place).value; }
     std::uint64_t rank0(std::uint64_t place) const noexcept { return vers_bits_rank0(&raw_, place).value; }
-    /** The place of a one, or zero, by its number from 0 on; the length if there are no more, while that of symbols is
-     *  nullopt. */
+    /** The position of a one, or zero, by its number from 0 on; the length if there are no more, while that of symbols
+     *  is nullopt. */
     std::uint64_t select1(std::uint64_t number) const noexcept { return vers_bits_select1(&raw_, number).value; }
     std::uint64_t select0(std::uint64_t number) const noexcept { return vers_bits_select0(&raw_, number).value; }
 
     /** How many ones, or zeros, there are. */
     std::uint64_t ones() const noexcept { return vers_bits_ones(&raw_).value; }
     std::uint64_t zeros() const noexcept { return vers_bits_zeros(&raw_).value; }
-    /** The least place of a one, or zero, strictly above a place; that of an ascending list is at or above. */
+    /** The least position of a one, or zero, strictly above a position; that of an ascending list is at or above. */
     std::optional<std::uint64_t> successor1(std::uint64_t place) const noexcept {
         return detail::found(vers_bits_successor1(&raw_, place));
     }
     std::optional<std::uint64_t> successor0(std::uint64_t place) const noexcept {
         return detail::found(vers_bits_successor0(&raw_, place));
     }
-    /** The greatest place of a one, or zero, strictly below a place, which may be past the end; that of an ascending
-     *  list is at or below. */
+    /** The greatest position of a one, or zero, strictly below a position, which may be past the end; that of an
+     *  ascending list is at or below. */
     std::optional<std::uint64_t> predecessor1(std::uint64_t place) const noexcept {
         return detail::found(vers_bits_predecessor1(&raw_, place));
     }
@@ -649,12 +656,12 @@ public:
     /** Owns nothing, until a list is moved to it. */
     SparseRSVec() noexcept = default;
 
-    /** The bit at a place, 1 or 0. */
+    /** The bit at a position, 1 or 0. */
     std::optional<std::uint64_t> get(std::uint64_t place) const noexcept { return find(VERS_GET, place); }
-    /** The number of ones, or zeros, before a place; of all past the end. */
+    /** The number of ones, or zeros, before a position; of all past the end. */
     std::uint64_t rank1(std::uint64_t place) const noexcept { return ask(VERS_RANK1, place).value; }
     std::uint64_t rank0(std::uint64_t place) const noexcept { return ask(VERS_RANK0, place).value; }
-    /** The place of a one by its number from 0 on; the length if there are no more, while that of symbols is
+    /** The position of a one by its number from 0 on; the length if there are no more, while that of symbols is
      *  nullopt. */
     std::uint64_t select1(std::uint64_t number) const noexcept { return ask(VERS_SELECT1, number).value; }
 
@@ -692,7 +699,7 @@ public:
     std::optional<std::uint64_t> successor(std::uint64_t number) const noexcept {
         return detail::found(vers_sorted_successor(&raw_, number));
     }
-    /** The member at a place less the one before it; the first member itself. */
+    /** The member at a position less the one before it; the first member itself. */
     std::optional<std::uint64_t> delta(std::uint64_t place) const noexcept { return find(VERS_DELTA, place); }
 
     detail::Items<EliasFanoVec> begin() const noexcept { return {this, 0}; }
@@ -718,20 +725,20 @@ public:
     Found get(std::uint64_t place) const noexcept { return detail::found(vers_symbols_get(&raw_, place)); }
     /** How many bits a symbol has. */
     std::uint64_t bits_per_element() const noexcept { return ask(VERS_WIDTH).value; }
-    /** How many of the first `end` places hold a symbol. nullopt if there are fewer places. */
+    /** How many of the first `end` positions hold a symbol. nullopt if there are fewer positions. */
     Found rank(std::uint64_t end, std::uint64_t symbol) const noexcept {
         return detail::found(vers_symbols_rank(&raw_, end, symbol));
     }
-    /** How many places of a range hold a symbol. */
+    /** How many positions of a range hold a symbol. */
     Found rank_range(std::uint64_t start, std::uint64_t end, std::uint64_t symbol) const noexcept {
         return find(VERS_RANK_RANGE, start, end, symbol);
     }
-    /** The place of occurrence `number` of a symbol. nullopt if there are fewer, while that of bits is the
+    /** The position of occurrence `number` of a symbol. nullopt if there are fewer, while that of bits is the
      *  length. */
     Found select(std::uint64_t number, std::uint64_t symbol) const noexcept {
         return find(VERS_SELECT_OF, number, symbol);
     }
-    /** The same among the places from `offset` on. */
+    /** The same among the positions from `offset` on. */
     Found select_offset(std::uint64_t offset, std::uint64_t number, std::uint64_t symbol) const noexcept {
         return find(VERS_SELECT_FROM, offset, number, symbol);
     }
@@ -739,7 +746,8 @@ public:
     Found quantile(std::uint64_t start, std::uint64_t end, std::uint64_t number) const noexcept {
         return detail::found(vers_symbols_quantile(&raw_, start, end, number));
     }
-    /** The least or the greatest symbol of a range without its end; that of minima includes the end, and is a place. */
+    /** The least or the greatest symbol of a range without its end; that of minima includes the end, and is a position.
+     *  */
     Found range_min(std::uint64_t start, std::uint64_t end) const noexcept { return find(VERS_LEAST, start, end); }
     Found range_max(std::uint64_t start, std::uint64_t end) const noexcept { return find(VERS_GREATEST, start, end); }
     /** The middle one in ascending order, the lower one of two. */
@@ -776,8 +784,8 @@ public:
     std::optional<std::uint64_t> get(std::uint64_t place) const noexcept {
         return detail::found(vers_fast_rmq_get(&raw_, place));
     }
-    /** The first place of a least value from one place to another, both included, while that of symbols excludes the
-     *  end and is a symbol. nullopt for no such range. */
+    /** The first position of a least value from one position to another, both included, while that of symbols excludes
+     *  the end and is a symbol. nullopt for no such range. */
     std::optional<std::uint64_t> range_min(std::uint64_t first, std::uint64_t last) const noexcept {
         return detail::found(vers_fast_rmq_range_min(&raw_, first, last));
     }
@@ -799,8 +807,8 @@ public:
     BinaryRmq() noexcept = default;
 
     std::optional<std::uint64_t> get(std::uint64_t place) const noexcept { return find(VERS_GET, place); }
-    /** The first place of a least value from one place to another, both included, while that of symbols excludes the
-     *  end and is a symbol. nullopt for no such range. */
+    /** The first position of a least value from one position to another, both included, while that of symbols excludes
+     *  the end and is a symbol. nullopt for no such range. */
     std::optional<std::uint64_t> range_min(std::uint64_t first, std::uint64_t last) const noexcept {
         return find(VERS_RANGE_MIN, first, last);
     }
@@ -813,8 +821,8 @@ private:
     explicit BinaryRmq(Nothing) noexcept {}
 };
 
-/** Trees as parentheses, of which a one opens and a zero closes. A node is the place where it opens. Queries of nodes
- *  answer nullopt also if the parentheses aren't balanced, or no node opens at a place that is passed. */
+/** Trees as parentheses, of which a one opens and a zero closes. A node is the position where it opens. Queries of
+ *  nodes answer nullopt also if the parentheses aren't balanced, or no node opens at a position that is passed. */
 class BpTree : public detail::Owner<BpTree, vers_tree, VERS_KIND_TREE>,
                public detail::FromBits<BpTree, vers_tree_build> {
 public:
@@ -823,33 +831,33 @@ public:
 
     using Found = std::optional<std::uint64_t>;
 
-    /** The parenthesis at a place, 1 if it opens and 0 if it closes. */
+    /** The parenthesis at a position, 1 if it opens and 0 if it closes. */
     Found get(std::uint64_t place) const noexcept { return detail::found(vers_tree_is_open(&raw_, place)); }
-    /** Whether the parenthesis at a place opens. nullopt past the end. */
+    /** Whether the parenthesis at a position opens. nullopt past the end. */
     std::optional<bool> is_open(std::uint64_t place) const noexcept { return truth(get(place)); }
     /** The first root. nullopt if there are no parentheses. */
     Found root() const noexcept { return detail::found(vers_tree_root(&raw_)); }
     /** How many ones: of balanced parentheses, how many nodes. */
     std::uint64_t size() const noexcept { return ask(VERS_SIZE).value; }
     bool is_balanced() const noexcept { return ask(VERS_IS_BALANCED).value == 1; }
-    /** The ones less the zeros up to a place and at it. nullopt past the end. */
+    /** The ones less the zeros up to a position and at it. nullopt past the end. */
     std::optional<std::int64_t> excess(std::uint64_t place) const noexcept {
         Found value = find(VERS_EXCESS, place);
         if (!value) return std::nullopt;
         return vers_signed(*value);
     }
-    /** The place that closes what opens at a place, or opens what closes there. */
+    /** The position that closes what opens at a position, or opens what closes there. */
     Found close(std::uint64_t place) const noexcept { return detail::found(vers_tree_close(&raw_, place)); }
     Found open(std::uint64_t place) const noexcept { return find(VERS_OPEN, place); }
-    /** Where the nearest pair round a place opens. */
+    /** Where the nearest pair round a position opens. */
     Found enclose(std::uint64_t place) const noexcept { return find(VERS_ENCLOSE, place); }
-    /** Node `number` in preorder: the place of that one; the length if there are no more. */
+    /** Node `number` in preorder: the position of that one; the length if there are no more. */
     std::uint64_t node_handle(std::uint64_t number) const noexcept { return ask(VERS_NODE_HANDLE, number).value; }
-    /** The first place past `place` where the excess has risen by `rise`. */
+    /** The first position past `place` where the excess has risen by `rise`. */
     Found fwd_search(std::uint64_t place, std::int64_t rise) const noexcept {
         return find(VERS_FWD_SEARCH, place, static_cast<std::uint64_t>(rise));
     }
-    /** The last place before `place` before which the excess is `rise` more. */
+    /** The last position before `place` before which the excess is `rise` more. */
     Found bwd_search(std::uint64_t place, std::int64_t rise) const noexcept {
         return find(VERS_BWD_SEARCH, place, static_cast<std::uint64_t>(rise));
     }
@@ -875,7 +883,7 @@ public:
     Found depth(std::uint64_t node) const noexcept { return detail::found(vers_tree_depth(&raw_, node)); }
     /** How many nodes a node and those below it are. */
     Found subtree_size(std::uint64_t node) const noexcept { return find(VERS_SUBTREE_SIZE, node); }
-    /** Whether the parentheses are balanced and a node opens at a place. */
+    /** Whether the parentheses are balanced and a node opens at a position. */
     bool has_node(std::uint64_t place) const noexcept { return ask(VERS_HAS_NODE, place).value == 1; }
     std::optional<bool> is_leaf(std::uint64_t node) const noexcept { return truth(find(VERS_IS_LEAF, node)); }
     /** Whether one node is above another, or is that node. */
@@ -966,7 +974,7 @@ public:
         });
     }
 
-    /** The document at a place, and its cost. */
+    /** The document at a position, and its cost. */
     std::optional<std::uint64_t> get(std::uint64_t place) const noexcept { return find(VERS_GET, place); }
     std::optional<std::uint64_t> cost(std::uint64_t place) const noexcept { return find(VERS_COST, place); }
     detail::Items<Postings> begin() const noexcept { return {this, 0}; }
@@ -1001,9 +1009,10 @@ private:
     }
 };
 
-/** An inverted index: ascending documents for each term. `from(terms, universe, ..)` makes that of pairs of a term below
- *  `terms` and a document below `universe`, which ascend strictly by term, and those of one term by document. It refuses
- *  others, and limits whose product exceeds 64 bits. A term that the index doesn't have has no documents. */
+/** An inverted index: ascending documents for each term. `from(limit, universe, terms, documents)` makes that of pairs
+ *  of a term below `limit` and a document below `universe`, which ascend strictly by term, and those of one term by
+ *  document. It refuses others, and limits whose product exceeds 64 bits. A term that the index doesn't have has no
+ *  documents. */
 class InvertedIndex : public detail::Owner<InvertedIndex, vers_inverted, VERS_KIND_INVERTED> {
     using Numbers64 = std::initializer_list<std::uint64_t>;
 
@@ -1048,11 +1057,11 @@ public:
     std::uint64_t terms() const noexcept { return ask(VERS_TERMS).value; }
     /** The number that all documents are below. */
     std::uint64_t universe() const noexcept { return ask(VERS_UNIVERSE).value; }
-    /** The pair at a place of all pairs as one number: the term times the universe, plus the document. */
+    /** The pair at a position of all pairs as one number: the term times the universe, plus the document. */
     std::optional<std::uint64_t> pair_number(std::uint64_t place) const noexcept { return find(VERS_GET, place); }
     /** The number of documents of a term. */
     std::uint64_t count(std::uint64_t term) const noexcept { return ask(VERS_COUNT, term).value; }
-    /** The document of a term at a place. */
+    /** The document of a term at a position. */
     std::optional<std::uint64_t> get(std::uint64_t term, std::uint64_t place) const noexcept {
         return find(VERS_TERM_GET, term, place);
     }
@@ -1112,9 +1121,9 @@ private:
     }
 };
 
-/** A text of symbols of at most 16 bits, in which patterns are found. `from(symbols, width, step)` keeps one place for
- *  each `step`, 32 if none is named. It refuses symbols of more than `width` bits, more than 2^32 - 2 symbols, a width
- *  of 0 or above 16, and a step of 0. The pattern without symbols has each place, and the end. */
+/** A text of symbols of at most 16 bits, in which patterns are found. `from(symbols, width, step)` keeps one position
+ *  for each `step`, 32 if none is named. It refuses symbols of more than `width` bits, more than 2^32 - 2 symbols, a
+ *  width of 0 or above 16, and a step of 0. The pattern without symbols has each position, and the end. */
 class TextIndex : public detail::Owner<TextIndex, vers_text, VERS_KIND_TEXT>,
                   public detail::FromText,
                   public detail::FromTextByStep {
@@ -1127,9 +1136,9 @@ public:
 
     /** How many bits a symbol has. */
     std::uint64_t width() const noexcept { return ask(VERS_WIDTH).value; }
-    /** The distance of two sampled places. */
+    /** The distance of two sampled positions. */
     std::uint64_t step() const noexcept { return ask(VERS_STEP).value; }
-    /** How many places a pattern has. */
+    /** How many positions a pattern has. */
     std::uint64_t count(const std::uint64_t *pattern, std::size_t length) const noexcept {
         return vers_text_count(raw(), pattern, length).value;
     }
@@ -1146,12 +1155,12 @@ public:
     }
     std::uint64_t count(std::string_view pattern) const { return count<std::string_view &>(pattern); }
     /** Counts many patterns, which are joined in `length` symbols: replaces each of `count` ends of a pattern by how
-     *  many places the pattern has. Status::refused if the ends descend, or one is above `length`. */
+     *  many positions the pattern has. Status::refused if the ends descend, or one is above `length`. */
     Status count_each(const std::uint64_t *symbols, std::size_t length, std::uint64_t *ends,
                       std::size_t count) const noexcept {
         return static_cast<Status>(vers_text_count_each(raw(), symbols, length, ends, count));
     }
-    /** How many places each pattern of a range of patterns has. */
+    /** How many positions each pattern of a range of patterns has. */
     template <class Patterns, class = detail::Item<detail::Item<const Patterns>>>
     std::vector<std::uint64_t> count_each(const Patterns &patterns) const {
         std::vector<std::uint64_t> symbols, ends;
@@ -1173,7 +1182,7 @@ public:
         return count(pattern) > 0;
     }
     bool contains(std::string_view pattern) const { return count(pattern) > 0; }
-    /** The places of a pattern, ascending. */
+    /** The positions of a pattern, ascending. */
     Numbers places(const std::uint64_t *pattern, std::size_t length) const {
         Status status;
         return Numbers::needed(places(pattern, length, status), status);
@@ -1189,7 +1198,7 @@ public:
         return Numbers::needed(places(pattern, status), status);
     }
     Numbers places(std::string_view pattern) const { return places<std::string_view &>(pattern); }
-    /** The first `limit` places of a pattern, or all if there are fewer, in the order of the suffixes there. */
+    /** The first `limit` positions of a pattern, or all if there are fewer, in the order of the suffixes there. */
     Numbers first_places(const std::uint64_t *pattern, std::size_t length, std::size_t limit) const {
         Status status;
         return Numbers::needed(first_places(pattern, length, limit, status), status);
@@ -1218,7 +1227,7 @@ public:
             return places(numbers, length, status);
         });
     }
-    /** The symbols from a place up to another. nullopt if the text has no such places. */
+    /** The symbols from a position up to another. nullopt if the text has no such positions. */
     std::optional<Numbers> extract(std::size_t start, std::size_t end) const {
         Status status;
         return Numbers::wanted(extract(start, end, status), status);
