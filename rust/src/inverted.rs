@@ -30,7 +30,7 @@
 use crate::contracts::contract;
 use crate::elias_fano::EliasFanoVec;
 use crate::error::{granted, BuildError};
-use crate::items::{clones, counted};
+use crate::items::{clones, compares, counted};
 use crate::proved::inverted as proved;
 use crate::rattle::Global;
 use crate::saved::saved;
@@ -40,7 +40,8 @@ use std::fmt;
 /// twice.
 ///
 /// All lists are one list of the numbers `term * universe + document`, an [`EliasFanoVec`]: a short list costs about as
-/// much a document as a long one. A term that the index doesn't have has no documents.
+/// much a document as a long one. A term that the index doesn't have has no documents. Indexes are equal if their pairs
+/// and their limits are.
 pub struct InvertedIndex {
     index: proved::InvertedIndex<Global>,
 }
@@ -158,7 +159,7 @@ impl InvertedIndex {
     /// Iterates over the documents of a term, after a search for the first.
     #[doc = contract!(InvertedIndex::documents)]
     pub fn documents(&self, t: u64) -> Documents<'_> {
-        Documents(self.index.documents(t))
+        Documents { documents: self.index.documents(t), index: &self.index, term: t, taken: 0 }
     }
 
     /// Returns the documents that have both terms, by at most one search more for each than the rarer has documents.
@@ -213,6 +214,7 @@ counted! { InvertedIndex, index:
 }
 
 clones!(InvertedIndex, index);
+compares!(InvertedIndex, |it| [it.terms(), it.universe()].into_iter().chain(it.index.pair_numbers().iter()));
 saved!(InvertedIndex, index);
 
 impl fmt::Debug for InvertedIndex {
@@ -221,23 +223,38 @@ impl fmt::Debug for InvertedIndex {
     }
 }
 
-/// An iterator over the documents of a term, which allocates nothing.
+/// An iterator over the documents of a term, which allocates nothing. It finds the number of documents left by two
+/// searches, when it is asked.
 #[must_use = "iterators do nothing unless they are used"]
-pub struct Documents<'a>(proved::Documents<'a, Global>);
+pub struct Documents<'a> {
+    documents: proved::Documents<'a, Global>,
+    index: &'a proved::InvertedIndex<Global>,
+    term: u64,
+    taken: u64,
+}
 
 impl Iterator for Documents<'_> {
     type Item = u64;
 
     #[inline]
     fn next(&mut self) -> Option<u64> {
-        self.0.next()
+        let document = self.documents.next();
+        self.taken += u64::from(document.is_some());
+        document
+    }
+
+    fn size_hint(&self) -> (usize, Option<usize>) {
+        let left = (self.index.count(self.term) - self.taken) as usize;
+        (left, Some(left))
     }
 }
+
+impl ExactSizeIterator for Documents<'_> {}
 
 impl std::iter::FusedIterator for Documents<'_> {}
 
 impl fmt::Debug for Documents<'_> {
     fn fmt(&self, f: &mut fmt::Formatter<'_>) -> fmt::Result {
-        f.debug_struct("Documents").finish_non_exhaustive()
+        f.debug_struct("Documents").field("left", &self.len()).finish()
     }
 }

@@ -1,13 +1,15 @@
 //! Documents with costs, which the crate vers-vecs doesn't have.
 
 use crate::contracts::contract;
-use crate::elias_fano::EliasFanoVec;
+use crate::elias_fano::{EliasFanoRefIter, EliasFanoVec};
 use crate::error::{granted, BuildError};
 use crate::items::{check_ascending, compares, counted, shows};
 use crate::proved::postings as proved;
 use crate::rattle::Global;
 use crate::reads::Tally;
 use crate::saved::saved;
+use std::iter::{Copied, Zip};
+use std::slice;
 
 /// An ascending list of documents, which are numbers, with a cost each. It finds the cheapest document of a range, and
 /// those that two lists share.
@@ -98,9 +100,9 @@ impl Postings {
         EliasFanoVec { numbers: granted(crate::rattle::Clone::clone(self.list.documents())) }
     }
 
-    /// Iterates over the documents with their costs.
-    pub fn iter(&self) -> impl Iterator<Item = (u64, u64)> + '_ {
-        self.list.documents().iter().zip(self.list.costs().iter().copied())
+    /// Iterates over the documents with their costs, from both ends.
+    pub fn iter(&self) -> Iter<'_> {
+        EliasFanoRefIter(self.list.documents().iter()).zip(self.list.costs().iter().copied())
     }
 
     /// Returns true if the list has a document.
@@ -156,6 +158,18 @@ counted! { Postings, list:
     rank_counted, rank(document: u64) -> u64;
     next_at_least_counted, next_at_least(document: u64) -> Option<u64>;
     cheapest_counted, cheapest(from: u64, to: u64) -> Option<u64>;
+}
+
+/// An iterator over the documents of a list with their costs.
+pub type Iter<'a> = Zip<EliasFanoRefIter<'a>, Copied<slice::Iter<'a, u64>>>;
+
+impl<'a> IntoIterator for &'a Postings {
+    type Item = (u64, u64);
+    type IntoIter = Iter<'a>;
+
+    fn into_iter(self) -> Iter<'a> {
+        self.iter()
+    }
 }
 
 impl Clone for Postings {

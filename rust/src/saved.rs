@@ -130,7 +130,7 @@ impl From<fault::SaveError> for SaveError {
 impl fmt::Display for LoadError {
     fn fmt(&self, f: &mut fmt::Formatter<'_>) -> fmt::Result {
         f.write_str(match self {
-            LoadError::TooShort => "the bytes are cut off",
+            LoadError::TooShort => "the bytes are no saved form, or are cut off",
             LoadError::NotOurs => "the bytes do not begin as a saved form does",
             LoadError::OtherVersion => "the saved form is of another version",
             LoadError::OtherKind => "the saved form is of another kind of structure",

@@ -2,7 +2,7 @@
 
 use crate::contracts::contract;
 use crate::error::{granted, BuildError};
-use crate::items::{clones, counted, lengths, shows};
+use crate::items::{clones, compares, counted, lengths, shows};
 use crate::proved::text_index as proved;
 use crate::proved::vers_saved::texts::load_text_from_slice;
 use crate::rattle::Global;
@@ -13,7 +13,11 @@ use std::ops::Range;
 /// The distance of two sampled places, if the caller doesn't choose it.
 const DEFAULT_STEP: usize = 32;
 
+/// How many symbols a comparison extracts at once.
+const PIECE: usize = 1 << 16;
+
 /// A compressed text of symbols that counts and finds patterns. The empty pattern occurs at each place and at the end.
+/// Texts are equal if their symbols and the bits of a symbol are, whatever the step. A comparison extracts both.
 ///
 /// ```
 /// use vers_vecs::text::TextIndex;
@@ -231,6 +235,14 @@ impl TextIndex {
     }
 }
 
+impl TextIndex {
+    /// Iterates over the symbols.
+    fn symbols(&self) -> impl Iterator<Item = u64> + '_ {
+        let starts = (0..self.len()).step_by(PIECE);
+        starts.flat_map(move |start| self.extract(start..self.len().min(start + PIECE)).unwrap_or_default())
+    }
+}
+
 /// Returns bytes as symbols.
 fn symbols_of(bytes: &[u8]) -> Vec<u64> {
     bytes.iter().map(|byte| u64::from(*byte)).collect()
@@ -271,5 +283,6 @@ counted! { TextIndex, text:
 }
 
 clones!(TextIndex, text);
+compares!(TextIndex, |text| std::iter::once(u64::from(text.bits_per_symbol())).chain(text.symbols()));
 shows!(TextIndex, "symbols", |text| text.extract(0..text.len().min(40)).unwrap_or_default().into_iter());
 lengths!(TextIndex, text, "symbols", usize);

@@ -51,6 +51,11 @@ fn queries_of_terms() {
         for term in 0..terms + 2 {
             let list = plain.get(&term).cloned().unwrap_or_default();
             assert!(index.documents(term).eq(list.iter().copied()));
+            let mut documents = index.documents(term);
+            for left in (0..=list.len()).rev() {
+                assert_eq!((documents.len(), documents.next().is_some()), (left, left > 0));
+            }
+            assert_eq!((documents.size_hint(), documents.next()), ((0, Some(0)), None));
             assert_eq!(index.count(term), list.len() as u64);
             assert!((0..=list.len()).all(|i| index.get(term, i) == list.iter().nth(i).copied()));
             let ends = [0, universe - 1, universe, u64::MAX];
@@ -109,5 +114,5 @@ fn sizes_and_debug() {
     let numbers = EliasFanoVec::from_slice(&[4, 12]);
     assert_eq!(index.heap_size(), numbers.heap_size());
     assert_eq!(format!("{:?}", index), "InvertedIndex { terms: 2, universe: 9 }");
-    assert_eq!(format!("{:?}", index.documents(0)), "Documents { .. }");
+    assert_eq!(format!("{:?}", index.documents(0)), "Documents { left: 1 }");
 }

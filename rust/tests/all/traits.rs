@@ -6,6 +6,7 @@ use std::hash::{Hash, Hasher};
 use std::iter::FusedIterator;
 use std::panic::{RefUnwindSafe, UnwindSafe};
 use vers_vecs::error::BuildError;
+use vers_vecs::inverted::InvertedIndex;
 use vers_vecs::postings::Postings;
 use vers_vecs::reads::Tally;
 use vers_vecs::saved::{LoadError, SaveError};
@@ -15,6 +16,12 @@ use vers_vecs::word_rank::WordRank;
 use vers_vecs::*;
 
 fn value<T: Clone + Debug + Default + PartialEq + Eq + Hash>(one: &T, other: &T) {
+    differ(one, other);
+    assert_ne!(one, &T::default());
+    assert_eq!(T::default(), T::default());
+}
+
+fn differ<T: Clone + Debug + PartialEq + Eq + Hash>(one: &T, other: &T) {
     let hash = |it: &T| {
         let mut hasher = DefaultHasher::new();
         it.hash(&mut hasher);
@@ -23,8 +30,6 @@ fn value<T: Clone + Debug + Default + PartialEq + Eq + Hash>(one: &T, other: &T)
     assert_eq!((one, hash(one)), (&one.clone(), hash(&one.clone())));
     assert_ne!((one, hash(one)), (other, hash(other)));
     assert_ne!(one, other);
-    assert_ne!(one, &T::default());
-    assert_eq!(T::default(), T::default());
 }
 
 #[test]
@@ -44,6 +49,22 @@ fn values_are_compared_hashed_and_cloned() {
     value(&tree(3), &tree(4));
     let postings = |cost| Postings::from_sorted(&[3, 8], &[1, cost]).unwrap();
     value(&postings(5), &postings(4));
+}
+
+#[test]
+fn indexes_are_compared_hashed_and_cloned() {
+    let index = |terms, universe, last| InvertedIndex::from_pairs(terms, universe, &[(0, 3), (1, last)]).unwrap();
+    for other in [index(3, 9, 4), index(2, 8, 4), index(2, 9, 5)] {
+        differ(&index(2, 9, 4), &other);
+    }
+    let text = |last, width, step| {
+        let symbols: Vec<u64> = (0..1 << 17).map(|i| i % 3).chain([last]).collect();
+        TextIndex::with_step(&symbols, width, step).unwrap()
+    };
+    for other in [text(3, 2, 64), text(2, 3, 64)] {
+        differ(&text(2, 2, 64), &other);
+    }
+    assert_eq!(text(2, 2, 64), text(2, 2, 256));
 }
 
 #[test]
@@ -132,6 +153,9 @@ fn iterators_have_both_ends() {
     iterates(tree.subtree_iter(3), vec![3, 4]);
     iterates(tree.subtree_post_iter(3), vec![4, 3]);
     iterates(tree.clone().into_iter(), vec![0, 1, 3, 4]);
+    let postings = Postings::from_sorted(&[3, 8, 9], &[1, 5, 1]).unwrap();
+    iterates(postings.iter(), vec![(3, 1), (8, 5), (9, 1)]);
+    assert_eq!((&postings).into_iter().map(|(document, cost)| document * cost).sum::<u64>(), 52);
 }
 
 #[test]
