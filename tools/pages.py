@@ -69,8 +69,19 @@ def with_figures(text, found):
 # The crates of structures; those of the line programs have their calls in the sources.
 CRATES = """vers_bits vers_tally vers_rank word_rank vers_sorted vers_rmq vers_trees vers_wavelet wavelet_tree
 vers_saved postings sets inverted text_index""".split()
-# The crates whose calls the Rust crate has under the same names.
+# The crates whose calls the Rust crate has under the same names, and the types and modules of which it lacks the calls
+# that are named, or all.
 IN_RUST = set(CRATES) - {"vers_tally"}
+NOT_IN_RUST = {
+    "vers_bits::ListEnds": None, "vers_bits::Span": None, "vers_rank::Places": None, "vers_sorted::Successors": None,
+    "vers_trees::ByteTables": None, "vers_wavelet::GatheredQuery": None, "vers_wavelet::GetQuery": None,
+    "vers_wavelet::QuantileQuery": None, "vers_wavelet::RankQuery": None, "vers_wavelet::SelectQuery": None,
+    "wavelet_tree::RangeQuery": None, "sets::Cursor": None, "sets::Walk": None, "inverted::ListOf": None,
+    "vers_rank::RsVec": ("select_counted",), "vers_sorted::EliasFanoVec": ("ends",),
+    "vers_sorted::SparseRSVec": ("from_sorted", "ones"), "vers_sorted::order": ("are_below",),
+    "vers_rmq::BinaryRmq": ("item", "items"), "vers_rmq::FastRmq": ("item", "items"), "vers_trees::BpTree": ("len",),
+    "vers_saved::stream": ("save", "load"), "sets::gather": ("numbers_of",),
+}
 
 
 def declaration(function):
@@ -134,8 +145,10 @@ def page(top):
     in_rust = set(re.findall(r"(?<=\bfn )\w+|(?<![(&.])\b\w+(?=,)|\b\w+(?=\(\w+: .*\).*;\n)", facade))
     parts = [read(f"{top}/{PAGE}").split("\n\n## ")[0]]
     for crate in CRATES:
-        parts += [section(f"`{crate}::{name}`", of, in_rust if crate in IN_RUST else ())
-                  for name, of in sorted(public_calls(top, crate).items())]
+        for name, of in sorted(public_calls(top, crate).items()):
+            owner = f"{crate}::{name}"
+            has = in_rust if crate in IN_RUST and NOT_IN_RUST.get(owner, ()) is not None else set()
+            parts.append(section(f"`{owner}`", of, has.difference(NOT_IN_RUST.get(owner) or ())))
     return "\n\n".join(parts) + "\n"
 
 

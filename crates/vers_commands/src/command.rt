@@ -42,6 +42,9 @@ pub fn command_of(words: &[String]) -> Option<Command<'_>> {
             "show" => Some(Command::Show(file.as_str())),
             _ => None,
         },
+        [_, word, verb, flag] if is_help(flag.as_str()) => {
+            Some(Command::Print(help_of_verb(word.as_str(), verb.as_str())?))
+        }
         [_, word, verb, file, index] => match (word.as_str(), verb.as_str()) {
             ("text", "index") if !is_flag(file.as_str()) => {
                 Some(Command::Index(file.as_str(), index.as_str()))
@@ -81,6 +84,14 @@ fn help_of(word: &str) -> Option<&'static str> {
         "save" => Some(SAVE_HELP),
         "ask" => Some(ASK_HELP),
         "show" => Some(SHOW_HELP),
+        _ => None,
+    }
+}
+
+// Returns the help of a command of two words. `None` if there is no such command.
+fn help_of_verb(word: &str, verb: &str) -> Option<&'static str> {
+    match (word, verb) {
+        ("text", "index") => Some(TEXT_HELP),
         _ => None,
     }
 }

@@ -1,7 +1,7 @@
 //! Structures in files.
 use crate::lines::{fail, say_waiting, status};
 use crate::progress::Progress;
-use catalogue::kind::Kind;
+use catalogue::structure::Kind;
 use std::alloc::AllocError;
 use std::fs::{self, File};
 use std::process::ExitCode;
@@ -107,7 +107,7 @@ pub fn index(rt: &HostRuntime, path: &str, index: &str) -> ExitCode {
         beside: target.beside.as_str(),
     };
     let saved = index_to(rt.alloc(), &mut file, &mut place);
-    status_of_index(&file, index, saved)
+    status_of_index(&file, index, &target, saved)
 }
 
 /// Saves the index of a FASTA file to another file.
@@ -125,7 +125,7 @@ pub fn index_fasta(rt: &HostRuntime, path: &str, index: &str) -> ExitCode {
         beside: target.beside.as_str(),
     };
     match index_fasta_to(rt.alloc(), &mut file, &mut place) {
-        Ok(saved) => status_of_index(&file, index, saved),
+        Ok(saved) => status_of_index(&file, index, &target, saved),
         Err(WrongLine { number }) => {
             let _ = eprintln!(rt;
                 "vers: {path}: line {number} is no header with a name, nor residues after a header"
@@ -139,6 +139,7 @@ pub fn index_fasta(rt: &HostRuntime, path: &str, index: &str) -> ExitCode {
 fn status_of_index(
     file: &Progress<'_, File>,
     index: &str,
+    target: &Target,
     saved: Result<(), SaveFault>,
 ) -> ExitCode {
     let (rt, path) = (file.rt, file.path);
@@ -149,7 +150,7 @@ fn status_of_index(
         }
         Err(SaveFault::Read) => fail_about(rt, path, "the file can't be read"),
         Err(SaveFault::TooLong) => fail_about(rt, path, "a text has at most 4294967294 bytes"),
-        Err(fault) => fail_about(rt, index, why_not_saved(fault)),
+        Err(fault) => fail_to_save(rt, index, target, fault),
     }
 }
 
@@ -177,7 +178,7 @@ pub fn save(rt: &HostRuntime, path: &str) -> ExitCode {
             say_cut(rt, path, symbols_cut(line));
             ExitCode::SUCCESS
         }
-        Err(fault) => fail_about(rt, path, why_not_saved(fault)),
+        Err(fault) => fail_to_save(rt, path, &target, fault),
     }
 }
 
@@ -186,6 +187,15 @@ fn say_cut(rt: &HostRuntime, path: &str, count: usize) {
     if count != 0 {
         let _ = eprintln!(rt; "vers: {path}: symbols cut to their low bits: {count}");
     }
+}
+
+// Prints why a structure wasn't saved to a file, and returns status 1.
+fn fail_to_save(rt: &HostRuntime, file: &str, target: &Target, fault: SaveFault) -> ExitCode {
+    let about = match fault {
+        SaveFault::Begin | SaveFault::Sync | SaveFault::Put => target.beside.as_str(),
+        _ => file,
+    };
+    fail_about(rt, about, why_not_saved(fault))
 }
 
 fn why_not_saved(fault: SaveFault) -> &'static str {
@@ -198,10 +208,10 @@ fn why_not_saved(fault: SaveFault) -> &'static str {
         SaveFault::Read => "the file can't be read",
         SaveFault::Write => "write failed",
         SaveFault::Begin =>
-            "FILE.new can't be created; if it exists, another save has begun or was interrupted",
-        SaveFault::Sync => "FILE.new can't be synced",
-        SaveFault::Put => "FILE.new can't replace FILE",
-        SaveFault::Settle => "FILE has the new structure, but its folder can't be synced",
+            "the file can't be created; if it exists, another save has begun or was interrupted",
+        SaveFault::Sync => "the file can't be synced",
+        SaveFault::Put => "the file can't be renamed",
+        SaveFault::Settle => "the file is replaced, but its folder can't be synced",
     }
 }
 

@@ -58,6 +58,7 @@ pub const TEXT_HELP: &str = "Usage: vers text [FILE] < LINES
 
 Prints one line for each line of standard input. The text is that of the last line `text`, or the one saved in FILE.
 `index` saves the index of the bytes of FILE to INDEX, which it replaces completely or not at all.
+If FILE is /dev/stdin, it reads standard input.
 With --fasta, FILE is a FASTA file. The text has the sequences, and each name between two line feeds.
 In a name, the highest bit of each byte is set.
 
@@ -101,4 +102,4 @@ Prints the kind of the structure in FILE, its length, the bits of an element or 
 FILE.";
 
 /// Printed by `--version`.
-pub const VERSION: &str = "vers 0.23.0";
+pub const VERSION: &str = "vers 0.24.0";
