@@ -25,7 +25,8 @@ from concurrent.futures import ThreadPoolExecutor
 from pathlib import Path
 
 from mutant_plants import EDITS, RIGHT, SMALL
-from plain_rust import BY_HAND, CRATES, MODULES, PROGRAM_TESTS, PROGRAMS, Refused, Writer, path_of, written_of
+from plain_rust import (BY_HAND, CRATES, MODULES, PROGRAM_TESTS, PROGRAMS, Refused, Writer, path_of, write_tests,
+                        written_of)
 from sources import (ROW, TOP, Source, by_path, changed_function, has_cargo, load_edit, read, read_crate, write_files,
                      wrong_bodies)
 
@@ -98,7 +99,7 @@ class Build:
                 self.files[f"{module}/{path}"] = text
             self.files[f"{module}/mod.rs"] = NOTE + "".join(f"pub mod {it};\n" for it in crates)
         self.files.update({f"program_tests/{path}": text for path, text in written_of(PROGRAM_TESTS)[0].items()})
-        self.files.update({f"programs/{path}": text for path, text in BY_HAND.items() if text})
+        self.files.update({f"programs/{path}": text for path, text in BY_HAND.items() if path.startswith("vers_c/")})
         # Rust's own tests call functions in private modules.
         for path in [*(f"programs/{it}/mod.rs" for it in PROGRAMS), "proved/text_index/mod.rs"]:
             self.files[path] = re.sub("(?m)^mod ", "pub mod ", self.files[path])
@@ -146,6 +147,7 @@ def cargo(*words):
 def compiled(mutants):
     """Compiles the tests with all wrong bodies, and returns the program and the faults."""
     build = Build(mutants)
+    build.faults += write_tests()
     write_files(f"{RUST}/target/mutants", build.files)
     messages = cargo("test", "--lib", "--no-run")
     errors = [it["message"] for it in messages

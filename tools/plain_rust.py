@@ -1,7 +1,9 @@
 #!/usr/bin/env python3
 """Writes the proved sources as a crate of plain Rust, or compares the stored files with what it writes.
 
-    tools/plain_rust.py                writes proved, proved_tests, contracts.rs and definitions.md in rust/src
+    tools/plain_rust.py                writes proved, contracts.rs and definitions.md in rust/src
+    tools/plain_rust.py --tests        writes the tests of the proved sources to rust/target, where cargo takes them
+                                       with RUSTFLAGS="--cfg proved_tests"
     tools/plain_rust.py --check        compares these, and rust/guards.txt with the sources (tools/rust_contracts.py)
     python3 tools/plain_rust.py --self-test    tries forms that it has to write, and forms that it has to refuse
 
@@ -16,10 +18,10 @@ from pathlib import Path
 
 import rust_contracts
 from rust_contracts import guard_faults, pages
-from sources import TOP, read_crate, report, write_or_check
+from sources import TOP, read_crate, report, write_files, write_or_check
 
 RUST = "rust/src"
-# The crates: each becomes a module of `proved`, and each crate of tests a module of `proved_tests`.
+# The crates: each becomes a module of `proved`, and each crate of tests one of `proved_tests`, written for their runs.
 CRATES = """vers_bits vers_tally vers_rank word_rank vers_sorted vers_rmq vers_wavelet wavelet_tree vers_trees
 postings text_index sets inverted vers_saved""".split()
 TESTS = """test_alloc vers_bits_tests vers_rank_tests word_rank_tests wavelet_tree_tests vers_sorted_tests
@@ -29,12 +31,12 @@ vers_saved_tests""".split()
 # (tools/mutants.py).
 PROGRAMS = "vers_io catalogue vers_words vers_engine vers_cli vers_texts vers_files vers_vecs vers_uses vers_c".split()
 PROGRAM_TESTS = "vers_cli_tests vers_texts_tests vers_files_tests vers_uses_tests".split()
-# The module that each belongs to, and the modules that are stored.
+# The module that each belongs to, and the one that is stored.
 MODULES = {"proved": CRATES, "proved_tests": TESTS, "programs": PROGRAMS, "program_tests": PROGRAM_TESTS}
-STORED = ("proved", "proved_tests")
-# The files that use raw pointers in Rattle, and their Rust form, which is written by hand: in `proved_tests`, or here.
+STORED = "proved"
+# The files that use raw pointers in Rattle, and their Rust form: types of the support module.
 BY_HAND = {
-    "test_alloc/mod.rs": None,
+    "test_alloc/refusing.rs": "pub use crate::rattle::refusing::{Plan, Refusing, takes_none};\n",
     "vers_c/held.rs": "pub type Held = crate::rattle::owners::Held<super::kept::Owner>;\n",
     "vers_c/loose.rs": "pub use crate::rattle::owners::Loose;\n",
 }
@@ -257,7 +259,7 @@ class Writer:
         """Returns the translation of the first word of a path."""
         if it.text == "crate":
             return module_of(self.crate)
-        known = MODULES if is_program(self.crate) else STORED
+        known = MODULES if is_program(self.crate) else ("proved", "proved_tests")
         if it.text != self.crate and any(it.text in MODULES[module] for module in known):
             return module_of(it.text)
         if it.text in ("std", "core", "alloc") and f"std::{second}::{third}" not in SAME:
@@ -463,7 +465,10 @@ def written_of(crates):
     the functions that are defined."""
     written, faults, calls, defines = {}, [], {}, set()
     for crate in crates:
-        for path, text in [(path_of(it), it.text) for it in read_crate(TOP, crate) if path_of(it) not in BY_HAND]:
+        for path, text in [(path_of(it), it.text) for it in read_crate(TOP, crate)]:
+            if path in BY_HAND:
+                written[path] = BY_HAND[path]
+                continue
             writer = Writer(crate, path)
             try:
                 written[path] = writer.file(text)
@@ -485,17 +490,23 @@ def written(top):
         if crates in (CRATES, PROGRAMS):
             known |= defines | (PROGRAM_METHODS if crates is PROGRAMS else set())
             wrong += [f"{calls[it]}: the method {it}" for it in sorted(set(calls) - known)]
-        if module in STORED:
+        if module == STORED:
             files.update({f"{module}/{path}": text for path, text in texts.items()})
         faults += [f"{module}: {it}" for it in wrong]
     return files, faults
 
 
+def write_tests():
+    """Writes the tests of the proved sources into cargo's folder, and returns the faults that were met."""
+    texts, faults, _, _ = written_of(TESTS)
+    write_files(f"{TOP}/rust/target/proved_tests", texts)
+    return faults
+
+
 def stored(folder):
-    """Returns the files of the folders that the script alone writes, by their paths in the folder of the crate's
+    """Returns the files of the folder that the script alone writes, by their paths in the folder of the crate's
     sources."""
-    paths = [path.relative_to(folder) for it in STORED for path in Path(folder, it).rglob("*") if path.is_file()]
-    return set(map(str, paths)) - {f"proved_tests/{it}" for it in BY_HAND}
+    return {str(path.relative_to(folder)) for path in Path(folder, STORED).rglob("*") if path.is_file()}
 
 
 TRIED = {
@@ -567,6 +578,8 @@ def main(arguments):
     """Writes the files, compares them, or tries the forms."""
     if arguments == ["--self-test"]:
         return self_test()
+    if arguments == ["--tests"]:
+        return report("tools/plain_rust.py", write_tests())
     folder, is_check = f"{TOP}/{RUST}", arguments == ["--check"]
     files, faults = written(TOP)
     faults += [f"{it} is written from nothing" for it in sorted(stored(folder) - set(files))]

@@ -16,6 +16,7 @@ import sys
 import tempfile
 from glob import glob
 
+from plain_rust import write_tests
 from sources import TOP, has_cargo, read, write_files
 
 RUST = f"{TOP}/rust"
@@ -53,9 +54,9 @@ class Checks:
             print(done.stdout[-6000:])
 
     def cargo(self, what, words, missing="", **env):
-        """Runs cargo in the crate's folder, without a network."""
+        """Runs cargo in the crate's folder, without a network, with the tests of the proved sources."""
         command, *rest = words.split()
-        self.run(what, ["cargo", command, "--quiet", "--offline", *rest], missing, **env)
+        self.run(what, ["cargo", command, "--quiet", "--offline", *rest], missing, RUSTFLAGS="--cfg proved_tests", **env)
 
 
 def check_oldest(checks):
@@ -123,7 +124,8 @@ def has_arm():
 
 
 def run_checks(checks, is_quick):
-    """Runs the checks."""
+    """Writes the tests of the proved sources, and runs the checks."""
+    checks.failed += len(write_tests())
     checks.cargo("tests", "test")
     for name in EXAMPLES:
         checks.cargo(f"example {name}", f"run --example {name}")

@@ -16,7 +16,7 @@ from pathlib import Path
 from sources import public_functions, read, read_crate, write_files
 
 DEFINITIONS, GUARDS = "docs/DEFINITIONS.md", "guards.txt"
-WRITTEN = ("proved", "proved_tests", "rattle", "contracts.rs")
+WRITTEN = ("proved", "rattle", "contracts.rs")
 CITED = re.compile(r"\bcontract!\(\s*(\$?\w+(?:::\$?\w+)?)\s*\)")
 CALL = re.compile(r"(?P<receiver>(?:<?[$\w]+(?:::<\w+>)?(?:\(\))?>?(?:\.|::))+)(?P<name>[a-z]\w*)(?:::<[^<>]*>)?\(")
 HEAD = re.compile(r"^( *)(?:pub(?:\([a-z]+\))? )?(?:const )?fn (\w+)")

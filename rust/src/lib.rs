@@ -56,10 +56,10 @@ mod programs;
 #[allow(missing_docs, missing_debug_implementations, dead_code, unstable_name_collisions, clippy::all)]
 #[cfg_attr(mutants, path = "../target/mutants/proved/mod.rs")]
 mod proved;
-#[cfg(target_pointer_width = "64")]
-#[cfg(test)]
+#[cfg(all(test, any(mutants, proved_tests), target_pointer_width = "64"))]
 #[rustfmt::skip]
 #[allow(missing_docs, missing_debug_implementations, dead_code, unstable_name_collisions, clippy::all)]
+#[path = "../target/proved_tests/mod.rs"]
 mod proved_tests;
 #[cfg(target_pointer_width = "64")]
 #[allow(dead_code, missing_debug_implementations)]

@@ -17,6 +17,8 @@ pub mod owners;
 #[cfg(test)]
 pub mod reads;
 #[cfg(test)]
+pub mod refusing;
+#[cfg(test)]
 pub mod testing;
 mod vec;
 

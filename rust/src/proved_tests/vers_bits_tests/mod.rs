@@ -1,6 +1,0 @@
-//! Tests of the list of bits.
-
-use crate::rattle::prelude::*;
-
-#[cfg(test)]
-mod tests;

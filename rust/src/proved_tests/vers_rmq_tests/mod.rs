@@ -1,6 +1,0 @@
-//! Tests of range minima.
-
-use crate::rattle::prelude::*;
-
-#[cfg(test)]
-mod tests;
