@@ -30,7 +30,7 @@ pub trait Row: Copy {
     fn ask(self, b: u64, c: u64) -> Ask;
 
     /// The row with its answer.
-    fn told(self, answer: u64) -> Self;
+    fn with_answer(self, answer: u64) -> Self;
 }
 
 impl Row for u64 {
@@ -40,7 +40,7 @@ impl Row for u64 {
     }
 
     #[inline(always)]
-    fn told(self, answer: u64) -> u64 {
+    fn with_answer(self, answer: u64) -> u64 {
         answer
     }
 }
@@ -52,7 +52,7 @@ impl Row for Ask {
     }
 
     #[inline(always)]
-    fn told(self, answer: u64) -> Ask {
+    fn with_answer(self, answer: u64) -> Ask {
         Ask { a: answer, ..self }
     }
 }
@@ -71,7 +71,7 @@ impl<R: Row> Rows<'_, R> {
     pub fn answer_each<S: Asked + ?Sized>(self, list: &S, query: u32) {
         for row in self.rows {
             let ask = row.ask(self.b, self.c);
-            *row = row.told(list.answer(query, ask.a, ask.b, ask.c).value_or(self.other));
+            *row = row.with_answer(list.answer(query, ask.a, ask.b, ask.c).value_or(self.other));
         }
     }
 
@@ -91,7 +91,7 @@ impl<R: Row> Rows<'_, R> {
             }
             ask_all(queries);
             for (row, query) in rows.iter_mut().zip(queries.iter()) {
-                *row = row.told(answer(query).into().value_or(self.other));
+                *row = row.with_answer(answer(query).into().value_or(self.other));
             }
         }
     }

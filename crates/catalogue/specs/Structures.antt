@@ -169,7 +169,7 @@ abbrev pub HasFormAs : Option Kind → Form → Type 0
 HasFormAs None form = ⊥
 HasFormAs (Some kind) form = IsWhole (saved_kind kind) form.count form.width form.words
 
--- a structure has a saved form: it is of a kind that has, its items are neither too many nor too wide, and its words are as the kind wants
+-- a structure has a saved form: its kind has one, its items are neither too many nor too wide, and its words are as the kind requires
 abbrev pub HasForm : Content → Type 0
 HasForm content = HasFormAs (kind_of content) (form_of content)
 

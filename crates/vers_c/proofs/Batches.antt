@@ -22,13 +22,13 @@ alike_more f g qs rs i q r in_qs in_rs read same before =
     ∙ ap (λ l. l ++ f q ∷ []) before ∙ ap (λ a. map g (take i rs) ++ a ∷ []) (same ∙ ap g read) ∙ sym (map_more g rs i r in_rs)
 
 -- one item more that is written by its answer
-pub told_more : {Q R A : Type 0} (says : Q → A) (answer : R → A) (told : R → A → R) (qs : List Q) (xs ys : List R) (i : ℕ) (q : Q) (r : R) → i < length qs → i < length xs
-    → q ≡ get_or qs i q → r ≡ get_or ys i r → map says qs ≡ map answer xs → ys ≡ map (λ x. told x (answer x)) (take i xs) ++ drop i xs
-    → set ys i (told r (says q)) ≡ map (λ x. told x (answer x)) (take (i + 1) xs) ++ drop (i + 1) xs
-told_more {Q} {R} {A} says answer told qs xs ys i q r in_qs in_xs read_q read_r same is =
-    let write : R → R = λ x. told x (answer x) in
+pub stored_more : {Q R A : Type 0} (says : Q → A) (answer : R → A) (store : R → A → R) (qs : List Q) (xs ys : List R) (i : ℕ) (q : Q) (r : R) → i < length qs → i < length xs
+    → q ≡ get_or qs i q → r ≡ get_or ys i r → map says qs ≡ map answer xs → ys ≡ map (λ x. store x (answer x)) (take i xs) ++ drop i xs
+    → set ys i (store r (says q)) ≡ map (λ x. store x (answer x)) (take (i + 1) xs) ++ drop (i + 1) xs
+stored_more {Q} {R} {A} says answer store qs xs ys i q r in_qs in_xs read_q read_r same is =
+    let write : R → R = λ x. store x (answer x) in
     let said : says q ≡ answer r = same_at says answer qs xs i q r in_qs in_xs read_q (read_r ∙ still write xs ys i r in_xs is) same in
-    ap (λ a. set ys i (told r a)) said ∙ map_over_more write xs ys i r in_xs is read_r
+    ap (λ a. set ys i (store r a)) said ∙ map_over_more write xs ys i r in_xs is read_r
 
 -- a group more
 pub group_more : {X : Type 0} (f : X → X) (xs ys zs : List X) (i n : ℕ) → i + n ≤ length xs → ys ≡ map f (take i xs) ++ drop i xs → zs ≡ map f (take n (drop i ys))

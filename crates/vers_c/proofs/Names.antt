@@ -14,7 +14,7 @@ pub use Rattle.std_alloc.proofs.ResultValues.{and_tt}
 pub use Rattle.std_alloc.specs.Box.Ownership.{box_owns}
 pub use Rattle.vers_bits.specs.Bits.{places, select}
 pub use Rattle.catalogue.specs.Answers.{found_or_absent, value_or}
-pub use Rattle.vers_c.specs.Batches.{asked, told_row}
+pub use Rattle.vers_c.specs.Batches.{asked, answered_row}
 pub use Rattle.catalogue.specs.SymbolsAnswers.{if_numbers}
 pub use Rattle.vers_sorted.proofs.PublicLaws.{ones_at-same}
 pub use Rattle.vers_sorted.specs.Ones.{ones_at}

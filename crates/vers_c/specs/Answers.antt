@@ -33,5 +33,5 @@ abbrev pub number_or : ℕ → VersAnswer → ℕ
 number_or other answer = if answer.status == 0 then answer.value else other
 
 -- the status of a call is this one, or there is no memory for what would be done
-abbrev pub IsToldAs : ℕ → ℕ → Type 0
-IsToldAs wanted status = (status ≡ wanted) ⊎ ((status ≡ 6) × (wanted ≡ 0))
+abbrev pub IsReportedAs : ℕ → ℕ → Type 0
+IsReportedAs wanted status = (status ≡ wanted) ⊎ ((status ≡ 6) × (wanted ≡ 0))

@@ -16,6 +16,6 @@ row_answered answers other ask = record { a = answered answers other ask.b ask.c
 abbrev pub asked : (ℕ → ℕ → ℕ → Answer) → Ask → Answer
 asked answers ask = answers ask.a ask.b ask.c
 
--- a row with the answer to its numbers: `ask` selects the numbers and `told` stores the answer
-abbrev pub told_row : {R : Type 0} → (ℕ → ℕ → R → Ask) → (R → ℕ → R) → (ℕ → ℕ → ℕ → Answer) → ℕ → ℕ → ℕ → R → R
-told_row ask told answers other b c row = told row (value_or other (asked answers (ask b c row)))
+-- a row with the answer to its numbers: `ask` selects the numbers and `store` stores the answer
+abbrev pub answered_row : {R : Type 0} → (ℕ → ℕ → R → Ask) → (R → ℕ → R) → (ℕ → ℕ → ℕ → Answer) → ℕ → ℕ → ℕ → R → R
+answered_row ask store answers other b c row = store row (value_or other (asked answers (ask b c row)))

@@ -7,7 +7,7 @@ use Rattle.inverted.specs.declared.fault.InvertedError.{InvertedError}
 use Rattle.vers_sorted.specs.Ones.{ones_at}
 use Rattle.vers_sorted.specs.Sorted.{each_next}
 use Rattle.vers_wavelet.specs.Makers.{low_symbols}
-use Rattle.vers_c.specs.Answers.{IsToldAs}
+use Rattle.vers_c.specs.Answers.{IsReportedAs}
 use Rattle.catalogue.specs.Structures.{Content, SparseBits, SortedMembers, SymbolList, Documents, DocumentLists}
 
 -- of numbers, which have to ascend
@@ -52,7 +52,7 @@ made_status None (Some made) = 0
 pub record IsMade (wanted before after : Option Content) (status : ℕ) : Type 0 where
   pub made : status ≡ 0 → after ≡ wanted
   pub left : status ≢ 0 → after ≡ before
-  pub told : IsToldAs (made_status before wanted) status
+  pub reported : IsReportedAs (made_status before wanted) status
 
 -- the status of sharing the structure of a handle with another handle
 abbrev pub shared_status : Option Content → Option Content → ℕ
@@ -64,4 +64,4 @@ shared_status (Some held) None = 0
 pub record IsShared (held before after : Option Content) (status : ℕ) : Type 0 where
   pub made : status ≡ 0 → after ≡ held
   pub left : status ≢ 0 → after ≡ before
-  pub told : IsToldAs (shared_status held before) status
+  pub reported : IsReportedAs (shared_status held before) status

@@ -8,7 +8,7 @@ use Rattle.catalogue.specs.declared.structure.TheConstants.{KINDS}
 use Rattle.vers_saved.specs.Faults.{fault_of}
 use Rattle.vers_saved.specs.declared.fault.LoadError.{LoadError}
 use Rattle.vers_saved.specs.declared.fault.LoadError.TheVariants.{TooShort, NotOurs, OtherVersion, OtherKind, BadLength, BadSum, BadPadding, NotAscending, NotAText, Memory, Read}
-use Rattle.vers_c.specs.Answers.{IsToldAs}
+use Rattle.vers_c.specs.Answers.{IsReportedAs}
 
 -- the saved form of a structure, if such have one
 abbrev pub form_of : Content → Option (List ℕ)
@@ -55,7 +55,7 @@ load_status None code bytes = bytes_status (slice_get KINDS code) bytes
 -- the status is that of a load: of the first test of the bytes that fails, or 16 if they pass the tests and are the form of no text
 abbrev pub IsLoadStatus : Option Content → ℕ → List ℕ → ℕ → Type 0
 IsLoadStatus before code bytes status =
-    IsToldAs (load_status before code bytes) status
+    IsReportedAs (load_status before code bytes) status
     ⊎ ((status ≡ 16) × (slice_get KINDS code ≡ Some kind.Text) × (load_status before code bytes ≡ 0))
 
 -- the bytes are a saved form of a structure, which fits it
@@ -67,7 +67,7 @@ pub record IsFormOf (bytes : List ℕ) (held : Content) : Type 0 where
 -- the handle has the structure whose saved form the bytes are, of the kind of that code, if the status is 0, otherwise it is unchanged:
 -- an empty handle gets each structure of the kind back from its saved form, unless an allocation fails
 pub record IsLoaded (code : ℕ) (bytes : List ℕ) (before after : Option Content) (status : ℕ) : Type 0 where
-  pub told : IsLoadStatus before code bytes status
+  pub reported : IsLoadStatus before code bytes status
   pub held : status ≡ 0 → IsSome after
   pub kind : status ≡ 0 → option_and_then kind_of after ≡ slice_get KINDS code
   pub whole : status ≡ 0 → IfSome after (IsFormOf bytes)
@@ -84,4 +84,4 @@ pub record IsSaved (held : Option Content) (before after : List ℕ) (status : �
   pub absent : status ≡ 1 → ¬ ContentsHaveForm held
   pub refused : status ≡ 4 → option_map length (contents_form held) ≢ Some (length before)
   pub whole : (status ≡ 0) ⊎ (status ≡ 4) → ContentsHaveForm held
-  pub told : (status ≡ 0) ⊎ (status ≡ 1) ⊎ (status ≡ 3) ⊎ (status ≡ 4) ⊎ (status ≡ 6)
+  pub reported : (status ≡ 0) ⊎ (status ≡ 1) ⊎ (status ≡ 3) ⊎ (status ≡ 4) ⊎ (status ≡ 6)

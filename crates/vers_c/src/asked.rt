@@ -1,7 +1,7 @@
 //! Many queries of one structure.
 ghost use Rattle.std.specs.Prelude.{◌≡◌, ℕ, map};
 ghost use Rattle.catalogue.specs.Structures.{answer as answer_of};
-ghost use Rattle.vers_c.specs.Batches.{told_row};
+ghost use Rattle.vers_c.specs.Batches.{answered_row};
 ghost use Rattle.vers_c.specs.Structures.{content};
 
 use catalogue::query::Query;
@@ -27,21 +27,21 @@ pub trait Row: Copy {
     ghost ask: { ℕ → ℕ → Self → Ask };
 
     // The row with its answer.
-    ghost told: { Self → ℕ → Self };
+    ghost with_answer: { Self → ℕ → Self };
 
     /// Returns its three numbers; `b` and `c` are those that a row of one number lacks.
     fn ask(self, b: u64, c: u64) -> Ask
         ensures { result ≡ ask b c self };
 
     /// Returns the row with its answer.
-    fn told(self, answer: u64) -> Self
-        ensures { result ≡ told self answer };
+    fn with_answer(self, answer: u64) -> Self
+        ensures { result ≡ with_answer self answer };
 }
 
 impl Row for usize {
     ghost ask = { λ b c a. record { a = a; b = b; c = c } };
 
-    ghost told = { λ _ answer. answer };
+    ghost with_answer = { λ _ answer. answer };
 
     #[inline(always)]
     fn ask(self, b: u64, c: u64) -> Ask {
@@ -53,7 +53,7 @@ impl Row for usize {
     }
 
     #[inline(always)]
-    fn told(self, answer: u64) -> usize {
+    fn with_answer(self, answer: u64) -> usize {
         answer as usize
     }
 }
@@ -61,7 +61,7 @@ impl Row for usize {
 impl Row for Ask {
     ghost ask = { λ _ _ row. row };
 
-    ghost told = { λ row answer. record { a = answer; b = row.b; c = row.c } };
+    ghost with_answer = { λ row answer. record { a = answer; b = row.b; c = row.c } };
 
     #[inline(always)]
     fn ask(self, _b: u64, _c: u64) -> Ask {
@@ -69,7 +69,7 @@ impl Row for Ask {
     }
 
     #[inline(always)]
-    fn told(self, answer: u64) -> Ask {
+    fn with_answer(self, answer: u64) -> Ask {
         Ask {
             a: answer,
             b: self.b,
@@ -88,12 +88,13 @@ pub fn answer_each<S: Queryable, R: Row>(
     c: u64,
     other: u64,
 )
-    ensures { rows.new ≡ map (told_row R.ask R.told (answer_of (S.content structure.now) query) other b c) rows.old }
+    ensures { rows.new
+        ≡ map (answered_row R.ask R.with_answer (answer_of (S.content structure.now) query) other b c) rows.old }
 {
     for i in 0..rows.len() {
         let row = rows[i];
         let ask = row.ask(b, c);
         let answer = structure.answer(query, ask.a, ask.b, ask.c);
-        rows[i] = row.told(answer.value_or(other));
+        rows[i] = row.with_answer(answer.value_or(other));
     }
 }

@@ -1,6 +1,6 @@
 //! Exports that query and change the structure of a handle.
 ghost use Rattle.std.specs.Prelude.{◌≡◌, ◌≢◌, ◌⊎◌, ◌-◌, ◌^◌, IsSome, map};
-ghost use Rattle.vers_c.specs.Answers.{IsToldAs, number_or};
+ghost use Rattle.vers_c.specs.Answers.{IsReportedAs, number_or};
 ghost use Rattle.vers_c.specs.Batches.{answered, row_answered};
 ghost use Rattle.vers_c.specs.Changes.{IsChanged, changed_status, contents_changed};
 ghost use Rattle.vers_c.specs.Codes.{batch_answer, contents_answer, contents_status};
@@ -106,8 +106,8 @@ pub extern "C" fn vers_change(
 ) -> u32
     ensures changed { IsChanged (contents_changed (contents handle.old) code a b) (contents handle.old)
         (contents handle.new) result }
-    ensures told { ((result ≡ SHARED) × IsSome (contents handle.old))
-        ⊎ IsToldAs (changed_status (contents handle.old) code a b) result }
+    ensures reported { ((result ≡ SHARED) × IsSome (contents handle.old))
+        ⊎ IsReportedAs (changed_status (contents handle.old) code a b) result }
 {
     if !handle.is_built {
         return VACANT;

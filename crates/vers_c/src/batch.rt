@@ -1,7 +1,7 @@
 //! Many queries at once, by the library's batch functions.
 ghost use Rattle.std.specs.Prelude.{◌≡◌, ℕ, ◌<◌, length, map};
 ghost use Rattle.catalogue.specs.Answers.{value_or};
-ghost use Rattle.vers_c.specs.Batches.{asked, told_row};
+ghost use Rattle.vers_c.specs.Batches.{asked, answered_row};
 ghost use Rattle.catalogue.specs.declared.answer.Answer.{Answer};
 
 mod bits;
@@ -63,7 +63,7 @@ fn in_groups<S, Q: Copy, B: Batch<S, Q>, R: Row>(
     other: u64,
 )
     requires { 0 < length queries.old }
-    ensures { rows.new ≡ map (told_row R.ask R.told (B.answers batch structure.now) other b c) rows.old }
+    ensures { rows.new ≡ map (answered_row R.ask R.with_answer (B.answers batch structure.now) other b c) rows.old }
 {
     let len = rows.len();
     let mut from = 0;
@@ -95,7 +95,7 @@ fn in_wide_groups<S, Q: Copy + Drop, B: Batch<S, Q>, R: Row>(
     other: u64,
 )
     requires { 0 < length few.old }
-    ensures { rows.new ≡ map (told_row R.ask R.told (B.answers batch structure.now) other b c) rows.old }
+    ensures { rows.new ≡ map (answered_row R.ask R.with_answer (B.answers batch structure.now) other b c) rows.old }
 {
     let wanted = rows.len().min(MOST);
     if wanted > few.len() {
@@ -119,11 +119,11 @@ fn ask_group<S, Q: Copy, B: Batch<S, Q>, R: Row>(
     other: u64,
 )
     requires { length queries.old ≡ length rows.old }
-    ensures { rows.new ≡ map (told_row R.ask R.told (B.answers batch structure.now) other b c) rows.old }
+    ensures { rows.new ≡ map (answered_row R.ask R.with_answer (B.answers batch structure.now) other b c) rows.old }
 {
     make_each(batch, queries, rows, b, c);
     batch.ask_all(structure, queries);
-    tell_each(batch, queries, rows, other);
+    store_each(batch, queries, rows, other);
 }
 
 // Makes queries of the numbers of rows.
@@ -146,7 +146,7 @@ fn make_each<S, Q: Copy, B: Batch<S, Q>, R: Row>(
 
 // Copies the answers of queries into rows.
 #[inline(always)]
-fn tell_each<S, Q: Copy, B: Batch<S, Q>, R: Row>(
+fn store_each<S, Q: Copy, B: Batch<S, Q>, R: Row>(
     batch: B,
     queries: &[Q],
     rows: &mut [R],
@@ -154,9 +154,9 @@ fn tell_each<S, Q: Copy, B: Batch<S, Q>, R: Row>(
 )
     requires { length queries.now ≡ length rows.old }
     ensures { (answer : R → Answer) → map (B.says batch) queries.now ≡ map answer rows.old
-        → rows.new ≡ map (λ row. R.told row (value_or other (answer row))) rows.old }
+        → rows.new ≡ map (λ row. R.with_answer row (value_or other (answer row))) rows.old }
 {
     for i in 0..rows.len() {
-        rows[i] = rows[i].told(batch.answer(queries[i]).value_or(other));
+        rows[i] = rows[i].with_answer(batch.answer(queries[i]).value_or(other));
     }
 }

@@ -1,6 +1,6 @@
 //! Changes and their codes.
 ghost use Rattle.std.specs.Prelude.{◌≡◌, slice_get};
-ghost use Rattle.vers_c.specs.Answers.{IsToldAs};
+ghost use Rattle.vers_c.specs.Answers.{IsReportedAs};
 ghost use Rattle.vers_c.specs.Changes.{IsChanged, bits_changed, numbers_status};
 
 use crate::status::{DONE, NO_MEMORY, REFUSED};
@@ -34,7 +34,7 @@ impl Change {
     /// Changes a list. Returns a status.
     pub fn make(self, bits: &mut BitVec<Global>, a: u64, b: u64) -> u32
         ensures changed { IsChanged (bits_changed bits.old self a b) bits.old bits.new result }
-        ensures told { IsToldAs (numbers_status (bits_changed bits.old self a b)) result }
+        ensures reported { IsReportedAs (numbers_status (bits_changed bits.old self a b)) result }
     {
         match self {
             Change::Push => match bits.append_bit(a) {

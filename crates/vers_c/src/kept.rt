@@ -1,8 +1,8 @@
 //! The structures of handles.
 ghost use Rattle.std.specs.Prelude.{◌≡◌, ◌≢◌, map, Some, None, IfOk, IfSome, IsErr, IsSome, option_map};
 ghost use Rattle.catalogue.specs.Structures.{PlainNumbers, content_of, kind_of, answer as answer_of};
-ghost use Rattle.vers_c.specs.Answers.{IsToldAs};
-ghost use Rattle.vers_c.specs.Batches.{told_row};
+ghost use Rattle.vers_c.specs.Answers.{IsReportedAs};
+ghost use Rattle.vers_c.specs.Batches.{answered_row};
 ghost use Rattle.vers_c.specs.Changes.{IsChanged, changed_by_code, coded_status};
 ghost use Rattle.vers_c.specs.Codes.{batch_status, coded_answer, query_of};
 ghost use Rattle.vers_c.specs.Lists.{coded_joined, common_of, joined_of, listed_of};
@@ -109,7 +109,7 @@ pub fn each_answer<R: Row>(
     other: u64,
 )
     ensures { rows.new
-        ≡ map (told_row R.ask R.told (answer_of (content kept.now) query) other b c) rows.old }
+        ≡ map (answered_row R.ask R.with_answer (answer_of (content kept.now) query) other b c) rows.old }
 {
     match kept {
         Kept::Tree(tree) => answer_each(&**tree, query, rows, b, c, other),
@@ -128,7 +128,7 @@ fn each_other<R: Row>(
     other: u64,
 )
     ensures { rows.new
-        ≡ map (told_row R.ask R.told (answer_of (content_of structure.now) query) other b c) rows.old }
+        ≡ map (answered_row R.ask R.with_answer (answer_of (content_of structure.now) query) other b c) rows.old }
 {
     match structure {
         Structure::Bits(bits) => each_of_bits(bits, query, rows, b, c, other),
@@ -166,7 +166,7 @@ pub fn each_answer_coded<R: Row>(
 ) -> u32
     ensures status { result ≡ batch_status (content kept.now) code }
     ensures done { result ≡ DONE → rows.new
-        ≡ map (told_row R.ask R.told (coded_answer (content kept.now) code) other b c) rows.old }
+        ≡ map (answered_row R.ask R.with_answer (coded_answer (content kept.now) code) other b c) rows.old }
     ensures left { result ≢ DONE → rows.new ≡ rows.old }
 {
     match query_of_code(kept, code) {
@@ -182,7 +182,7 @@ pub fn each_answer_coded<R: Row>(
 pub fn change(kept: &mut Kept, code: u32, a: u64, b: u64) -> u32
     ensures changed { IsChanged (changed_by_code (content kept.old) code a b) (content kept.old)
         (content kept.new) result }
-    ensures told { IsToldAs (coded_status (content kept.old) code a b) result }
+    ensures reported { IsReportedAs (coded_status (content kept.old) code a b) result }
 {
     let Some(change) = Change::of(code) else {
         return UNKNOWN;

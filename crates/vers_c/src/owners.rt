@@ -1,6 +1,6 @@
 //! Owners of structures, in handles and out of them.
 ghost use Rattle.std.specs.Prelude.{◌≡◌, ◌⊎◌, Some, None, IfOk, IsErr, option_map, true, false};
-ghost use Rattle.vers_c.specs.Answers.{IsToldAs};
+ghost use Rattle.vers_c.specs.Answers.{IsReportedAs};
 ghost use Rattle.vers_c.specs.Changes.{IsChanged, changed_by_code, coded_status};
 ghost use Rattle.vers_c.specs.Makes.{IsMade};
 ghost use Rattle.vers_c.specs.Structures.{content, contents};
@@ -57,8 +57,8 @@ pub fn other_owner(alloc: Global, owner: &Owner) -> Result<Box<Owner, Global>, A
 pub fn changed(owner: &mut Owner, code: u32, a: u64, b: u64) -> u32
     ensures changed { IsChanged (changed_by_code (content owner.old.value) code a b)
         (content owner.old.value) (content owner.new.value) result }
-    ensures told { (result ≡ SHARED)
-        ⊎ IsToldAs (coded_status (content owner.old.value) code a b) result }
+    ensures reported { (result ≡ SHARED)
+        ⊎ IsReportedAs (coded_status (content owner.old.value) code a b) result }
 {
     match Arc::get_mut(owner) {
         Some(kept) => change(kept, code, a, b),

@@ -68,7 +68,7 @@ pub extern "C" fn vers_saved_size(alloc: Global, handle: &mut VersHandle) -> Ver
     ensures whole { result.status ≡ DONE → ContentsHaveForm (contents handle.old) }
     ensures absent { result.status ≡ ABSENT → ¬ ContentsHaveForm (contents handle.old) }
     ensures vacant { (result ≡ vacant) ↔ (contents handle.old ≡ None) }
-    ensures told { (result.status ≡ DONE) ⊎ (result ≡ absent) ⊎ (result ≡ vacant) }
+    ensures reported { (result.status ≡ DONE) ⊎ (result ≡ absent) ⊎ (result ≡ vacant) }
     ensures kept { contents handle.new ≡ contents handle.old }
 {
     if !handle.is_built {

@@ -27,7 +27,7 @@ use Rattle.vers_cli.specs.Answers.{answer_to, holding_after, answers_to}
 abbrev ended : List ℕ → List ℕ
 ended text = text ++ 10 ∷ []
 
--- the members 4, 4 and 9, held
+-- the current structure: the elements 4, 4 and 9
 abbrev held_449 : Holding
 held_449 = Some (SortedMembers (4 ∷ 4 ∷ 9 ∷ []))
 
@@ -35,11 +35,11 @@ held_449 = Some (SortedMembers (4 ∷ 4 ∷ 9 ∷ []))
 abbrev values_31211 : List ℕ
 values_31211 = 3 ∷ 1 ∷ 2 ∷ 1 ∷ 1 ∷ []
 
--- the bits 0110, held
+-- the bits 0110
 abbrev held_0110 : Holding
 held_0110 = Some (IndexedBits (false ∷ true ∷ true ∷ false ∷ []))
 
--- a load line answers the length, and its list is held
+-- a load line answers the length, and its list is the current structure
 pub answer-bits_0110 : answer_to None (codes "bits 0110") ≡ ended (codes "4")
 unfolding answer_to_parts digits
 answer-bits_0110 = refl
@@ -48,7 +48,7 @@ pub held-bits_0110 : holding_after None (codes "bits 0110") ≡ held_0110
 unfolding holding_after_parts
 held-bits_0110 = refl
 
--- a malformed load line keeps what was held
+-- a malformed load line keeps the current structure
 pub held-bits_2 : holding_after held_0110 (codes "bits 2") ≡ held_0110
 unfolding holding_after_parts
 held-bits_2 = refl
@@ -69,7 +69,7 @@ pub answer-get_9 : answer_to held_0110 (codes "get 9") ≡ ended (codes "none")
 unfolding answer_to_parts number_of
 answer-get_9 = refl
 
--- the name comes before what is held, and what is held before the arguments
+-- the name is tested before the current structure, and the structure before the arguments
 pub answer-no_name : answer_to None (codes "foo 1") ≡ ended (codes "bad line")
 unfolding answer_to_parts
 answer-no_name = refl
@@ -150,7 +150,7 @@ pub answer-range_min_0_5 : answer_to (Some (BlockValues values_31211)) (codes "r
 unfolding answer_to_parts number_of
 answer-range_min_0_5 = refl
 
--- a node with two leaves, held
+-- a node with two leaves
 abbrev held_tree : Holding
 held_tree = Some (Parentheses (true ∷ true ∷ false ∷ true ∷ false ∷ false ∷ []))
 
@@ -183,7 +183,7 @@ pub answer-excess_2 : answer_to (Some (Parentheses (false ∷ true ∷ []))) (co
 unfolding answer_to_parts number_of
 answer-excess_2 = refl
 
--- the symbols 1, 5 and 3 of three bits each, held
+-- the symbols 1, 5 and 3 of three bits each
 abbrev held_153 : Holding
 held_153 = Some (SymbolList (record { width = 3; items = 1 ∷ 5 ∷ 3 ∷ [] }))
 
@@ -303,7 +303,7 @@ posted_of-2735 = refl
 pub posted_of-273 : posted_of (2 ∷ 7 ∷ 3 ∷ []) ≡ None
 posted_of-273 = refl
 
--- four documents with their costs, held
+-- four documents with their costs
 abbrev held_postings : Holding
 held_postings = Some (Documents (record { documents = 2 ∷ 5 ∷ 9 ∷ 12 ∷ []; costs = 7 ∷ 3 ∷ 3 ∷ 8 ∷ [] }))
 
@@ -347,7 +347,7 @@ pairs_of-0307 = refl
 pub pairs_of-030 : pairs_of (0 ∷ 3 ∷ 0 ∷ []) ≡ None
 pairs_of-030 = refl
 
--- an index of three terms, held
+-- an index of three terms
 abbrev held_index : Holding
 held_index = Some (DocumentLists (record { lists = (3 ∷ 7 ∷ []) ∷ [] ∷ (3 ∷ 5 ∷ []) ∷ []; universe = 10; numbers = 3 ∷ 7 ∷ 23 ∷ 25 ∷ [] }))
 

@@ -1,7 +1,7 @@
--- Which reply a line has, and what is held after it. The first of these rules that applies:
+-- Which reply a line has, and the current structure after it. The first of these rules that applies:
 -- 1. the first word is no name: bad line;
 -- 2. a load line with malformed arguments: bad line;
--- 3. a query that what is held does not have, or nothing is held: wrong structure;
+-- 3. a query that the current structure does not have, or there is no structure: wrong structure;
 -- 4. a query with malformed arguments, or another number of them: bad line;
 -- 5. a load line whose arguments are not admitted, or a query whose condition is not met: refused;
 -- 6. the answer.
@@ -53,7 +53,7 @@ line_reply held line.Common words = if_well_formed (all_numbers words) (λ other
 line_reply held line.Documents words = if_well_formed (one_number words) (λ t. documents_reply held t)
 line_reply held (line.Joined joint) words = if_well_formed (two_numbers words) (λ t. joined_reply held joint t.0 t.1)
 
--- the reply to a query line that what is held may have: its first word is the name of one or not
+-- the reply to a query line over the current structure, if there is one: its first word is the name of a query or not
 abbrev pub query_reply : Holding → (is_name : Bool) → Option Line → List (List ℕ) → PlainReply
 query_reply (Some held) is_name (Some line) words = line_reply held line words
 query_reply held is_name line words = if is_name then WrongStructure else BadLine

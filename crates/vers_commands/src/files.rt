@@ -12,12 +12,21 @@ use vers_files::{
 };
 use vers_saved::fault::LoadError;
 
-const CANNOT_OPEN: &str = "the file can't be opened";
+// Opens a file, or prints why it can't.
+fn opened(rt: &HostRuntime, path: &str) -> Option<File> {
+    match File::open(rt, path) {
+        Ok(file) => Some(file),
+        Err(error) => {
+            let _ = eprintln!(rt; "vers: {path}: {error}");
+            None
+        }
+    }
+}
 
 /// Answers lines about the structure in a file.
 pub fn answer(rt: &HostRuntime, path: &str) -> ExitCode {
-    let Ok(mut file) = File::open(rt, path) else {
-        return fail_about(rt, path, CANNOT_OPEN);
+    let Some(mut file) = opened(rt, path) else {
+        return ExitCode::FAILURE;
     };
     say_waiting(rt, "`len`");
     let mut reader = Device::new(rt.stdin());
@@ -30,8 +39,8 @@ pub fn answer(rt: &HostRuntime, path: &str) -> ExitCode {
 
 /// Answers lines about the text in a file.
 pub fn answer_text(rt: &HostRuntime, path: &str) -> ExitCode {
-    let Ok(mut file) = File::open(rt, path) else {
-        return fail_about(rt, path, CANNOT_OPEN);
+    let Some(mut file) = opened(rt, path) else {
+        return ExitCode::FAILURE;
     };
     say_waiting(rt, "`count \"the\"` and `places 0 1`");
     let mut reader = Device::new(rt.stdin());
@@ -44,8 +53,8 @@ pub fn answer_text(rt: &HostRuntime, path: &str) -> ExitCode {
 
 /// Describes the structure in a file.
 pub fn describe(rt: &HostRuntime, path: &str) -> ExitCode {
-    let Ok(mut file) = File::open(rt, path) else {
-        return fail_about(rt, path, CANNOT_OPEN);
+    let Some(mut file) = opened(rt, path) else {
+        return ExitCode::FAILURE;
     };
     match show(rt.alloc(), &mut file) {
         Ok(list) => print_shown(rt, &list),
@@ -94,8 +103,8 @@ fn target_of(rt: &HostRuntime, path: &str) -> Result<Target, AllocError> {
 
 /// Saves the index of the bytes of a file to another file.
 pub fn index(rt: &HostRuntime, path: &str, index: &str) -> ExitCode {
-    let Ok(file) = File::open(rt, path) else {
-        return fail_about(rt, path, CANNOT_OPEN);
+    let Some(file) = opened(rt, path) else {
+        return ExitCode::FAILURE;
     };
     let Ok(target) = target_of(rt, index) else {
         return fail(rt, "out of memory");
@@ -112,8 +121,8 @@ pub fn index(rt: &HostRuntime, path: &str, index: &str) -> ExitCode {
 
 /// Saves the index of a FASTA file to another file.
 pub fn index_fasta(rt: &HostRuntime, path: &str, index: &str) -> ExitCode {
-    let Ok(file) = File::open(rt, path) else {
-        return fail_about(rt, path, CANNOT_OPEN);
+    let Some(file) = opened(rt, path) else {
+        return ExitCode::FAILURE;
     };
     let Ok(target) = target_of(rt, index) else {
         return fail(rt, "out of memory");

@@ -5,7 +5,7 @@ use Rattle.vers_words.specs.Text.{first_word}
 use Rattle.vers_words.specs.Reply.{PlainReply, reply_text}
 use Rattle.vers_engine.specs.Answers.{Answering}
 
--- how lines are replied to: the reply of a line, and what is held after it, by what is held before it, its first word, and the text
+-- how lines are replied to: the reply of a line, and the structure after it, by the structure before it, its first word, and the text
 -- after that
 pub record Replying (H : Type 0) : Type 0 where
   pub reply_to : H → List ℕ → List ℕ → PlainReply

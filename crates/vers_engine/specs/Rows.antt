@@ -24,7 +24,7 @@ whole_lines-last = refl
 pub last_part-last : last_part (ended (codes "a") ++ codes "b") ≡ codes "b"
 last_part-last = refl
 
--- lines answered by how many bytes came before them, which is what is held
+-- lines answered by how many bytes came before them, which is the structure here
 abbrev counting : Answering ℕ
 counting = record { answer_to = λ held line. held ∷ []; holding_after = λ held line. held + length line }
 

@@ -8,7 +8,7 @@ use Rattle.catalogue.specs.Structures.{Content, SymbolList, HasForm}
 use Rattle.vers_files.specs.declared.saving.SaveFault.{SaveFault}
 use Rattle.vers_files.specs.declared.saving.SaveFault.TheVariants.{BadLine, Refused, NoBits, TooLong, OutOfMemory, Read, Write, Begin, Sync, Put, Settle}
 
--- P holds for the list of a load line, if the line is accepted
+-- P is true of the list of a load line, if the line is accepted
 abbrev pub IfAccepted : {H : Type 0} → Loading H → (H → Type 0) → Type 0
 IfAccepted Malformed P = ⊤
 IfAccepted Inadmissible P = ⊤

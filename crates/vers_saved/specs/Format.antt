@@ -1,5 +1,5 @@
 -- The saved form of a list: words of 64 bits, each as its eight bytes with the lowest first.
--- First a head of five words, then words that hold the list, then a sum of all words before it.
+-- First a head of five words, then the words of the list, then a sum of all words before it.
 use Rattle.std.specs.Prelude.{ℕ, ◌+◌, ◌-◌, ◌*◌, ◌/◌, ◌%◌, ◌^◌, Bool, true, List, [], ◌∷◌, ◌++◌, length, map, fold, flat_map, bit_xor, take, drop, slice_index}
 use Rattle.std.specs.Int.{w64, to_le_bytes, from_le_bytes, rotate_left}
 use Rattle.std.specs.Simd.{first_chunks}

@@ -20,11 +20,11 @@ ended text = text ++ 10 ∷ []
 abbrev answer_to : Option (List ℕ) → List ℕ → List ℕ
 answer_to held line = by_the_rules.answer_to held line
 
--- the text that is held after a line
+-- the current text after a line
 abbrev holding_after : Option (List ℕ) → List ℕ → Option (List ℕ)
 holding_after held line = by_the_rules.holding_after held line
 
--- five symbols, held
+-- five symbols
 abbrev held_21212 : Option (List ℕ)
 held_21212 = Some (2 ∷ 1 ∷ 2 ∷ 1 ∷ 2 ∷ [])
 
@@ -34,7 +34,7 @@ name_of-count = refl
 pub name_of-counts : name_of (codes "counts") ≡ None
 name_of-counts = refl
 
--- the load line answers how many symbols the text has, and the text is held
+-- the load line answers how many symbols the text has, and the text is the current one
 pub answer-text_21212 : answer_to None (codes "text 2 2 1 2 1 2") ≡ ended (codes "5")
 unfolding answer_to_parts number_of digits
 answer-text_21212 = refl
@@ -48,7 +48,7 @@ pub held-text_of_none : holding_after held_21212 (codes "text 16") ≡ Some []
 unfolding holding_after_parts number_of
 held-text_of_none = refl
 
--- symbols have 1 to 16 bits, and none has more than the line says; a refused line keeps what was held
+-- symbols have 1 to 16 bits, and none has more than the line says; a refused line keeps the current text
 pub answer-text_0 : answer_to held_21212 (codes "text 0") ≡ ended (codes "refused")
 unfolding answer_to_parts number_of
 answer-text_0 = refl
@@ -127,7 +127,7 @@ pub answer-extract_0_6 : answer_to held_21212 (codes "extract 0 6") ≡ ended (c
 unfolding answer_to_parts number_of
 answer-extract_0_6 = refl
 
--- the name comes before what is held, and what is held before the arguments
+-- the name is tested before the current text, and the text before the arguments
 pub answer-no_name : answer_to None (codes "find 1") ≡ ended (codes "bad line")
 unfolding answer_to_parts
 answer-no_name = refl

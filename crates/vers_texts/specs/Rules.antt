@@ -1,7 +1,7 @@
--- Which reply a line has, and which text is held after it. The first of these rules that applies:
+-- Which reply a line has, and the current text after it. The first of these rules that applies:
 -- 1. the first word is no name: bad line;
 -- 2. a load line with malformed arguments, or without a width: bad line;
--- 3. a query where no text is held: wrong structure;
+-- 3. a query while there is no text: wrong structure;
 -- 4. a query with malformed arguments, or another number of them: bad line;
 -- 5. a load line that writes no text: refused;
 -- 6. the answer.

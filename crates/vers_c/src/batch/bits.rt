@@ -2,7 +2,7 @@
 ghost use Rattle.std.specs.Prelude.{◌≡◌, map};
 ghost use Rattle.vers_bits.specs.Bits.{select};
 ghost use Rattle.catalogue.specs.declared.answer.Answer.TheVariants as answer;
-ghost use Rattle.vers_c.specs.Batches.{told_row};
+ghost use Rattle.vers_c.specs.Batches.{answered_row};
 ghost use Rattle.catalogue.specs.BitsAnswers.{bits_answer};
 ghost use Rattle.vers_c.specs.BatchQueries.{select_query};
 
@@ -56,7 +56,7 @@ pub fn each_of_bits<R: Row>(
     c: u64,
     other: u64,
 )
-    ensures { rows.new ≡ map (told_row R.ask R.told (bits_answer bits.now query) other b c) rows.old }
+    ensures { rows.new ≡ map (answered_row R.ask R.with_answer (bits_answer bits.now query) other b c) rows.old }
 {
     match query {
         Query::Get => answer_each(bits, Query::Get, rows, b, c, other),
@@ -72,7 +72,7 @@ pub fn each_of_bits<R: Row>(
 #[inline(always)]
 fn select_each<R: Row>(bits: &RsVec<Global>, bit: bool, rows: &mut [R], b: u64, c: u64, other: u64)
     ensures { rows.new
-        ≡ map (told_row R.ask R.told (bits_answer bits.now (select_query bit)) other b c) rows.old }
+        ≡ map (answered_row R.ask R.with_answer (bits_answer bits.now (select_query bit)) other b c) rows.old }
 {
     let mut numbers = [0; GROUP];
     in_groups(Selects { bit }, bits, &mut numbers, rows, b, c, other)

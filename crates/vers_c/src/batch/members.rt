@@ -3,7 +3,7 @@ ghost use Rattle.std.specs.Prelude.{◌≡◌, map, option_and_then};
 ghost use Rattle.vers_sorted.specs.Sorted.{below};
 ghost use Rattle.catalogue.specs.Answers.{found_or_absent};
 ghost use Rattle.catalogue.specs.declared.answer.Answer.TheVariants as answer;
-ghost use Rattle.vers_c.specs.Batches.{told_row};
+ghost use Rattle.vers_c.specs.Batches.{answered_row};
 ghost use Rattle.catalogue.specs.SortedAnswers.{sorted_answer};
 ghost use Rattle.vers_c.specs.BatchQueries.{member_found, member_query};
 ghost use Rattle.catalogue.specs.declared.query.Query.TheVariants as query;
@@ -91,7 +91,7 @@ pub fn each_of_members<R: Row>(
     c: u64,
     other: u64,
 )
-    ensures { rows.new ≡ map (told_row R.ask R.told (sorted_answer members.now query) other b c) rows.old }
+    ensures { rows.new ≡ map (answered_row R.ask R.with_answer (sorted_answer members.now query) other b c) rows.old }
 {
     match query {
         Query::Get => find_each(members, Member::At, rows, b, c, other),
@@ -115,7 +115,7 @@ fn find_each<R: Row>(
     other: u64,
 )
     ensures { rows.new
-        ≡ map (told_row R.ask R.told (sorted_answer members.now (member_query member)) other b c) rows.old }
+        ≡ map (answered_row R.ask R.with_answer (sorted_answer members.now (member_query member)) other b c) rows.old }
 {
     let mut numbers = [None; GROUP];
     in_groups(member, members, &mut numbers, rows, b, c, other)

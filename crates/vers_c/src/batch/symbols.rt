@@ -1,7 +1,7 @@
 //! Batches of queries of symbols.
 ghost use Rattle.std.specs.Prelude.{◌≡◌, map, slice_get};
 ghost use Rattle.catalogue.specs.Answers.{found_or_absent};
-ghost use Rattle.vers_c.specs.Batches.{told_row};
+ghost use Rattle.vers_c.specs.Batches.{answered_row};
 ghost use Rattle.catalogue.specs.SymbolsAnswers.{answer_of_symbols, found_of_symbols, if_numbers, symbols_answer};
 ghost use Rattle.catalogue.specs.declared.query.Query.TheVariants as query;
 ghost use Rattle.catalogue.specs.declared.query.SymbolsQuery.TheVariants as of_symbols;
@@ -134,7 +134,7 @@ pub fn each_of_symbols<R: Row>(
     c: u64,
     other: u64,
 )
-    ensures { rows.new ≡ map (told_row R.ask R.told (symbols_answer symbols.now query) other b c) rows.old }
+    ensures { rows.new ≡ map (answered_row R.ask R.with_answer (symbols_answer symbols.now query) other b c) rows.old }
 {
     match query {
         Query::Get => {

@@ -1,7 +1,7 @@
 //! Batches of queries of values with range minima.
 ghost use Rattle.std.specs.Prelude.{◌≡◌, map};
 ghost use Rattle.catalogue.specs.MinimaAnswers.{fast_answer};
-ghost use Rattle.vers_c.specs.Batches.{told_row};
+ghost use Rattle.vers_c.specs.Batches.{answered_row};
 
 use crate::asked::{Row, answer_each};
 use catalogue::query::Query;
@@ -18,7 +18,7 @@ pub fn each_of_values<R: Row>(
     c: u64,
     other: u64,
 )
-    ensures { rows.new ≡ map (told_row R.ask R.told (fast_answer values.now query) other b c) rows.old }
+    ensures { rows.new ≡ map (answered_row R.ask R.with_answer (fast_answer values.now query) other b c) rows.old }
 {
     match query {
         Query::Get => answer_each(values, Query::Get, rows, b, c, other),

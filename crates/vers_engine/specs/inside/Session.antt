@@ -1,6 +1,6 @@
--- Where a session stands: what was read and written so far. These words serve the engine's own
+-- The state of a session: what was read and written so far. These words serve the engine's own
 -- functions, and say step by step what `answer_lines` ensures as a whole. In them `by` says how lines
--- are answered, and `start` is what was held before the first line.
+-- are answered, and `start` is the structure before the first line.
 use Rattle.std.specs.Prelude.{◌≡◌, ℕ, ◌++◌, ◌==◌, All, Bool, true, false, List, [], ◌∷◌, take, Result, Ok, Err}
 use Rattle.vers_engine.specs.declared.engine.RunError.{RunError}
 use Rattle.vers_engine.specs.declared.engine.RunError.TheVariants.{Read, Write, Memory}
@@ -18,7 +18,7 @@ pub record IsSplit (byte : ℕ) (text : List ℕ) (parts : List (List ℕ)) (res
   pub parts_lack : All (λ part. All (λ b. (b == byte) ≡ false) part) parts
   pub rest_lacks : All (λ b. (b == byte) ≡ false) rest
 
--- every whole line that was read is answered by these answers, this is held after them, and the
+-- every whole line that was read is answered by these answers, this is the structure after them, and the
 -- pending bytes came after the last of them
 pub record StandsAt {H : Type 0} (by : Answering H) (start : H) (read answers : List ℕ) (held : H) (pending : List ℕ) : Type 0 where
   pub lines : List (List ℕ)
@@ -32,7 +32,7 @@ FailsAt by start Read lines written = ⊥
 FailsAt by start Memory lines written = AnswersFirst (answers_of by start) lines written
 FailsAt by start Write lines written = BeginsAnswer (answers_of by start) lines written
 
--- the text answers one line, after which `new` is held, or there was no memory for it
+-- the text answers one line, and the structure is then `new`, or there was no memory for it
 abbrev pub AnswersOrStays : {H E : Type 0} → Answering H → Result (Unit {0}) E → H → List ℕ → List ℕ → H → Type 0
 AnswersOrStays by (Ok u) held line text new = (text ≡ by.answer_to held line) × (new ≡ by.holding_after held line)
 AnswersOrStays by (Err e) held line text new = text ≡ []

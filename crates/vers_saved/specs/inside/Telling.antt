@@ -124,7 +124,7 @@ postings_tell x y paired_x paired_y long one same =
     sym (drop_at x.documents x.costs (length y.documents) long) ∙ ap (drop (length y.documents)) same ∙ drop_at y.documents y.costs (length y.documents) refl in
     ap (λ l. record { documents = l; costs = x.costs }) documents ∙ ap (λ l. record { documents = y.documents; costs = l }) costs
 
--- packed symbols tell
+-- packed symbols determine the list
 abbrev AreSymbols : ℕ → List ℕ → Type 0
 AreSymbols k xs = (i : ℕ) → get_or xs i 0 < 2 ^ k
 

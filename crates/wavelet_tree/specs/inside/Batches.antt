@@ -11,7 +11,7 @@ use Rattle.wavelet_tree.specs.declared.batch.RangeQuery.{RangeQuery}
 use Rattle.wavelet_tree.specs.declared.node.Node.{Node}
 use Rattle.wavelet_tree.specs.declared.node.TheConstants.{LEAVES}
 
--- a query is as it was asked, and has read nothing
+-- a query before its first fork, which has read nothing
 pub record IsAsked (items : List ℕ) (asked now : RangeQuery) (own : Reads) : Type 0 where
   pub same : now ≡ asked
   pub none : own ≡ no_reads

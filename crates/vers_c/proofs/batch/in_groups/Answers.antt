@@ -1,4 +1,4 @@
-use Rattle.vers_c.proofs.Names.{◌+◌, ◌-◌, map, take, arith, put_mid, told_row}
+use Rattle.vers_c.proofs.Names.{◌+◌, ◌-◌, map, take, arith, put_mid, answered_row}
 use Rattle.std.proofs.Common.{◌≡◌, ℕ, ◌++◌, drop, subst, sym}
 use Rattle.vers_c.proofs.Batches.{group_more}
 use Rattle.vers_c.proofs.batch.in_groups.Goals as goal
@@ -9,10 +9,10 @@ loop-from-preserved g c =
     let n = c.min-n.result in
     let rows = c.loop-from.rows in
     let now = c.ask_group.new.rows in
-    let told = told_row g.R.Row.ask g.R.Row.told (g.B.Batch.answers c.args.batch c.args.structure.now) c.args.other c.args.b c.args.c in
+    let answered = answered_row g.R.Row.ask g.R.Row.with_answer (g.B.Batch.answers c.args.batch c.args.structure.now) c.args.other c.args.b c.args.c in
     let size : from + n - from ≡ n = omega arith in
     record {
       within = omega arith;
-      told = subst (λ (k : ℕ). put_mid from k rows now ≡ map told (take (from + n) c.args.rows.now) ++ drop (from + n) c.args.rows.now) (sym size)
-          (group_more told c.args.rows.now rows now from n (omega arith) c.loop-from.invariant.told (subst (λ (k : ℕ). now ≡ map told (take k (drop from rows))) size c.ask_group.ensures));
+      answered = subst (λ (k : ℕ). put_mid from k rows now ≡ map answered (take (from + n) c.args.rows.now) ++ drop (from + n) c.args.rows.now) (sym size)
+          (group_more answered c.args.rows.now rows now from n (omega arith) c.loop-from.invariant.answered (subst (λ (k : ℕ). now ≡ map answered (take k (drop from rows))) size c.ask_group.ensures));
     }
