@@ -1,5 +1,5 @@
 -- Any levels of one length are those of exactly one list of symbols.
-use Rattle.vers_wavelet.proofs.Names.{◌≡◌, ℕ, zero, suc, ◌/◌, ◌%◌, ◌^◌, ◌<◌, ◌⊎◌, inl, inr, Bool, false, not, List, [], ◌∷◌, length, get_or, refl, sym, ap, ◌∙◌, arith, eqb, map, filter, All, cases_Bool, get_or-map, get_or_default, length-map, map-append, same_lists, div-add-mod', bit_at, bit_at_cat_low, Symbols, AreLevels, Even, digit, next, value, values, sorted_by, levels_of, symbol_levels}
+use Rattle.vers_wavelet.proofs.Names.{◌≡◌, ℕ, zero, suc, ◌/◌, ◌%◌, ◌^◌, ◌<◌, ◌⊎◌, inl, inr, Bool, false, not, List, [], ◌∷◌, length, get_or, refl, sym, ap, ◌∙◌, arith, eqb, map, filter, All, cases_Bool, get_or-map, get_or_default, length-map, map-append, same_lists, div-add-mod', bit_at, bit_at_cat_low, Symbols, AreLevels, AllHaveLength, digit, next, value, values, sorted_by, levels_of, symbol_levels}
 use Rattle.vers_wavelet.proofs.Values.{from_above}
 use Rattle.vers_wavelet.proofs.Steps.{value_parts, even_first, even_rest}
 use Rattle.vers_wavelet.proofs.Lists.{length-values, get_or-values, values_fit}
@@ -74,7 +74,7 @@ module _ (l : List Bool) (ls : List (List Bool)) (n : ℕ) (long : length l ≡ 
       let small : p < n = omega (arith, h, many, length-map (sorted_by top all) low) in
       get_or-map low (sorted_by top all) p 0 d (omega (arith, small, many)) ∙ moved p small ∙ sym (get_or-values ls n p d small))
 
-pub rebuilt : (ls : List (List Bool)) (n : ℕ) → Even ls n → levels_of (λ y. y) (length ls) (values ls n) ≡ ls
+pub rebuilt : (ls : List (List Bool)) (n : ℕ) → AllHaveLength ls n → levels_of (λ y. y) (length ls) (values ls n) ≡ ls
 unfolding levels_of
 rebuilt [] n even = refl
 rebuilt (l ∷ ls) n even =
@@ -95,7 +95,7 @@ pub levels_even : (symbols : Symbols) → (length (symbol_levels symbols) ≡ sy
 unfolding symbol_levels
 levels_even symbols = (length-symbol_levels symbols, Makes.levels_even (λ y. y) symbols.width symbols.items)
 
-pub symbol_levels_are : (ls : List (List Bool)) (n : ℕ) → Even ls n → symbol_levels (record { width = length ls; items = values ls n }) ≡ ls
+pub symbol_levels_are : (ls : List (List Bool)) (n : ℕ) → AllHaveLength ls n → symbol_levels (record { width = length ls; items = values ls n }) ≡ ls
 unfolding symbol_levels
 symbol_levels_are ls n even = rebuilt ls n even
 
@@ -125,6 +125,6 @@ pub level_is : (symbols : Symbols) (ls : List (List Bool)) (k : ℕ) (v : List B
 level_is symbols ls k v levels wide holds inside at =
     at ∙ get_or_default ls k v [] (omega (arith, wide)) ∙ ap (λ l. get_or l k []) (sym (levels_are symbols ls levels wide holds))
 
-pub even_is : (ls : List (List Bool)) (n : ℕ) → Even ls n → length ls ≡ 0 ⊎ (n ≡ length (get_or ls 0 []))
+pub even_is : (ls : List (List Bool)) (n : ℕ) → AllHaveLength ls n → length ls ≡ 0 ⊎ (n ≡ length (get_or ls 0 []))
 even_is [] n even = inl refl
 even_is (l ∷ ls) n even = inr (sym (even 0 [] (omega arith)))

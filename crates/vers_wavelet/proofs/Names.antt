@@ -27,16 +27,21 @@ pub use Rattle.vers_rank.proofs.PublicLaws.{adds_times, changed_on, each_at}
 pub use Rattle.vers_rank.specs.Queries.{index_size, rank_reads, select_reads, superblock_count}
 pub use Rattle.vers_tally.proofs.PublicLaws.{adds_nothing, adds_then, adds_weaker}
 pub use Rattle.vers_tally.specs.Reads.{AddsAtMost, IsWithin, Reads, times}
-pub use Rattle.vers_wavelet.specs.Batches.{Become, Changed, HasNumber, HasPlace, Rising, Seeks, asked, no_query}
-unfoldable pub use Rattle.vers_wavelet.specs.Batches.{member}
-pub use Rattle.vers_wavelet.specs.Levels.{AreLevels, Even, HasRoom, KthOf, Narrowed, Rises, Searched, digit, hits, start}
-unfoldable pub use Rattle.vers_wavelet.specs.Levels.{equal, next, under, value, values, way}
-pub use Rattle.vers_wavelet.specs.Makers.{GoesOn, Placed, Splits, Stands}
-unfoldable pub use Rattle.vers_wavelet.specs.Makers.{earlier, levels_of, low_symbols, order, packed_symbols, prefix, sorted_by, stand, symbol_levels}
-pub use Rattle.vers_wavelet.specs.Nearest.{Follows, Leaves}
+pub use Rattle.vers_wavelet.specs.Batches.{Become}
+pub use Rattle.vers_wavelet.specs.Makers.{AllHaveLength, digit}
+unfoldable pub use Rattle.vers_wavelet.specs.Makers.{levels_of, low_symbols, packed_symbols, sorted_by, symbol_levels}
 pub use Rattle.vers_wavelet.specs.Numbers.{low_bits_of, place_from, places_of}
-pub use Rattle.vers_wavelet.specs.Symbols.{IsKth, IsPredecessor, IsSuccessor, Symbols, by_size, digit_list, gathered, in_bits, nearest, ordered, placed}
-unfoldable pub use Rattle.vers_wavelet.specs.Symbols.{as_word, greatest_up_to, kth_by_size, least_from, occurrences, range_members, turned}
-pub use Rattle.vers_wavelet.specs.Ways.{IsNode, IsWay}
+pub use Rattle.vers_wavelet.specs.Symbols.{IsKth, IsPredecessor, IsSuccessor, Symbols, by_size, digit_list, gathered, in_bits, ordered, placed}
+unfoldable pub use Rattle.vers_wavelet.specs.Symbols.{as_word, greatest_up_to, kth_by_size, least_from, occurrences, range_members, reversed_digits}
+pub use Rattle.vers_wavelet.specs.inside.Batches.{Changed, HasNumber, HasPlace, IsClimbing, asked, no_query}
+pub use Rattle.vers_wavelet.specs.inside.Counts.{IsKthInRange, count_positions}
+unfoldable pub use Rattle.vers_wavelet.specs.inside.Counts.{count_below, count_equal, kth_symbol}
+pub use Rattle.vers_wavelet.specs.inside.Levels.{AreLevels, start}
+unfoldable pub use Rattle.vers_wavelet.specs.inside.Levels.{final_place, next, value, values}
+pub use Rattle.vers_wavelet.specs.inside.Makers.{AreClassStarts, AreNextStarts, HasWritten, Splits}
+unfoldable pub use Rattle.vers_wavelet.specs.inside.Makers.{class_place, count_class, level_order, prefix}
+pub use Rattle.vers_wavelet.specs.inside.Nearest.{HasBeside, IsTrail, nearest}
+pub use Rattle.vers_wavelet.specs.inside.Walks.{HasClimbed, HasRoom, LeadsTo, Narrowed, ReducesKth}
+pub use Rattle.vers_wavelet.specs.inside.Ways.{IsNode, IsWay}
 pub use mathlib.Core.Bool.{beq}
 pub use mir.Val.{bool_byte}

@@ -1,5 +1,5 @@
 -- How places and counts of symbols go from one level to the next.
-use Rattle.vers_wavelet.proofs.Names.{◌≡◌, ℕ, zero, suc, ◌+◌, ◌-◌, ◌*◌, ◌^◌, ◌<◌, ◌≤◌, Bool, true, false, cond, ltb, leb, List, [], ◌∷◌, length, get_or, refl, ap, ◌∙◌, arith, add-one, add-zero, inl, inr, pow-suc, mul-le-mul_right, cases_Bool, cases_lt, lt-ltb, le-ltb, le-leb, leb-true, ltb-true, eq-eqb, nat_tests, bit_value, bit_value_le, hits, is_bit, count, count_le, count_up, count_near, count_both, count_past, count_more_yes, count_more_no, select, select_holds, start, next, value, under, equal, way, digit}
+use Rattle.vers_wavelet.proofs.Names.{◌≡◌, ℕ, zero, suc, ◌+◌, ◌-◌, ◌*◌, ◌^◌, ◌<◌, ◌≤◌, Bool, true, false, cond, ltb, leb, List, [], ◌∷◌, length, get_or, refl, ap, ◌∙◌, arith, add-one, add-zero, inl, inr, pow-suc, mul-le-mul_right, cases_Bool, cases_lt, lt-ltb, le-ltb, le-leb, leb-true, ltb-true, eq-eqb, nat_tests, bit_value, bit_value_le, count_positions, is_bit, count, count_le, count_up, count_near, count_both, count_past, count_more_yes, count_more_no, select, select_holds, start, next, value, count_below, count_equal, final_place, digit}
 
 pub next_none : (b : Bool) (l : List Bool) → next b l 0 ≡ start b l
 unfolding next count
@@ -28,55 +28,55 @@ ltb_shift h a b y e = grind (arith, nat_tests)
 
 -- ---- counts over the places of a level
 
-pub hits_more : (q : ℕ → Bool) (n : ℕ) → hits q (n + 1) ≡ hits q n + cond (q n) 1 0
-hits_more q n = rw add-one refl
+pub counts_more : (q : ℕ → Bool) (n : ℕ) → count_positions q (n + 1) ≡ count_positions q n + cond (q n) 1 0
+counts_more q n = rw add-one refl
 
-pub hits_same : (q r : ℕ → Bool) (n : ℕ) → ((p : ℕ) → p < n → q p ≡ r p) → hits q n ≡ hits r n
-hits_same q r zero h = refl
-hits_same q r (suc n) h = omega (arith, hits_same q r n (λ p k. h p (omega arith)), ap {B = ℕ} (λ t. cond t 1 0) (h n (omega arith)))
+pub counts_same : (q r : ℕ → Bool) (n : ℕ) → ((p : ℕ) → p < n → q p ≡ r p) → count_positions q n ≡ count_positions r n
+counts_same q r zero h = refl
+counts_same q r (suc n) h = omega (arith, counts_same q r n (λ p k. h p (omega arith)), ap {B = ℕ} (λ t. cond t 1 0) (h n (omega arith)))
 
 -- a test that all places pass, or none
-pub hits_all : (q : ℕ → Bool) (b : Bool) (n : ℕ) → ((p : ℕ) → q p ≡ b) → hits q n ≡ cond b n 0
-hits_all q b zero h = grind (arith, cases_Bool b)
-hits_all q b (suc n) h = grind (arith, cases_Bool b, hits_all q b n h, h n)
+pub counts_all : (q : ℕ → Bool) (b : Bool) (n : ℕ) → ((p : ℕ) → q p ≡ b) → count_positions q n ≡ cond b n 0
+counts_all q b zero h = grind (arith, cases_Bool b)
+counts_all q b (suc n) h = grind (arith, cases_Bool b, counts_all q b n h, h n)
 
 -- the zeros and the ones of a level go to places of their own in the next
-pub split_hits : (l : List Bool) (h f g : ℕ → Bool) → ((p : ℕ) → get_or l p false ≡ false → h p ≡ f (next false l p))
+pub split_counts : (l : List Bool) (h f g : ℕ → Bool) → ((p : ℕ) → get_or l p false ≡ false → h p ≡ f (next false l p))
     → ((p : ℕ) → get_or l p false ≡ true → h p ≡ g (next true l p))
-    → (i : ℕ) → i ≤ length l → hits h i + hits g (start true l) ≡ hits f (next false l i) + hits g (next true l i)
-split_hits l h f g low high zero within = omega (arith, ap (hits f) (next_none false l), ap (hits g) (next_none true l))
-split_hits l h f g low high (suc i) within =
-    let before = split_hits l h f g low high i (omega (arith, within)) in
+    → (i : ℕ) → i ≤ length l → count_positions h i + count_positions g (start true l) ≡ count_positions f (next false l i) + count_positions g (next true l i)
+split_counts l h f g low high zero within = omega (arith, ap (count_positions f) (next_none false l), ap (count_positions g) (next_none true l))
+split_counts l h f g low high (suc i) within =
+    let before = split_counts l h f g low high i (omega (arith, within)) in
     let inside : i < length l = omega (arith, within) in
-    rw (← add-one i) (grind (arith, cases_Bool (get_or l i false), before, low i, high i, hits_more, next_more true l i inside, next_more false l i inside))
+    rw (← add-one i) (grind (arith, cases_Bool (get_or l i false), before, low i, high i, counts_more, next_more true l i inside, next_more false l i inside))
 
 -- all symbols are below what no number of so many digits reaches
-pub under_all : (ls : List (List Bool)) (y n : ℕ) → 2 ^ length ls ≤ y → under ls y n ≡ n
-unfolding under
-under_all ls y n h = hits_all _ true n (λ p. lt-ltb (value ls p) y (omega (arith, value-lt ls p)))
+pub below_all : (ls : List (List Bool)) (y n : ℕ) → 2 ^ length ls ≤ y → count_below ls y n ≡ n
+unfolding count_below
+below_all ls y n h = counts_all _ true n (λ p. lt-ltb (value ls p) y (omega (arith, value-lt ls p)))
 
 -- those below a symbol y, whose first digit is the bit and whose others are s, by those that go on with that digit
-pub under_step : (bit : Bool) (l : List Bool) (ls : List (List Bool)) (s y i : ℕ) → y ≡ bit_value bit * 2 ^ length ls + s → s ≤ 2 ^ length ls
+pub below_step : (bit : Bool) (l : List Bool) (ls : List (List Bool)) (s y i : ℕ) → y ≡ bit_value bit * 2 ^ length ls + s → s ≤ 2 ^ length ls
     → i ≤ length l
-    → under (l ∷ ls) y i + under ls s (start bit l) ≡ cond bit (next false l i) 0 + under ls s (next bit l i)
-unfolding under
-under_step true l ls s y i e small h =
-    let parts = split_hits l (λ p. ltb (value (l ∷ ls) p) y) (λ p. true) (λ p. ltb (value ls p) s)
+    → count_below (l ∷ ls) y i + count_below ls s (start bit l) ≡ cond bit (next false l i) 0 + count_below ls s (next bit l i)
+unfolding count_below
+below_step true l ls s y i e small h =
+    let parts = split_counts l (λ p. ltb (value (l ∷ ls) p) y) (λ p. true) (λ p. ltb (value ls p) s)
     (λ p off. lt-ltb _ y (omega (arith, value_is l ls p false off, value-lt ls (next false l p))))
     (λ p on. ap (λ v. ltb v y) (value_is l ls p true on) ∙ ltb_shift (1 * 2 ^ length ls) (value ls (next true l p)) s y e) i h in
-    omega (arith, parts, hits_all (λ p. true) true (next false l i) (λ p. refl))
-under_step false l ls s y i e small h =
-    let parts = split_hits l (λ p. ltb (value (l ∷ ls) p) y) (λ p. ltb (value ls p) s) (λ p. false)
+    omega (arith, parts, counts_all (λ p. true) true (next false l i) (λ p. refl))
+below_step false l ls s y i e small h =
+    let parts = split_counts l (λ p. ltb (value (l ∷ ls) p) y) (λ p. ltb (value ls p) s) (λ p. false)
     (λ p off. ap (λ v. ltb v y) (value_is l ls p false off) ∙ ltb_shift (0 * 2 ^ length ls) (value ls (next false l p)) s y e)
     (λ p on. le-ltb _ y (omega (arith, value_is l ls p true on))) i h in
-    let none = λ (n : ℕ). hits_all (λ p. false) false n (λ p. refl) in
+    let none = λ (n : ℕ). counts_all (λ p. false) false n (λ p. refl) in
     omega (arith, parts, none (start true l), none (next true l i))
 
 -- those that hold s are those below s + 1 and not below s
-pub equal_under : (ls : List (List Bool)) (s n : ℕ) → equal ls s n + under ls s n ≡ under ls (s + 1) n
-unfolding equal under
-equal_under ls s zero = refl
-equal_under ls s (suc n) = grind (arith, equal_under ls s n, nat_tests)
+pub equal_below : (ls : List (List Bool)) (s n : ℕ) → count_equal ls s n + count_below ls s n ≡ count_below ls (s + 1) n
+unfolding count_equal count_below
+equal_below ls s zero = refl
+equal_below ls s (suc n) = grind (arith, equal_below ls s n, nat_tests)
 
 -- a bit that is one of its kind is that bit
 pub same_bit : (b c : Bool) → is_bit b c ≡ true → c ≡ b
@@ -107,13 +107,13 @@ pub next_up_to_place : (l : List Bool) (i : ℕ) → next false l i ≤ i
 unfolding next
 next_up_to_place l i = omega (arith, count_le false l i)
 
-pub none_under : (i : ℕ) → under [] 0 i ≡ 0
-unfolding under
-none_under i = hits_all _ false i (λ p. le-ltb (value [] p) 0 (omega arith))
+pub none_below : (i : ℕ) → count_below [] 0 i ≡ 0
+unfolding count_below
+none_below i = counts_all _ false i (λ p. le-ltb (value [] p) 0 (omega arith))
 
-pub all_equal : (i : ℕ) → equal [] 0 i ≡ i
-unfolding equal
-all_equal i = hits_all _ true i (λ p. eq-eqb (value [] p) 0 (value_none p))
+pub all_equal : (i : ℕ) → count_equal [] 0 i ≡ i
+unfolding count_equal
+all_equal i = counts_all _ true i (λ p. eq-eqb (value [] p) 0 (value_none p))
 
 pub next_near : (b : Bool) (l : List Bool) (i j : ℕ) → i ≤ j → next b l j ≤ next b l i + (j - i)
 unfolding next
@@ -138,9 +138,9 @@ next_false_all l = omega arith
 -- the places of a level take all places of the next, each once
 pub split_all : (l : List Bool) (h f g : ℕ → Bool) → ((p : ℕ) → get_or l p false ≡ false → h p ≡ f (next false l p))
     → ((p : ℕ) → get_or l p false ≡ true → h p ≡ g (next true l p))
-    → (n : ℕ) → length l ≡ n → hits h n + hits g (start true l) ≡ hits f (start true l) + hits g n
+    → (n : ℕ) → length l ≡ n → count_positions h n + count_positions g (start true l) ≡ count_positions f (start true l) + count_positions g n
 split_all l h f g low high n long =
-    rw (← long) (omega (arith, split_hits l h f g low high (length l) (omega arith), ap (hits f) (next_false_all l), ap (hits g) (next_true_all l)))
+    rw (← long) (omega (arith, split_counts l h f g low high (length l) (omega arith), ap (count_positions f) (next_false_all l), ap (count_positions g) (next_true_all l)))
 
 pub of_kind : (bit : Bool) (l : List Bool) (z p : ℕ) → z ≡ count false l (length l) → p < length l
     → (cond bit (leb z p) (ltb p z) ≡ true → (start bit l ≤ p) × (p < next bit l (length l))) × ((start bit l ≤ p) × (p < next bit l (length l)) → cond bit (leb z p) (ltb p z) ≡ true)
@@ -167,22 +167,22 @@ from_above l p h =
       | inr high ↦ let a = of_bit true l (p - zeros) (omega (arith, count_both l (length l))) in (a.0, a.1, omega (arith, a.2))
     ]
 
--- ---- the way down
+-- ---- final positions
 
-pub way_none : (s i : ℕ) → way [] s i ≡ i
-unfolding way
-way_none s i = refl
+pub final_none : (s i : ℕ) → final_place [] s i ≡ i
+unfolding final_place
+final_none s i = refl
 
-pub way_is : (l : List Bool) (ls : List (List Bool)) (s i : ℕ) → way (l ∷ ls) s i ≡ way ls s (next (digit s (length ls)) l i)
-unfolding way
-way_is l ls s i = refl
+pub final_is : (l : List Bool) (ls : List (List Bool)) (s i : ℕ) → final_place (l ∷ ls) s i ≡ final_place ls s (next (digit s (length ls)) l i)
+unfolding final_place
+final_is l ls s i = refl
 
-pub way-up : (ls : List (List Bool)) (s i j : ℕ) → i ≤ j → way ls s i ≤ way ls s j
-way-up [] s i j h = omega (arith, way_none s i, way_none s j)
-way-up (l ∷ ls) s i j h =
+pub final-up : (ls : List (List Bool)) (s i j : ℕ) → i ≤ j → final_place ls s i ≤ final_place ls s j
+final-up [] s i j h = omega (arith, final_none s i, final_none s j)
+final-up (l ∷ ls) s i j h =
     let bit : Bool = digit s (length ls) in
-    omega (arith, way_is l ls s i, way_is l ls s j, way-up ls s (next bit l i) (next bit l j) (next-up bit l i j h))
+    omega (arith, final_is l ls s i, final_is l ls s j, final-up ls s (next bit l i) (next bit l j) (next-up bit l i j h))
 
-pub equal_more : (ls : List (List Bool)) (s i : ℕ) → value ls i ≡ s → equal ls s (i + 1) ≡ equal ls s i + 1
-unfolding equal
+pub equal_more : (ls : List (List Bool)) (s i : ℕ) → value ls i ≡ s → count_equal ls s (i + 1) ≡ count_equal ls s i + 1
+unfolding count_equal
 equal_more ls s i e = rw add-one (omega (arith, ap {B = ℕ} (λ t. cond t 1 0) (eq-eqb (value ls i) s e)))

@@ -1,10 +1,10 @@
 -- The way down of a walk by size, and that a list of symbols has one list of levels.
-use Rattle.vers_wavelet.proofs.Names.{◌≡◌, ℕ, ◌-◌, ◌<◌, ◌≤◌, Bool, false, List, [], ◌∷◌, length, get_or, set, get_or-set_same, get_or-set_other, refl, sym, ap, ◌∙◌, subst, arith, inl, inr, cases_eq, same_lists, slice_range, any_default, next, value, values, Even, AreLevels, KthOf, by_size, IsNode, IsWay}
+use Rattle.vers_wavelet.proofs.Names.{◌≡◌, ℕ, ◌-◌, ◌<◌, ◌≤◌, Bool, false, List, [], ◌∷◌, length, get_or, set, get_or-set_same, get_or-set_other, refl, sym, ap, ◌∙◌, subst, arith, inl, inr, cases_eq, same_lists, slice_range, any_default, next, value, values, AllHaveLength, AreLevels, IsKthInRange, by_size, IsNode, IsWay}
 use Rattle.vers_wavelet.specs.declared.wavelet.way.Node.{Node}
 use Rattle.vers_wavelet.specs.declared.wavelet.way.Way.{Way}
 use Rattle.vers_wavelet.proofs.Digits.{room_none}
 use Rattle.vers_wavelet.proofs.Values.{from_above}
-use Rattle.vers_wavelet.proofs.Steps.{value_parts, even_first, even_rest, searched_none}
+use Rattle.vers_wavelet.proofs.Steps.{value_parts, even_first, even_rest, reduces_none}
 use Rattle.vers_wavelet.proofs.Lists.{length-values, get_or-values, kth_is}
 use Rattle.vers_wavelet.proofs.BySize.{kth_place}
 use Rattle.vers_wavelet.proofs.Items.{sorted_member}
@@ -18,7 +18,7 @@ same_parts l m ls ms i long same =
     let second = value_parts m ms i _ refl in
     (cc (first.0, second.0), cc (first.1, second.1))
 
-same_levels : (ls ms : List (List Bool)) (n : ℕ) → Even ls n → Even ms n → length ls ≡ length ms → ((p : ℕ) → p < n → value ls p ≡ value ms p) → ls ≡ ms
+same_levels : (ls ms : List (List Bool)) (n : ℕ) → AllHaveLength ls n → AllHaveLength ms n → length ls ≡ length ms → ((p : ℕ) → p < n → value ls p ≡ value ms p) → ls ≡ ms
 same_levels [] [] n even other long same = refl
 same_levels [] (m ∷ ms) n even other long same = absurd (omega arith)
 same_levels (l ∷ ls) [] n even other long same = absurd (omega arith)
@@ -38,7 +38,7 @@ same_levels (l ∷ ls) (m ∷ ms) n even other long same =
 pub same_way : {ls ms : List (List Bool)} {n m : ℕ} {way : Way} → AreLevels ls n → AreLevels ms m → length ms ≡ length ls → values ms m ≡ values ls n → IsWay ls n way → IsWay ms m way
 same_way {ls} {ms} {n} {m} {way} levels others long same is =
     let e : n ≡ m = sym (length-values ls n) ∙ ap length (sym same) ∙ length-values ms m in
-    let even : Even ms n = subst (λ (k : ℕ). Even ms k) (sym e) others.even in
+    let even : AllHaveLength ms n = subst (λ (k : ℕ). AllHaveLength ms k) (sym e) others.even in
     let f : ls ≡ ms = same_levels ls ms n levels.even even (sym long) (λ p h.
     sym (get_or-values ls n p 0 h) ∙ ap (λ xs. get_or xs p 0) (sym same) ∙ get_or-values ms m p 0 (omega (arith, h, e))) in
     subst (λ (k : ℕ). IsWay ms k way) e (subst (λ (vs : List (List Bool)). IsWay vs n way) f is)
@@ -50,7 +50,7 @@ node_none ls n k few = record {
   order = omega arith;
   within = omega arith;
   room = room_none 64 (length ls - k) (omega arith);
-  searched = λ j. record { each = λ x small kth. absurd (omega (arith, kth.more)) };
+  reduced = λ j. record { each = λ x small kth. absurd (omega (arith, kth.more)) };
 }
 
 pub node_all : (ls : List (List Bool)) (n : ℕ) → length ls ≤ 64 → IsNode ls n 0 (record { start = 0; end = n; from = 0; number = 0 })
@@ -58,7 +58,7 @@ node_all ls n few = record {
   order = omega arith;
   within = omega arith;
   room = room_none 64 (length ls - 0) (omega arith);
-  searched = λ j. searched_none ls 0 n _ j _ (omega arith) refl;
+  reduced = λ j. reduces_none ls 0 n _ j _ (omega arith) refl;
 }
 
 -- one node more
@@ -72,7 +72,7 @@ nodes_set ls n k nodes node inside each is j d h =
     ]
 
 -- member i of the levels is that of the symbols by size
-pub sorted_kth : (ls : List (List Bool)) (n i x : ℕ) → KthOf ls 0 n i x → x ≡ get_or (by_size (values ls n)) i 0
+pub sorted_kth : (ls : List (List Bool)) (n i x : ℕ) → IsKthInRange ls 0 n i x → x ≡ get_or (by_size (values ls n)) i 0
 sorted_kth ls n i x kth =
     sorted_member (values ls n) i x n (sym (length-values ls n))
     (kth_place (slice_range (values ls n) 0 n) i x ((kth_is ls n 0 n i x (omega arith) (omega arith)).0 kth))

@@ -1,10 +1,8 @@
 pub mod Symbols
 pub mod Rows
 pub mod Reads
-pub mod Levels
 pub mod Makers
 pub mod Laws
 pub mod Batches
-pub mod Ways
-pub mod Nearest
 pub mod Numbers
+pub mod inside

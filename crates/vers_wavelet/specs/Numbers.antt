@@ -1,4 +1,4 @@
--- Queries for a symbol that a number names.
+-- Queries for the symbol of the low bits of a number, of as many bits as symbols have.
 use Rattle.std.specs.Prelude.{ℕ, ◌%◌, ◌^◌, ◌&&◌, nat_le, nat_lt, List, length, slice_get, Option, Some, None, if◌then◌else◌}
 use Rattle.vers_wavelet.specs.Symbols.{Symbols, occurrences}
 
@@ -21,6 +21,6 @@ rank_between symbols a b s =
     then Some (length (places_of symbols a b s))
     else None
 
--- the position of occurrence r of a symbol, among those from position o
+-- the position of occurrence r, from 0, of the symbol of a number from position o; `None` if there are at most r
 abbrev pub place_from : Symbols → ℕ → ℕ → ℕ → Option ℕ
 place_from symbols o r s = slice_get (places_of symbols o (length symbols.items) s) r

@@ -1,6 +1,6 @@
 -- Worked rows of the definitions, which compute.
 use Rattle.std.specs.Prelude.{◌≡◌, ℕ, List, [], ◌∷◌, Some, None, refl}
-use Rattle.vers_wavelet.specs.Symbols.{by_size, turned, gathered, occurrences, range_members, kth_by_size, greatest_up_to, least_from}
+use Rattle.vers_wavelet.specs.Symbols.{by_size, reversed_digits, gathered, occurrences, range_members, kth_by_size, greatest_up_to, least_from}
 
 -- the symbols 5, 1, 3, 1
 abbrev symbols_5131 : List ℕ
@@ -47,18 +47,18 @@ unfolding least_from
 least_from-6 = refl
 
 -- of three digits the symbols are 101, 001, 011 and 001, which from the lowest digit on are 5, 4, 6 and 4: in that order they are 1, 1, 5, 3
-pub turned-3 : turned 3 3 ≡ 6
-unfolding turned
-turned-3 = refl
+pub reversed_digits-3 : reversed_digits 3 3 ≡ 6
+unfolding reversed_digits
+reversed_digits-3 = refl
 
 pub gathered-1_3 : gathered (record { width = 3; items = symbols_5131 }) 3 1 ≡ 1
-unfolding turned occurrences
+unfolding reversed_digits occurrences
 gathered-1_3 = refl
 
 pub gathered-5_0 : gathered (record { width = 3; items = symbols_5131 }) 0 5 ≡ 2
-unfolding turned occurrences
+unfolding reversed_digits occurrences
 gathered-5_0 = refl
 
 pub gathered-3_2 : gathered (record { width = 3; items = symbols_5131 }) 2 3 ≡ 3
-unfolding turned occurrences
+unfolding reversed_digits occurrences
 gathered-3_2 = refl

@@ -1,6 +1,6 @@
 -- Lists of symbols: the occurrences of a symbol in a range, and the elements of a range by size.
--- A symbol is a number; a range from a to b has the members at the places from a on, before b.
-use Rattle.std.specs.Prelude.{ℕ, zero, suc, ◌+◌, ◌-◌, ◌*◌, ◌<◌, ◌≤◌, ◌==◌, Bool, true, false, List, [], ◌∷◌, length, slice_index, slice_get, slice_range, filter, find, map, count_by, min, nat_lt, nat_le, All, Contains, Option, None, if◌then◌else◌}
+-- A symbol is a number; a range from a to b has the elements from position a to before position b.
+use Rattle.std.specs.Prelude.{ℕ, zero, suc, ◌+◌, ◌-◌, ◌*◌, ◌<◌, ◌≤◌, ◌==◌, Bool, List, [], ◌∷◌, length, slice_index, slice_get, slice_range, filter, find, map, count_by, min, nat_lt, nat_le, All, Contains, Option, None, if◌then◌else◌}
 use Rattle.std.specs.Int.{bit_at}
 use Rattle.std.specs.List.{range_with_len, sum_by, last_or}
 use Rattle.vers_bits.specs.Bits.{low_bits}
@@ -15,14 +15,14 @@ pub record Symbols : Type 0 where
 unfoldable pub occurrences : List ℕ → ℕ → ℕ → ℕ → List ℕ
 occurrences items a b s = filter (λ p. slice_index items p == s) (range_with_len a (b - a))
 
--- the number of the k lowest digits of s in reverse order
-unfoldable pub turned : ℕ → ℕ → ℕ
-turned zero s = 0
-turned (suc k) s = 2 * turned k s + bit_at s k
+-- the number that the k lowest digits of s make in reverse order
+unfoldable pub reversed_digits : ℕ → ℕ → ℕ
+reversed_digits zero s = 0
+reversed_digits (suc k) s = 2 * reversed_digits k s + bit_at s k
 
 -- how many symbols precede s in the order of their reversed digits, which gathers equal symbols
 abbrev pub gathered_before : Symbols → ℕ → ℕ
-gathered_before symbols s = count_by (λ y. nat_lt (turned symbols.width y) (turned symbols.width s)) symbols.items
+gathered_before symbols s = count_by (λ y. nat_lt (reversed_digits symbols.width y) (reversed_digits symbols.width s)) symbols.items
 
 -- the index in bit-reversed order of the first s from a position; equal symbols keep the order of their positions
 abbrev pub gathered : Symbols → ℕ → ℕ → ℕ
@@ -58,14 +58,9 @@ greatest_up_to items s = last_or None (filter (λ y. nat_le y s) (by_size items)
 unfoldable pub least_from : List ℕ → ℕ → Option ℕ
 least_from items s = find (λ y. nat_le s y) (by_size items)
 
--- the least element that is at least s, or, if `up` is false, the greatest that is at most s
-abbrev pub nearest : (up : Bool) → List ℕ → ℕ → Option ℕ
-nearest true items s = least_from items s
-nearest false items s = greatest_up_to items s
-
--- a symbol as a machine word; `None` if symbols have more than 64 bits
+-- an answer that needs symbols to be machine words: `None` if they have more than 64 bits
 unfoldable pub as_word : (width : ℕ) → Option ℕ → Option ℕ
-as_word width symbol = if nat_le width 64 then symbol else None
+as_word width answer = if nat_le width 64 then answer else None
 
 -- x is element i of the list by size, from 0, counting duplicates: at most i elements are less than x, and more than i are at most x
 pub record IsKth (items : List ℕ) (i x : ℕ) : Type 0 where

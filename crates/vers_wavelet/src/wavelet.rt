@@ -1,7 +1,7 @@
 //! The wavelet matrix.
 ghost use Rattle.std.specs.Prelude.{◌≡◌, ℕ, ◌+◌, ◌-◌, ◌*◌, ◌%◌, ◌^◌, ◌<◌, ◌≤◌, ◌↔◌, [], length, slice_get, slice_index, slice_range, count_by, nat_lt, nat_le, Some, None, All, IsTrue, IsSome, IfSome};
-ghost use Rattle.vers_wavelet.specs.Levels.{values, AreLevels};
 ghost use Rattle.vers_wavelet.specs.Symbols.{Symbols};
+ghost use Rattle.vers_wavelet.specs.inside.Levels.{values, AreLevels};
 
 mod batch;
 mod by_levels;
@@ -54,7 +54,7 @@ pub struct WaveletMatrix<A: Allocator + Copy> {
 impl<A: Allocator + Copy> Model for WaveletMatrix<A> {
     ghost use Rattle.std.specs.Prelude.{length};
     ghost use Rattle.vers_wavelet.specs.Symbols.{Symbols};
-    ghost use Rattle.vers_wavelet.specs.Levels.{values, AreLevels};
+    ghost use Rattle.vers_wavelet.specs.inside.Levels.{values, AreLevels};
 
     ghost Value = { Symbols };
 

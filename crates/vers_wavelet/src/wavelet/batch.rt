@@ -2,8 +2,8 @@
 ghost use Rattle.std.specs.Prelude.{◌≡◌, ℕ, ◌+◌, ◌<◌, ◌≤◌, List, [], ◌∷◌, Bool, Option, length, All};
 ghost use Rattle.vers_tally.specs.Reads.{AddsAtMost, times};
 ghost use Rattle.vers_rank.specs.Queries.{rank_reads};
-ghost use Rattle.vers_wavelet.specs.Levels.{AreLevels};
 ghost use Rattle.vers_wavelet.specs.Batches.{Become};
+ghost use Rattle.vers_wavelet.specs.inside.Levels.{AreLevels};
 
 mod gathered;
 mod get;

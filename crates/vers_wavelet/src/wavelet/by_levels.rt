@@ -1,7 +1,7 @@
 //! The levels of a wavelet matrix, and the matrix of given levels.
 ghost use Rattle.std.specs.Prelude.{◌≡◌, ℕ, ◌^◌, ◌<◌, ◌≤◌, ◌↔◌, [], length, slice_index_or, All, IfSome, IsSome, None};
-ghost use Rattle.vers_wavelet.specs.Levels.{AreLevels, Even};
-ghost use Rattle.vers_wavelet.specs.Makers.{symbol_levels};
+ghost use Rattle.vers_wavelet.specs.Makers.{AllHaveLength, symbol_levels};
+ghost use Rattle.vers_wavelet.specs.inside.Levels.{AreLevels};
 
 use crate::wavelet::WaveletMatrix;
 use std::alloc::Allocator;
@@ -13,7 +13,7 @@ const MAX_LEVELS: usize = 65535;
 // Returns the length of each of the levels. `None` if their lengths differ, or there are too many.
 fn common_len<A: Allocator + Copy>(levels: &[RsVec<A>]) -> Option<usize>
     ensures levels { IfSome result (λ n. AreLevels levels.now n) }
-    ensures none { result ≡ None → length levels.now ≤ 65535 → (n : ℕ) → Even levels.now n → ⊥ }
+    ensures none { result ≡ None → length levels.now ≤ 65535 → (n : ℕ) → AllHaveLength levels.now n → ⊥ }
 {
     if levels.is_empty() {
         return Some(0);
@@ -47,7 +47,7 @@ impl<A: Allocator + Copy> WaveletMatrix<A> {
     pub fn from_levels(levels: Vec<RsVec<A>, A>) -> Option<Self>
         ensures levels { IfSome result (λ w. symbol_levels w ≡ levels.items) }
         ensures fit { IfSome result (λ w. All (λ y. y < 2 ^ w.width) w.items) }
-        ensures some { IsSome result ↔ ((length levels.items ≤ 65535) × ((n : ℕ) × Even levels.items n)) }
+        ensures some { IsSome result ↔ ((length levels.items ≤ 65535) × ((n : ℕ) × AllHaveLength levels.items n)) }
     {
         let len = common_len(levels.as_slice())?;
         Some(WaveletMatrix { levels, len })

@@ -154,7 +154,7 @@ pub struct SortedNumbers<M: Matrix> {
 impl<M: Matrix> Model for SortedNumbers<M> {
     ghost use Rattle.std.specs.Prelude.{◌≤◌};
     ghost use Rattle.vers_wavelet.specs.Symbols.{Symbols};
-    ghost use Rattle.vers_wavelet.specs.Ways.{IsFound, IsWayOf};
+    ghost use Rattle.vers_wavelet.specs.inside.Ways.{IsFound, IsWayOf};
 
     ghost Value = { Symbols };
 

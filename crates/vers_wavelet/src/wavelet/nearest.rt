@@ -3,9 +3,10 @@ ghost use Rattle.std.specs.Prelude.{◌≡◌, ℕ, ◌+◌, ◌-◌, ◌*◌, �
 ghost use Rattle.vers_bits.specs.Bits.{bit_value};
 ghost use Rattle.vers_tally.specs.Reads.{AddsAtMost, times};
 ghost use Rattle.vers_rank.specs.Queries.{rank_reads};
-ghost use Rattle.vers_wavelet.specs.Levels.{values, under, way, Even, AreLevels, KthOf};
-ghost use Rattle.vers_wavelet.specs.Nearest.{Follows, Leaves};
-ghost use Rattle.vers_wavelet.specs.Symbols.{nearest};
+ghost use Rattle.vers_wavelet.specs.Makers.{AllHaveLength};
+ghost use Rattle.vers_wavelet.specs.inside.Levels.{values, final_place, AreLevels};
+ghost use Rattle.vers_wavelet.specs.inside.Counts.{count_below, IsKthInRange};
+ghost use Rattle.vers_wavelet.specs.inside.Nearest.{IsTrail, HasBeside, nearest};
 
 use crate::wavelet::digits::{Digits, copy_digits};
 use crate::wavelet::level::{Part, chosen_place, part_of_bit, zeros_before_both};
@@ -48,8 +49,8 @@ fn follow_level<A: Allocator + Copy, D: Digits>(
     requires within { trail.part.end ≤ len }
     requires few { trail.part.less + (trail.part.end - trail.part.start) ≤ len }
     ensures follows { (from to : ℕ)
-        → Follows is_up levels.now len (D.number symbol.now) from to k trail
-        → Follows is_up levels.now len (D.number symbol.now) from to (k + 1) result }
+        → IsTrail is_up levels.now len (D.number symbol.now) from to k trail
+        → IsTrail is_up levels.now len (D.number symbol.now) from to (k + 1) result }
     ensures adds { AddsAtMost tally.old tally.new (times 2 rank_reads) }
 {
     let level = &levels[k];
@@ -90,12 +91,12 @@ fn follow<A: Allocator + Copy, D: Digits>(
     requires within { end ≤ len }
     requires wide { length levels.now ≤ D.width symbol.now }
     ensures order { result.part.start ≤ result.part.end }
-    ensures kept { result.part.start + way levels.now (D.number symbol.now) end
-        ≡ result.part.end + way levels.now (D.number symbol.now) start }
+    ensures kept { result.part.start + final_place levels.now (D.number symbol.now) end
+        ≡ result.part.end + final_place levels.now (D.number symbol.now) start }
     ensures less { result.part.less
-        + under levels.now (D.number symbol.now % 2 ^ length levels.now) start
-        ≡ under levels.now (D.number symbol.now % 2 ^ length levels.now) end }
-    ensures leaves { Leaves is_up levels.now len (D.number symbol.now) start end result }
+        + count_below levels.now (D.number symbol.now % 2 ^ length levels.now) start
+        ≡ count_below levels.now (D.number symbol.now % 2 ^ length levels.now) end }
+    ensures leaves { HasBeside is_up levels.now len (D.number symbol.now) start end result }
     ensures adds { AddsAtMost tally.old tally.new (times (2 * length levels.now) rank_reads) }
 {
     let part = Part {
@@ -140,7 +141,7 @@ fn write_beside<A: Allocator + Copy, D: Digits>(
     answer: &mut D,
     tally: &mut Tally,
 )
-    requires levels { Even levels.now len }
+    requires levels { AllHaveLength levels.now len }
     requires some { beside.start < beside.end }
     requires within { beside.end ≤ len }
     requires deep { 0 < beside.level }
@@ -153,7 +154,7 @@ fn write_beside<A: Allocator + Copy, D: Digits>(
         ≡ D.number symbol.now % 2 ^ length levels.now)
         × (number + bit_value is_up * 2 ^ (length levels.now - beside.level)
         ≤ D.number answer.new)
-        × KthOf (drop beside.level levels.now) beside.start beside.end
+        × IsKthInRange (drop beside.level levels.now) beside.start beside.end
         (cond is_up 0 (beside.end - beside.start - 1)) (D.number answer.new
         - (number + bit_value is_up * 2 ^ (length levels.now - beside.level))) }
     ensures same { D.width answer.new ≡ D.width answer.old }

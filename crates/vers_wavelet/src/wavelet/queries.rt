@@ -2,9 +2,10 @@
 ghost use Rattle.std.specs.Prelude.{◌≡◌, ℕ, ◌+◌, ◌-◌, ◌*◌, ◌%◌, ◌^◌, ◌<◌, ◌≤◌, ◌↔◌, length, slice_get, slice_index, slice_index_or, slice_range, count_by, nat_lt, nat_le, Some, None, false, IsTrue, IfOk};
 ghost use Rattle.vers_bits.specs.Bits.{number};
 ghost use Rattle.vers_tally.specs.Reads.{AddsAtMost, times};
-ghost use Rattle.vers_wavelet.specs.Symbols.{occurrences, ordered, by_size, range_members, nearest};
+ghost use Rattle.vers_wavelet.specs.Symbols.{occurrences, ordered, by_size, range_members};
+ghost use Rattle.vers_wavelet.specs.inside.Ways.{IsFound, IsWayOf};
+ghost use Rattle.vers_wavelet.specs.inside.Nearest.{nearest};
 ghost use Rattle.vers_wavelet.specs.Reads.{query_reads, walk_reads};
-ghost use Rattle.vers_wavelet.specs.Ways.{IsFound, IsWayOf};
 
 use crate::wavelet::WaveletMatrix;
 use crate::wavelet::digits::Digits;

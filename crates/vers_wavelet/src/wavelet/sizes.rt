@@ -3,7 +3,7 @@ ghost use Rattle.std.specs.Prelude.{◌≡◌, length, min};
 ghost use Rattle.std.specs.List.{range_with_len, sum_by};
 ghost use Rattle.vers_rank.specs.Queries.{index_size};
 ghost use Rattle.vers_wavelet.specs.Symbols.{digit_list, matrix_size};
-ghost use Rattle.vers_wavelet.specs.Levels.{values, AreLevels};
+ghost use Rattle.vers_wavelet.specs.inside.Levels.{values, AreLevels};
 
 use crate::wavelet::WaveletMatrix;
 use std::alloc::{AllocError, Allocator};

@@ -2,8 +2,9 @@
 ghost use Rattle.std.specs.Prelude.{◌≡◌, ℕ, ◌+◌, ◌-◌, ◌*◌, ◌<◌, ◌≤◌, ◌↔◌, List, Bool, length, IsTrue};
 ghost use Rattle.vers_tally.specs.Reads.{AddsAtMost, times};
 ghost use Rattle.vers_rank.specs.Queries.{rank_reads};
-ghost use Rattle.vers_wavelet.specs.Levels.{Even, KthOf};
-ghost use Rattle.vers_wavelet.specs.Ways.{IsNode, IsWay};
+ghost use Rattle.vers_wavelet.specs.Makers.{AllHaveLength};
+ghost use Rattle.vers_wavelet.specs.inside.Counts.{IsKthInRange};
+ghost use Rattle.vers_wavelet.specs.inside.Ways.{IsNode, IsWay};
 
 use crate::wavelet::digits::Digits;
 use crate::wavelet::level::{Choice, choose_level};
@@ -114,14 +115,14 @@ impl Way {
         i: usize,
         tally: &mut Tally,
     ) -> Found
-        requires levels { Even levels.now len }
+        requires levels { AllHaveLength levels.now len }
         requires few { length levels.now ≤ 64 }
         requires within { i < len }
         requires way { IsWay levels.now len self.old }
         ensures way { IsWay levels.now len self.new }
-        ensures value { KthOf levels.now 0 len i result.symbol }
+        ensures value { IsKthInRange levels.now 0 len i result.symbol }
         ensures equals { (j : ℕ) → j < result.count
-            → KthOf levels.now 0 len (result.from + j) result.symbol }
+            → IsKthInRange levels.now 0 len (result.from + j) result.symbol }
         ensures adds { AddsAtMost tally.old tally.new (times (2 * length levels.now) rank_reads) }
     {
         let from = self.begin(levels, len, i);

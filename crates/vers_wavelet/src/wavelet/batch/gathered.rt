@@ -1,9 +1,9 @@
 //! Positions of symbols in gathered order, for many queries.
 ghost use Rattle.std.specs.Prelude.{◌≡◌, ℕ, ◌%◌, ◌^◌, ◌≤◌, ◌&&◌, List, Bool, Option, Some, None, length, map, nat_le, option_map, IfSome, if◌then◌else◌};
 ghost use Rattle.vers_tally.specs.Reads.{AddsAtMost, times};
-ghost use Rattle.vers_wavelet.specs.Levels.{values, way};
-ghost use Rattle.vers_wavelet.specs.Numbers.{low_bits_of};
 ghost use Rattle.vers_wavelet.specs.Symbols.{gathered};
+ghost use Rattle.vers_wavelet.specs.Numbers.{low_bits_of};
+ghost use Rattle.vers_wavelet.specs.inside.Levels.{values, final_place};
 ghost use Rattle.vers_wavelet.specs.Reads.{walk_reads};
 
 use crate::wavelet::WaveletMatrix;
@@ -46,7 +46,7 @@ impl Query for GatheredQuery {
 
     ghost stays = { λ q. (q.place, q.symbol) };
 
-    ghost outcome = { λ ls q. option_map (λ p. way ls q.symbol p) q.answer };
+    ghost outcome = { λ ls q. option_map (λ p. final_place ls q.symbol p) q.answer };
 
     ghost meaning = { λ ls n q. if nat_le (length ls) 64 && nat_le q.place (length (values ls n))
         then Some (gathered (record { width = length ls; items = values ls n }) q.place

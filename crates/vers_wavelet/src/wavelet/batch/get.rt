@@ -1,7 +1,8 @@
 //! The symbols at many positions.
 ghost use Rattle.std.specs.Prelude.{◌≡◌, ℕ, ◌+◌, ◌<◌, ◌≤◌, List, Bool, Option, Some, None, length, map, nat_le, slice_get, option_map, IfSome, if◌then◌else◌};
 ghost use Rattle.vers_tally.specs.Reads.{AddsAtMost, times};
-ghost use Rattle.vers_wavelet.specs.Levels.{value, values, HasRoom};
+ghost use Rattle.vers_wavelet.specs.inside.Levels.{value, values};
+ghost use Rattle.vers_wavelet.specs.inside.Walks.{HasRoom};
 ghost use Rattle.vers_wavelet.specs.Reads.{walk_reads};
 
 use crate::wavelet::WaveletMatrix;

@@ -3,7 +3,7 @@ ghost use Rattle.std.specs.Prelude.{◌≡◌, ℕ, ◌+◌, ◌<◌, ◌≤◌,
 ghost use Rattle.vers_bits.specs.Bits.{select};
 ghost use Rattle.vers_tally.specs.Reads.{AddsAtMost, times};
 ghost use Rattle.vers_rank.specs.Queries.{select_reads, superblock_count};
-ghost use Rattle.vers_wavelet.specs.Batches.{asked, HasNumber, HasPlace, no_query};
+ghost use Rattle.vers_wavelet.specs.inside.Batches.{asked, HasNumber, HasPlace, no_query};
 
 use crate::wavelet::batch::select::SelectQuery;
 use crate::wavelet::digits::Digits;

@@ -1,9 +1,10 @@
 //! Quantiles of many ranges.
 ghost use Rattle.std.specs.Prelude.{◌≡◌, ℕ, ◌+◌, ◌<◌, ◌≤◌, ◌↔◌, ◌&&◌, List, Bool, Option, None, length, map, nat_le, slice_get, slice_range, option_map, IsTrue, IfSome, if◌then◌else◌};
 ghost use Rattle.vers_tally.specs.Reads.{AddsAtMost, times};
-ghost use Rattle.vers_wavelet.specs.Batches.{member};
-ghost use Rattle.vers_wavelet.specs.Levels.{values, HasRoom};
 ghost use Rattle.vers_wavelet.specs.Symbols.{by_size};
+ghost use Rattle.vers_wavelet.specs.inside.Levels.{values};
+ghost use Rattle.vers_wavelet.specs.inside.Counts.{kth_symbol};
+ghost use Rattle.vers_wavelet.specs.inside.Walks.{HasRoom};
 ghost use Rattle.vers_wavelet.specs.Reads.{walk_reads};
 
 use crate::wavelet::WaveletMatrix;
@@ -60,7 +61,7 @@ impl Query for QuantileQuery {
 
     ghost stays = { λ _. (0, 0) };
 
-    ghost outcome = { λ ls q. option_map (λ y. y + member ls q.start q.end q.i) q.answer };
+    ghost outcome = { λ ls q. option_map (λ y. y + kth_symbol ls q.start q.end q.i) q.answer };
 
     ghost meaning = { λ ls n q. if nat_le (length ls) 64 && nat_le q.end (length (values ls n))
         then slice_get (by_size (slice_range (values ls n) q.start q.end)) q.i else None };

@@ -1,8 +1,8 @@
 //! Ranks of symbols, for many queries.
 ghost use Rattle.std.specs.Prelude.{◌≡◌, ℕ, ◌-◌, ◌%◌, ◌^◌, ◌≤◌, ◌&&◌, List, Bool, Option, Some, None, length, map, nat_le, option_map, IfSome, if◌then◌else◌};
 ghost use Rattle.vers_tally.specs.Reads.{AddsAtMost, times};
-ghost use Rattle.vers_wavelet.specs.Levels.{values, way};
 ghost use Rattle.vers_wavelet.specs.Symbols.{occurrences};
+ghost use Rattle.vers_wavelet.specs.inside.Levels.{values, final_place};
 ghost use Rattle.vers_wavelet.specs.Reads.{walk_reads};
 
 use crate::wavelet::WaveletMatrix;
@@ -45,8 +45,8 @@ impl Query for RankQuery {
 
     ghost stays = { λ _. (0, 0) };
 
-    ghost outcome = { λ ls q. option_map (λ c. way ls q.symbol q.end
-        - way ls q.symbol (q.end - c)) q.answer };
+    ghost outcome = { λ ls q. option_map (λ c. final_place ls q.symbol q.end
+        - final_place ls q.symbol (q.end - c)) q.answer };
 
     ghost meaning = { λ ls n q. if nat_le (length ls) 64 && nat_le q.end (length (values ls n))
         then Some (length (occurrences (values ls n) 0 q.end (q.symbol % 2 ^ length ls)))

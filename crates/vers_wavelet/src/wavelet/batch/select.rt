@@ -2,11 +2,14 @@
 ghost use Rattle.std.specs.Prelude.{◌≡◌, ℕ, ◌+◌, ◌-◌, ◌%◌, ◌^◌, ◌<◌, ◌≤◌, List, Bool, Option, Some, None, length, map, nat_le, slice_get, slice_index_or, option_map, All, IfSome, if◌then◌else◌};
 ghost use Rattle.vers_tally.specs.Reads.{AddsAtMost, times};
 ghost use Rattle.vers_rank.specs.Queries.{select_reads, superblock_count};
-ghost use Rattle.vers_wavelet.specs.Batches.{Become, Seeks, Rising, no_query};
+ghost use Rattle.vers_wavelet.specs.Batches.{Become};
+ghost use Rattle.vers_wavelet.specs.inside.Walks.{HasClimbed};
+ghost use Rattle.vers_wavelet.specs.inside.Batches.{IsClimbing, no_query};
 ghost use Rattle.vers_rank.specs.Batches.{Changed};
 ghost use Rattle.vers_bits.specs.Bits.{select};
-ghost use Rattle.vers_wavelet.specs.Levels.{digit, start, values, way, AreLevels};
 ghost use Rattle.vers_wavelet.specs.Symbols.{occurrences};
+ghost use Rattle.vers_wavelet.specs.Makers.{digit};
+ghost use Rattle.vers_wavelet.specs.inside.Levels.{start, values, final_place, AreLevels};
 ghost use Rattle.vers_wavelet.specs.Reads.{query_reads};
 
 use crate::wavelet::WaveletMatrix;
@@ -51,8 +54,8 @@ impl SelectQuery {
         ensures rank { result.rank ≡ self.rank }
         ensures symbol { result.symbol ≡ self.symbol }
         ensures seeks { (ls : List (List Bool)) → AreLevels ls len
-            → self.answer ≡ Some (way ls self.symbol 0)
-            → Seeks ls len result.symbol (way ls result.symbol 0 + result.rank) (length ls)
+            → self.answer ≡ Some (final_place ls self.symbol 0)
+            → HasClimbed ls len result.symbol (final_place ls result.symbol 0 + result.rank) (length ls)
             result.answer }
     {
         let Some(first) = self.answer else {
@@ -101,14 +104,14 @@ impl SelectQuery {
         requires levels { AreLevels levels.now len }
         requires few { length levels.now ≤ 64 }
         requires within { k < length levels.now }
-        requires seeks { Rising levels.now len (k + 1) self }
+        requires seeks { IsClimbing levels.now len (k + 1) self }
         requires above { (v : List Bool) (p : ℕ) → v ≡ slice_index_or levels.now k v
             → self.answer ≡ Some p → start (digit self.symbol (length levels.now - (k + 1))) v ≤ p
             → above ≡ select (digit self.symbol (length levels.now - (k + 1))) v
             (p - start (digit self.symbol (length levels.now - (k + 1))) v) }
         ensures rank { result.rank ≡ self.rank }
         ensures symbol { result.symbol ≡ self.symbol }
-        ensures seeks { Rising levels.now len k result }
+        ensures seeks { IsClimbing levels.now len k result }
     {
         let Some(place) = self.answer else {
             return self;
@@ -134,9 +137,9 @@ impl Query for SelectQuery {
 
     ghost stays = { λ q. (q.rank, q.symbol) };
 
-    ghost outcome = { λ ls q. option_map (λ p. way ls q.symbol p) q.answer };
+    ghost outcome = { λ ls q. option_map (λ p. final_place ls q.symbol p) q.answer };
 
-    ghost meaning = { λ ls n q. if nat_le (length ls) 64 then Some (way ls q.symbol 0) else None };
+    ghost meaning = { λ ls n q. if nat_le (length ls) 64 then Some (final_place ls q.symbol 0) else None };
 
     #[inline(always)]
     fn begin(self, levels: usize, len: usize) -> Self {
@@ -166,8 +169,8 @@ impl Query for SelectQuery {
 #[inline(always)]
 fn turn_each(queries: &mut [SelectQuery], len: usize)
     ensures { Become (λ q r. (r.rank ≡ q.rank) × (r.symbol ≡ q.symbol)
-        × ((ls : List (List Bool)) → AreLevels ls len → q.answer ≡ Some (way ls q.symbol 0)
-        → Seeks ls len r.symbol (way ls r.symbol 0 + r.rank) (length ls) r.answer))
+        × ((ls : List (List Bool)) → AreLevels ls len → q.answer ≡ Some (final_place ls q.symbol 0)
+        → HasClimbed ls len r.symbol (final_place ls r.symbol 0 + r.rank) (length ls) r.answer))
         queries.old queries.new }
 {
     for j in 0..queries.len() {
@@ -191,10 +194,10 @@ fn rise_group<A: Allocator + Copy>(
     requires within { k < length levels.now }
     requires group { n ≤ 64 }
     requires inside { from + n ≤ length queries.old }
-    requires seeks { (j : ℕ) → j < n → Rising levels.now len (k + 1)
+    requires seeks { (j : ℕ) → j < n → IsClimbing levels.now len (k + 1)
         (slice_index_or queries.old (from + j) no_query) }
     ensures each { Changed no_query (λ q r. (r.rank ≡ q.rank) × (r.symbol ≡ q.symbol)
-        × Rising levels.now len k r) from n queries.old queries.new }
+        × IsClimbing levels.now len k r) from n queries.old queries.new }
     ensures adds { AddsAtMost tally.old tally.new
         (times n (select_reads (superblock_count len))) }
 {
@@ -221,9 +224,9 @@ fn rise_each<A: Allocator + Copy>(
     requires levels { AreLevels levels.now len }
     requires few { length levels.now ≤ 64 }
     requires within { k < length levels.now }
-    requires seeks { All (Rising levels.now len (k + 1)) queries.old }
+    requires seeks { All (IsClimbing levels.now len (k + 1)) queries.old }
     ensures each { Become (λ q r. (r.rank ≡ q.rank) × (r.symbol ≡ q.symbol)
-        × Rising levels.now len k r) queries.old queries.new }
+        × IsClimbing levels.now len k r) queries.old queries.new }
     ensures adds { AddsAtMost tally.old tally.new
         (times (length queries.old) (select_reads (superblock_count len))) }
 {
@@ -247,9 +250,9 @@ fn climb_each<A: Allocator + Copy>(
 )
     requires levels { AreLevels levels.now len }
     requires few { length levels.now ≤ 64 }
-    requires begun { All (λ q. q.answer ≡ Some (way levels.now q.symbol 0)) queries.old }
+    requires begun { All (λ q. q.answer ≡ Some (final_place levels.now q.symbol 0)) queries.old }
     ensures each { Become (λ q r. (r.rank ≡ q.rank) × (r.symbol ≡ q.symbol)
-        × Seeks levels.now len r.symbol (way levels.now r.symbol 0 + r.rank) 0 r.answer)
+        × HasClimbed levels.now len r.symbol (final_place levels.now r.symbol 0 + r.rank) 0 r.answer)
         queries.old queries.new }
     ensures adds { AddsAtMost tally.old tally.new (times (length levels.now)
         (times (length queries.old) (select_reads (superblock_count len)))) }

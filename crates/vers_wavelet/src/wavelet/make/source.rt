@@ -2,8 +2,8 @@
 ghost use Rattle.std.specs.Prelude.{◌≡◌, ℕ, ◌+◌, ◌-◌, ◌*◌, ◌/◌, ◌%◌, ◌^◌, ◌<◌, ◌≤◌, [], List, length, slice_get, Some};
 ghost use Rattle.std.specs.List.{range_with_len};
 ghost use Rattle.vers_bits.specs.Bits.{number, part};
-ghost use Rattle.vers_wavelet.specs.Levels.{digit};
-ghost use Rattle.vers_wavelet.specs.Makers.{prefix};
+ghost use Rattle.vers_wavelet.specs.Makers.{digit};
+ghost use Rattle.vers_wavelet.specs.inside.Makers.{prefix};
 
 use crate::wavelet::integer::Integer;
 use std::alloc::Allocator;

@@ -1,4 +1,4 @@
-use Rattle.vers_wavelet.proofs.Names.{◌≡◌, ℕ, length, arith, refl, subst}
+use Rattle.vers_wavelet.proofs.Names.{arith, refl}
 use Rattle.vers_wavelet.proofs.Lists.{values_fit}
 use Rattle.vers_wavelet.proofs.Inverses.{symbol_levels_are}
 use Rattle.vers_wavelet.proofs.wavelet.WaveletMatrix.from_levels.Goals as goal

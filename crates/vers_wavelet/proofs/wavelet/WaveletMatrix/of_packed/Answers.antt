@@ -1,4 +1,4 @@
-use Rattle.vers_wavelet.proofs.Names.{ap, sym, ◌/◌, ◌∙◌}
+use Rattle.vers_wavelet.proofs.Names.{ap, ◌/◌, ◌∙◌}
 use Rattle.vers_wavelet.proofs.Makes.{unpacked_length, unpacked_made}
 use Rattle.vers_wavelet.proofs.wavelet.WaveletMatrix.of_packed.Goals as goal
 
