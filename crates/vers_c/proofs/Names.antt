@@ -19,7 +19,6 @@ pub use Rattle.catalogue.specs.SymbolsAnswers.{if_numbers}
 pub use Rattle.vers_sorted.proofs.PublicLaws.{ones_at-same}
 pub use Rattle.vers_sorted.specs.Ones.{ones_at}
 pub use Rattle.vers_sorted.specs.Sorted.{below, greatest_not_above, least_not_below}
-pub use Rattle.vers_wavelet.proofs.PublicLaws.{offset_place}
 pub use Rattle.vers_wavelet.specs.Numbers.{low_bits_of, place_from, places_of, rank_before}
 pub use Rattle.vers_wavelet.specs.Symbols.{Symbols, by_size, occurrences}
 unfoldable pub use Rattle.vers_wavelet.specs.Symbols.{as_word, kth_by_size, range_members}

@@ -47,5 +47,6 @@ pub use Rattle.vers_trees.specs.Laws as TreesLaws
 -- lists of symbols
 pub use Rattle.vers_wavelet.specs.Symbols
 pub use Rattle.vers_wavelet.specs.Makers as SymbolsMakers
+pub use Rattle.vers_wavelet.specs.Numbers as SymbolsNumbers
 pub use Rattle.vers_wavelet.specs.Reads as SymbolsReads
 pub use Rattle.vers_wavelet.specs.Laws as SymbolsLaws

@@ -1,5 +1,5 @@
 -- What places and counts of the levels say of the list of symbols.
-use Rattle.vers_wavelet.proofs.Names.{◌≡◌, ℕ, zero, suc, ◌+◌, ◌-◌, ◌%◌, ◌^◌, ◌<◌, ◌≤◌, Bool, true, cond, ltb, leb, eqb, List, ◌∷◌, ◌++◌, length, get_or, take, drop, refl, sym, ap, ◌∙◌, subst, arith, add-one, inl, inr, filter, slice_range, slice_get, Option, Some, None, IsSome, IfSome, All, ◌↔◌, count_by, range_with_len, take-add, drop-cons, drop_more, cases_lt, eq-eqb, nat_tests, map-id, get_or_at, take-append-drop, length-append, length-take, length-drop, filter-append, length-filter, sum_by-append, sum_by-cons, sum_by_more, length-range_with_len, get_or-range_with_len, length-map-range_with_len, get_or-map-range_with_len, take-map-range_with_len, slice_get-get_or, slice_get_past, value, values, count_positions, count_below, count_equal, final_place, AreLevels, IsKthInRange, occurrences, IsKth}
+use Rattle.vers_wavelet.proofs.Names.{◌≡◌, ℕ, zero, suc, ◌+◌, ◌-◌, ◌%◌, ◌^◌, ◌<◌, ◌≤◌, Bool, true, cond, ltb, leb, eqb, List, ◌∷◌, ◌++◌, length, get_or, take, drop, refl, sym, ap, ◌∙◌, arith, add-one, filter, slice_range, slice_get, Option, Some, None, IsSome, IfSome, All, ◌↔◌, count_by, range_with_len, take-add, drop-cons, drop_more, eq-eqb, nat_tests, map-id, get_or_at, take-append-drop, length-append, length-take, length-drop, filter-append, length-filter, sum_by-append, sum_by-cons, sum_by_more, length-range_with_len, get_or-range_with_len, length-map-range_with_len, get_or-map-range_with_len, take-map-range_with_len, slice_get-get_or, slice_get_past, value, values, count_positions, count_below, count_equal, final_place, AreLevels, IsKthInRange, occurrences, IsKth}
 use Rattle.vers_wavelet.proofs.Values.{final-up, equal_below, value-lt, counts_more, counts_same}
 use Rattle.vers_wavelet.proofs.Members.{never, not_lt}
 use Rattle.vers_wavelet.proofs.Steps.{final_equal, final_more, final_parts}
@@ -149,8 +149,3 @@ not_above_is {ls} {n} levels s a b less from to order within e g =
     let counted = over_members (λ x. leb x v) ls n a b order within in
     let held = final_parts levels s a b order within in
     omega (arith, counted, held, final-up ls s a b order, leb_counts ls v a, leb_counts ls v b, equal_below ls v a, equal_below ls v b)
-
--- whether a list has a member of a number
-pub get_decides : (o : Option ℕ) (xs : List ℕ) (r : ℕ) → o ≡ slice_get xs r → (IsSome o → r < length xs) × (r < length xs → IsSome o)
-get_decides o xs r e =
-    (λ t. elim (cases_lt r (length xs)) [ inl h ↦ h | inr past ↦ never (subst IsSome (e ∙ slice_get_past xs r past) t) ], λ h. subst IsSome (sym (e ∙ slice_get-get_or xs r 0 h)) refl)

@@ -1,14 +1,17 @@
--- Occurrences of a symbol from a place on.
-use Rattle.vers_wavelet.proofs.Names.{◌≡◌, ℕ, ◌<◌, ◌≤◌, List, length, slice_get, Option, Some, None, refl, sym, ◌↔◌, IsSome, IfSome, nat_tests, arith, le-leb, slice_get_past, Symbols, as_word, low_bits_of, places_of, place_from}
-use Rattle.vers_wavelet.proofs.Members.{never}
+-- Occurrences of a symbol from a place on, and symbols of another width.
+use Rattle.vers_wavelet.proofs.Names.{◌≡◌, ◌≢◌, ℕ, ◌≤◌, List, length, eqb, slice_get, Option, None, refl, if◌then◌else◌, arith, eq-eqb, ne_eqb, slice_get_past, occurrences}
 use Rattle.vers_wavelet.proofs.Lists.{no_places}
+use Rattle.vers_wavelet.proofs.Ranges.{narrow_word, wide_word}
 
-pub offset_place : (symbols : Symbols) (o i s : ℕ) (r : Option ℕ) → IfSome r (λ p. slice_get (places_of symbols o (length symbols.items) s) i ≡ Some p)
-    → IsSome r ↔ (symbols.width ≤ 64) × (o < length symbols.items) × (i < length (places_of symbols o (length symbols.items) s))
-    → r ≡ as_word symbols.width (place_from symbols o i s)
-unfolding as_word
-offset_place symbols o i s (Some p) value some = rw (le-leb symbols.width 64 (some.0 refl).0) (sym value)
-offset_place symbols o i s None value some =
-    let places : List ℕ = places_of symbols o (length symbols.items) s in
-    let refused = λ (narrow : symbols.width ≤ 64) (inside : o < length symbols.items) (many : i < length places). never {X = ⊥} (some.1 (narrow, inside, many)) in
-    grind (arith, nat_tests, refused, slice_get_past places i, no_places symbols.items o (length symbols.items) (low_bits_of symbols s))
+-- from the end on a symbol has no occurrence
+pub select_past : (items : List ℕ) (o r s : ℕ) → length items ≤ o → slice_get (occurrences items o (length items) s) r ≡ None
+select_past items o r s past = slice_get_past (occurrences items o (length items) s) r (omega (arith, no_places items o (length items) s past))
+
+-- what is found of a symbol, by whether it has the list's width
+pub same_width : (k width : ℕ) (found : Option ℕ) → k ≡ width → (if eqb k width then found else None) ≡ found
+same_width k width found same = rw (eq-eqb k width same) refl
+
+pub other_width : (k width : ℕ) (found : Option ℕ) → k ≢ width → (if eqb k width then found else None) ≡ None
+other_width k width found other = rw (ne_eqb k width other) refl
+
+pub ruleset selects = (select_past, same_width, other_width, narrow_word, wide_word)

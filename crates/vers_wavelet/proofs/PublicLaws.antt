@@ -1,5 +1,5 @@
 -- The laws that proofs of other crates may cite. A crate above imports this file and no other of this folder.
-use Rattle.vers_wavelet.proofs.Names.{◌≡◌, ℕ, ◌-◌, ◌^◌, ◌<◌, ◌≤◌, ◌+◌, Bool, eqb, List, [], length, get_or, slice_get, Option, Some, None, slice_range, All, Any, IsSome, IfSome, ◌↔◌, count_by, IsNonDecreasing, Symbols, by_size, in_bits, occurrences, range_members, kth_by_size, greatest_up_to, least_from, as_word, IsKth, IsPredecessor, IsSuccessor, low_symbols, place_from, places_of, symbol_levels}
+use Rattle.vers_wavelet.proofs.Names.{◌≡◌, ℕ, ◌-◌, ◌^◌, ◌<◌, ◌≤◌, ◌+◌, Bool, eqb, List, [], length, get_or, Option, Some, None, slice_range, All, Any, IsSome, IfSome, ◌↔◌, count_by, IsNonDecreasing, Symbols, by_size, in_bits, occurrences, range_members, kth_by_size, greatest_up_to, least_from, as_word, IsKth, IsPredecessor, IsSuccessor, low_symbols, symbol_levels}
 use Rattle.vers_wavelet.proofs.Answered as Answered
 use Rattle.vers_wavelet.proofs.BySize as BySize
 use Rattle.vers_wavelet.proofs.Inverses as Inverses
@@ -8,7 +8,6 @@ use Rattle.vers_wavelet.proofs.Lists as Lists
 use Rattle.vers_wavelet.proofs.Makes as Makes
 use Rattle.vers_wavelet.proofs.Members as Members
 use Rattle.vers_wavelet.proofs.Nearest as Nearest
-use Rattle.vers_wavelet.proofs.Offsets as Offsets
 use Rattle.vers_wavelet.proofs.Ranges as Ranges
 
 -- ---- members by size
@@ -101,12 +100,6 @@ narrow_word = Ranges.narrow_word
 
 pub wide_word : (width : ℕ) (symbol : Option ℕ) → 64 < width → as_word width symbol ≡ None
 wide_word = Ranges.wide_word
-
--- what a select from a place on finds is the place of the occurrence
-pub offset_place : (symbols : Symbols) (o i s : ℕ) (r : Option ℕ) → IfSome r (λ p. slice_get (places_of symbols o (length symbols.items) s) i ≡ Some p)
-    → IsSome r ↔ (symbols.width ≤ 64) × (o < length symbols.items) × (i < length (places_of symbols o (length symbols.items) s))
-    → r ≡ as_word symbols.width (place_from symbols o i s)
-offset_place = Offsets.offset_place
 
 -- there are as many lists of bits as numbers
 pub length-in_bits : (k : ℕ) (xs : List ℕ) → length (in_bits k xs) ≡ length xs

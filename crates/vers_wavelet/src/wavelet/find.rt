@@ -1,8 +1,9 @@
 //! Select: the positions of a symbol.
-ghost use Rattle.std.specs.Prelude.{◌≡◌, ◌%◌, ◌^◌, ◌<◌, ◌≤◌, ◌↔◌, length, slice_get, slice_index_or, Some, IsSome, IfSome};
+ghost use Rattle.std.specs.Prelude.{◌≡◌, ◌%◌, ◌^◌, ◌≤◌, ◌==◌, length, slice_get, slice_index_or, None, if◌then◌else◌};
 ghost use Rattle.vers_bits.specs.Bits.{number};
 ghost use Rattle.vers_tally.specs.Reads.{AddsAtMost};
-ghost use Rattle.vers_wavelet.specs.Symbols.{occurrences};
+ghost use Rattle.vers_wavelet.specs.Symbols.{as_word, occurrences};
+ghost use Rattle.vers_wavelet.specs.Numbers.{place_from};
 ghost use Rattle.vers_wavelet.specs.Reads.{query_reads};
 
 use crate::wavelet::WaveletMatrix;
@@ -10,18 +11,14 @@ use std::alloc::Allocator;
 use vers_bits::bit_vec::BitVec;
 use vers_tally::tally::Tally;
 
-#[tactic(auto, using(crate::proofs::Digits::symbols))]
+#[tactic(auto, using(crate::proofs::Digits::symbols, crate::proofs::Offsets::selects))]
 impl<A: Allocator + Copy> WaveletMatrix<A> {
     /// Returns the position of occurrence `rank` (from 0) of a symbol from position `offset` on. `None` if the
     /// symbol has another width, `offset` is at or past the end, or there are fewer occurrences.
     pub fn select_offset(&self, offset: usize, rank: usize, symbol: &BitVec<A>) -> Option<usize>
-        ensures value { IfSome result (λ p. slice_get
-            (occurrences self.now.items offset (length self.now.items) (number symbol.now)) rank
-            ≡ Some p) }
-        ensures answered { IsSome result ↔ (length symbol.now ≡ self.now.width)
-            × (offset < length self.now.items)
-            × (rank < length (occurrences self.now.items offset (length self.now.items)
-            (number symbol.now))) }
+        ensures { result ≡ (if length symbol.now == self.now.width
+            then slice_get (occurrences self.now.items offset (length self.now.items) (number symbol.now)) rank
+            else None) }
     {
         let mut tally = Tally::new();
         self.select_offset_counted(offset, rank, symbol, &mut tally)
@@ -37,13 +34,9 @@ impl<A: Allocator + Copy> WaveletMatrix<A> {
         symbol: &BitVec<A>,
         tally: &mut Tally,
     ) -> Option<usize>
-        ensures value { IfSome result (λ p. slice_get
-            (occurrences self.now.items offset (length self.now.items) (number symbol.now)) rank
-            ≡ Some p) }
-        ensures answered { IsSome result ↔ (length symbol.now ≡ self.now.width)
-            × (offset < length self.now.items)
-            × (rank < length (occurrences self.now.items offset (length self.now.items)
-            (number symbol.now))) }
+        ensures value { result ≡ (if length symbol.now == self.now.width
+            then slice_get (occurrences self.now.items offset (length self.now.items) (number symbol.now)) rank
+            else None) }
         ensures adds { AddsAtMost tally.old tally.new (query_reads self.now) }
     {
         if symbol.len() != self.bits_per_element() || offset >= self.len() {
@@ -67,12 +60,9 @@ impl<A: Allocator + Copy> WaveletMatrix<A> {
     /// Returns the position of occurrence `rank` (from 0) of a symbol. `None` if the symbol has another width,
     /// or there are fewer occurrences.
     pub fn select(&self, rank: usize, symbol: &BitVec<A>) -> Option<usize>
-        ensures value { IfSome result (λ p. slice_get
-            (occurrences self.now.items 0 (length self.now.items) (number symbol.now)) rank
-            ≡ Some p) }
-        ensures answered { IsSome result ↔ (length symbol.now ≡ self.now.width)
-            × (rank < length (occurrences self.now.items 0 (length self.now.items)
-            (number symbol.now))) }
+        ensures { result ≡ (if length symbol.now == self.now.width
+            then slice_get (occurrences self.now.items 0 (length self.now.items) (number symbol.now)) rank
+            else None) }
     {
         let mut tally = Tally::new();
         self.select_counted(rank, symbol, &mut tally)
@@ -87,12 +77,9 @@ impl<A: Allocator + Copy> WaveletMatrix<A> {
         symbol: &BitVec<A>,
         tally: &mut Tally,
     ) -> Option<usize>
-        ensures value { IfSome result (λ p. slice_get
-            (occurrences self.now.items 0 (length self.now.items) (number symbol.now)) rank
-            ≡ Some p) }
-        ensures answered { IsSome result ↔ (length symbol.now ≡ self.now.width)
-            × (rank < length (occurrences self.now.items 0 (length self.now.items)
-            (number symbol.now))) }
+        ensures value { result ≡ (if length symbol.now == self.now.width
+            then slice_get (occurrences self.now.items 0 (length self.now.items) (number symbol.now)) rank
+            else None) }
         ensures adds { AddsAtMost tally.old tally.new (query_reads self.now) }
     {
         if symbol.len() != self.bits_per_element() {
@@ -116,12 +103,7 @@ impl<A: Allocator + Copy> WaveletMatrix<A> {
     /// bits of `symbol` count. `None` if the symbols have more than 64 bits, `offset` is at or past the end, or
     /// there are fewer occurrences.
     pub fn select_offset_u64(&self, offset: usize, rank: usize, symbol: u64) -> Option<usize>
-        ensures value { IfSome result (λ p. slice_get
-            (occurrences self.now.items offset (length self.now.items)
-            (symbol % 2 ^ self.now.width)) rank ≡ Some p) }
-        ensures answered { IsSome result ↔ (self.now.width ≤ 64) × (offset < length self.now.items)
-            × (rank < length (occurrences self.now.items offset (length self.now.items)
-            (symbol % 2 ^ self.now.width))) }
+        ensures { result ≡ as_word self.now.width (place_from self.now offset rank symbol) }
     {
         let mut tally = Tally::new();
         self.select_offset_u64_counted(offset, rank, symbol, &mut tally)
@@ -137,12 +119,7 @@ impl<A: Allocator + Copy> WaveletMatrix<A> {
         symbol: u64,
         tally: &mut Tally,
     ) -> Option<usize>
-        ensures value { IfSome result (λ p. slice_get
-            (occurrences self.now.items offset (length self.now.items)
-            (symbol % 2 ^ self.now.width)) rank ≡ Some p) }
-        ensures answered { IsSome result ↔ (self.now.width ≤ 64) × (offset < length self.now.items)
-            × (rank < length (occurrences self.now.items offset (length self.now.items)
-            (symbol % 2 ^ self.now.width))) }
+        ensures value { result ≡ as_word self.now.width (place_from self.now offset rank symbol) }
         ensures adds { AddsAtMost tally.old tally.new (query_reads self.now) }
     {
         if !self.fits_word() || offset >= self.len() {
@@ -167,12 +144,7 @@ impl<A: Allocator + Copy> WaveletMatrix<A> {
     /// Returns the position of occurrence `rank` (from 0) of a symbol. Only the low bits of `symbol` count.
     /// `None` if the symbols have more than 64 bits, or there are fewer occurrences.
     pub fn select_u64(&self, rank: usize, symbol: u64) -> Option<usize>
-        ensures value { IfSome result (λ p. slice_get
-            (occurrences self.now.items 0 (length self.now.items) (symbol % 2 ^ self.now.width))
-            rank ≡ Some p) }
-        ensures answered { IsSome result ↔ (self.now.width ≤ 64)
-            × (rank < length (occurrences self.now.items 0 (length self.now.items)
-            (symbol % 2 ^ self.now.width))) }
+        ensures { result ≡ as_word self.now.width (place_from self.now 0 rank symbol) }
     {
         let mut tally = Tally::new();
         self.select_u64_counted(rank, symbol, &mut tally)
@@ -182,12 +154,7 @@ impl<A: Allocator + Copy> WaveletMatrix<A> {
     /// what one select of a level does.
     #[inline(always)]
     pub fn select_u64_counted(&self, rank: usize, symbol: u64, tally: &mut Tally) -> Option<usize>
-        ensures value { IfSome result (λ p. slice_get
-            (occurrences self.now.items 0 (length self.now.items) (symbol % 2 ^ self.now.width))
-            rank ≡ Some p) }
-        ensures answered { IsSome result ↔ (self.now.width ≤ 64)
-            × (rank < length (occurrences self.now.items 0 (length self.now.items)
-            (symbol % 2 ^ self.now.width))) }
+        ensures value { result ≡ as_word self.now.width (place_from self.now 0 rank symbol) }
         ensures adds { AddsAtMost tally.old tally.new (query_reads self.now) }
     {
         if !self.fits_word() {
