@@ -56,14 +56,17 @@ class Checks:
     def cargo(self, what, words, missing="", **env):
         """Runs cargo in the crate's folder, without a network, with the tests of the proved sources."""
         command, *rest = words.split()
-        self.run(what, ["cargo", command, "--quiet", "--offline", *rest], missing, RUSTFLAGS="--cfg proved_tests", **env)
+        env["RUSTFLAGS"] = "--cfg proved_tests"
+        self.run(what, ["cargo", command, "--quiet", "--offline", *rest], missing, **env)
 
 
 def check_oldest(checks):
-    """Compiles the crate by the oldest compiler."""
+    """Compiles the crate, and the library of bindings/c over its sources, by the oldest compiler."""
     is_there = shutil.which(RUSTC) and f"rustc {OLDEST}." in subprocess.check_output([RUSTC, "--version"], text=True)
-    checks.run(f"rustc {OLDEST}", [CARGO, "build", "--quiet", "--offline"], "" if is_there else f"{RUSTC} is not it",
-               RUSTC=RUSTC, CARGO_TARGET_DIR=f"{checks.folder}/oldest")
+    for folder in (RUST, f"{TOP}/bindings/c"):
+        checks.run(f"rustc {OLDEST} in {os.path.relpath(folder, TOP)}", [CARGO, "build", "--quiet", "--offline"],
+                   "" if is_there else f"{RUSTC} is not it", folder, RUSTC=RUSTC,
+                   CARGO_TARGET_DIR=f"{checks.folder}/oldest")
 
 
 def user(checks, name, dependencies, path, text):

@@ -83,19 +83,19 @@ fn fill<E>(handle: &mut Handle, made: impl FnOnce() -> Result<Option<Kept>, E>) 
     })
 }
 
-#[unsafe(no_mangle)]
+#[no_mangle]
 pub extern "C" fn vers_ask(handle: &Handle, query: u32, a: u64, b: u64, c: u64) -> Answer {
     asked(handle, query, a, b, c)
 }
 
-#[unsafe(no_mangle)]
+#[no_mangle]
 pub extern "C" fn vers_value(handle: &Handle, query: u32, a: u64) -> u64 {
     asked(handle, query, a, 0, 0).value_or(u64::MAX)
 }
 
 /// # Safety
 /// `numbers` leads to `count` numbers.
-#[unsafe(no_mangle)]
+#[no_mangle]
 pub unsafe extern "C" fn vers_ask_each(
     handle: &Handle,
     query: u32,
@@ -112,29 +112,29 @@ pub unsafe extern "C" fn vers_ask_each(
 
 /// # Safety
 /// `rows` leads to `count` rows.
-#[unsafe(no_mangle)]
+#[no_mangle]
 pub unsafe extern "C" fn vers_ask_rows(handle: &Handle, query: u32, rows: *mut Ask, count: usize, other: u64) -> u32 {
     // SAFETY: vers.h asks for an array of as many rows, which no other thread writes.
     let rows = unsafe { elements_mut(rows, count) };
     asked_each(handle, query, Rows { rows, b: 0, c: 0, other })
 }
 
-#[unsafe(no_mangle)]
+#[no_mangle]
 pub extern "C" fn vers_change(handle: &mut Handle, change: u32, a: u64, b: u64) -> u32 {
     guarded(REFUSED, || handle.change(|kept| kept.change(change, a, b)))
 }
 
-#[unsafe(no_mangle)]
+#[no_mangle]
 pub extern "C" fn vers_clone(handle: &Handle, other: &mut Handle) -> u32 {
     handle.clone_into(other)
 }
 
-#[unsafe(no_mangle)]
+#[no_mangle]
 pub extern "C" fn vers_free(handle: &mut Handle) {
     guarded((), || handle.free());
 }
 
-#[unsafe(no_mangle)]
+#[no_mangle]
 pub extern "C" fn vers_intersect(one: &Handle, other: &Handle, into: &mut Handle) -> u32 {
     fill(into, || match (one.kept(), other.kept()) {
         (Some(one), Some(other)) => one.common(other),
@@ -144,7 +144,7 @@ pub extern "C" fn vers_intersect(one: &Handle, other: &Handle, into: &mut Handle
 
 /// # Safety
 /// `pattern` leads to `count` symbols.
-#[unsafe(no_mangle)]
+#[no_mangle]
 pub unsafe extern "C" fn vers_count(handle: &Handle, pattern: *const u64, count: usize) -> Answer {
     // SAFETY: vers.h asks for an array of as many symbols, which no other thread writes.
     let pattern = unsafe { elements(pattern, count) };
@@ -156,7 +156,7 @@ pub unsafe extern "C" fn vers_count(handle: &Handle, pattern: *const u64, count:
 
 /// # Safety
 /// `symbols` leads to `length` symbols, and `ends` to `count` numbers.
-#[unsafe(no_mangle)]
+#[no_mangle]
 pub unsafe extern "C" fn vers_count_each(
     handle: &Handle,
     symbols: *const u64,
@@ -174,7 +174,7 @@ pub unsafe extern "C" fn vers_count_each(
 
 /// # Safety
 /// `pattern` leads to `count` symbols.
-#[unsafe(no_mangle)]
+#[no_mangle]
 pub unsafe extern "C" fn vers_places(handle: &Handle, pattern: *const u64, count: usize, into: &mut Handle) -> u32 {
     // SAFETY: vers.h asks for an array of as many symbols, which no other thread writes.
     let pattern = unsafe { elements(pattern, count) };
@@ -183,7 +183,7 @@ pub unsafe extern "C" fn vers_places(handle: &Handle, pattern: *const u64, count
 
 /// # Safety
 /// `pattern` leads to `count` symbols.
-#[unsafe(no_mangle)]
+#[no_mangle]
 pub unsafe extern "C" fn vers_first_places(
     handle: &Handle,
     pattern: *const u64,
@@ -196,22 +196,22 @@ pub unsafe extern "C" fn vers_first_places(
     fill(into, || handle.kept().map_or(Ok(None), |kept| kept.first_places(pattern, limit)))
 }
 
-#[unsafe(no_mangle)]
+#[no_mangle]
 pub extern "C" fn vers_extract(handle: &Handle, start: usize, end: usize, into: &mut Handle) -> u32 {
     fill(into, || handle.kept().map_or(Ok(None), |kept| kept.extract(start, end)))
 }
 
-#[unsafe(no_mangle)]
+#[no_mangle]
 pub extern "C" fn vers_documents(handle: &Handle, term: u64, into: &mut Handle) -> u32 {
     fill(into, || handle.kept().map_or(Ok(None), |kept| kept.documents(term)))
 }
 
-#[unsafe(no_mangle)]
+#[no_mangle]
 pub extern "C" fn vers_joined(handle: &Handle, joint: u32, one: u64, other: u64, into: &mut Handle) -> u32 {
     fill(into, || handle.kept().map_or(Ok(None), |kept| kept.joined(joint, one, other)))
 }
 
-#[unsafe(no_mangle)]
+#[no_mangle]
 pub extern "C" fn vers_saved_size(handle: &Handle) -> Answer {
     match handle.kept() {
         Some(kept) => guarded(Answer::REFUSED, || kept.saved_size().into()),
@@ -221,7 +221,7 @@ pub extern "C" fn vers_saved_size(handle: &Handle) -> Answer {
 
 /// # Safety
 /// `bytes` leads to `count` bytes.
-#[unsafe(no_mangle)]
+#[no_mangle]
 pub unsafe extern "C" fn vers_save(handle: &Handle, bytes: *mut u8, count: usize) -> u32 {
     // SAFETY: vers.h asks for an array of as many bytes, which no other thread writes.
     let bytes = unsafe { elements_mut(bytes, count) };
@@ -233,7 +233,7 @@ pub unsafe extern "C" fn vers_save(handle: &Handle, bytes: *mut u8, count: usize
 
 /// # Safety
 /// `bytes` leads to `count` bytes.
-#[unsafe(no_mangle)]
+#[no_mangle]
 pub unsafe extern "C" fn vers_load(kind: u32, bytes: *const u8, count: usize, handle: &mut Handle) -> u32 {
     if handle.is_built() {
         return OCCUPIED;
@@ -255,7 +255,7 @@ fn growing(words: &[u64], length: usize) -> Result<BitVec<Global>, GrowError> {
 
 /// # Safety
 /// `words` leads to `count` words.
-#[unsafe(no_mangle)]
+#[no_mangle]
 pub unsafe extern "C" fn vers_growing_build(
     words: *const u64,
     count: usize,
@@ -269,7 +269,7 @@ pub unsafe extern "C" fn vers_growing_build(
 
 /// # Safety
 /// `words` leads to `count` words.
-#[unsafe(no_mangle)]
+#[no_mangle]
 pub unsafe extern "C" fn vers_bits_build(words: *const u64, count: usize, length: usize, handle: &mut Handle) -> u32 {
     // SAFETY: vers.h asks for an array of as many words, which no other thread writes.
     let words = unsafe { elements(words, count) };
@@ -278,7 +278,7 @@ pub unsafe extern "C" fn vers_bits_build(words: *const u64, count: usize, length
 
 /// # Safety
 /// `words` leads to `count` words.
-#[unsafe(no_mangle)]
+#[no_mangle]
 pub unsafe extern "C" fn vers_tree_build(words: *const u64, count: usize, length: usize, handle: &mut Handle) -> u32 {
     // SAFETY: vers.h asks for an array of as many words, which no other thread writes.
     let words = unsafe { elements(words, count) };
@@ -287,7 +287,7 @@ pub unsafe extern "C" fn vers_tree_build(words: *const u64, count: usize, length
 
 /// # Safety
 /// `ones` leads to `count` positions.
-#[unsafe(no_mangle)]
+#[no_mangle]
 pub unsafe extern "C" fn vers_sparse_build(ones: *const u64, count: usize, length: u64, handle: &mut Handle) -> u32 {
     // SAFETY: vers.h asks for an array of as many positions, which no other thread writes.
     let ones = unsafe { elements(ones, count) };
@@ -301,7 +301,7 @@ pub unsafe extern "C" fn vers_sparse_build(ones: *const u64, count: usize, lengt
 
 /// # Safety
 /// `numbers` leads to `count` numbers.
-#[unsafe(no_mangle)]
+#[no_mangle]
 pub unsafe extern "C" fn vers_sorted_build(numbers: *const u64, count: usize, handle: &mut Handle) -> u32 {
     // SAFETY: vers.h asks for an array of as many numbers, which no other thread writes.
     let numbers = unsafe { elements(numbers, count) };
@@ -325,7 +325,7 @@ fn symbols_of<N: Integer>(numbers: &[N], width: u32, handle: &mut Handle) -> u32
 
 /// # Safety
 /// `numbers` leads to `count` numbers.
-#[unsafe(no_mangle)]
+#[no_mangle]
 pub unsafe extern "C" fn vers_symbols_build(numbers: *const u64, count: usize, width: u32, handle: &mut Handle) -> u32 {
     // SAFETY: vers.h asks for an array of as many numbers, which no other thread writes.
     symbols_of(unsafe { elements(numbers, count) }, width, handle)
@@ -333,7 +333,7 @@ pub unsafe extern "C" fn vers_symbols_build(numbers: *const u64, count: usize, w
 
 /// # Safety
 /// `numbers` leads to `count` numbers.
-#[unsafe(no_mangle)]
+#[no_mangle]
 pub unsafe extern "C" fn vers_symbols_build_bytes(
     numbers: *const u8,
     count: usize,
@@ -346,7 +346,7 @@ pub unsafe extern "C" fn vers_symbols_build_bytes(
 
 /// # Safety
 /// `numbers` leads to `count` numbers.
-#[unsafe(no_mangle)]
+#[no_mangle]
 pub unsafe extern "C" fn vers_symbols_build_u16s(
     numbers: *const u16,
     count: usize,
@@ -359,7 +359,7 @@ pub unsafe extern "C" fn vers_symbols_build_u16s(
 
 /// # Safety
 /// `numbers` leads to `count` numbers.
-#[unsafe(no_mangle)]
+#[no_mangle]
 pub unsafe extern "C" fn vers_symbols_build_u32s(
     numbers: *const u32,
     count: usize,
@@ -372,7 +372,7 @@ pub unsafe extern "C" fn vers_symbols_build_u32s(
 
 /// # Safety
 /// `values` leads to `count` numbers.
-#[unsafe(no_mangle)]
+#[no_mangle]
 pub unsafe extern "C" fn vers_fast_rmq_build(values: *const u64, count: usize, handle: &mut Handle) -> u32 {
     // SAFETY: vers.h asks for an array of as many numbers, which no other thread writes.
     let values = unsafe { elements(values, count) };
@@ -386,7 +386,7 @@ pub unsafe extern "C" fn vers_fast_rmq_build(values: *const u64, count: usize, h
 
 /// # Safety
 /// `values` leads to `count` numbers.
-#[unsafe(no_mangle)]
+#[no_mangle]
 pub unsafe extern "C" fn vers_binary_rmq_build(values: *const u64, count: usize, handle: &mut Handle) -> u32 {
     // SAFETY: vers.h asks for an array of as many numbers, which no other thread writes.
     let values = unsafe { elements(values, count) };
@@ -400,7 +400,7 @@ pub unsafe extern "C" fn vers_binary_rmq_build(values: *const u64, count: usize,
 
 /// # Safety
 /// `documents` leads to `count` numbers, and `costs` to `cost_count`.
-#[unsafe(no_mangle)]
+#[no_mangle]
 pub unsafe extern "C" fn vers_postings_build(
     documents: *const u64,
     count: usize,
@@ -437,7 +437,7 @@ impl Pairs for Columns<'_> {
 
 /// # Safety
 /// `terms` leads to `count` numbers, and `documents` to `document_count`.
-#[unsafe(no_mangle)]
+#[no_mangle]
 pub unsafe extern "C" fn vers_inverted_build(
     limit: u64,
     universe: u64,
@@ -480,7 +480,7 @@ fn text_of<N: Integer>(
 
 /// # Safety
 /// `symbols` leads to `count` symbols.
-#[unsafe(no_mangle)]
+#[no_mangle]
 pub unsafe extern "C" fn vers_text_build(
     symbols: *const u64,
     count: usize,
@@ -494,7 +494,7 @@ pub unsafe extern "C" fn vers_text_build(
 
 /// # Safety
 /// `symbols` leads to `count` symbols.
-#[unsafe(no_mangle)]
+#[no_mangle]
 pub unsafe extern "C" fn vers_text_build_bytes(
     symbols: *const u8,
     count: usize,
@@ -508,7 +508,7 @@ pub unsafe extern "C" fn vers_text_build_bytes(
 
 /// # Safety
 /// `symbols` leads to `count` symbols.
-#[unsafe(no_mangle)]
+#[no_mangle]
 pub unsafe extern "C" fn vers_text_build_u16s(
     symbols: *const u16,
     count: usize,

@@ -74,8 +74,9 @@ impl Handle {
 
     /// Makes a handle that holds nothing one more owner.
     pub fn clone_into(&self, other: &mut Handle) -> u32 {
-        let Some(shared) = self.shared() else {
-            return VACANT;
+        let shared = match self.shared() {
+            Some(shared) => shared,
+            None => return VACANT,
         };
         if other.is_built {
             return OCCUPIED;
@@ -90,8 +91,9 @@ impl Handle {
 
     /// Makes it hold nothing. The last owner drops the structure.
     pub fn free(&mut self) {
-        let Some(shared) = self.shared() else {
-            return;
+        let shared = match self.shared() {
+            Some(shared) => shared,
+            None => return,
         };
         let is_last = shared.owners.fetch_sub(1, Ordering::Release) == 1;
         let Handle { at, .. } = std::mem::replace(self, Handle { is_built: false, at: ptr::null_mut() });

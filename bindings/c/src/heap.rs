@@ -22,10 +22,10 @@ fn placed(layout: Layout) -> Layout {
 
 #[cfg(target_os = "linux")]
 fn request_large_pages(block: *mut u8, size: usize) {
-    use std::ffi::{c_int, c_void};
+    use std::os::raw::{c_int, c_void};
 
     const MADV_HUGEPAGE: c_int = 14;
-    unsafe extern "C" {
+    extern "C" {
         fn madvise(block: *mut c_void, size: usize, advice: c_int) -> c_int;
     }
     // SAFETY: the block has as many bytes, and advice changes none of them. Without large pages it fails, which is fine.

@@ -94,8 +94,9 @@ impl Kept {
 
     /// Changes a list of bits by the change of a code.
     pub fn change(&mut self, change: u32, a: u64, b: u64) -> u32 {
-        let Kept::Growing(bits) = self else {
-            return UNKNOWN;
+        let bits = match self {
+            Kept::Growing(bits) => bits,
+            _ => return UNKNOWN,
         };
         match change {
             PUSH => bits.append_bit(a).map_or(NO_MEMORY, |()| DONE),
@@ -120,8 +121,9 @@ impl Kept {
 
     /// The documents of a term. None if this is no inverted index.
     pub fn documents(&self, term: u64) -> Result<Option<Kept>, AllocError> {
-        let Kept::Inverted(index) = self else {
-            return Ok(None);
+        let index = match self {
+            Kept::Inverted(index) => index,
+            _ => return Ok(None),
         };
         let mut found = Vec::with_capacity(Global, index.count(term) as usize)?;
         found.extend(index.documents(term))?;
@@ -130,8 +132,9 @@ impl Kept {
 
     /// Documents of two terms, by a code. None if this is no inverted index, or there is no such code.
     pub fn joined(&self, joint: u32, one: u64, other: u64) -> Result<Option<Kept>, AllocError> {
-        let Kept::Inverted(index) = self else {
-            return Ok(None);
+        let index = match self {
+            Kept::Inverted(index) => index,
+            _ => return Ok(None),
         };
         let found = match joint {
             INTERSECTION => index.intersection_numbers(Global, one, other)?,
@@ -153,10 +156,11 @@ impl Kept {
     /// Replaces each end of a pattern by how many positions the pattern has in a text. The patterns are joined in some
     /// symbols. A status.
     pub fn count_each(&self, symbols: &[u64], ends: &mut [u64]) -> u32 {
-        let Kept::Text(text) = self else {
-            return UNKNOWN;
+        let text = match self {
+            Kept::Text(text) => text,
+            _ => return UNKNOWN,
         };
-        if !is_ascending(ends) || ends.last().is_some_and(|last| *last > symbols.len() as u64) {
+        if !is_ascending(ends) || ends.last().map_or(false, |last| *last > symbols.len() as u64) {
             return REFUSED;
         }
         let mut start = 0;
@@ -168,8 +172,9 @@ impl Kept {
 
     /// The positions of a pattern in a text, ascending. None where this is no text.
     pub fn places(&self, pattern: &[u64]) -> Result<Option<Kept>, AllocError> {
-        let Kept::Text(text) = self else {
-            return Ok(None);
+        let text = match self {
+            Kept::Text(text) => text,
+            _ => return Ok(None),
         };
         Ok(Some(Kept::Numbers(as_numbers(&text.places_ascending(pattern)?)?)))
     }
