@@ -1,5 +1,5 @@
 -- Building a tree of excesses from its leaves up to its root.
-use Rattle.vers_trees.proofs.Names.{◌≡◌, ℕ, ◌+◌, ◌-◌, ◌*◌, ◌^◌, ◌<◌, ◌≤◌, ◌↔◌, inl, inr, min, Bool, List, [], ◌∷◌, length, get_or, set, ◌≤ℤ◌, ◌<ℤ◌, arith, ⊎_elim, subst, sym, refl, ap, ◌∙◌, cases_lt, get_or_past, get_or-set_same, get_or-set_other, eq-or-lt_of_le, mul-le-mul_right, div_ceil_times, Node, combined, JoinFits, empty_node, IsPart, start_of, Covers, StandsOver, CoveredFrom, AreLeaves, AreFirstBlocks, block_count, IsLevel, IsBalanced, IsIndexed}
+use Rattle.vers_trees.proofs.Names.{◌≡◌, ℕ, ◌+◌, ◌-◌, ◌*◌, ◌^◌, ◌<◌, ◌≤◌, ◌↔◌, inl, inr, min, Bool, List, [], ◌∷◌, length, get_or, set, ◌≤ℤ◌, ◌<ℤ◌, arith, ⊎_elim, subst, sym, refl, ap, ◌∙◌, cases_lt, get_or_past, get_or-set_same, get_or-set_other, eq-or-lt_of_le, mul-le-mul_right, div_ceil_times, Node, combined, SumsFit, empty_node, IsPart, start_of, Covers, StandsOver, CoveredFrom, AreLeaves, AreFirstBlocks, block_count, IsLevel, IsBalanced, IsIndexed}
 use Rattle.vers_trees.proofs.layout.MinMax.{HasChildren, stands_children, stands_every, leaf_stands, root, part_inside, covers_joined, children_fit}
 pub use Rattle.vers_trees.proofs.layout.Blocks.{balanced_iff_root, balance_decides}
 
@@ -30,7 +30,7 @@ module _ (l : List Bool) (size first : ℕ) (nodes : List Node) (i : ℕ) (x y :
   right_covers : (s e : ℕ) (k : HasChildren first (i - 1) s e) → Covers l size k.middle e y
   right_covers s e k = rw ey (c (2 * (i - 1) + 2) k.middle e (omega arith) k.right)
 
-  pub code_fits : (h : ℕ) → 2 ^ h ≡ first + 1 → length l < 2 ^ 63 → JoinFits x y
+  pub code_fits : (h : ℕ) → 2 ^ h ≡ first + 1 → length l < 2 ^ 63 → y.least ≤ℤ y.greatest → SumsFit x y
   code_fits h lv short =
       let p = stands_every first h lv (i - 1) (i - 1) (omega arith) (omega arith) in
       let k = stands_children first (i - 1) p.0 p.1 p.2 (omega arith) in

@@ -1,6 +1,6 @@
 -- The parts of the nodes of a tree, and what a node made of two says.
-use Rattle.vers_trees.proofs.Names.{◌≡◌, ℕ, zero, suc, ◌+◌, ◌-◌, ◌*◌, ◌/◌, ◌%◌, ◌^◌, ◌<◌, ◌≤◌, ◌⊎◌, inl, inr, Bool, List, length, ◌+ℤ◌, ◌≤ℤ◌, ◌<ℤ◌, arith, ⊎_elim, subst, refl, ap, ◌∙◌, pow-succ', pow-le-pow_right, pow_next, mul-le-mul_right, ints, cases_lt, excess, Node, combined, JoinFits, empty_node, IsPart, start_of, Covers, StandsOver}
-use Rattle.vers_trees.proofs.searches.Scans.{rise_fits, part_joined}
+use Rattle.vers_trees.proofs.Names.{◌≡◌, ℕ, zero, suc, ◌+◌, ◌-◌, ◌*◌, ◌/◌, ◌%◌, ◌^◌, ◌<◌, ◌≤◌, ◌⊎◌, inl, inr, Bool, List, length, ◌+ℤ◌, ◌≤ℤ◌, ◌<ℤ◌, arith, ⊎_elim, subst, refl, ap, ◌∙◌, pow-succ', pow-le-pow_right, pow_next, mul-le-mul_right, ints, cases_lt, excess, Node, combined, SumsFit, empty_node, IsPart, start_of, Covers, StandsOver}
+use Rattle.vers_trees.proofs.searches.Scans.{part_joined, sums_fit}
 
 -- a later block begins no earlier
 pub starts_up : (l : List Bool) (size i e : ℕ) → i ≤ e → start_of l size i ≤ start_of l size e
@@ -17,19 +17,12 @@ total_of_part l size i e x c h = grind (arith, starts_up)
 pub covers_joined : (l : List Bool) (size i m e : ℕ) (x y r : Node) → i ≤ m → m ≤ e → Covers l size i m x → Covers l size m e y → (y.least ≤ℤ y.greatest → r ≡ combined x y) → (y.greatest <ℤ y.least → r ≡ x) → Covers l size i e r
 covers_joined l size i m e x y r im me c d both alone = grind (arith, ints, starts_up, part_joined, part_inside)
 
--- the sums of a node's two parts fit
-pub children_fit : (l : List Bool) (size i m e : ℕ) (x y : Node) → length l < 2 ^ 63 → i ≤ m → Covers l size i m x → Covers l size m e y → JoinFits x y
-children_fit l size i m e x y short im c d = record {
-  total = λ h. let p = parts h in let q = p.1 in rise_fits l (start_of l size i) (start_of l size e) (x.total +ℤ y.total) short (omega arith) (omega arith) (omega (arith, ints));
-  least = λ h. let p = parts h in let q = p.1.least in rise_fits l (start_of l size i) q.0 (x.total +ℤ y.least) short (omega arith) (omega arith) (omega (arith, ints));
-  greatest = λ h. let p = parts h in let q = p.1.greatest in rise_fits l (start_of l size i) q.0 (x.total +ℤ y.greatest) short (omega arith) (omega arith) (omega (arith, ints));
-}
-  where
-    parts : y.least ≤ℤ y.greatest → IsPart l (start_of l size i) (start_of l size m) x × IsPart l (start_of l size m) (start_of l size e) y
-    parts h = ⊎_elim
-        (λ (q : IsPart l (start_of l size m) (start_of l size e) y). let u = starts_up l size i m im in (part_inside l size i m x c (omega arith), q))
-        (λ (q : (length l ≤ m * size) × (y ≡ empty_node)). let g = rw q.1 at h in absurd (omega (arith, ints)))
-        d.part
+-- the sums of a node's two parts fit, where the second is not empty
+pub children_fit : (l : List Bool) (size i m e : ℕ) (x y : Node) → length l < 2 ^ 63 → i ≤ m → Covers l size i m x → Covers l size m e y → y.least ≤ℤ y.greatest → SumsFit x y
+children_fit l size i m e x y short im c d h = ⊎_elim
+    (λ (q : IsPart l (start_of l size m) (start_of l size e) y). sums_fit l (start_of l size i) (start_of l size m) (start_of l size e) x y (total_of_part l size i m x c im) q short (starts_up l size i m im) (omega arith))
+    (λ (q : (length l ≤ m * size) × (y ≡ empty_node)). let g = rw q.1 at h in absurd (omega (arith, ints)))
+    d.part
 
 -- ---- the parts of the nodes
 pub record HasChildren (first i s e : ℕ) : Type 0 where

@@ -13,7 +13,7 @@ excess-part l p n j h i =
     grind (arith, ints, excess-append_left, excess-append_right, take-append-drop p l, length-take-le p l, ap (λ (m : List Bool). excess m j) (take-append-drop n (drop p l)))
 
 -- the excess of at most 64 bits, by the ones of their number
-excess-number : (bits : List Bool) (n : ℕ) → n ≤ 64 → length bits ≡ n → excess bits n ≡ pos (2 * count_ones (number bits)) -ℤ pos n
+pub excess-number : (bits : List Bool) (n : ℕ) → n ≤ 64 → length bits ≡ n → excess bits n ≡ pos (2 * count_ones (number bits)) -ℤ pos n
 unfolding excess limb
 excess-number bits n few e =
     let f : limb bits 0 % 2 ^ n ≡ number bits = rw (take_all 64 bits (omega arith)) (mod-eq_of_lt (number_below bits n (omega arith))) in
@@ -36,7 +36,7 @@ word_read l p n o word e f few within = let w = word_is l p n few within in cc
 pub whole_word : (l : List Bool) (p n : ℕ) (o : Option ℕ) (word : ℕ) → o ≡ part_number_or_zero l p n → o ≡ Some word → n ≡ 64 → p + n ≤ length l → word ≡ number (part l p 64)
 whole_word l p n o word e f long within = word_read l p n o word e f (omega arith) within ∙ ap (λ (k : ℕ). number (part l p k)) long
 
-byte_of_word : (l : List Bool) (s n m : ℕ) → m + 8 ≤ n → s + n ≤ length l → number (part l s n) / 2 ^ m % 256 ≡ number (part l (s + m) 8)
+pub byte_of_word : (l : List Bool) (s n m : ℕ) → m + 8 ≤ n → s + n ≤ length l → number (part l s n) / 2 ^ m % 256 ≡ number (part l (s + m) 8)
 byte_of_word l s n m h i =
     let e : n ≡ m + (8 + (n - m - 8)) = omega arith in
     let b : drop m (take n (drop s l)) ≡ take (8 + (n - m - 8)) (drop m (drop s l)) = ap (λ (k : ℕ). drop m (take k (drop s l))) e ∙ drop-take m (8 + (n - m - 8)) (drop s l) in

@@ -1,5 +1,5 @@
 -- Scans over the bits of a part, by stretches: a bit, a byte or a word at a time.
-use Rattle.vers_trees.proofs.Names.{◌≡◌, ◌≢◌, ℕ, ◌+◌, ◌-◌, ◌^◌, ◌<◌, ◌≤◌, ◌⊎◌, Bool, true, false, List, length, get_or, ℤ, pos, negsuc, ◌+ℤ◌, ◌-ℤ◌, ◌≤ℤ◌, FitsSigned, to_z, of_z, arith, ⊎_elim, refl, sym, ap, ◌∙◌, w64, ints, clamps, by_lt_z, to_z-of_z, cases_lt, Node, combined, excess, bit_step, count_near, count_up, IsPart, sum_past, IsBetween, up_to, IsRise, HasNoRise}
+use Rattle.vers_trees.proofs.Names.{◌≡◌, ◌≢◌, ℕ, ◌+◌, ◌-◌, ◌^◌, ◌<◌, ◌≤◌, ◌⊎◌, Bool, true, false, List, length, get_or, ℤ, pos, negsuc, ◌+ℤ◌, ◌-ℤ◌, ◌≤ℤ◌, FitsSigned, to_z, of_z, arith, ⊎_elim, refl, sym, ap, ◌∙◌, w64, ints, clamps, by_lt_z, to_z-of_z, cases_lt, Node, combined, SumsFit, excess, bit_step, count_near, count_up, IsPart, sum_past, IsBetween, up_to, IsRise, HasNoRise}
 use Rattle.vers_trees.proofs.grammar.Excess.{excess_after_bit}
 
 -- the excess changes by at most as much as there are places between
@@ -94,8 +94,12 @@ part_joined l a m b x y p q =
           (λ w. (p.greatest.0, p.greatest.1, omega arith, omega (arith, ints, clamps)));
     }
 
-pub part_more : (l : List Bool) (a p : ℕ) (x : Node) (d : ℤ) → IsPart l a p x → excess l (p + 1) ≡ excess l p +ℤ d → IsPart l a (p + 1) (combined x (record { total = d; least = d; greatest = d }))
-part_more l a p x d h s = part_joined l a p (p + 1) x _ h (part_start l p d s)
-
-pub part_fits : (l : List Bool) (a p : ℕ) (x : Node) → IsPart l a p x → length l < 2 ^ 63 → a ≤ p → p ≤ length l → FitsSigned w64 x.total × FitsSigned w64 x.least × FitsSigned w64 x.greatest
-part_fits l a p x h short o i = grind (arith, rise_fits)
+-- the sums of both fit
+pub sums_fit : (l : List Bool) (a m b : ℕ) (x y : Node) → excess l m ≡ excess l a +ℤ x.total → IsPart l m b y → length l < 2 ^ 63 → a ≤ m → b ≤ length l → SumsFit x y
+sums_fit l a m b x y t h short o i =
+    let j = h.least.1 in let u = h.least.2 in let s = h.least.3 in let k = h.greatest.1 in let v = h.greatest.2 in let r = h.greatest.3 in let w = h.total in
+    record {
+      total = rise_fits l a b (x.total +ℤ y.total) short (omega arith) i (omega (arith, ints));
+      least = rise_fits l a h.least.0 (x.total +ℤ y.least) short (omega arith) (omega arith) (omega (arith, ints));
+      greatest = rise_fits l a h.greatest.0 (x.total +ℤ y.greatest) short (omega arith) (omega arith) (omega (arith, ints));
+    }

@@ -2,6 +2,7 @@
 use Rattle.std.specs.Prelude.{Bool, true, false, min, ◌≡◌, ◌≢◌, ℕ, ◌+◌, ◌*◌, ◌-◌, ◌%◌, ◌^◌, ◌<◌, ◌≤◌, ◌⊎◌, List, length, slice_index_or, ℤ, pos, negsuc, ◌+ℤ◌, ◌-ℤ◌, ◌≤ℤ◌, FitsSigned}
 use mir.Syntax.{w64}
 use Rattle.std.specs.Int.{int_min, int_max}
+use Rattle.vers_bits.specs.Bits.{number, part}
 use Rattle.vers_trees.specs.Excess.{excess}
 use Rattle.vers_trees.specs.inside.Scans.{sum_past, edge, IsBetween}
 use Rattle.vers_trees.specs.declared.trees.bp.min_max.Node.{Node}
@@ -10,11 +11,11 @@ use Rattle.vers_trees.specs.declared.trees.bp.min_max.Node.{Node}
 abbrev pub combined : Node → Node → Node
 combined x y = record { total = x.total +ℤ y.total; least = int_min x.least (x.total +ℤ y.least); greatest = int_max x.greatest (x.total +ℤ y.greatest) }
 
--- where the second part has a place, its sums after the first are not too long
-pub record JoinFits (x y : Node) : Type 0 where
-  pub total : y.least ≤ℤ y.greatest → FitsSigned w64 (x.total +ℤ y.total)
-  pub least : y.least ≤ℤ y.greatest → FitsSigned w64 (x.total +ℤ y.least)
-  pub greatest : y.least ≤ℤ y.greatest → FitsSigned w64 (x.total +ℤ y.greatest)
+-- the sums of a second part after a first one are not too long
+pub record SumsFit (x y : Node) : Type 0 where
+  pub total : FitsSigned w64 (x.total +ℤ y.total)
+  pub least : FitsSigned w64 (x.total +ℤ y.least)
+  pub greatest : FitsSigned w64 (x.total +ℤ y.greatest)
 
 -- r is between the least and the greatest excess
 pub record IsInRange (x : Node) (r : ℤ) : Type 0 where
@@ -42,6 +43,11 @@ pub record IsPart (l : List Bool) (a b : ℕ) (x : Node) : Type 0 where
   pub high : (j : ℕ) → a < j → j ≤ b → excess l j ≤ℤ (excess l a +ℤ x.greatest)
   pub least : (j : ℕ) × (a < j) × (j ≤ b) × (excess l j ≡ excess l a +ℤ x.least)
   pub greatest : (j : ℕ) × (a < j) × (j ≤ b) × (excess l j ≡ excess l a +ℤ x.greatest)
+
+-- the n bits from position p have this number
+pub record IsNumberAt (l : List Bool) (p n bits : ℕ) : Type 0 where
+  pub within : p + n ≤ length l
+  pub valued : bits ≡ number (part l p n)
 
 -- where block k of `size` bits begins, or the end of the list
 abbrev pub start_of : List Bool → ℕ → ℕ → ℕ

@@ -296,7 +296,8 @@ fn answers_of_long_lists(rt: HostRuntime) {
         long::<1>(rt.alloc()),
         long::<8>(rt.alloc()),
         long::<64>(rt.alloc()),
+        long::<77>(rt.alloc()),
         long::<4294967296>(rt.alloc()),
     ];
-    assert!(rt; compared == [Ok(ALL_LONG); 4]);
+    assert!(rt; compared == [Ok(ALL_LONG); 5]);
 }

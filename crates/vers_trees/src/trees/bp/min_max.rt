@@ -2,7 +2,7 @@
 ghost use Rattle.std.specs.Prelude.{◌≡◌, ◌+◌, ◌*◌, ◌<◌, ◌≤◌, ◌^◌, true, false, length, min, slice_index_or, IfOk, MatchOption, Decides};
 ghost use Rattle.vers_tally.specs.Reads.{AddsAtMost, only_nodes, digits};
 ghost use Rattle.vers_trees.specs.inside.Index.{IsIndexed};
-ghost use Rattle.vers_trees.specs.inside.MinMax.{IsInRange, IsInRangeOrStart, IsLevel, empty_node, Sought, BeginsAt, LeadsTo, IsAhead, HasNone, IsOddPart, IsBeside};
+ghost use Rattle.vers_trees.specs.inside.MinMax.{SumsFit, combined, IsInRange, IsInRangeOrStart, IsLevel, empty_node, Sought, BeginsAt, LeadsTo, IsAhead, HasNone, IsOddPart, IsBeside};
 
 mod build;
 
@@ -22,13 +22,27 @@ pub(super) struct Node {
 
 impl Node {
     // Returns the node over no block: no sum is between its least and its greatest.
-    fn empty() -> Node
+    #[inline(always)]
+    pub(super) fn empty() -> Node
         ensures { result ≡ empty_node }
     {
         Node {
             total: 0,
             least: 1,
             greatest: -1,
+        }
+    }
+
+    // Returns the node over this part and the one after it.
+    #[inline(always)]
+    pub(super) fn followed_by(self, next: Node) -> Node
+        requires { SumsFit self next }
+        ensures { result ≡ combined self next }
+    {
+        Node {
+            total: self.total + next.total,
+            least: self.least.min(self.total + next.least),
+            greatest: self.greatest.max(self.total + next.greatest),
         }
     }
 
@@ -79,22 +93,23 @@ impl<A: Allocator + Copy> MinMaxTree<A> {
         ensures { IfOk result (λ t. IsIndexed bits.now size t.first t.nodes) }
     {
         let alloc = bits.allocator();
+        let tables = ByteTables::new();
         let len = bits.len();
         if len == 0 {
             return Ok(MinMaxTree {
                 alloc,
                 nodes: CountedNodes::new(Vec::new(alloc)),
                 first: 0,
-                tables: ByteTables::new(),
+                tables,
             });
         }
         let first = width(len.div_ceil(size)) - 1;
-        let nodes = nodes_over(bits, size, first)?;
+        let nodes = nodes_over(bits, &tables, size, first)?;
         Ok(MinMaxTree {
             alloc,
             nodes: CountedNodes::new(nodes),
             first,
-            tables: ByteTables::new(),
+            tables,
         })
     }
 

@@ -2,8 +2,9 @@
 ghost use Rattle.std.specs.Prelude.{◌≡◌, ℕ, Bool, List, ◌+◌, ◌*◌, ◌<◌, ◌≤◌, ◌≤ℤ◌, ◌<ℤ◌, ◌^◌, length, slice_index_or, vec_len, IfOk, OnOk};
 ghost use Rattle.vers_trees.specs.inside.Index.{CanBeIndexed, IsTreeOf, IsWidth, AreFirstBlocks};
 ghost use Rattle.vers_trees.specs.Layout.{block_count, node_count};
-ghost use Rattle.vers_trees.specs.inside.MinMax.{JoinFits, AreLeaves, CoveredFrom, combined, empty_node};
+ghost use Rattle.vers_trees.specs.inside.MinMax.{SumsFit, AreLeaves, CoveredFrom, combined, empty_node};
 
+use crate::trees::bp::bytes::ByteTables;
 use crate::trees::bp::min_max::Node;
 use crate::trees::bp::scan::node_of;
 use std::alloc::{AllocError, Allocator};
@@ -25,6 +26,7 @@ pub(super) fn width(leaves: usize) -> usize
 // Returns the nodes of the blocks of `size` bits, after `first` nodes that are still to be filled.
 fn leaves_of<A: Allocator + Copy>(
     bits: &BitVec<A>,
+    tables: &ByteTables,
     size: usize,
     first: usize,
 ) -> Result<Vec<Node, A>, AllocError>
@@ -35,7 +37,7 @@ fn leaves_of<A: Allocator + Copy>(
     let leaves = bits.len().div_ceil(size);
     let mut nodes = Vec::with_capacity(bits.allocator(), first.saturating_add(leaves))?;
     nodes.resize(first, Node::empty())?;
-    push_blocks(&mut nodes, bits, size, first)?;
+    push_blocks(&mut nodes, bits, tables, size, first)?;
     Ok(nodes)
 }
 
@@ -43,6 +45,7 @@ fn leaves_of<A: Allocator + Copy>(
 fn push_blocks<A: Allocator + Copy>(
     nodes: &mut Vec<Node, A>,
     bits: &BitVec<A>,
+    tables: &ByteTables,
     size: usize,
     first: usize,
 ) -> Result<(), AllocError>
@@ -56,7 +59,7 @@ fn push_blocks<A: Allocator + Copy>(
     for block in 0..leaves {
         let start = block * size;
         let end = (start + size).min(len);
-        nodes.push(node_of(bits, start, end))?;
+        nodes.push(node_of(bits, tables, start, end))?;
     }
     Ok(())
 }
@@ -64,6 +67,7 @@ fn push_blocks<A: Allocator + Copy>(
 // Returns the nodes of the tree over the blocks of `size` bits of a nonempty list.
 pub(super) fn nodes_over<A: Allocator + Copy>(
     bits: &BitVec<A>,
+    tables: &ByteTables,
     size: usize,
     first: usize,
 ) -> Result<Vec<Node, A>, AllocError>
@@ -73,25 +77,21 @@ pub(super) fn nodes_over<A: Allocator + Copy>(
     ensures tree { IfOk result (λ v. IsTreeOf bits.now size first v.items) }
     ensures counted { IfOk result (λ v. length v.items ≡ node_count size (length bits.now)) }
 {
-    let mut nodes = leaves_of(bits, size, first)?;
+    let mut nodes = leaves_of(bits, tables, size, first)?;
     fill(&mut nodes, first);
     Ok(nodes)
 }
 
 // Returns the node over two adjacent parts.
 fn joined(left: Node, right: Node) -> Node
-    requires { JoinFits left right }
+    requires { right.least ≤ℤ right.greatest → SumsFit left right }
     ensures both { right.least ≤ℤ right.greatest → result ≡ combined left right }
     ensures alone { right.greatest <ℤ right.least → result ≡ left }
 {
     if right.least > right.greatest {
         return left;
     }
-    Node {
-        total: left.total + right.total,
-        least: left.least.min(left.total + right.least),
-        greatest: left.greatest.max(left.total + right.greatest),
-    }
+    left.followed_by(right)
 }
 
 // Returns node `i`, not counted, or one over no block past the end.

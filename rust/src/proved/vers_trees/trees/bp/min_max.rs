@@ -21,11 +21,22 @@ pub(super) struct Node {
 
 impl Node {
     // Returns the node over no block: no sum is between its least and its greatest.
-    fn empty() -> Node {
+    #[inline(always)]
+    pub(super) fn empty() -> Node {
         Node {
             total: 0,
             least: 1,
             greatest: -1,
+        }
+    }
+
+    // Returns the node over this part and the one after it.
+    #[inline(always)]
+    pub(super) fn followed_by(self, next: Node) -> Node {
+        Node {
+            total: self.total + next.total,
+            least: self.least.min(self.total + next.least),
+            greatest: self.greatest.max(self.total + next.greatest),
         }
     }
 
@@ -64,22 +75,23 @@ impl<A: Allocator + Copy> MinMaxTree<A> {
     // Returns the tree over the blocks of `size` bits of a list.
     pub(super) fn over(bits: &BitVec<A>, size: usize) -> Result<Self, AllocError> {
         let alloc = bits.allocator();
+        let tables = ByteTables::new();
         let len = bits.len();
         if len == 0 {
             return Ok(MinMaxTree {
                 alloc,
                 nodes: CountedNodes::new(Vec::new(alloc)),
                 first: 0,
-                tables: ByteTables::new(),
+                tables,
             });
         }
         let first = width(len.div_ceil(size)) - 1;
-        let nodes = nodes_over(bits, size, first)?;
+        let nodes = nodes_over(bits, &tables, size, first)?;
         Ok(MinMaxTree {
             alloc,
             nodes: CountedNodes::new(nodes),
             first,
-            tables: ByteTables::new(),
+            tables,
         })
     }
 

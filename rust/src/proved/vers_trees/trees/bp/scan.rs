@@ -195,18 +195,61 @@ pub(super) fn scan_backward<A: Allocator + Copy>(
     bits_backward(bits, from, head, rise, target, tally)
 }
 
-// Returns the total, least and greatest excess of the positions from `from` up to `end`.
-pub(super) fn node_of<A: Allocator + Copy>(bits: &BitVec<A>, from: usize, end: usize) -> Node {
-    let first = step(bits.is_bit_set_unchecked(from));
-    let mut node = Node {
-        total: first,
-        least: first,
-        greatest: first,
-    };
-    for place in from + 1..end {
-        node.total += step(bits.is_bit_set_unchecked(place));
-        node.least = node.least.min(node.total);
-        node.greatest = node.greatest.max(node.total);
+// Returns the node of eight positions, from the table entry of their byte.
+#[inline(always)]
+fn node_of_byte(tables: &ByteTables, byte: u8) -> Node {
+    let entry = tables.forward_entry(byte);
+    Node {
+        total: byte_step(byte),
+        least: (entry / 32 % 32) as i64 - 8,
+        greatest: (entry % 32) as i64 - 8,
+    }
+}
+
+// Returns the node of 64 positions, from the bytes of their word.
+#[inline(always)]
+fn node_of_word(tables: &ByteTables, word: u64) -> Node {
+    let mut node = Node::empty();
+    for k in 0..8u32 {
+        let byte = ((word >> (8 * k)) % 256) as u8;
+        node = node.followed_by(node_of_byte(tables, byte));
+    }
+    node
+}
+
+// Returns the node of one position.
+#[inline(always)]
+fn node_of_bit(bit: bool) -> Node {
+    let sum = step(bit);
+    Node {
+        total: sum,
+        least: sum,
+        greatest: sum,
+    }
+}
+
+// Returns the total, least and greatest excess of the positions from `from` up to `end`. Looks up the bytes of
+// whole words, and then those after the last word; steps over the bits after the last byte, fewer than eight.
+pub(super) fn node_of<A: Allocator + Copy>(
+    bits: &BitVec<A>,
+    tables: &ByteTables,
+    from: usize,
+    end: usize,
+) -> Node {
+    let mut node = Node::empty();
+    let mut start = from;
+    while end - start >= 64 {
+        let word = bits.get_bits_unchecked(start, 64);
+        node = node.followed_by(node_of_word(tables, word));
+        start += 64;
+    }
+    while end - start >= 8 {
+        let byte = bits.get_bits_unchecked(start, 8) as u8;
+        node = node.followed_by(node_of_byte(tables, byte));
+        start += 8;
+    }
+    for place in start..end {
+        node = node.followed_by(node_of_bit(bits.is_bit_set_unchecked(place)));
     }
     node
 }

@@ -1,5 +1,18 @@
-use Rattle.vers_trees.proofs.Names.{IsPart}
+use Rattle.vers_trees.proofs.Names.{◌-◌, ◌≤◌}
+use Rattle.vers_trees.proofs.searches.PartNodes.{IsSoFar}
 use Rattle.vers_trees.proofs.trees.bp.scan.node_of.Given as goal
 
+abbrev pub invariant-loop-start : goal.invariant-loop-start
+invariant-loop-start g l = record { low : l.from ≤ l.start; high : l.start ≤ l.end; part : IsSoFar l.bits l.from l.start l.node }
+
+abbrev pub decreases-loop-start : goal.decreases-loop-start
+decreases-loop-start g l = l.end - l.start
+
+abbrev pub invariant-loop-start-2 : goal.invariant-loop-start-2
+invariant-loop-start-2 g l = record { low : l.from ≤ l.start; high : l.start ≤ l.end; part : IsSoFar l.bits l.from l.start l.node }
+
+abbrev pub decreases-loop-start-2 : goal.decreases-loop-start-2
+decreases-loop-start-2 g l = l.end - l.start
+
 abbrev pub invariant-loop-place : goal.invariant-loop-place
-invariant-loop-place g l = IsPart l.bits l.from l.place l.node
+invariant-loop-place g l = IsSoFar l.bits l.from l.place l.node

@@ -2,6 +2,7 @@
 
 use crate::rattle::prelude::*;
 
+use crate::proved::vers_trees::trees::bp::bytes::ByteTables;
 use crate::proved::vers_trees::trees::bp::min_max::Node;
 use crate::proved::vers_trees::trees::bp::scan::node_of;
 use crate::rattle::AllocError;
@@ -20,13 +21,14 @@ pub(super) fn width(leaves: usize) -> usize {
 // Returns the nodes of the blocks of `size` bits, after `first` nodes that are still to be filled.
 fn leaves_of<A: Allocator + Copy>(
     bits: &BitVec<A>,
+    tables: &ByteTables,
     size: usize,
     first: usize,
 ) -> Result<Vec<Node, A>, AllocError> {
     let leaves = bits.len().div_ceil(size);
     let mut nodes = Vec::with_capacity(bits.allocator(), first.saturating_add(leaves))?;
     nodes.resize(first, Node::empty())?;
-    push_blocks(&mut nodes, bits, size, first)?;
+    push_blocks(&mut nodes, bits, tables, size, first)?;
     Ok(nodes)
 }
 
@@ -34,6 +36,7 @@ fn leaves_of<A: Allocator + Copy>(
 fn push_blocks<A: Allocator + Copy>(
     nodes: &mut Vec<Node, A>,
     bits: &BitVec<A>,
+    tables: &ByteTables,
     size: usize,
     first: usize,
 ) -> Result<(), AllocError> {
@@ -42,7 +45,7 @@ fn push_blocks<A: Allocator + Copy>(
     for block in 0..leaves {
         let start = block * size;
         let end = (start + size).min(len);
-        nodes.push(node_of(bits, start, end))?;
+        nodes.push(node_of(bits, tables, start, end))?;
     }
     Ok(())
 }
@@ -50,10 +53,11 @@ fn push_blocks<A: Allocator + Copy>(
 // Returns the nodes of the tree over the blocks of `size` bits of a nonempty list.
 pub(super) fn nodes_over<A: Allocator + Copy>(
     bits: &BitVec<A>,
+    tables: &ByteTables,
     size: usize,
     first: usize,
 ) -> Result<Vec<Node, A>, AllocError> {
-    let mut nodes = leaves_of(bits, size, first)?;
+    let mut nodes = leaves_of(bits, tables, size, first)?;
     fill(&mut nodes, first);
     Ok(nodes)
 }
@@ -63,11 +67,7 @@ fn joined(left: Node, right: Node) -> Node {
     if right.least > right.greatest {
         return left;
     }
-    Node {
-        total: left.total + right.total,
-        least: left.least.min(left.total + right.least),
-        greatest: left.greatest.max(left.total + right.greatest),
-    }
+    left.followed_by(right)
 }
 
 // Returns node `i`, not counted, or one over no block past the end.
