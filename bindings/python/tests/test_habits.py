@@ -261,6 +261,17 @@ class Makers(unittest.TestCase):
             self.assertEqual((bytes(made[0:4]), made[0:4].tobytes(), made[-1:]), (b"abra", b"abra", array("B", b"a")))
         self.assertEqual(vers.WaveletMatrix([], 5)[:], array("B"))
 
+    def test_slices_of_bits(self):
+        draw, parts = random.Random(6), (slice(None), slice(3, -3), slice(9, 2), slice(None, None, -1))
+        parts += slice(1, None, 3), slice(None, None, -8), slice(-2, 5, -70), slice(None, None, 100_000)
+        for size in (0, 1, 64, 70, 2 * _buffers.CHUNK + 70):
+            items = [draw.randrange(2) for _ in range(size)]
+            ones = [k for k, it in enumerate(items) if it]
+            for made in vers.RsVec(items), vers.BitVec(items), vers.SparseRSVec(ones, size):
+                self.assertEqual((list(made), made.tolist(), bytes(made)), (items, items, bytes(items)))
+                for part in parts:
+                    self.assertEqual(made[part], array("B", items[part]))
+
     def test_narrow_symbols_are_not_widened(self):
         symbols = bytes(10 ** 6)
         tracemalloc.start()
@@ -610,8 +621,9 @@ class Habits(unittest.TestCase):
             self.assertEqual((made[-1], made[1:].tolist()), (items[-1], items[1:]))
             if numpy is not None:
                 self.assertEqual((made[numpy.int64(-1)], made[numpy.uint8(1)]), (items[-1], items[1]))
+                are_bits = isinstance(made, (vers.BitVec, vers.RsVec, vers.SparseRSVec))
                 is_signed = isinstance(made, (vers.EliasFanoVec, vers.PlainNumbers, vers.Postings))
-                kind = numpy.int64 if is_signed else numpy.uint64
+                kind = numpy.uint8 if are_bits else numpy.int64 if is_signed else numpy.uint64
                 self.assertEqual((numpy.asarray(made).tolist(), numpy.asarray(made).dtype), (items, kind))
                 self.assertEqual(numpy.asarray(made, dtype=float).dtype, float)
                 with self.assertRaisesRegex(ValueError, "are copied"):
@@ -626,9 +638,11 @@ class Habits(unittest.TestCase):
             ones = [k for k, it in enumerate(bits) if it]
             for made in vers.RsVec(bits), vers.BitVec(bits), vers.SparseRSVec(ones, count):
                 for kind in (None, bool, "u1", "i4", float, object):
-                    plain = numpy.array(bits, dtype=kind or numpy.uint64)
+                    plain = numpy.array(bits, dtype=kind or numpy.uint8)
                     found = numpy.asarray(made, dtype=kind)
                     self.assertEqual((found.dtype, found.tolist()), (plain.dtype, plain.tolist()))
+                    if kind not in (float, object):
+                        self.assertEqual(vers.RsVec(found), vers.RsVec(bits))
         symbols = [draw.randrange(256) for _ in range(_buffers.CHUNK + 70)]
         made = vers.WaveletMatrix(symbols, 8)
         for kind in ("u1", "u2", "i8", bool, ">u4"):

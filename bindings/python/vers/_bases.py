@@ -359,21 +359,26 @@ class Items(List[Q], Sequence[int]):
 
     def __getitem__(self, place: Any) -> Any:
         """Returns the item at a position, which is from the end if it is negative. For a slice, returns an array of
-        items."""
+        items: of bytes if they are bits, of the narrowest kind if they are symbols, and signed if they are members,
+        documents or positions that are all below 2**63."""
         if isinstance(place, slice):
-            places = array("Q", range(*place.indices(self._length())))
-            return self._answers(codes.GET, _buffers.Columns([places], len(places), None), 0, False)
+            return self._slice(range(*place.indices(self._length())))
         item = self._find(codes.GET, self._place(place))
         if item is None:
             raise IndexError(f"no item at {place}")
         return item
+
+    def _slice(self, places: range) -> Any:
+        """The items at some positions, in an array."""
+        numbers = array("Q", places)
+        return self._answers(codes.GET, _buffers.Columns([numbers], len(numbers), None), 0, False)
 
     def __array__(self, dtype: Any = None, copy: Any = None) -> Any:
         """Returns the items as a numpy array, which is always a copy."""
         if copy is False:
             raise ValueError("the items of a list are copied into an array")
         numpy: Any = sys.modules["numpy"]
-        own = numpy.dtype(numpy.int64 if self._is_signed() else numpy.uint64)
+        own = numpy.dtype("u1" if self._items == "bits" else "i8" if self._is_signed() else "u8")
         kind = own if dtype is None else numpy.dtype(dtype)
         if kind.itemsize == 0:
             # a text as long as need be
@@ -385,7 +390,7 @@ class Items(List[Q], Sequence[int]):
         return made
 
     def _numpy_part(self, numpy: Any, start: int, end: int) -> Any:
-        """The items from one position up to another, in a numpy array of 64 bits an item."""
+        """The items from one position up to another, in a numpy array: of 64 bits an item, of bits of 8."""
         places = numpy.arange(start, end, dtype=numpy.uint64)
         return self._answers(codes.GET, _buffers.Columns([places], places.size, places.shape), 0, False)
 
@@ -423,12 +428,9 @@ class Fixed(Shared[Q], Items[Q]):
 class Ascending(Fixed[Q]):
     """Members, documents or positions. The last one is below 2**63 only if all are."""
 
-    def __getitem__(self, place: Any) -> Any:
-        """Returns the item at a position, which is from the end if it is negative. For a slice, returns an array of
-        items, which is signed if all are below 2**63."""
-        found = super().__getitem__(place)
-        is_signed = isinstance(place, slice) and self._is_signed()
-        return _buffers.array_of("q", memoryview(found).cast("B")) if is_signed else found
+    def _slice(self, places: range) -> Any:
+        found = super()._slice(places)
+        return _buffers.array_of("q", memoryview(found).cast("B")) if self._is_signed() else found
 
     def _all(self) -> Any:
         """The items in an array('Q')."""
@@ -455,6 +457,25 @@ class Bits(Items[Q]):
             words.append(self._find_by(codes.GET_BITS, end - rest, rest) or 0)
         return words
 
+    def _part(self, start: int, end: int) -> Any:
+        return _buffers.flags_of(self._words(start, end), end - start)
+
+    def _slice(self, places: range) -> Any:
+        if abs(places.step) > 8:
+            return _buffers.narrowed(super()._slice(places), 1)
+        found, (first, last) = array("B"), sorted((places[0], places[-1])) if places else (0, -1)
+        for start in range(first, last + 1, _buffers.CHUNK):
+            found.extend(self._part(start, min(start + _buffers.CHUNK, last + 1)))
+        return found if places.step == 1 else found[::places.step]
+
     def _numpy_part(self, numpy: Any, start: int, end: int) -> Any:
         words = numpy.array(self._words(start, end)).astype("<u8")
-        return numpy.unpackbits(words.view(numpy.uint8), bitorder="little")[:end - start].astype(numpy.uint64)
+        return numpy.unpackbits(words.view(numpy.uint8), bitorder="little")[:end - start]
+
+
+def bits_of(bits: Any, digits: str = "01") -> Tuple[_buffers.Held, int]:
+    """Bits as `_buffers.bits_of` has them. A list of bits in words gives these."""
+    if not isinstance(bits, Bits):
+        return _buffers.bits_of(bits, digits)
+    length = len(bits)
+    return _buffers.held(bits._words(0, length)), length

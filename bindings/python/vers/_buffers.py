@@ -19,8 +19,11 @@ _NOWHERE = ctypes.c_uint64(0)
 _UNSIGNED = {order + letter for order in ("", "<", "=", "@") for letter in "BHILQN"}
 _SIGNED = {order + letter for order in ("", "=", "@") for letter in "lqn"}
 _KINDS = {1: "B", 2: "H", 4: "I", 8: "Q"}
-# the digits of the bits 0 and 1, as a table of bytes
+# the digits of the bits 0 and 1, and the bits of these digits, as tables of bytes
 _DIGITS = b"01" + bytes(254)
+_FLAGS = bytes(48) + b"\0\1" + bytes(206)
+# what a bit may be that is a character: a digit or a parenthesis
+_CHARACTERS = "01()"
 
 
 class Held(NamedTuple):
@@ -150,7 +153,7 @@ def _gathered(numbers: Any, what: str) -> Any:
         with contextlib.suppress(TypeError, OverflowError):
             return array("Q", numbers)
     made = array("Q")
-    for chunk in _chunks(numbers):
+    for chunk in _chunks(numbers, what):
         try:
             made.fromlist(chunk)
         except (TypeError, OverflowError):
@@ -159,9 +162,12 @@ def _gathered(numbers: Any, what: str) -> Any:
     return made
 
 
-def _chunks(items: Any) -> Iterator[Any]:
+def _chunks(items: Any, what: str) -> Iterator[Any]:
     """The items of an iterable as lists of `CHUNK`, the last one of fewer."""
-    remaining = iter(items)
+    try:
+        remaining = iter(items)
+    except TypeError:
+        raise TypeError(f"the {what}s are of type {type(items).__name__}, which is not iterable") from None
     while True:
         chunk = list(islice(remaining, CHUNK))
         if not chunk:
@@ -263,9 +269,11 @@ def bits_of(bits: Any, digits: str = "01") -> Tuple[Held, int]:
     A text is read by its characters: of each pair of `digits`, the first one is 0 and the second one is 1.
     """
     _refuse_dimensions(bits, "bit")
+    bits = bits if isinstance(bits, str) else plain(bits)
+    numpy = _numpy_of(bits)
     words, count = array("Q"), 0
     for flags in _flags_of_text(bits, digits) if isinstance(bits, str) else _flags(bits):
-        packed = int(flags[::-1].translate(_DIGITS), 2).to_bytes((len(flags) + 7) // 8, "little")
+        packed = _packed(flags) if numpy is None else numpy.packbits(flags, bitorder="little").tobytes()
         words.frombytes(packed + bytes(-len(packed) % 8))
         count += len(flags)
     if sys.byteorder != "little":
@@ -273,31 +281,54 @@ def bits_of(bits: Any, digits: str = "01") -> Tuple[Held, int]:
     return _held(words), count
 
 
-def _flags_of_array(numpy: Any, bits: Any) -> Iterator[bytes]:
-    """The bits of a numpy array, as bytes that are 0 or 1."""
+def _packed(flags: bytes) -> bytes:
+    """Bits, each a byte that is 0 or 1, as bytes of eight, the first as the lowest bit."""
+    return int(flags[::-1].translate(_DIGITS), 2).to_bytes((len(flags) + 7) // 8, "little")
+
+
+def flags_of(words: Any, count: int) -> Any:
+    """The first bits of words in an array of bytes that are 0 or 1."""
+    if sys.byteorder != "little":
+        words.byteswap()
+    digits = f"{int.from_bytes(words.tobytes(), 'little'):0{count + 1}b}"
+    return array_of("B", digits[:-count - 1:-1].encode().translate(_FLAGS))
+
+
+def _flags(bits: Any) -> Iterator[Any]:
+    """The bits of an iterable, each a byte that is 0 or 1; of a numpy array, in such arrays."""
+    numpy = _numpy_of(bits)
+    if numpy is not None:
+        yield from _flags_of_array(numpy, bits)
+        return
+    start = 0
+    for chunk in _pieces(bits):
+        flags = _bytes_of(chunk)
+        if flags is None or flags.translate(None, b"\0\1"):
+            flags = bytes(bit(it, f"the bit at position {start + k}") for k, it in enumerate(chunk))
+        yield flags
+        start += len(chunk)
+
+
+def _pieces(bits: Any) -> Iterator[Any]:
+    """The items of an iterable by `CHUNK`: parts of a buffer of bytes, otherwise lists."""
+    try:
+        view = memoryview(bits)
+    except TypeError:
+        return _chunks(bits, "bit")
+    if view.ndim != 1 or view.format[-1:] not in ("b", "B", "?"):
+        return _chunks(bits, "bit")
+    return (view[start:start + CHUNK] for start in range(0, len(view), CHUNK))
+
+
+def _flags_of_array(numpy: Any, bits: Any) -> Iterator[Any]:
+    """The bits of a numpy array, in arrays of bytes that are 0 or 1."""
     flat = _checked(numpy, bits, "bit").reshape(-1)
     for start in range(0, flat.size, CHUNK):
         chunk = flat[start:start + CHUNK]
         if chunk.max() > 1:
             position = first(chunk > 1)
             bit(chunk[position], f"the bit at position {start + position}")
-        yield chunk.astype(numpy.uint8).tobytes()
-
-
-def _flags(bits: Any) -> Iterator[bytes]:
-    """The bits of an iterable, as bytes that are 0 or 1."""
-    bits = plain(bits)
-    numpy = _numpy_of(bits)
-    if numpy is not None:
-        yield from _flags_of_array(numpy, bits)
-        return
-    start = 0
-    for chunk in _chunks(bits):
-        flags = _bytes_of(chunk)
-        if flags is None or flags.translate(None, b"\0\1"):
-            flags = bytes(bit(it, f"the bit at position {start + k}") for k, it in enumerate(chunk))
-        yield flags
-        start += len(chunk)
+        yield chunk.astype(numpy.uint8)
 
 
 def _bytes_of(chunk: Any) -> Optional[bytes]:

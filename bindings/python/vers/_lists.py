@@ -8,7 +8,7 @@ from operator import not_
 from typing import Any, Iterable, Iterator, Literal, Optional, Tuple
 
 from . import _buffers, _codes as codes, _library as library
-from ._bases import NONE, Ascending, Bits, Fixed, Shared
+from ._bases import NONE, Ascending, Bits, Fixed, Shared, bits_of
 from ._buffers import Held, Numbers, number, signed_number
 from ._faults import NoMemory, OtherKind, Refused
 from ._queries import COMBINED, Query, finished, query
@@ -68,7 +68,7 @@ class BitVec(Bits[_BitVecQuery]):
 
     def __new__(cls, bits: Iterable[Any] = ()) -> Any:
         """Makes a list of bits: of truth values and of the numbers 0 and 1, or of a text of these two digits."""
-        return cls._made(library.growing_build, *_buffers.bits_of(bits))
+        return cls._made(library.growing_build, *bits_of(bits))
 
     @classmethod
     def from_words(cls, words: Numbers, length: Optional[int] = None) -> BitVec:
@@ -106,7 +106,7 @@ class BitVec(Bits[_BitVecQuery]):
 
     def extend(self, bits: Iterable[Any]) -> None:
         """Appends bits."""
-        words, length = _buffers.bits_of(bits)
+        words, length = bits_of(bits)
         for place, word in enumerate(words.keeper):
             self.append_bits(word, min(64, length - 64 * place))
 
@@ -152,7 +152,7 @@ class RsVec(Fixed[_RsVecQuery], Bits[_RsVecQuery]):
 
     def __new__(cls, bits: Iterable[Any]) -> Any:
         """Makes a list of bits: of truth values and of the numbers 0 and 1, or of a text of these two digits."""
-        return cls._made(library.bits_build, *_buffers.bits_of(bits))
+        return cls._made(library.bits_build, *bits_of(bits))
 
     @classmethod
     def from_words(cls, words: Numbers, length: Optional[int] = None) -> RsVec:
@@ -305,6 +305,12 @@ class SparseRSVec(Fixed[_SparseQuery]):
     def _contents(self) -> Iterator[Any]:
         yield array("Q", self.iter1())
 
+    def _slice(self, places: range) -> Any:
+        return _buffers.narrowed(super()._slice(places), 1)
+
+    def _numpy_part(self, numpy: Any, start: int, end: int) -> Any:
+        return super()._numpy_part(numpy, start, end).astype(numpy.uint8)
+
     def count(self, value: Any) -> int:
         """Returns the number of bits that equal a value, by a rank."""
         bit = _buffers.equal_number(value)
@@ -399,11 +405,8 @@ class WaveletMatrix(Fixed[_SymbolsQuery]):
     def _traits(self) -> Any:
         return len(self), self.bits_per_element()
 
-    def __getitem__(self, place: Any) -> Any:
-        """Returns the symbol at a position, which is from the end if it is negative. For a slice, returns an array of
-        the narrowest kind that its symbols fit in: of bytes if they have at most 8 bits."""
-        found = super().__getitem__(place)
-        return _buffers.narrowed(found, self.bits_per_element()) if isinstance(place, slice) else found
+    def _slice(self, places: range) -> Any:
+        return _buffers.narrowed(super()._slice(places), self.bits_per_element())
 
     def count(self, value: Any) -> int:
         """Returns the number of symbols that equal a value, by a rank."""
@@ -532,7 +535,7 @@ class BpTree(Shared[_TreeQuery]):
 
     def __new__(cls, parentheses: Iterable[Any]) -> Any:
         """Makes trees of parentheses: of a text of them, of a text of 1 and 0, or of bits."""
-        return cls._made(library.tree_build, *_buffers.bits_of(parentheses, "01)("))
+        return cls._made(library.tree_build, *bits_of(parentheses, "01)("))
 
     def _shown(self, items: Any, more: str) -> str:
         return "".join(")("[it] for it in items) + more[2:]
