@@ -91,8 +91,33 @@ class Makers(unittest.TestCase):
         content = bytes([0, 1, 1, 0])
         for bits in (content, bytearray(content), memoryview(content), array("b", content), [False, True, 1, 0]):
             self.assertEqual(vers.RsVec(bits).tolist(), [0, 1, 1, 0])
-        self.refuses(BIT_MAKERS, ValueError, "^the bit at position 0 is 48, and bits are", b"0110", array("B", b"0"))
-        self.refuses(BIT_MAKERS, ValueError, "^the bit at position 0 is 40", b"(())")
+        hint = "; pass '[0(]' in a text, not in bytes$"
+        self.refuses(BIT_MAKERS, ValueError, f"^the bit at position 0 is 48, .*{hint}", b"0110", array("B", b"0"))
+        self.refuses(BIT_MAKERS, ValueError, f"^the bit at position 0 is 40, and bits are 0 or 1{hint}", b"(())")
+
+    def test_bits_in_buffers(self):
+        draw = random.Random(2)
+        for size in (0, 1, 9, _buffers.CHUNK, _buffers.CHUNK + 70):
+            items = [draw.randrange(2) for _ in range(size)]
+            content, wide = bytes(items), bytes(it for pair in zip(items, [7] * size) for it in pair)
+            for bits in (content, bytearray(content), memoryview(content).cast("?"), memoryview(wide)[::2],
+                         memoryview(content[::-1])[::-1], array("b", content), (ctypes.c_uint8 * size)(*items)):
+                self.assertEqual(vers.RsVec(bits), vers.RsVec(items))
+        self.refuses(BIT_MAKERS, ValueError, "^the bit at position 65537 is -1", array("b", [0] * 65537 + [-1]))
+        self.refuses(BIT_MAKERS, TypeError, "^the bit at position 0 is of type bytes", memoryview(b"\1").cast("c"))
+
+    def test_bits_of_lists_of_bits(self):
+        draw = random.Random(4)
+        for size in (0, 1, 64, 70, _buffers.CHUNK + 70):
+            items = [draw.randrange(2) for _ in range(size)]
+            made, grown = (vers.RsVec(items), vers.BitVec(items)), vers.BitVec([1])
+            with mock.patch.object(_buffers, "bits_of", side_effect=AssertionError("an item is read")):
+                for bits in made:
+                    self.assertEqual((vers.RsVec(bits), vers.BitVec(bits)), made)
+                    self.assertEqual(vers.BpTree(bits).tolist(), items)
+                grown.extend(made[0])
+                grown.extend(grown)
+            self.assertEqual(grown.tolist(), ([1] + items) * 2)
 
     def test_bits_by_position(self):
         many = [0, 1] * 50_000
@@ -101,11 +126,13 @@ class Makers(unittest.TestCase):
         self.refuses(BIT_MAKERS, TypeError, "^the bit at position 1 is of type NoneType", [0, None])
         self.refuses(BIT_MAKERS, TypeError, "^the bit at position 1 is of type float", [0, 1.0])
         self.refuses(BIT_MAKERS, TypeError, "^the bit at position 0 is of type str", ["1"])
-        self.refuses(BIT_MAKERS, TypeError, "not iterable", 5, None)
+        self.refuses(BIT_MAKERS, TypeError, "^the bits are of type (int|NoneType), which is not iterable$", 5, None)
         bits = vers.BitVec([1, 0])
         for change in (lambda: bits.append("0"), lambda: bits.append(0.0), lambda: bits.__setitem__(0, None)):
             with self.assertRaises(TypeError):
                 change()
+        with self.assertRaisesRegex(TypeError, "^'BitVec' object doesn't support the assignment of slices$"):
+            bits[0:1] = [1]
         with self.assertRaisesRegex(ValueError, "^the bit is 2"):
             bits[0] = 2
         for part in 0, slice(1):
@@ -122,6 +149,8 @@ class Makers(unittest.TestCase):
         self.refuses(NUMBER_MAKERS, TypeError, " at position 1 is of type float", [0, 1.0])
         self.refuses(NUMBER_MAKERS, TypeError, " at position 0 is of type float", array("d", [0, 1]))
         self.refuses(NUMBER_MAKERS, TypeError, " at position 0 is of type str", "0110", ["0"])
+        kind = "^the [a-z]+s are of type (int|NoneType), which is not iterable$"
+        self.refuses(NUMBER_MAKERS, TypeError, kind, 5, None)
 
     @unittest.skipIf(numpy is None, "numpy isn't there")
     def test_arrays_by_position(self):
@@ -184,6 +213,12 @@ class Makers(unittest.TestCase):
         encode = "^a text is not a list of numbers: the symbol at position 0 is of type str; encode it: b'..'$"
         self.refuses((text.count, text.places, text.__contains__), TypeError, encode, "abra")
         self.refuses((text.count_each, lambda it: vers.TextIndex(it[0], 8)), TypeError, encode, ["abra"])
+        none = "^the symbols are of type int, which is not iterable$"
+        self.refuses((text.count, text.places, text.__contains__), TypeError, none, 97)
+        self.refuses((text.count_each,), TypeError, "^the patterns are of type int, which is not iterable$", 97)
+        which = "^the pattern at position {} is of type int, and not a list of symbols$"
+        self.refuses((text.count_each,), TypeError, which.format(0), b"abra")
+        self.refuses((text.count_each,), TypeError, which.format(1), [b"abra", 97])
 
     def test_words(self):
         makers = [kind.from_words for kind in (vers.BitVec, vers.RsVec, vers.BpTree)]
@@ -206,13 +241,18 @@ class Makers(unittest.TestCase):
         reasons = {
             "^the numbers descend at position 3: 1 after 2$": lambda: vers.EliasFanoVec([1, 2, 2, 1]),
             "^the ones do not ascend strictly at position 1: 3 twice$": lambda: vers.SparseRSVec([3, 3], 10),
-            "^the one at position 1 is 10, and above 9$": lambda: vers.SparseRSVec([2, 10], 10),
+            "^the one at position 1 is 10, and not below 10$": lambda: vers.SparseRSVec([2, 10], 10),
+            "^the one at position 0 is 0, and not below 0$": lambda: vers.SparseRSVec([0], 0),
+            "^the term at position 1 is 4, and not below 3$": lambda: vers.InvertedIndex([0, 4], [1, 2], 3),
+            "^the document at position 0 is 1, and not below 1$": lambda: vers.InvertedIndex([0], [1], universe=1),
             "^the documents descend at position 1: 1 after 4$": lambda: vers.Postings([4, 1], [0, 0]),
             "^2 documents with 1 cost$": lambda: vers.Postings([1, 2], [0]),
             "^the symbol at position 1 is 4, and above 3$": lambda: vers.TextIndex([3, 4], 2),
             "^the width is 17, and it is from 1 to 16$": lambda: vers.TextIndex([3], 17),
             "^the step is 0$": lambda: vers.TextIndex([3], 2, 0),
             "^the width is 65, and it is at most 64$": lambda: vers.WaveletMatrix([3], 65),
+            f"^the width is {1 << 40}, and it is at most 64$": lambda: vers.WaveletMatrix([3], 1 << 40),
+            f"^the width is {1 << 40}, and it is from 1 to 16$": lambda: vers.TextIndex([3], 1 << 40),
             "^the count is 65, and it is at most 64$": lambda: vers.BitVec().append_bits(0, 65),
             "^1 term with 2 documents$": lambda: vers.InvertedIndex([0], [1, 2]),
             "^position 1 is past the end of 1 parenthesis$": lambda: vers.BpTree("(").excess(1),
@@ -713,6 +753,8 @@ class Habits(unittest.TestCase):
 
     def test_files_that_cannot_be_written(self):
         bits = vers.RsVec("1011")
+        with self.assertRaises(FileNotFoundError):
+            bits.save("")
         with tempfile.TemporaryDirectory() as folder:
             path, room = os.path.join(folder, "list.vers"), os.path.join(folder, "room")
             os.mkdir(room)

@@ -57,7 +57,8 @@ def bit(value: Any, what: str = "the bit") -> int:
     whole = int(value) if is_truth else whole_number(value, what)
     if whole in (0, 1):
         return whole
-    raise ValueError(f"{what} is {whole}, and bits are 0 or 1")
+    hint = next((f"; pass {it!r} in a text, not in bytes" for it in _CHARACTERS if ord(it) == whole), "")
+    raise ValueError(f"{what} is {whole}, and bits are 0 or 1{hint}")
 
 
 def whole_number(value: Any, what: str) -> int:
@@ -245,6 +246,8 @@ def joined(patterns: Any) -> Tuple[Held, Held]:
     """The symbols of some patterns, one pattern after another, and the end of each with a sign: as numpy arrays for the
     rows of one."""
     patterns = plain(patterns)
+    if not is_many(patterns) and not isinstance(patterns, str):
+        raise TypeError(f"the patterns are of type {type(patterns).__name__}, which is not iterable")
     numpy = _numpy_of(patterns)
     if numpy is not None and patterns.ndim == 2:
         rows, length = patterns.shape
@@ -253,7 +256,9 @@ def joined(patterns: Any) -> Tuple[Held, Held]:
     if numpy is not None and patterns.size and patterns.dtype.kind not in "OSU":
         raise ValueError(f"the patterns have the shape {patterns.shape}, and rows of symbols have two dimensions")
     numbers, ends = array("Q"), array("q")
-    for it in patterns:
+    for k, it in enumerate(patterns):
+        if not is_many(it) and not isinstance(it, str):
+            raise TypeError(f"the pattern at position {k} is of type {type(it).__name__}, and not a list of symbols")
         numbers.frombytes(pattern(it).keeper.tobytes())
         ends.append(len(numbers))
     return _held(numbers), _held(ends)
@@ -353,11 +358,23 @@ def _flags_of_text(text: str, digits: str) -> Iterator[bytes]:
 
 def above(what: str, numbers: Held, most: int) -> str:
     """Says which of some numbers is above a bound, or nothing if none is."""
+    said = _first_above(what, numbers, most)
+    return said and f"{said}, and above {most}"
+
+
+def not_below(what: str, numbers: Held, limit: int) -> str:
+    """Says which of some numbers isn't below a limit, or nothing if all are."""
+    said = _first_above(what, numbers, limit - 1)
+    return said and f"{said}, and not below {limit}"
+
+
+def _first_above(what: str, numbers: Held, most: int) -> str:
+    """Says which is the first of some numbers that is above a bound, or nothing if none is."""
     made = numbers.keeper
     if numbers.size == 0 or int(made.max() if _numpy_of(made) is not None else max(made)) <= most:
         return ""
     position = first(made > most) if _numpy_of(made) is not None else next(k for k, it in enumerate(made) if it > most)
-    return f"the {what} at position {position} is {_flat(made)[position]}, and above {most}"
+    return f"the {what} at position {position} is {_flat(made)[position]}"
 
 
 def descent(what: str, numbers: Held, is_strict: bool) -> str:

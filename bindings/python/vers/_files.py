@@ -1,6 +1,7 @@
 """Files that are replaced completely or not at all."""
 
 import contextlib
+import errno
 import os
 import shutil
 import tempfile
@@ -18,6 +19,8 @@ def shown(path: Path) -> str:
 def write(path: Path, content: bytes) -> None:
     """Replaces what a file has, or the file that it links to. Raises OSError with the path, and leaves no other
     file."""
+    if not shown(path):
+        raise FileNotFoundError(errno.ENOENT, os.strerror(errno.ENOENT), "")
     target = os.path.realpath(shown(path))
     folder = os.path.dirname(target)
     try:

@@ -3,7 +3,7 @@
 from __future__ import annotations
 
 from array import array
-from itertools import chain, compress, groupby
+from itertools import chain, compress
 from operator import not_
 from typing import Any, Iterable, Iterator, Literal, Optional, Tuple
 
@@ -34,6 +34,8 @@ _TreeQuery = Literal[
 _PostingsQuery = Literal["get", "rank", "cost", "contains", "next_at_least", "cheapest"]
 _InvertedQuery = Literal["pair_number", "count", "get", "rank", "contains", "next_at_least"]
 
+# the greatest width that the library takes as an argument
+_MOST_WIDTH = (1 << 32) - 1
 # by name: the queries by which `RsVec` finds a neighbour, and the step to it
 _NEIGHBOURS = {
     "successor1": (codes.RANK1, codes.SELECT1, 1), "predecessor1": (codes.RANK1, codes.SELECT1, -1),
@@ -54,10 +56,6 @@ def _words(words: Numbers, length: Optional[int]) -> Tuple[Held, int]:
         bits, size_shown = 64 * held.size, _buffers.counted(held.size, "words")
         raise Refused(f"the length is {count}, above the {bits} bits of {size_shown}")
     return held, count
-
-
-def _width(bits: int) -> int:
-    return min(number(bits, "the width"), (1 << 32) - 1)
 
 
 class BitVec(Bits[_BitVecQuery]):
@@ -115,6 +113,8 @@ class BitVec(Bits[_BitVecQuery]):
         self._change(codes.DROP_LAST, number(count, "the count"))
 
     def __setitem__(self, place: int, bit: Any) -> None:
+        if isinstance(place, slice):
+            raise TypeError("'BitVec' object doesn't support the assignment of slices")
         at = self._place(place)
         if at >= len(self):
             raise IndexError(f"no item at {place}")
@@ -279,7 +279,7 @@ class SparseRSVec(Fixed[_SparseQuery]):
         held, bound = _buffers.held(ones, "one"), number(length, "the length")
 
         def why() -> str:
-            return _buffers.descent("one", held, True) or _buffers.above("one", held, bound - 1) or "refused"
+            return _buffers.descent("one", held, True) or _buffers.not_below("one", held, bound) or "refused"
         return cls._made(library.sparse_build, held, bound, why=why)
 
     @query(codes.RANK1, True)
@@ -394,12 +394,13 @@ class WaveletMatrix(Fixed[_SymbolsQuery]):
     def __new__(cls, symbols: Numbers, bits_per_symbol: int, *, truncate: bool = False) -> Any:
         """Makes a list of symbols of a width. Raises Refused for a wider symbol, unless `truncate` takes its low
         bits."""
-        held, width = _buffers.held(symbols, "symbol", library.symbols_builds), _width(bits_per_symbol)
+        held = _buffers.held(symbols, "symbol", library.symbols_builds)
+        width = number(bits_per_symbol, "the width")
         size = held.keeper.itemsize
         wide = None if truncate or width >= 8 * size else _buffers.above("symbol", held, (1 << width) - 1)
         if wide:
             raise Refused(f"{wide}, the greatest of {width} bits; `truncate` takes the low bits")
-        return cls._made(library.symbols_builds[size], held, width,
+        return cls._made(library.symbols_builds[size], held, min(width, _MOST_WIDTH),
                          why=lambda: f"the width is {width}, and it is at most 64")
 
     def _traits(self) -> Any:
@@ -842,7 +843,7 @@ class InvertedIndex(Shared[_InvertedQuery]):
                 return f"{_buffers.counted(held.size, 'terms')} with {documents_shown}"
             if below * most > NONE:
                 return f"the product of the limits {below} and {most} is above {NONE}"
-            return (_buffers.above("term", held, below - 1) or _buffers.above("document", documents_held, most - 1)
+            return (_buffers.not_below("term", held, below) or _buffers.not_below("document", documents_held, most)
                     or _buffers.descent_of_pairs(held, documents_held))
         return cls._made(library.inverted_build, below, most, held, documents_held, why=why)
 
@@ -922,9 +923,8 @@ class InvertedIndex(Shared[_InvertedQuery]):
         found = self._joined(codes.UNION, one, others)
         if len(others) < 2:
             return found
-        # runs that ascend, which a sort merges
-        runs = [found, *(self.documents(it) for it in others[1:])]
-        return _plain_again(array("Q", (it for it, _ in groupby(sorted(chain(*runs))))))
+        lists = [found, *(self.documents(it) for it in others[1:])]
+        return _plain_again(array("Q", sorted(set(chain(*(it._all() for it in lists))))))
 
     def difference(self, one: int, *others: int) -> PlainNumbers:
         """Returns the documents that have the first term and none of the others, ascending."""
@@ -969,7 +969,7 @@ class TextIndex(Shared[str]):
     def __new__(cls, symbols: Numbers, bits_per_symbol: int, step: int = 32) -> Any:
         """Makes the index of a text. Raises Refused for a symbol that has more bits."""
         held = _buffers.held(symbols, "symbol", library.text_builds)
-        width, kept = _width(bits_per_symbol), number(step, "the step")
+        width, kept = number(bits_per_symbol, "the width"), number(step, "the step")
 
         def why() -> str:
             if not 1 <= width <= 16:
@@ -977,7 +977,7 @@ class TextIndex(Shared[str]):
             if kept == 0:
                 return "the step is 0"
             return _buffers.above("symbol", held, (1 << width) - 1) or f"{held.size} symbols are too many"
-        return cls._made(library.text_builds[held.keeper.itemsize], held, width, kept, why=why)
+        return cls._made(library.text_builds[held.keeper.itemsize], held, min(width, _MOST_WIDTH), kept, why=why)
 
     @classmethod
     def from_bytes(cls, saved: Any, step: int = 32) -> Any:
