@@ -219,6 +219,7 @@ class Makers(unittest.TestCase):
         which = "^the pattern at position {} is of type int, and not a list of symbols$"
         self.refuses((text.count_each,), TypeError, which.format(0), b"abra")
         self.refuses((text.count_each,), TypeError, which.format(1), [b"abra", 97])
+        self.assertEqual(vers.TextIndex(b"abracadabra"), text)
 
     def test_words(self):
         makers = [kind.from_words for kind in (vers.BitVec, vers.RsVec, vers.BpTree)]
@@ -624,6 +625,72 @@ class Imports(unittest.TestCase):
 
     def test_no_such_library(self):
         self.ends("^ImportError: vers: the library doesn't load: nowhere.so", "nowhere.so")
+
+
+class Fasta(unittest.TestCase):
+    """The sequences of FASTA files, by their names."""
+
+    def setUp(self):
+        self.text = vers.TextIndex.from_fasta([b">ch one\n", b"AC\r\n", b"\n", b"GTA\n", b">d\n", b"GTAC"])
+
+    def refused(self, text, call, *arguments):
+        with self.assertRaisesRegex(vers.Refused, text):
+            call(*arguments)
+
+    def test_text(self):
+        self.assertEqual(bytes(self.text[:]), b"\n\xe3\xe8\nACGTA\n\xe4\nGTAC")
+        self.assertEqual(self.text.sequences(), [("ch", 4, 9), ("d", 12, 16)])
+        places = [None] * 4 + [("ch", k) for k in range(5)] + [None] * 3 + [("d", k) for k in range(4)] + [None] * 2
+        for text in self.text, vers.TextIndex.from_bytes(self.text.to_bytes()), copy.copy(self.text):
+            self.assertEqual([text.site(k) for k in range(18)], places)
+        self.assertEqual(vers.TextIndex.from_fasta([]).sequences(), [])
+        self.assertEqual(vers.TextIndex.from_fasta([b"", b">a>b\tc", b">e"]).sequences(), [("a>b", 5, 5), ("e", 8, 8)])
+
+    def test_sites(self):
+        self.assertEqual(self.text.sites(b"TA"), [("ch", 3), ("d", 1)])
+        self.assertEqual((self.text.sites([67]), self.text.sites(b"AG")), ([("ch", 1), ("d", 3)], []))
+        self.refused("^the pattern has no residues$", self.text.sites, b"")
+        self.refused("^the symbol at position 1 is 64, and residues are letters, \\* and -$", self.text.sites, b"A@")
+        self.refused("^the symbol at position 0 is 300, and residues", self.text.sites, [300, 1])
+        with self.assertRaisesRegex(TypeError, "encode it"):
+            self.text.sites("TA")
+        with self.assertRaisesRegex(OverflowError, "^the place is -1"):
+            self.text.site(-1)
+
+    def test_like_a_search(self):
+        draw = random.Random(8)
+        made = [(f"s{k % 5}", bytes(draw.choices(b"ACGTacgtn*-", k=draw.randrange(90)))) for k in range(40)]
+        lines = [it for name, bases in made for it in [f">{name} x".encode(), *re.findall(b".{1,7}", bases)]]
+        text = vers.TextIndex.from_fasta(lines, 4)
+        self.assertEqual([(name, bytes(text[start:end])) for name, start, end in text.sequences()], made)
+        for _ in range(200):
+            pattern = bytes(draw.choices(b"ACGTacgtn*-", k=draw.randrange(1, 4)))
+            found = [(name, k) for name, bases in made for k in range(len(bases)) if bases.startswith(pattern, k)]
+            self.assertEqual(text.sites(pattern), found)
+
+    def test_files(self):
+        with tempfile.TemporaryDirectory() as folder:
+            path, index = os.path.join(folder, "two.fa"), os.path.join(folder, "two.vers")
+            with open(path, "wb") as file:
+                file.write(b">ch one\nACGTA\n>d\nGTAC\n")
+            for name in path, os.fsencode(path), pathlib.Path(path):
+                self.assertEqual(vers.TextIndex.from_fasta(name), self.text)
+            vers.TextIndex.from_fasta(path).save(index)
+            self.assertEqual(vers.TextIndex.load(index).sites(b"TA"), [("ch", 3), ("d", 1)])
+            with open(path, encoding="ascii") as file, self.assertRaisesRegex(TypeError, "^line 1 is .*'rb'$"):
+                vers.TextIndex.from_fasta(file)
+            with open(path, "ab") as file:
+                file.write(b"A C\n")
+            self.refused(f"^{re.escape(path)}: line 5 is neither ", vers.TextIndex.from_fasta, path)
+
+    def test_lines_that_are_wrong(self):
+        for lines in [b"AC"], [b">"], [b"> a"], [b">a", b"A C"], [b">a", b"A\rC"], [b">\xe4"], [b">a", b"A", b"1"]:
+            self.refused(f"^line {len(lines)} is neither a header with a name nor", vers.TextIndex.from_fasta, lines)
+
+    def test_other_texts(self):
+        for text in b"GATTA", b"\nGAT", b"A\n\nGT", b"\n\nA", b"\nname\nGAT":
+            self.refused("^the text isn't that of a FASTA file$", vers.TextIndex(text).sites, b"A")
+        self.refused("^the text isn't that of a FASTA file$", vers.TextIndex([10, 200, 10, 65], 9).sequences)
 
 
 class Habits(unittest.TestCase):

@@ -1,7 +1,7 @@
 """What mypy knows of the classes. `mypy --strict typed.py` also fails for an error that is ignored here and absent."""
 
 from concurrent.futures import ThreadPoolExecutor
-from typing import Optional
+from typing import List, Optional, Tuple
 
 import vers
 from vers import parts
@@ -35,11 +35,16 @@ loaded: vers.BpTree = parts.load("part", vers.BpTree)
 index = vers.InvertedIndex([0, 1, 2], [3, 3, 5])
 three: vers.PlainNumbers = index.union(0, 1, 2)
 one: vers.PlainNumbers = index.intersection(0)
+text: vers.TextIndex = vers.TextIndex.from_fasta("genome.fa")
+text = vers.TextIndex.from_fasta([b">d", b"GTAC"], step=4)
+site: Optional[Tuple[str, int]] = text.site(3)
+sites: List[Tuple[str, int]] = text.sites(b"TA")
 
 wrong: str = bits.rank1(3)  # type: ignore[assignment]
 bits.rank1("3")  # type: ignore[arg-type]
 bits.each("rnk1", [1])  # type: ignore[arg-type]
 bits.each("sucessor1", [1])  # type: ignore[arg-type]
+vers.TextIndex.from_fasta([">d"])  # type: ignore[list-item]
 growing.flip("0")  # type: ignore[arg-type]
 tree.each("depht", [0])  # type: ignore[arg-type]
 tree.each("rank1", [0])  # type: ignore[arg-type]

@@ -2,15 +2,17 @@
 
 from __future__ import annotations
 
+import os
 from array import array
 from itertools import chain, compress
 from operator import not_
-from typing import Any, Iterable, Iterator, Literal, Optional, Tuple
+from typing import Any, Iterable, Iterator, List, Literal, Optional, Tuple, Union
 
-from . import _buffers, _codes as codes, _library as library
+from . import _buffers, _codes as codes, _fasta, _files, _library as library
 from ._bases import NONE, Ascending, Bits, Fixed, Shared, bits_of
 from ._buffers import Held, Numbers, number, signed_number
 from ._faults import NoMemory, OtherKind, Refused
+from ._files import Path
 from ._queries import COMBINED, Query, finished, query
 
 # the queries of each class by name, as `each` takes them
@@ -960,13 +962,14 @@ def _above_all(held: Held) -> int:
 
 class TextIndex(Shared[str]):
     """A text of symbols of `bits_per_symbol` bits, at most 16, in which patterns are found:
-    `TextIndex(b"abracadabra", 8)`. The index keeps one position for each `step`. `pattern in text` is whether a pattern
-    occurs. A pattern without symbols occurs at each position and at the end."""
+    `TextIndex(b"abracadabra")`. The index keeps one position for each `step`. `pattern in text` is whether a pattern
+    occurs. A pattern without symbols occurs at each position and at the end. `from_fasta` makes the index of sequences
+    with names."""
 
     _kind = codes.KIND_TEXT
     _items = "symbols"
 
-    def __new__(cls, symbols: Numbers, bits_per_symbol: int, step: int = 32) -> Any:
+    def __new__(cls, symbols: Numbers, bits_per_symbol: int = 8, step: int = 32) -> Any:
         """Makes the index of a text. Raises Refused for a symbol that has more bits."""
         held = _buffers.held(symbols, "symbol", library.text_builds)
         width, kept = number(bits_per_symbol, "the width"), number(step, "the step")
@@ -992,6 +995,48 @@ class TextIndex(Shared[str]):
             except OtherKind:
                 raise fault from None
             return cls(symbols[:], symbols.bits_per_element(), step)
+
+    @classmethod
+    def from_fasta(cls, file: Union[Path, Iterable[bytes]], step: int = 32) -> TextIndex:
+        """Makes the index of the sequences of a FASTA file with their names, as `vers text index --fasta` does, of its
+        path or of its lines: `gzip.open(path)`. Residues are letters, `*` and `-`, and stay as they are. A name is what
+        follows `>` up to a blank. Raises Refused with the number of the first line that is wrong."""
+        if not isinstance(file, (str, bytes, os.PathLike)):
+            found: TextIndex = cls(_fasta.text_of(file), 8, step)
+            return found
+        with open(file, "rb") as lines:
+            try:
+                return cls.from_fasta(lines, step)
+            except Refused as fault:
+                raise Refused(f"{_files.shown(file)}: {fault}") from None
+
+    def sequences(self) -> List[Tuple[str, int, int]]:
+        """Returns the sequences of a FASTA file, whose text `from_fasta` made: the name of each, and the positions at
+        which it starts and ends. Raises Refused for another text."""
+        found = self._sites()
+        return [(found.name(self, k), *found.ends(k)) for k in range(len(found))]
+
+    def site(self, place: int) -> Optional[Tuple[str, int]]:
+        """Returns the name of the sequence at a position, and the offset in it from 0 on. None if the position is in a
+        name, or past the end. Raises Refused for a text that isn't that of a FASTA file."""
+        found = self._sites()
+        site = found.site(number(place, "the place"))
+        return None if site is None else (found.name(self, site[0]), site[1])
+
+    def sites(self, pattern: Numbers) -> List[Tuple[str, int]]:
+        """Returns the name of the sequence and the offset in it for each occurrence of residues, ascending. Raises
+        Refused for a pattern of none or of other symbols, and for a text that isn't that of a FASTA file."""
+        found, held = self._sites(), _buffers.pattern(pattern)
+        _fasta.check_residues(held.keeper.tolist())
+        sites = [site for site in map(found.site, self.places(held.keeper)) if site is not None]
+        names = {k: found.name(self, k) for k in {k for k, _ in sites}}
+        return [(names[k], offset) for k, offset in sites]
+
+    def _sites(self) -> _fasta.Sites:
+        known: Optional[_fasta.Sites] = getattr(self, "_known_sites", None)
+        if known is None:
+            known = self._known_sites = _fasta.Sites(self, self.places([_fasta.FEED])[:])
+        return known
 
     def __getitem__(self, place: Any) -> Any:
         """Returns the symbol at a position, which is from the end if it is negative. For a slice, returns an array of
