@@ -24,6 +24,7 @@
 //! assert_eq!(index.intersection(cat, dog).iter().collect::<Vec<_>>(), [2]);
 //! assert_eq!(index.union(cat, dog).len(), 3);
 //! assert_eq!(index.difference(the, cat).iter().collect::<Vec<_>>(), [1]);
+//! assert!(index.difference_of(the, &[cat, dog]).is_empty());
 //! assert_eq!(index.documents(dog).collect::<Vec<_>>(), [1, 2]);
 //! ```
 
@@ -34,6 +35,7 @@ use crate::items::{clones, compares, counted};
 use crate::proved::inverted as proved;
 use crate::rattle::Global;
 use crate::saved::saved;
+use crate::sets::without;
 use std::fmt;
 
 /// Ascending lists of documents, one for each term. Terms and documents are numbers, and no list has an equal document
@@ -201,6 +203,15 @@ impl InvertedIndex {
     #[track_caller]
     pub fn union_of(&self, first: u64, others: &[u64]) -> EliasFanoVec {
         EliasFanoVec { numbers: granted(self.index.union_of(Global, first, others)) }
+    }
+
+    /// Returns the documents that have the first term and none of the others. As
+    /// [`sets::difference_of`](crate::sets::difference_of), it composes proved sources, and has no contract of its own.
+    #[must_use]
+    #[track_caller]
+    pub fn difference_of(&self, first: u64, others: &[u64]) -> EliasFanoVec {
+        let list = |term| proved::ListOf::new(&self.index, term);
+        EliasFanoVec { numbers: granted(without(list(first), others.iter().map(|term| list(*term)))) }
     }
 }
 

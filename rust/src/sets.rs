@@ -9,6 +9,8 @@
 //! assert_eq!(sets::intersection(&even, &triple).iter().collect::<Vec<_>>(), [0, 6]);
 //! assert_eq!(sets::union(&even, &triple).len(), 8);
 //! assert_eq!(sets::difference(&triple, &even).iter().collect::<Vec<_>>(), [3, 9]);
+//! let nine = EliasFanoVec::from_slice(&[9]);
+//! assert_eq!(sets::difference_of(&triple, &[&even, &nine]).iter().collect::<Vec<_>>(), [3]);
 //! ```
 
 use crate::contracts::contract;
@@ -16,7 +18,7 @@ use crate::elias_fano::EliasFanoVec;
 use crate::error::granted;
 use crate::proved::sets as proved;
 use crate::proved::vers_sorted::elias_fano as lists;
-use crate::rattle::Global;
+use crate::rattle::{AllocError, Global};
 
 /// Returns the numbers that are in both lists, by at most one search more in each than the shorter has numbers.
 #[doc = contract!(intersection)]
@@ -57,6 +59,28 @@ pub fn union_of(first: &EliasFanoVec, others: &[&EliasFanoVec]) -> EliasFanoVec 
     made(proved::union_of(Global, &first.numbers, &numbers_of(others)))
 }
 
+/// Returns the numbers of the first list that are in none of the others. It composes two proved sources, the numbers in
+/// one of several lists and those of a list without another's, and has no contract of its own.
+#[must_use]
+pub fn difference_of(first: &EliasFanoVec, others: &[&EliasFanoVec]) -> EliasFanoVec {
+    made(without(proved::Cursor::new(&first.numbers), others.iter().map(|list| proved::Cursor::new(&list.numbers))))
+}
+
+/// Returns the numbers of the first source that are in none of the others.
+pub(crate) fn without<S: proved::Seek>(
+    one: S,
+    mut others: impl Iterator<Item = S>,
+) -> Result<lists::EliasFanoVec<Global>, AllocError> {
+    match others.next() {
+        None => proved::collect(Global, one),
+        Some(first) => {
+            let mut rest = crate::rattle::Vec::new(Global);
+            rest.extend(others)?;
+            proved::collect(Global, proved::Without { one, other: proved::AnyOf { first, others: rest } })
+        }
+    }
+}
+
 /// Returns the proved structures of lists.
 fn numbers_of<'a>(lists: &[&'a EliasFanoVec]) -> Vec<&'a lists::EliasFanoVec<Global>> {
     lists.iter().map(|list| &list.numbers).collect()
@@ -64,6 +88,6 @@ fn numbers_of<'a>(lists: &[&'a EliasFanoVec]) -> Vec<&'a lists::EliasFanoVec<Glo
 
 /// Returns a list that was made.
 #[track_caller]
-fn made(numbers: Result<lists::EliasFanoVec<Global>, crate::rattle::AllocError>) -> EliasFanoVec {
+fn made(numbers: Result<lists::EliasFanoVec<Global>, AllocError>) -> EliasFanoVec {
     EliasFanoVec { numbers: granted(numbers) }
 }

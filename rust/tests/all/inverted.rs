@@ -87,6 +87,10 @@ fn operations_on_terms() {
             assert_eq!(numbers(&index.union(one, other)), either);
             assert_eq!(numbers(&index.union_of(other, &[one])), either);
             assert_eq!(numbers(&index.difference(one, other)), first);
+            assert_eq!(numbers(&index.difference_of(one, &[other])), first);
+            assert!(numbers(&index.difference_of(one, &[])).iter().eq(list(one)));
+            let rest = first.iter().filter(|document| !list((one + other) % terms).contains(document));
+            assert!(numbers(&index.difference_of(one, &[other, (one + other) % terms])).iter().eq(rest));
         }
         let all: Vec<u64> = (1..terms).collect();
         let united: BTreeSet<u64> = plain.values().flatten().copied().collect();

@@ -52,3 +52,18 @@ fn operations_on_all_lists() {
     assert_eq!(numbers(&sets::intersection_of(&all[0], &others)), [0]);
     assert_eq!(numbers(&sets::intersection_of(&all[0], &[])), [0, 7, u64::MAX - 1, u64::MAX]);
 }
+
+#[test]
+fn differences_of_all_lists() {
+    let lists = lists();
+    let all: Vec<EliasFanoVec> = lists.iter().map(|list| EliasFanoVec::from_slice(list)).collect();
+    for (first, plain) in all.iter().zip(&lists) {
+        for chosen in 0..1 << lists.len() {
+            let others = (0..lists.len()).filter(|k| chosen >> k & 1 == 1);
+            let taken: BTreeSet<u64> = others.clone().flat_map(|k| &lists[k]).copied().collect();
+            let others: Vec<&EliasFanoVec> = others.map(|k| &all[k]).collect();
+            let left: Vec<u64> = set(plain).difference(&taken).copied().collect();
+            assert_eq!(numbers(&sets::difference_of(first, &others)), left);
+        }
+    }
+}
