@@ -44,7 +44,7 @@ pub enum BuildError {
     LengthMismatch,
     /// The sampling step is 0.
     ZeroStep,
-    /// The structure can't have this many items.
+    /// The structure can't have this many items, or limits as great as these.
     TooLong,
     /// The allocator refused the memory.
     OutOfMemory,
@@ -70,7 +70,7 @@ impl fmt::Display for BuildError {
             BuildError::PartialSymbol => f.write_str("the length is no multiple of the width of a symbol"),
             BuildError::LengthMismatch => f.write_str("the lengths do not match"),
             BuildError::ZeroStep => f.write_str("the sampling step is 0"),
-            BuildError::TooLong => f.write_str("too many items for this structure"),
+            BuildError::TooLong => f.write_str("too many items, or too great limits, for this structure"),
             BuildError::OutOfMemory => f.write_str("out of memory"),
         }
     }

@@ -23,7 +23,7 @@ const PIECE: usize = 1 << 16;
 /// use vers_vecs::text::TextIndex;
 ///
 /// let text = TextIndex::from_bytes(b"abracadabra", 8).unwrap();
-/// assert_eq!(text.count_bytes(b"abra"), 2);
+/// assert_eq!(text.count_bytes("abra"), 2);
 /// assert_eq!(text.places_bytes(b"abra"), [0, 7]);
 /// assert_eq!(text.extract_bytes(7..11), Some(b"abra".to_vec()));
 ///
@@ -134,8 +134,8 @@ impl TextIndex {
     /// Returns how often a pattern of bytes occurs, as [`count`](Self::count) does for the same numbers.
     #[doc = contract!(TextIndex::count)]
     #[must_use]
-    pub fn count_bytes(&self, pattern: &[u8]) -> usize {
-        self.count(&symbols_of(pattern))
+    pub fn count_bytes<P: AsRef<[u8]> + ?Sized>(&self, pattern: &P) -> usize {
+        self.count(&symbols_of(pattern.as_ref()))
     }
 
     /// Returns how often each of some patterns occurs, in less time than [`count`](Self::count) for each if the text has
@@ -178,6 +178,13 @@ impl TextIndex {
         self.text.contains(pattern)
     }
 
+    /// Returns true if a pattern of bytes occurs, as [`contains`](Self::contains) does for the same numbers.
+    #[doc = contract!(TextIndex::contains)]
+    #[must_use]
+    pub fn contains_bytes<P: AsRef<[u8]> + ?Sized>(&self, pattern: &P) -> bool {
+        self.contains(&symbols_of(pattern.as_ref()))
+    }
+
     /// Returns all places of a pattern, ascending.
     #[doc = contract!(TextIndex::places_ascending)]
     #[must_use]
@@ -189,8 +196,8 @@ impl TextIndex {
     /// Returns all places of a pattern of bytes, ascending, as [`places`](Self::places) does for the same numbers.
     #[doc = contract!(TextIndex::places_ascending)]
     #[must_use]
-    pub fn places_bytes(&self, pattern: &[u8]) -> Vec<usize> {
-        self.places(&symbols_of(pattern))
+    pub fn places_bytes<P: AsRef<[u8]> + ?Sized>(&self, pattern: &P) -> Vec<usize> {
+        self.places(&symbols_of(pattern.as_ref()))
     }
 
     /// Returns the first `limit` places of a pattern, or all if there are fewer, in the order of the suffixes there.
@@ -199,6 +206,14 @@ impl TextIndex {
     #[track_caller]
     pub fn first_places(&self, pattern: &[u64], limit: usize) -> Vec<usize> {
         granted(self.text.first_places(pattern, limit)).into_plain()
+    }
+
+    /// Returns the first `limit` places of a pattern of bytes, as [`first_places`](Self::first_places) does for the same
+    /// numbers.
+    #[doc = contract!(TextIndex::first_places)]
+    #[must_use]
+    pub fn first_places_bytes<P: AsRef<[u8]> + ?Sized>(&self, pattern: &P, limit: usize) -> Vec<usize> {
+        self.first_places(&symbols_of(pattern.as_ref()), limit)
     }
 
     /// Returns the symbols of a range. `None` if the range ends past the end, or before its start.

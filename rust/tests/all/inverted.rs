@@ -104,6 +104,7 @@ fn operations_on_terms() {
 fn pairs_that_are_refused() {
     let refused = |terms, universe, pairs: &[_]| InvertedIndex::from_pairs(terms, universe, pairs).unwrap_err();
     assert_eq!(refused(2, 1 << 63, &[]), BuildError::TooLong);
+    assert!(BuildError::TooLong.to_string().contains("too great limits"));
     assert_eq!(refused(1 << 32, 1 << 32, &[]), BuildError::TooLong);
     assert_eq!(refused(2, 5, &[(0, 4), (1, 5)]), BuildError::OutOfRange { position: 1 });
     assert_eq!(refused(2, 5, &[(2, 0), (0, 1)]), BuildError::OutOfRange { position: 0 });

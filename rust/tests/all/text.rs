@@ -56,6 +56,13 @@ fn bytes_ask_as_numbers_do() {
     assert_eq!((text.count_bytes(b"abra"), text.count_bytes(b"x"), text.count_bytes(b"")), (2, 0, 12));
     assert_eq!((text.places_bytes(b"a"), text.places_bytes(b"bra")), (vec![0, 3, 5, 7, 10], vec![1, 8]));
     assert_eq!(text.count_each_bytes(&["a", "", "cad", "dab!"]), [5, 12, 1, 0]);
+    let owned = String::from("bra");
+    assert_eq!(
+        (text.count_bytes("a"), text.places_bytes(&owned), text.places_bytes(&[98u8][..])),
+        (5, vec![1, 8], vec![1, 8])
+    );
+    assert_eq!((text.contains_bytes("cad"), text.contains_bytes(b"x"), text.contains_bytes("")), (true, false, true));
+    assert_eq!((text.first_places_bytes("a", 2), text.first_places_bytes(&owned, 9)), (vec![10, 7], vec![8, 1]));
     assert_eq!(text.extract_bytes(4..8), Some(b"cada".to_vec()));
     assert_eq!((text.extract_bytes(4..12), text.extract_bytes(11..11)), (None, Some(vec![])));
     let wide = TextIndex::from_slice(&[97, 98], 9).unwrap();
