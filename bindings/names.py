@@ -88,9 +88,9 @@ LEFT_OUT = {
         WaveletMatrix.rank WaveletMatrix.rank_range WaveletMatrix.rank_offset WaveletMatrix.select
         WaveletMatrix.select_offset WaveletMatrix.quantile WaveletMatrix.predecessor WaveletMatrix.successor
         WaveletMatrix.range_min WaveletMatrix.range_max WaveletMatrix.range_median""",
-    "Iterators: the query of the next place, or `_each` over a range of places.": "*.*iter* BpTree.*children",
-    "Ranges are from one place to another.": "*Rmq.range_min_*",
-    "Places are answered ascending, or the first ones by `first_places`.": "TextIndex.places",
+    "Iterators: the query of the next position, or `_each` over a range of positions.": "*.*iter* BpTree.*children",
+    "Ranges are from one position to another.": "*Rmq.range_min_*",
+    "Positions are answered ascending, or the first ones by `first_places`.": "TextIndex.places",
 }
 HEAD = """# Names
 

@@ -131,7 +131,7 @@ pub(crate) fn no_range(i: usize, j: usize) -> ! {
     panic!("the list has no range from {} to {}", i, j)
 }
 
-/// Stops at a place past the end of a list of bits.
+/// Stops at a position past the end of a list of bits.
 #[cold]
 #[inline(never)]
 #[track_caller]

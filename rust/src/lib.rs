@@ -3,7 +3,7 @@
 #![warn(missing_docs, missing_debug_implementations)]
 
 #[cfg(not(target_pointer_width = "64"))]
-compile_error!("vers-vecs needs places of 64 bits: its proofs are of such places");
+compile_error!("vers-vecs needs positions of 64 bits: its proofs are of such positions");
 
 #[cfg(target_pointer_width = "64")]
 pub use bit_vec::fast_rs_vec::RsVec;

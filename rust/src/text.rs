@@ -10,14 +10,14 @@ use crate::reads::Tally;
 use crate::saved::{bytes_of, LoadError, SaveError, Saved};
 use std::ops::Range;
 
-/// The distance of two sampled places, if the caller doesn't choose it.
+/// The distance of two sampled positions, if the caller doesn't choose it.
 const DEFAULT_STEP: usize = 32;
 
 /// How many symbols a comparison extracts at once.
 const PIECE: usize = 1 << 16;
 
-/// A compressed text of symbols that counts and finds patterns. The empty pattern occurs at each place and at the end.
-/// Texts are equal if their symbols and the bits of a symbol are, whatever the step. A comparison extracts both.
+/// A compressed text of symbols that counts and finds patterns. The empty pattern occurs at each position and at the
+/// end. Texts are equal if their symbols and the bits of a symbol are, whatever the step. A comparison extracts both.
 ///
 /// ```
 /// use vers_vecs::text::TextIndex;
@@ -46,7 +46,7 @@ pub struct TextIndex {
 }
 
 impl TextIndex {
-    /// Indexes some symbols, with a sampled place for each 32.
+    /// Indexes some symbols, with a sampled position for each 32.
     ///
     /// # Errors
     /// Those of [`with_step`](Self::with_step).
@@ -55,8 +55,8 @@ impl TextIndex {
         TextIndex::with_step(symbols, bits_per_symbol, DEFAULT_STEP)
     }
 
-    /// Indexes some symbols, with a sampled place for each `step`: finding a place takes fewer than `step` steps, and a
-    /// smaller `step` more memory.
+    /// Indexes some symbols, with a sampled position for each `step`: finding a position takes fewer than `step` steps,
+    /// and a smaller `step` more memory.
     ///
     /// # Errors
     /// `UnsupportedWidth` if `bits_per_symbol` is 0 or above 16, `SymbolTooWide` if a symbol has more bits, `ZeroStep`,
@@ -66,7 +66,7 @@ impl TextIndex {
         made(proved::TextIndex::with_step(Global, symbols, bits_per_symbol, step), symbols, bits_per_symbol)
     }
 
-    /// Indexes bytes, with a sampled place for each 32. A copy of the bytes isn't made.
+    /// Indexes bytes, with a sampled position for each 32. A copy of the bytes isn't made.
     ///
     /// ```
     /// use vers_vecs::text::TextIndex;
@@ -82,7 +82,7 @@ impl TextIndex {
         TextIndex::bytes_with_step(bytes, bits_per_symbol, DEFAULT_STEP)
     }
 
-    /// Indexes bytes, with a sampled place for each `step`.
+    /// Indexes bytes, with a sampled position for each `step`.
     ///
     /// # Errors
     /// Those of [`with_step`](Self::with_step).
@@ -91,7 +91,7 @@ impl TextIndex {
         made(proved::TextIndex::bytes_with_step(Global, bytes, bits_per_symbol, step), bytes, bits_per_symbol)
     }
 
-    /// Indexes numbers of 16 bits, with a sampled place for each 32.
+    /// Indexes numbers of 16 bits, with a sampled position for each 32.
     ///
     /// # Errors
     /// Those of [`with_step`](Self::with_step).
@@ -100,7 +100,7 @@ impl TextIndex {
         TextIndex::u16s_with_step(numbers, bits_per_symbol, DEFAULT_STEP)
     }
 
-    /// Indexes numbers of 16 bits, with a sampled place for each `step`.
+    /// Indexes numbers of 16 bits, with a sampled position for each `step`.
     ///
     /// # Errors
     /// Those of [`with_step`](Self::with_step).
@@ -116,7 +116,7 @@ impl TextIndex {
         self.text.bits_per_symbol()
     }
 
-    /// Returns the distance of two sampled places.
+    /// Returns the distance of two sampled positions.
     #[doc = contract!(TextIndex::step)]
     #[must_use]
     pub fn step(&self) -> usize {
@@ -185,7 +185,7 @@ impl TextIndex {
         self.contains(&symbols_of(pattern.as_ref()))
     }
 
-    /// Returns all places of a pattern, ascending.
+    /// Returns all positions of a pattern, ascending.
     #[doc = contract!(TextIndex::places_ascending)]
     #[must_use]
     #[track_caller]
@@ -193,14 +193,15 @@ impl TextIndex {
         granted(self.text.places_ascending(pattern)).into_plain()
     }
 
-    /// Returns all places of a pattern of bytes, ascending, as [`places`](Self::places) does for the same numbers.
+    /// Returns all positions of a pattern of bytes, ascending, as [`places`](Self::places) does for the same
+    /// numbers.
     #[doc = contract!(TextIndex::places_ascending)]
     #[must_use]
     pub fn places_bytes<P: AsRef<[u8]> + ?Sized>(&self, pattern: &P) -> Vec<usize> {
         self.places(&symbols_of(pattern.as_ref()))
     }
 
-    /// Returns the first `limit` places of a pattern, or all if there are fewer, in the order of the suffixes there.
+    /// Returns the first `limit` positions of a pattern, or all if there are fewer, in the order of the suffixes there.
     #[doc = contract!(TextIndex::first_places)]
     #[must_use]
     #[track_caller]
@@ -208,8 +209,8 @@ impl TextIndex {
         granted(self.text.first_places(pattern, limit)).into_plain()
     }
 
-    /// Returns the first `limit` places of a pattern of bytes, as [`first_places`](Self::first_places) does for the same
-    /// numbers.
+    /// Returns the first `limit` positions of a pattern of bytes, as [`first_places`](Self::first_places) does for the
+    /// same numbers.
     #[doc = contract!(TextIndex::first_places)]
     #[must_use]
     pub fn first_places_bytes<P: AsRef<[u8]> + ?Sized>(&self, pattern: &P, limit: usize) -> Vec<usize> {

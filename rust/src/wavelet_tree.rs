@@ -23,7 +23,7 @@ const MAX_WIDTH: u16 = 16;
 /// Memory: 1.25 bits for each element and each fork above it, 32 bytes for each symbol that occurs, and 8 for each that
 /// there may be. It has no select, quantile, predecessor or successor.
 ///
-/// The *sorted place* of an element is its index if all are sorted, and equal ones keep their order.
+/// The *sorted position* of an element is its index if all are sorted, and equal ones keep their order.
 ///
 /// ```
 /// use vers_vecs::wavelet_tree::WaveletTree;
@@ -31,7 +31,7 @@ const MAX_WIDTH: u16 = 16;
 /// let symbols = WaveletTree::from_integers(b"abracadabra", 8).unwrap();
 /// assert_eq!((symbols.get(2), symbols.get(11)), (Some(u64::from(b'r')), None));
 /// assert_eq!(symbols.rank(8, u64::from(b'a')), Some(4));
-/// // five times `a`, then `b`: the second one is at sorted place 6
+/// // five times `a`, then `b`: the second one is at sorted position 6
 /// assert_eq!(symbols.sorted_range(5..11, u64::from(b'b')), Some(6..7));
 /// assert_eq!(symbols.sorted_range(5..11, u64::from(b'c')), None);
 /// ```
@@ -39,12 +39,12 @@ pub struct WaveletTree {
     symbols: proved::WaveletTree<Global>,
 }
 
-/// A symbol, and its sorted place: its index if all elements are sorted, and equal ones keep their order.
+/// A symbol, and its sorted position: its index if all elements are sorted, and equal ones keep their order.
 #[derive(Clone, Copy, PartialEq, Eq, Hash, Debug)]
 pub struct SortedPlace {
     /// The symbol.
     pub symbol: u64,
-    /// The sorted place.
+    /// The sorted position.
     pub place: usize,
 }
 
@@ -120,7 +120,7 @@ impl WaveletTree {
         WaveletTreeIter(Places { source: self, range: 0..self.len() })
     }
 
-    /// Returns the symbol at `place` and its sorted place, or `None` past the end.
+    /// Returns the symbol at `place` and its sorted position, or `None` past the end.
     #[doc = contract!(WaveletTree::get_sorted)]
     #[must_use]
     #[inline]
@@ -150,7 +150,7 @@ impl WaveletTree {
         (place <= self.len()).then(|| self.symbols.rank_counted(place, symbol, &mut tally.0))
     }
 
-    /// Returns the sorted places of the occurrences of a symbol in a range, which are adjacent. `None` if there are
+    /// Returns the sorted positions of the occurrences of a symbol in a range, which are adjacent. `None` if there are
     /// none, or the list doesn't have the range.
     #[doc = contract!(WaveletTree::sorted_range)]
     #[must_use]
@@ -173,7 +173,7 @@ impl WaveletTree {
     }
 }
 
-/// A range of places of a tree.
+/// A range of positions of a tree.
 #[derive(Clone)]
 pub(crate) struct Places<'a> {
     source: &'a WaveletTree,

@@ -10,7 +10,7 @@ use crate::reads::Tally;
 use crate::BitVec;
 use std::hash::{Hash, Hasher};
 
-/// A list of bits that counts the ones before a place, for queries that are mostly ranks. It can't change.
+/// A list of bits that counts the ones before a position, for queries that are mostly ranks. It can't change.
 ///
 /// A rank reads one word and two counts, and takes half of the instructions of one of an [`RsVec`](crate::RsVec). The
 /// counts, 16 bits for each word, take about 25 % of the bits' memory instead of 5 %. It has no select, predecessor or
@@ -24,7 +24,7 @@ use std::hash::{Hash, Hasher};
 /// assert_eq!((bits.rank1(2), bits.rank1(100)), (1, 3));
 /// assert_eq!((bits.is_one(2), bits.is_one(5)), (Some(true), None));
 /// assert_eq!(bits.get_and_rank1(4), Some(BitAndRank { is_one: true, ones: 2 }));
-/// // the zeros before a place are the others
+/// // the zeros before a position are the others
 /// assert_eq!(4 - bits.rank1(4), 2);
 /// ```
 pub struct WordRank {

@@ -9,8 +9,8 @@ use crate::rattle::Global;
 use crate::reads::Tally;
 use crate::saved::saved;
 
-/// A list of bits with an index for rank and select: it counts the ones and zeros before a place, and finds the place
-/// of each. It can't change. The index takes about 5 % of the bits' memory.
+/// A list of bits with an index for rank and select: it counts the ones and zeros before a position, and finds the
+/// position of each. It can't change. The index takes about 5 % of the bits' memory.
 ///
 /// ```
 /// use vers_vecs::{BitVec, RsVec};
@@ -19,7 +19,7 @@ use crate::saved::saved;
 /// assert_eq!(bits.rank1(3), 2);
 /// assert_eq!(bits.select1(2), 4);
 /// assert_eq!(bits.iter1().collect::<Vec<_>>(), [1, 2, 4]);
-/// // `select1` returns the length if there is no such one, and `successor0` looks strictly above the place.
+/// // `select1` returns the length if there is no such one, and `successor0` looks strictly above the position.
 /// assert_eq!(bits.select1(3), 5);
 /// assert_eq!(bits.successor0(0), Some(3));
 /// ```
@@ -27,12 +27,13 @@ pub struct RsVec {
     pub(crate) bits: proved::RsVec<Global>,
 }
 
-/// The places of two equal bits with no other between them. A place is the length of the list if there is no such bit.
+/// The positions of two equal bits with no other between them. A position is the length of the list if there is no such
+/// bit.
 #[derive(Clone, Copy, PartialEq, Eq, Hash, Debug)]
 pub struct PlacePair {
-    /// The place of the first bit.
+    /// The position of the first bit.
     pub first: usize,
-    /// The place of the second bit.
+    /// The position of the second bit.
     pub second: usize,
 }
 
@@ -94,7 +95,7 @@ impl RsVec {
         self.bits.rank1(place)
     }
 
-    /// Returns the place of the `r`-th zero, from 0, or the length if there is none. O(log `len`) at worst.
+    /// Returns the position of the `r`-th zero, from 0, or the length if there is none. O(log `len`) at worst.
     #[doc = contract!(RsVec::select0)]
     #[must_use]
     #[inline]
@@ -102,7 +103,7 @@ impl RsVec {
         self.bits.select0(r)
     }
 
-    /// Returns the place of the `r`-th one, from 0, or the length if there is none. O(log `len`) at worst.
+    /// Returns the position of the `r`-th one, from 0, or the length if there is none. O(log `len`) at worst.
     #[doc = contract!(RsVec::select1)]
     #[must_use]
     #[inline]
@@ -110,7 +111,7 @@ impl RsVec {
         self.bits.select1(r)
     }
 
-    /// Returns the places of the `r`-th zero and of the next one, by one search.
+    /// Returns the positions of the `r`-th zero and of the next one, by one search.
     #[doc = contract!(RsVec::select0_pair)]
     #[must_use]
     #[inline]
@@ -118,7 +119,7 @@ impl RsVec {
         self.bits.select0_pair(r).into()
     }
 
-    /// Returns the places of the `r`-th one and of the next one, by one search.
+    /// Returns the positions of the `r`-th one and of the next one, by one search.
     #[doc = contract!(RsVec::select1_pair)]
     #[must_use]
     #[inline]
@@ -234,7 +235,7 @@ impl RsVec {
         }
     }
 
-    /// Returns true if both lists have the same length and their ones (their zeros, for `ZERO`) at the same places.
+    /// Returns true if both lists have the same length and their ones (their zeros, for `ZERO`) at the same positions.
     /// Fast if these are few.
     #[doc = contract!(RsVec::sparse_equals)]
     #[must_use]
@@ -252,12 +253,12 @@ impl RsVec {
 
 /// Many queries at once. Selects of a batch are answered faster than one by one.
 impl RsVec {
-    /// Replaces each place by its `rank0`.
+    /// Replaces each position by its `rank0`.
     pub fn rank0_each(&self, places: &mut [usize]) {
         places.iter_mut().for_each(|place| *place = self.rank0(*place));
     }
 
-    /// Replaces each place by its `rank1`.
+    /// Replaces each position by its `rank1`.
     pub fn rank1_each(&self, places: &mut [usize]) {
         places.iter_mut().for_each(|place| *place = self.rank1(*place));
     }
@@ -301,51 +302,51 @@ counted! { RsVec, bits:
     select1_each_counted, select1_each(numbers: &mut [usize]);
 }
 
-/// Iterators over places.
+/// Iterators over positions.
 impl RsVec {
-    /// Iterates over the places of the zeros for `ZERO`, else of the ones.
+    /// Iterates over the positions of the zeros for `ZERO`, else of the ones.
     #[doc = contract!(RsVec::select_iter)]
     pub fn select_iter<const ZERO: bool>(&self) -> SelectIter<'_, ZERO> {
         SelectIter(self.bits.select_iter())
     }
 
-    /// Iterates over the places of the zeros for `ZERO`, else of the ones, and owns the list.
+    /// Iterates over the positions of the zeros for `ZERO`, else of the ones, and owns the list.
     #[doc = contract!(RsVec::into_select_iter)]
     pub fn into_select_iter<const ZERO: bool>(self) -> SelectIntoIter<ZERO> {
         SelectIntoIter(self.bits.into_select_iter())
     }
 
-    /// Iterates over the places of the zeros by chunks of bits: fast if these are many.
+    /// Iterates over the positions of the zeros by chunks of bits: fast if these are many.
     #[doc = contract!(RsVec::bit_set_iter0)]
     pub fn bit_set_iter0(&self) -> BitSetIter<'_, true> {
         BitSetIter(self.bits.bit_set_iter0())
     }
 
-    /// Iterates over the places of the ones by chunks of bits: fast if these are many.
+    /// Iterates over the positions of the ones by chunks of bits: fast if these are many.
     #[doc = contract!(RsVec::bit_set_iter1)]
     pub fn bit_set_iter1(&self) -> BitSetIter<'_, false> {
         BitSetIter(self.bits.bit_set_iter1())
     }
 
-    /// Iterates over the places of the zeros.
+    /// Iterates over the positions of the zeros.
     #[doc = contract!(RsVec::iter0)]
     pub fn iter0(&self) -> SelectIter<'_, true> {
         SelectIter(self.bits.iter0())
     }
 
-    /// Iterates over the places of the ones.
+    /// Iterates over the positions of the ones.
     #[doc = contract!(RsVec::iter1)]
     pub fn iter1(&self) -> SelectIter<'_, false> {
         SelectIter(self.bits.iter1())
     }
 
-    /// Iterates over the places of the zeros, and owns the list.
+    /// Iterates over the positions of the zeros, and owns the list.
     #[doc = contract!(RsVec::into_iter0)]
     pub fn into_iter0(self) -> SelectIntoIter<true> {
         SelectIntoIter(self.bits.into_iter0())
     }
 
-    /// Iterates over the places of the ones, and owns the list.
+    /// Iterates over the positions of the ones, and owns the list.
     #[doc = contract!(RsVec::into_iter1)]
     pub fn into_iter1(self) -> SelectIntoIter<false> {
         SelectIntoIter(self.bits.into_iter1())
@@ -361,7 +362,7 @@ counted_iterator! { RsVecIter [] [], u64 }
 counted_iterator! { RsVecRefIter ['a] ['a], u64 }
 
 iterators! {
-    /// Iterates over the places of the zeros of an [`RsVec`] for `ZERO`, else of the ones. They ascend.
+    /// Iterates over the positions of the zeros of an [`RsVec`] for `ZERO`, else of the ones. They ascend.
     SelectIntoIter [const ZERO: bool] [ZERO] = proved::SelectIntoIter<ZERO, Global>,
     SelectIter ['a, const ZERO: bool] ['a, ZERO] = proved::SelectIter<'a, ZERO, Global>, usize,
     ascending |it| first_of(it), last_of(it)
@@ -372,12 +373,13 @@ counted_iterator! { SelectIter ['a, const ZERO: bool] ['a, ZERO], usize }
 
 iterates! { RsVec, bits, "bits", u64, RsVecIter, RsVecRefIter }
 
-/// Iterates over the places of the zeros of an [`RsVec`] for `ZERO`, else of the ones, by chunks of bits. They ascend.
+/// Iterates over the positions of the zeros of an [`RsVec`] for `ZERO`, else of the ones, by chunks of bits. They
+/// ascend.
 #[must_use = "iterators do nothing unless they are used"]
 pub struct BitSetIter<'a, const ZERO: bool>(proved::BitSetIter<'a, ZERO, Global>);
 
 impl<const ZERO: bool> BitSetIter<'_, ZERO> {
-    /// Returns the next place, and adds what is read to `tally`.
+    /// Returns the next position, and adds what is read to `tally`.
     #[inline]
     pub fn next_counted(&mut self, tally: &mut Tally) -> Option<usize> {
         self.0.next_counted(&mut tally.0)

@@ -319,7 +319,7 @@ impl BitVec {
     /// Inverts the bit at `place`, or does nothing if `place` is past the end but in the last limb.
     ///
     /// # Panics
-    /// If no limb has the place.
+    /// If no limb has the position.
     #[doc = contract!(BitVec::flip_bit_unchecked)]
     #[inline]
     #[track_caller]
@@ -344,7 +344,7 @@ impl BitVec {
     /// limb.
     ///
     /// # Panics
-    /// If no limb has the place.
+    /// If no limb has the position.
     #[doc = contract!(BitVec::set)]
     #[track_caller]
     pub fn set_unchecked(&mut self, place: usize, value: u64) {
@@ -384,7 +384,7 @@ impl BitVec {
 
 /// Queries. Those of one bit or word take constant time.
 impl BitVec {
-    /// Stops if no limb has a place that is past the end.
+    /// Stops if no limb has a position that is past the end.
     #[cold]
     #[inline(never)]
     #[track_caller]
@@ -404,7 +404,7 @@ impl BitVec {
     /// Returns the bit at `place`, or 0 past the end in the last limb.
     ///
     /// # Panics
-    /// If no limb has the place.
+    /// If no limb has the position.
     #[doc = contract!(BitVec::get)]
     #[must_use]
     #[inline]
@@ -430,7 +430,7 @@ impl BitVec {
     /// Returns true if the bit at `place` is a one, and false past the end in the last limb.
     ///
     /// # Panics
-    /// If no limb has the place.
+    /// If no limb has the position.
     #[doc = contract!(BitVec::is_bit_set)]
     #[must_use]
     #[inline]
@@ -458,7 +458,7 @@ impl BitVec {
     /// the last limb.
     ///
     /// # Panics
-    /// If no limb has one of the places, or `n` is above 64.
+    /// If no limb has one of the positions, or `n` is above 64.
     #[doc = contract!(BitVec::get_bits)]
     #[must_use]
     #[inline]
@@ -483,7 +483,7 @@ impl BitVec {
         self.bits.get_bits(place, self.len().saturating_sub(place)).unwrap_or(0)
     }
 
-    /// Returns the `n` bits at place `index * n` as a number. `None` if the list has fewer, or `n` is 0 or above 64.
+    /// Returns the `n` bits at position `index * n` as a number. `None` if the list has fewer, or `n` is 0 or above 64.
     #[doc = contract!(BitVec::unpack_element)]
     #[must_use]
     #[inline]
@@ -491,10 +491,11 @@ impl BitVec {
         self.bits.unpack_element(index, n)
     }
 
-    /// Returns the `n` bits at place `index * n` as a number: 0 for no bits, and zeros past the end in the last limb.
+    /// Returns the `n` bits at position `index * n` as a number: 0 for no bits, and zeros past the end in the last
+    /// limb.
     ///
     /// # Panics
-    /// If no limb has one of the places, or `n` is above 64.
+    /// If no limb has one of the positions, or `n` is above 64.
     #[doc = contract!(BitVec::unpack_element)]
     #[must_use]
     #[track_caller]

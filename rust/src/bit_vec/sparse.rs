@@ -9,7 +9,7 @@ use crate::rattle::Global;
 use crate::saved::saved;
 use crate::BitVec;
 
-/// A list of bits that stores the places of its ones only, as an ascending list. Its memory depends on the number of
+/// A list of bits that stores the positions of its ones only, as an ascending list. Its memory depends on the number of
 /// ones, and hardly on the length. It can't change.
 ///
 /// ```
@@ -35,10 +35,10 @@ saved!(SparseRSVec, bits);
 
 /// Makers.
 impl SparseRSVec {
-    /// Makes a list of `len` bits with ones at the places `ones`, in O(`ones.len()`).
+    /// Makes a list of `len` bits with ones at the positions `ones`, in O(`ones.len()`).
     ///
     /// # Panics
-    /// If a place isn't above the one before it, or not below `len`.
+    /// If a position isn't above the one before it, or not below `len`.
     #[doc = contract!(SparseRSVec::new)]
     #[must_use]
     #[track_caller]
@@ -46,10 +46,10 @@ impl SparseRSVec {
         granted(Self::try_new(ones, len))
     }
 
-    /// Makes a list of `len` bits with ones at the places `ones`, in O(`ones.len()`).
+    /// Makes a list of `len` bits with ones at the positions `ones`, in O(`ones.len()`).
     ///
     /// # Errors
-    /// `NotAscending` if a place isn't above the one before it, `OutOfRange` if one isn't below `len`, and
+    /// `NotAscending` if a position isn't above the one before it, `OutOfRange` if one isn't below `len`, and
     /// `OutOfMemory`.
     #[doc = contract!(SparseRSVec::new)]
     pub fn try_new(ones: &[u64], len: u64) -> Result<Self, BuildError> {
@@ -110,7 +110,7 @@ impl SparseRSVec {
         self.bits.get(place)
     }
 
-    /// Returns the place of the `r`-th one, from 0, or the length if there is none.
+    /// Returns the position of the `r`-th one, from 0, or the length if there is none.
     #[doc = contract!(SparseRSVec::select1)]
     #[must_use]
     #[inline]
@@ -134,7 +134,7 @@ impl SparseRSVec {
         self.bits.rank0(place)
     }
 
-    /// Iterates over the places of the ones.
+    /// Iterates over the positions of the ones.
     #[doc = contract!(SparseRSVec::iter1)]
     pub fn iter1(&self) -> SparseIter<'_> {
         SparseIter(self.bits.iter1())
@@ -150,7 +150,7 @@ counted! { SparseRSVec, bits:
 }
 
 iterator! {
-    /// Iterates over the places of the ones of a [`SparseRSVec`]. They ascend.
+    /// Iterates over the positions of the ones of a [`SparseRSVec`]. They ascend.
     SparseIter ['a] ['a] = crate::proved::vers_sorted::elias_fano::EliasFanoRefIter<'a, Global>, u64, |it| it.clone(),
     ascending |it| it.min(), |it| it.max()
 }

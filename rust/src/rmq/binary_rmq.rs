@@ -11,9 +11,9 @@ use crate::saved::{LoadError, SaveError, Saved};
 use std::ops::{Deref, RangeBounds};
 
 minima! {
-    /// A list of values that finds the place of a least value of any range in constant time, by a table of four bytes
-    /// for each value and power of two. It takes at most `u32::MAX` values, and can't change. [`Vec`]'s calls that read
-    /// are there too.
+    /// A list of values that finds the position of a least value of any range in constant time, by a table of four
+    /// bytes for each value and power of two. It takes at most `u32::MAX` values, and can't change. [`Vec`]'s calls
+    /// that read are there too.
     ///
     /// ```
     /// use vers_vecs::BinaryRmq;
@@ -25,18 +25,18 @@ minima! {
     BinaryRmq, proved::BinaryRmq<Global>, proved::MAX_LEN
 }
 
-/// A value with its place.
+/// A value with its position.
 #[derive(Clone, Copy, PartialEq, Eq, Hash, Debug)]
 pub struct PlacedItem {
-    /// The place of the value.
+    /// The position of the value.
     pub place: usize,
     /// The value.
     pub value: u64,
 }
 
-/// Least values with their places.
+/// Least values with their positions.
 impl BinaryRmq {
-    /// Returns a least value from place `i` to place `j`, both included, with its first place, in O(1).
+    /// Returns a least value from position `i` to position `j`, both included, with its first position, in O(1).
     ///
     /// # Panics
     /// If `i` is above `j`, or `j` is past the end.

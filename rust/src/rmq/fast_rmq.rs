@@ -11,8 +11,8 @@ use crate::saved::{LoadError, SaveError, Saved};
 use std::ops::{Deref, RangeBounds};
 
 minima! {
-    /// A list of values that finds the place of a least value of any range in constant time, by blocks of 128 values.
-    /// It takes at most 549755813760 values, and can't change. [`Vec`]'s calls that read are there too.
+    /// A list of values that finds the position of a least value of any range in constant time, by blocks of 128
+    /// values. It takes at most 549755813760 values, and can't change. [`Vec`]'s calls that read are there too.
     ///
     /// ```
     /// use vers_vecs::FastRmq;

@@ -1,12 +1,12 @@
-//! The place of the least value of any range.
+//! The position of the least value of any range.
 
 use std::ops::{Bound, RangeBounds};
 
 pub mod binary_rmq;
 pub mod fast_rmq;
 
-/// Returns the first and the last place of a range in a list of `len` values. Past the end the last place of the list
-/// is meant.
+/// Returns the first and the last position of a range in a list of `len` values. Past the end the last position of the
+/// list is meant.
 #[track_caller]
 fn places(range: impl RangeBounds<usize>, len: usize) -> (usize, usize) {
     assert!(len > 0, "there are no values");
@@ -67,7 +67,8 @@ macro_rules! minima {
                 Ok($name { index: <$proved>::from_vec(crate::rattle::Vec::from_plain(items, Global))? })
             }
 
-            /// Returns the first place of a least value of a range, in O(1). A bound past the end means the last place.
+            /// Returns the first position of a least value of a range, in O(1). A bound past the end means the last
+            /// position.
             ///
             /// # Panics
             /// If there are no values, or the range is empty.
@@ -78,7 +79,7 @@ macro_rules! minima {
                 self.range_min(first, last)
             }
 
-            /// Returns the first place of a least value from place `i` to place `j`, both included, in O(1).
+            /// Returns the first position of a least value from position `i` to position `j`, both included, in O(1).
             ///
             /// # Panics
             /// If `i` is above `j`, or `j` is past the end.

@@ -16,11 +16,11 @@ use std::hash::{Hash, Hasher};
 const DEFAULT_BLOCK_SIZE: usize = 512;
 
 /// A tree, as the parentheses that a depth-first walk writes: a one when it enters a node, a zero when it leaves it.
-/// The handle of a node is the place of its one. Several trees may follow one another, and roots are siblings then.
+/// The handle of a node is the position of its one. Several trees may follow one another, and roots are siblings then.
 ///
-/// Calls that take a node expect balanced parentheses and the place of a one. Otherwise, with debug assertions some of
-/// them panic; without, `parent` is [`enclose`](Self::enclose), `first_child` the next place if it has a one, and so
-/// on, and walks are empty.
+/// Calls that take a node expect balanced parentheses and the position of a one. Otherwise, with debug assertions some
+/// of them panic; without, `parent` is [`enclose`](Self::enclose), `first_child` the next position if it has a one, and
+/// so on, and walks are empty.
 ///
 /// ```
 /// use vers_vecs::{BitVec, BpTree, Tree};
@@ -71,7 +71,7 @@ impl<const BLOCK_SIZE: usize> BpTree<BLOCK_SIZE> {
         Ok(Self::of(proved::BpTree::from_bit_vector(bits.bits)?))
     }
 
-    /// Returns the first place after `i` up to which the excess is `r` more than up to `i`. `None` if there is none.
+    /// Returns the first position after `i` up to which the excess is `r` more than up to `i`. `None` if there is none.
     /// O(log `len`).
     #[doc = contract!(BpTree::fwd_search)]
     #[inline]
@@ -79,15 +79,15 @@ impl<const BLOCK_SIZE: usize> BpTree<BLOCK_SIZE> {
         self.tree.fwd_search(i, r)
     }
 
-    /// Returns the last place before `i` before which the excess is `r` more than before `i`. `None` if there is none.
-    /// O(log `len`).
+    /// Returns the last position before `i` before which the excess is `r` more than before `i`. `None` if there is
+    /// none. O(log `len`).
     #[doc = contract!(BpTree::bwd_search)]
     #[inline]
     pub fn bwd_search(&self, i: usize, r: i64) -> Option<usize> {
         self.tree.bwd_search(i, r)
     }
 
-    /// Returns the place of the zero that closes the one at `i`, or `None` if there is none. O(log `len`).
+    /// Returns the position of the zero that closes the one at `i`, or `None` if there is none. O(log `len`).
     #[doc = contract!(BpTree::close)]
     #[must_use]
     #[inline]
@@ -95,7 +95,8 @@ impl<const BLOCK_SIZE: usize> BpTree<BLOCK_SIZE> {
         self.tree.close(i)
     }
 
-    /// Returns the place of the one that opens what the zero at `i` closes, or `None` if there is none. O(log `len`).
+    /// Returns the position of the one that opens what the zero at `i` closes, or `None` if there is none. O(log
+    /// `len`).
     #[doc = contract!(BpTree::open)]
     #[must_use]
     #[inline]
@@ -103,7 +104,7 @@ impl<const BLOCK_SIZE: usize> BpTree<BLOCK_SIZE> {
         self.tree.open(i)
     }
 
-    /// Returns the place of the one of the nearest pair around `i`, or `None` if there is none. O(log `len`).
+    /// Returns the position of the one of the nearest pair around `i`, or `None` if there is none. O(log `len`).
     #[doc = contract!(BpTree::enclose)]
     #[must_use]
     #[inline]
@@ -119,11 +120,11 @@ impl<const BLOCK_SIZE: usize> BpTree<BLOCK_SIZE> {
     #[must_use]
     #[track_caller]
     pub fn excess(&self, i: usize) -> i64 {
-        debug_assert!(i < self.tree.len(), "the tree has no place {}", i);
+        debug_assert!(i < self.tree.len(), "the tree has no position {}", i);
         self.excess_before(i.saturating_add(1).min(self.tree.len()))
     }
 
-    /// Returns the number of ones less the number of zeros before a place that is at most the length.
+    /// Returns the number of ones less the number of zeros before a position that is at most the length.
     fn excess_before(&self, place: usize) -> i64 {
         match place.checked_sub(1) {
             Some(last) if last < self.tree.len() => self.tree.excess(last),
@@ -131,7 +132,7 @@ impl<const BLOCK_SIZE: usize> BpTree<BLOCK_SIZE> {
         }
     }
 
-    /// Returns the number of ones before a place that is at most the length.
+    /// Returns the number of ones before a position that is at most the length.
     fn ones_before(&self, place: usize) -> usize {
         (place as i64 + self.excess_before(place)) as usize / 2
     }
@@ -180,8 +181,8 @@ impl<const BLOCK_SIZE: usize> BpTree<BLOCK_SIZE> {
     }
 }
 
-/// Walks. Those of no node, and of parentheses that aren't balanced, are empty; `iter` and `dfs_iter` return the places
-/// of the ones.
+/// Walks. Those of no node, and of parentheses that aren't balanced, are empty; `iter` and `dfs_iter` return the
+/// positions of the ones.
 impl<const BLOCK_SIZE: usize> BpTree<BLOCK_SIZE> {
     /// Iterates over all nodes in preorder.
     #[doc = contract!(BpTree::iter)]
@@ -315,7 +316,7 @@ macro_rules! counted_nodes {
                 #[doc = concat!("Answers as `", stringify!($of), "`, and adds what is read to `tally`.")]
                 ///
                 /// # Panics
-                /// If the parentheses aren't balanced, or a place that is given has no node.
+                /// If the parentheses aren't balanced, or a position that is given has no node.
                 #[doc = contract!(BpTree::$call)]
                 #[inline]
                 #[track_caller]
@@ -362,7 +363,7 @@ impl<const BLOCK_SIZE: usize> BpTree<BLOCK_SIZE> {
     #[inline]
     #[track_caller]
     pub fn excess_counted(&self, i: usize, tally: &mut Tally) -> i64 {
-        assert!(i < self.tree.len(), "the tree has no place {}", i);
+        assert!(i < self.tree.len(), "the tree has no position {}", i);
         self.tree.excess_counted(i, &mut tally.0)
     }
 
@@ -451,7 +452,7 @@ impl<const BLOCK_SIZE: usize> Tree for BpTree<BLOCK_SIZE> {
         self.ones_before(node.min(self.tree.len()))
     }
 
-    /// Returns the place of the `index`-th one, from 0, or the number of parentheses if there is none.
+    /// Returns the position of the `index`-th one, from 0, or the number of parentheses if there is none.
     #[doc = contract!(BpTree::node_handle)]
     #[inline]
     fn node_handle(&self, i: usize) -> usize {

@@ -13,12 +13,12 @@ use std::ops::Range;
 
 pub use crate::proved::vers_wavelet::wavelet::Integer;
 
-/// A symbol, and the place where it goes if equal symbols are gathered.
+/// A symbol, and the position where it goes if equal symbols are gathered.
 #[derive(Clone, Copy, PartialEq, Eq, Hash, Debug)]
 pub struct Gathered {
     /// The symbol.
     pub symbol: u64,
-    /// The place where it goes.
+    /// The position where it goes.
     pub place: usize,
 }
 
@@ -46,7 +46,7 @@ impl From<proved::Gathered> for Gathered {
 /// assert_eq!(symbols.select_u64(1, 1), Some(3));
 /// assert_eq!(symbols.quantile_u64(1..5, 2), Some(3));
 /// assert_eq!(symbols.successor_u64(0..5, 4), Some(5));
-/// // `range_min_u64` returns a symbol, not its place.
+/// // `range_min_u64` returns a symbol, not its position.
 /// assert_eq!(symbols.range_min_u64(0..3), Some(1));
 /// ```
 pub struct WaveletMatrix {
@@ -215,7 +215,7 @@ impl WaveletMatrix {
     }
 }
 
-/// Symbols at places.
+/// Symbols at positions.
 impl WaveletMatrix {
     /// Returns the symbol at `place` as a list of bits, or `None` past the end.
     #[doc = contract!(WaveletMatrix::get_value)]
@@ -333,13 +333,13 @@ batches! {
     /// Replaces each number `i` by its `quantile_u64` of the range at the same index, or by `other` if that is `None`.
     quantile_u64_each, quantile_u64_each_counted, quantile_u64_each, quantile_u64_each_counted:
         numbers, ranges: Range<usize>, |i, range| proved::QuantileQuery::new(range.start, range.end, *i as usize);
-    /// Replaces each place by its `gathered_u64` of the symbol at the same index, or by `other` if that is `None`.
+    /// Replaces each position by its `gathered_u64` of the symbol at the same index, or by `other` if that is `None`.
     gathered_u64_each, gathered_u64_each_counted, gathered_u64_each, gathered_u64_each_counted:
         places, symbols: u64, |place, symbol| proved::GatheredQuery::new(*place as usize, *symbol);
 }
 
 impl WaveletMatrix {
-    /// Replaces each place by its `get_u64`, or by `other` if that is `None`.
+    /// Replaces each position by its `get_u64`, or by `other` if that is `None`.
     pub fn get_u64_each(&self, places: &mut [u64], other: u64) {
         let mut queries: Vec<_> = places.iter().map(|place| proved::GetQuery::new(*place as usize)).collect();
         queries.chunks_mut(GROUP).for_each(|group| self.symbols.get_u64_each(group));
@@ -366,7 +366,7 @@ impl WaveletMatrix {
         symbol
     }
 
-    /// Returns how often a symbol occurs in a range, from which places past the end are left out.
+    /// Returns how often a symbol occurs in a range, from which positions past the end are left out.
     #[track_caller]
     fn ranked(&self, range: Range<usize>, symbol: &BitVec) -> usize {
         assert!(range.start <= range.end, "the range is reversed");
@@ -380,7 +380,7 @@ impl WaveletMatrix {
         found.unwrap_or(0)
     }
 
-    /// Returns how often a symbol occurs in a range, from which places past the end are left out.
+    /// Returns how often a symbol occurs in a range, from which positions past the end are left out.
     #[track_caller]
     fn ranked_u64(&self, range: Range<usize>, symbol: u64) -> usize {
         assert!(range.start <= range.end, "the range is reversed");
@@ -505,9 +505,9 @@ impl WaveletMatrix {
     }
 }
 
-/// Places of a symbol.
+/// Positions of a symbol.
 impl WaveletMatrix {
-    /// Returns the place of the `rank`-th occurrence of a symbol from `offset` on, from 0, or the length if there is
+    /// Returns the position of the `rank`-th occurrence of a symbol from `offset` on, from 0, or the length if there is
     /// none.
     ///
     /// # Panics
@@ -524,15 +524,15 @@ impl WaveletMatrix {
         found.unwrap_or(self.len())
     }
 
-    /// Returns the place of the `rank`-th occurrence of a symbol from `offset` on, from 0. `None` if there is none, or
-    /// the symbol has another width.
+    /// Returns the position of the `rank`-th occurrence of a symbol from `offset` on, from 0. `None` if there is none,
+    /// or the symbol has another width.
     #[doc = contract!(WaveletMatrix::select_offset)]
     #[must_use]
     pub fn select_offset(&self, offset: usize, rank: usize, symbol: &BitVec) -> Option<usize> {
         self.symbols.select_offset(offset, rank, &symbol.bits)
     }
 
-    /// Returns the place of the `rank`-th occurrence of a symbol from `offset` on, from 0, or the length if there is
+    /// Returns the position of the `rank`-th occurrence of a symbol from `offset` on, from 0, or the length if there is
     /// none.
     ///
     /// # Panics
@@ -545,8 +545,8 @@ impl WaveletMatrix {
         self.symbols.select_offset_u64(offset, rank, symbol).unwrap_or(self.len())
     }
 
-    /// Returns the place of the `rank`-th occurrence of a symbol from `offset` on, from 0. `None` if there is none, or
-    /// symbols have more than 64 bits.
+    /// Returns the position of the `rank`-th occurrence of a symbol from `offset` on, from 0. `None` if there is none,
+    /// or symbols have more than 64 bits.
     #[doc = contract!(WaveletMatrix::select_offset_u64)]
     #[must_use]
     #[inline]
@@ -554,7 +554,7 @@ impl WaveletMatrix {
         self.symbols.select_offset_u64(offset, rank, symbol)
     }
 
-    /// Returns the place of the `rank`-th occurrence of a symbol, from 0, or the length if there is none.
+    /// Returns the position of the `rank`-th occurrence of a symbol, from 0, or the length if there is none.
     ///
     /// # Panics
     /// If the symbol has too few bits.
@@ -565,7 +565,7 @@ impl WaveletMatrix {
         self.select_offset_unchecked(0, rank, symbol)
     }
 
-    /// Returns the place of the `rank`-th occurrence of a symbol, from 0. `None` if there is none, or the symbol has
+    /// Returns the position of the `rank`-th occurrence of a symbol, from 0. `None` if there is none, or the symbol has
     /// another width.
     #[doc = contract!(WaveletMatrix::select)]
     #[must_use]
@@ -573,7 +573,7 @@ impl WaveletMatrix {
         self.symbols.select(rank, &symbol.bits)
     }
 
-    /// Returns the place of the `rank`-th occurrence of a symbol, from 0, or the length if there is none.
+    /// Returns the position of the `rank`-th occurrence of a symbol, from 0, or the length if there is none.
     ///
     /// # Panics
     /// If symbols have more than 64 bits.
@@ -585,8 +585,8 @@ impl WaveletMatrix {
         self.symbols.select_u64(rank, symbol).unwrap_or(self.len())
     }
 
-    /// Returns the place of the `rank`-th occurrence of a symbol, from 0. `None` if there is none, or symbols have more
-    /// than 64 bits.
+    /// Returns the position of the `rank`-th occurrence of a symbol, from 0. `None` if there is none, or symbols have
+    /// more than 64 bits.
     #[doc = contract!(WaveletMatrix::select_u64)]
     #[must_use]
     #[inline]
@@ -595,11 +595,11 @@ impl WaveletMatrix {
     }
 }
 
-/// Places in the order in which equal symbols are gathered: by their bits, the lowest first, and equal symbols as in
+/// Positions in the order in which equal symbols are gathered: by their bits, the lowest first, and equal symbols as in
 /// the list.
 impl WaveletMatrix {
-    /// Returns the symbol at `place`, and where the place goes. `None` past the end, and if symbols have more than 64
-    /// bits.
+    /// Returns the symbol at `place`, and where the position goes. `None` past the end, and if symbols have more than
+    /// 64 bits.
     #[doc = contract!(WaveletMatrix::get_gathered_u64)]
     #[must_use]
     #[inline]
@@ -623,7 +623,7 @@ impl WaveletMatrix {
         self.symbols.gathered_u64(place, symbol)
     }
 
-    /// Returns the range of gathered places of a symbol in a range. `None` if the list doesn't have the range, or
+    /// Returns the range of gathered positions of a symbol in a range. `None` if the list doesn't have the range, or
     /// symbols have more than 64 bits.
     #[doc = contract!(WaveletMatrix::gathered_range_u64)]
     #[must_use]

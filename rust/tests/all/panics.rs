@@ -208,7 +208,7 @@ fn counted_calls_of_no_node_stop() {
     stops! {
         "no such node": open.level_leftmost_counted(0, tally);
         "no such node": open.level_rightmost_counted(0, tally);
-        "no place 4": tree.excess_counted(4, tally);
+        "no position 4": tree.excess_counted(4, tally);
     }
     assert_eq!((open.dfs_post_iter().next(), open.dfs_iter().count()), (None, 4));
 }
