@@ -296,7 +296,7 @@ def check_refused(checks, compiler):
     checks.run(f"C++ by {compiler} of what is taken", compiling)
     for number in re.findall(r"REFUSED == (\d+)", read(test)):
         done = subprocess.run([*compiling, f"-DREFUSED={number}"], capture_output=True, text=True, check=False)
-        is_refused = done.returncode != 0 and "the items are" in done.stderr
+        is_refused = done.returncode != 0 and ("the items are" in done.stderr or "deleted" in done.stderr)
         checks.note(is_refused, f"{test} compiles by {compiler} with REFUSED={number}")
 
 

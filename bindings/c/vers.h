@@ -174,7 +174,7 @@ typedef struct vers_row {
     uint64_t a, b, c;
 } vers_row;
 
-/** What holds a list. Only the library reads and writes its fields; all zeros hold nothing. */
+/** The owner of a list. Only the library reads and writes its fields; all zeros own nothing. */
 typedef struct vers_handle {
     bool is_built;
     void *at;
@@ -956,12 +956,12 @@ static inline vers_answer vers_symbols_get(const vers_symbols *list, uint64_t pl
     return vers_quick_symbols_get(vers_held(&list->handle), place);
 }
 
-/** How many of the first `end` positions hold a symbol. VERS_ABSENT if there are fewer positions. */
+/** How often a symbol occurs before the position `end`. VERS_ABSENT past the end. */
 static inline vers_answer vers_symbols_rank(const vers_symbols *list, uint64_t end, uint64_t symbol) {
     return vers_quick_symbols_rank(vers_held(&list->handle), end, symbol);
 }
 
-/** How many positions of a range hold a symbol. VERS_ABSENT if it starts past the last position, or ends before it
+/** How often a symbol occurs in a range. VERS_ABSENT if it starts past the last position, or ends before it
  * starts. */
 static inline vers_answer vers_symbols_rank_range(const vers_symbols *list, uint64_t start, uint64_t end,
                                                   uint64_t symbol) {

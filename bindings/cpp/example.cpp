@@ -7,8 +7,8 @@ int main() {
     auto text = vers::WaveletMatrix::from(symbols, 3);
     auto squares = vers::EliasFanoVec::from({1, 4, 9, 16, 25});
     if (!text || !squares) return 1;
-    std::cout << "ones before place 6: " << *text->rank(6, 1) << "\n";
-    std::cout << "the third least of places 2 to 7: " << *text->quantile(2, 8, 2) << "\n";
+    std::cout << "ones before position 6: " << *text->rank(6, 1) << "\n";
+    std::cout << "the third least of positions 2 to 7: " << *text->quantile(2, 8, 2) << "\n";
     std::cout << "the next square from 10 on: " << *squares->successor(10) << "\n";
     if (!squares->successor(26)) std::cout << "none from 26 on\n";
     std::uint64_t near[] = {0, 5, 20};

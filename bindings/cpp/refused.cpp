@@ -1,4 +1,5 @@
-// Calls that don't compile, one for each REFUSED: iterators and ranges over items that are no numbers or bits.
+// Calls that don't compile, one for each REFUSED: iterators and ranges over items that are no numbers or bits, and []
+// of a text and of an inverted index.
 #include "vers.hpp"
 
 #include <string>
@@ -52,5 +53,9 @@ int main() {
     (void)vers::TextIndex::from(unsigned_numbers, 2)->count(signed_numbers);
 #elif REFUSED == 19
     (void)vers::TextIndex::from(unsigned_numbers, 2)->places(fractions);
+#elif REFUSED == 20
+    (void)(*vers::TextIndex::from(unsigned_numbers, 2))[0];
+#elif REFUSED == 21
+    (void)(*vers::InvertedIndex::from(3, 3, unsigned_numbers, unsigned_numbers))[0];
 #endif
 }

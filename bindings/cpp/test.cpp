@@ -743,6 +743,27 @@ static void test_ranges() {
 static void test_ranges() {}
 #endif
 
+/** What the page says to programs that come from sdsl-lite. */
+static void test_ported() {
+    vers::BitVec growing = vers::BitVec::from_words(Numbers((100 + 63) / 64), 100);
+    check("set", growing.set(3, true) == Status::done && growing.set(70, true) == Status::done);
+    const auto bits = vers::RsVec::from_bits(growing);
+    check("ranks", bits.len() == 100 && bits.rank1(4) == 1);
+    check("selects from 0", bits.select1(0) == 3 && bits.select1(1) == 70);
+    const auto text = vers::TextIndex::from(std::string("abracadabra"), 8);
+    check("locate", listed(text->places("abra")) == Numbers{0, 7});
+    check("extract", listed(*text->extract(1, 4)) == Numbers{'b', 'r', 'a'});
+    const std::int64_t values[] = {5, -7, 3, -7};
+    Numbers shifted;
+    for (const std::int64_t it : values) shifted.push_back(static_cast<std::uint64_t>(it) ^ (std::uint64_t{1} << 63));
+    check("the leftmost of signed minima", vers::FastRmq::from(shifted).range_min(0, 3) == Found(1));
+    const auto tree = vers::BpTree::from_bits({1, 1, 0, 1, 0, 0});
+    check("parentheses", tree.close(0) == Found(5) && tree.enclose(3) == Found(0) && tree.node_handle(2) == 3);
+    std::vector<std::uint8_t> bytes(static_cast<std::size_t>(*bits.saved_size()));
+    check("saved", bits.save(bytes.data(), bytes.size()) == Status::done);
+    check("loaded", vers::RsVec::load(bytes.data(), bytes.size()) == bits);
+}
+
 static void test_threads() {
     const Numbers bits = random_numbers(2000, 2);
     const vers::RsVec list = vers::RsVec::from_bits(bits.begin(), bits.end());
@@ -783,6 +804,7 @@ int main() {
     test_ranges();
     test_memory();
     test_copies();
+    test_ported();
     test_threads();
     std::printf("%lu passed, %lu failed\n", passed, failed);
     return failed != 0;

@@ -647,7 +647,7 @@ private:
     bool has_contents_of(const RsVec &other) const noexcept { return has_bits_of(other); }
 };
 
-/** A list of bits with few ones. `from(ones, length)` takes the places of the ones, and refuses them if they don't
+/** A list of bits with few ones. `from(ones, length)` takes the positions of the ones, and refuses them if they don't
  *  ascend strictly, or one isn't below `length`. */
 class SparseRSVec : public detail::Owner<SparseRSVec, vers_sparse, VERS_KIND_SPARSE>,
                     public detail::FromNumbers<SparseRSVec, std::optional<SparseRSVec>, vers_sparse_build,
@@ -711,8 +711,7 @@ private:
 };
 
 /** A list of symbols, which are numbers of up to 64 bits. `from(numbers, width)` takes their `width` low bits, and
- *  refuses a width above 64. A range is without its end. Of a symbol that is passed the low bits count, as many as a
- *  symbol has. */
+ *  refuses a width above 64. A range is without its end. A query takes the low bits of a wider symbol. */
 class WaveletMatrix : public detail::Owner<WaveletMatrix, vers_symbols, VERS_KIND_SYMBOLS>,
                       public detail::FromNumbers<WaveletMatrix, std::optional<WaveletMatrix>, vers_symbols_build,
                                                  std::uint32_t> {
@@ -725,11 +724,11 @@ public:
     Found get(std::uint64_t place) const noexcept { return detail::found(vers_symbols_get(&raw_, place)); }
     /** How many bits a symbol has. */
     std::uint64_t bits_per_element() const noexcept { return ask(VERS_WIDTH).value; }
-    /** How many of the first `end` positions hold a symbol. nullopt if there are fewer positions. */
+    /** How often a symbol occurs before the position `end`. nullopt past the end. */
     Found rank(std::uint64_t end, std::uint64_t symbol) const noexcept {
         return detail::found(vers_symbols_rank(&raw_, end, symbol));
     }
-    /** How many positions of a range hold a symbol. */
+    /** How often a symbol occurs in a range. */
     Found rank_range(std::uint64_t start, std::uint64_t end, std::uint64_t symbol) const noexcept {
         return find(VERS_RANK_RANGE, start, end, symbol);
     }
@@ -1053,6 +1052,8 @@ public:
         });
     }
 
+    /** `get` answers documents of a term, and `pair_number` pairs. */
+    std::uint64_t operator[](std::uint64_t place) const = delete;
     /** The number of terms. */
     std::uint64_t terms() const noexcept { return ask(VERS_TERMS).value; }
     /** The number that all documents are below. */
@@ -1134,6 +1135,8 @@ public:
     using detail::FromText::from;
     using detail::FromTextByStep::from;
 
+    /** `extract` answers symbols, and `places` positions. */
+    std::uint64_t operator[](std::uint64_t place) const = delete;
     /** How many bits a symbol has. */
     std::uint64_t width() const noexcept { return ask(VERS_WIDTH).value; }
     /** The distance of two sampled positions. */
