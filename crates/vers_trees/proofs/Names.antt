@@ -53,7 +53,7 @@ pub use Rattle.vers_trees.specs.declared.trees.bp.min_max.Node.{Node}
 pub use Rattle.vers_trees.specs.inside.Bytes.{octal, AreEntries, HasMet, step_along}
 pub use Rattle.vers_trees.specs.inside.Closed.{closed_by}
 pub use Rattle.vers_trees.specs.inside.Index.{IsIndexed, IsBuilding, IsWidth, IsGrowing, AreFirstBlocks, IsTreeOf, IsPassed, past_reads}
-pub use Rattle.vers_trees.specs.inside.MinMax.{empty_node, IsPart, combined, SumsFit, IsNumberAt, IsLevel, IsInRange, IsInRangeOrStart, start_of, Covers, StandsOver, CoveredFrom, AreLeaves, IsMinMax, Sought, sought, target, IsAfter, Passed, HasNone, HasPlace, IsAhead, BeginsAt, LeadsTo, PassedTo, IsOddPart, IsBeside, near_child, far_child, ComesTo, IsMet, left_past}
+pub use Rattle.vers_trees.specs.inside.MinMax.{empty_node, IsPart, combined, SumsFit, IsNumberAt, IsLevel, IsInRange, IsInRangeOrStart, start_of, Covers, IsAbove, CoveredFrom, AreLeaves, IsMinMax, Sought, sought, target, IsAfter, Passed, HasNone, HasPlace, IsAhead, BeginsAt, LeadsTo, PassedTo, IsOddPart, IsBeside, near_child, far_child, ComesTo, IsMet, left_past}
 pub use Rattle.vers_trees.specs.inside.Scans.{sum_past, edge, IsBetween, up_to, IsRise, HasNoRise, scan_reads, block_reads, falls, is_not_closed, rises}
 pub use lib.Count.{ones_step, ones-ones}
 pub use mir.Val.{bool_byte}

@@ -1,4 +1,4 @@
--- What a node is asked by a name: for a node beside it, or for a number of it; and for an end of a level.
+-- Queries of a node by name: a related node, or a number of it; and the ends of a level.
 use Rattle.std.specs.Prelude.{ℕ, ◌==◌, length, Option}
 use Rattle.vers_bits.specs.Bits.{bit_value}
 use Rattle.vers_trees.specs.Forest.{Forest}

@@ -1,5 +1,5 @@
 -- Building a tree of excesses from its leaves up to its root.
-use Rattle.vers_trees.proofs.Names.{◌≡◌, ℕ, ◌+◌, ◌-◌, ◌*◌, ◌^◌, ◌<◌, ◌≤◌, ◌↔◌, inl, inr, min, Bool, List, [], ◌∷◌, length, get_or, set, ◌≤ℤ◌, ◌<ℤ◌, arith, ⊎_elim, subst, sym, refl, ap, ◌∙◌, cases_lt, get_or_past, get_or-set_same, get_or-set_other, eq-or-lt_of_le, mul-le-mul_right, div_ceil_times, Node, combined, SumsFit, empty_node, IsPart, start_of, Covers, StandsOver, CoveredFrom, AreLeaves, AreFirstBlocks, block_count, IsLevel, IsBalanced, IsIndexed}
+use Rattle.vers_trees.proofs.Names.{◌≡◌, ℕ, ◌+◌, ◌-◌, ◌*◌, ◌^◌, ◌<◌, ◌≤◌, ◌↔◌, inl, inr, min, Bool, List, [], ◌∷◌, length, get_or, set, ◌≤ℤ◌, ◌<ℤ◌, arith, ⊎_elim, subst, sym, refl, ap, ◌∙◌, cases_lt, get_or_past, get_or-set_same, get_or-set_other, eq-or-lt_of_le, mul-le-mul_right, div_ceil_times, Node, combined, SumsFit, empty_node, IsPart, start_of, Covers, IsAbove, CoveredFrom, AreLeaves, AreFirstBlocks, block_count, IsLevel, IsBalanced, IsIndexed}
 use Rattle.vers_trees.proofs.layout.MinMax.{HasChildren, stands_children, stands_every, leaf_stands, root, part_inside, covers_joined, children_fit}
 pub use Rattle.vers_trees.proofs.layout.Blocks.{balanced_iff_root, balance_decides}
 
@@ -39,7 +39,7 @@ module _ (l : List Bool) (size first : ℕ) (nodes : List Node) (i : ℕ) (x y :
   pub code_step : (r : Node) → i ≤ length nodes → (y.least ≤ℤ y.greatest → r ≡ combined x y) → (y.greatest <ℤ y.least → r ≡ x) → CoveredFrom l size first (set nodes (i - 1) r) (i - 1)
   code_step r n both alone m s e a p = ⊎_elim
       (λ (z : i - 1 ≡ m).
-      let k = stands_children first (i - 1) s e (subst (λ (n : ℕ). StandsOver first n s e) (sym z) p) (omega arith) in
+      let k = stands_children first (i - 1) s e (subst (λ (n : ℕ). IsAbove first n s e) (sym z) p) (omega arith) in
       let same : get_or (set nodes (i - 1) r) m empty_node ≡ r = ap (λ (n : ℕ). get_or (set nodes (i - 1) r) n empty_node) (sym z) ∙ get_or-set_same nodes (i - 1) r empty_node (omega arith) in
       rw same (covers_joined l size s k.middle e x y r k.after k.before (left_covers s e k) (right_covers s e k) both alone))
       (λ (z : i - 1 < m). rw (get_or-set_other nodes (i - 1) m r empty_node (omega arith)) (c m s e (omega arith) p))

@@ -1,5 +1,5 @@
 -- The steps of a search in a tree of excesses, forwards and backwards.
-use Rattle.vers_trees.proofs.Names.{◌≡◌, ℕ, zero, suc, ◌+◌, ◌-◌, ◌*◌, ◌/◌, ◌^◌, ◌<◌, ◌≤◌, Bool, true, false, List, length, get_or, ℤ, ◌+ℤ◌, ◌-ℤ◌, arith, ⊎_elim, subst, ap, FitsSigned, w64, ints, cases_lt, pow-succ', le-mul_of_pos_right, mul-le-mul_right, pow_pos, excess, Node, empty_node, start_of, Covers, StandsOver, IsMinMax, Sought, target, edge, Passed, HasNone, IsAhead, BeginsAt, LeadsTo, PassedTo, IsBeside, near_child, far_child, ComesTo, IsMet, left_past}
+use Rattle.vers_trees.proofs.Names.{◌≡◌, ℕ, zero, suc, ◌+◌, ◌-◌, ◌*◌, ◌/◌, ◌^◌, ◌<◌, ◌≤◌, Bool, true, false, List, length, get_or, ℤ, ◌+ℤ◌, ◌-ℤ◌, arith, ⊎_elim, subst, ap, FitsSigned, w64, ints, cases_lt, pow-succ', le-mul_of_pos_right, mul-le-mul_right, pow_pos, excess, Node, empty_node, start_of, Covers, IsAbove, IsMinMax, Sought, target, edge, Passed, HasNone, IsAhead, BeginsAt, LeadsTo, PassedTo, IsBeside, near_child, far_child, ComesTo, IsMet, left_past}
 use Rattle.vers_trees.proofs.layout.MinMax.{stands_children, parent_of_left, parent_of_right, stands_leaf, leaf_stands, root_stands, total_of_part}
 pub use Rattle.vers_trees.proofs.layout.Blocks.{place_in, passed_over, left_fits, too_far, rest_is}
 
@@ -7,14 +7,14 @@ pub use Rattle.vers_trees.proofs.layout.Blocks.{place_in, passed_over, left_fits
 record Far (back : Bool) (s : Sought) (first place : ℕ) (left : ℤ) (x : Node) : Type 0 where
   pub start : ℕ
   pub stop : ℕ
-  pub stands : StandsOver first place start stop
+  pub stands : IsAbove first place start stop
   pub passed : Passed back s (start_of s.bits s.size (edge back start stop)) left
   pub covers : Covers s.bits s.size start stop x
   pub onward : (rest : ℤ) → Passed back s (start_of s.bits s.size (edge back stop start)) rest → PassedTo back s first ((place - 1) / 2) rest
 
 module _ (s : Sought) (first : ℕ) (nodes : List Node) where
   -- the node at a place covers its part
-  covers_at : (i a e : ℕ) (x : Node) → IsMinMax s.bits s.size first nodes → x ≡ get_or nodes i empty_node → StandsOver first i a e → Covers s.bits s.size a e x
+  covers_at : (i a e : ℕ) (x : Node) → IsMinMax s.bits s.size first nodes → x ≡ get_or nodes i empty_node → IsAbove first i a e → Covers s.bits s.size a e x
   covers_at i a e x m q p = rw q (m.covered i a e (omega arith) p)
 
   -- what is left past a part is counted from its other end
@@ -65,12 +65,12 @@ module _ (s : Sought) (first : ℕ) (nodes : List Node) where
           let twice : (next + 1) * 2 ^ suc k ≡ (next + 1) * (2 * 2 ^ k) = ap (λ (x : ℕ). (next + 1) * x) (pow-succ' 2 k) in
           ⊎_elim
           (λ (root : place < 1).
-          let r = root_stands first p.start p.stop (subst (λ (n : ℕ). StandsOver first n p.start p.stop) (omega arith) p.stands) in
+          let r = root_stands first p.start p.stop (subst (λ (n : ℕ). IsAbove first n p.start p.stop) (omega arith) p.stands) in
           let all : start_of s.bits s.size p.stop ≡ length s.bits = (rw r.1 (omega arith)) in
           record { tree = m; far = λ some. absurd (omega arith); passed = λ some. absurd (omega arith); none = λ z k a b. p.passed.none k (a, omega arith) })
           (λ (some : 1 ≤ place).
           let here : place ≡ 2 * ((place - 1) / 2) + 2 = omega arith in
-          let u = parent_of_right first ((place - 1) / 2) p.start p.stop (subst (λ (n : ℕ). StandsOver first n p.start p.stop) here p.stands) in
+          let u = parent_of_right first ((place - 1) / 2) p.start p.stop (subst (λ (n : ℕ). IsAbove first n p.start p.stop) here p.stands) in
           go k ((place - 1) / 2) (record { start = u.0; stop = p.stop; stands = u.1; passed = p.passed }) (omega arith))
           (cases_lt place 1)
   comes_to true place left next m p b = rw b.2 (go b.1.zeros place p b.1.splits)
@@ -82,13 +82,13 @@ module _ (s : Sought) (first : ℕ) (nodes : List Node) where
             far = λ some. omega arith;
             passed = λ some. subst (λ (n : ℕ). PassedTo true s first n left) (omega arith) p;
             none = λ z k a.
-                let r = root_stands first p.start p.stop (subst (λ (n : ℕ). StandsOver first n p.start p.stop) (let g : place ≡ 0 = omega arith in g) p.stands) in
+                let r = root_stands first p.start p.stop (subst (λ (n : ℕ). IsAbove first n p.start p.stop) (let g : place ≡ 0 = omega arith in g) p.stands) in
                 let all : start_of s.bits s.size p.start ≡ 0 = rw r.0 (omega arith) in p.passed.none k (omega arith, a);
           }
       go (suc k) place p e =
           let twice : b.0 * 2 ^ suc k ≡ b.0 * (2 * 2 ^ k) = ap (λ (x : ℕ). b.0 * x) (pow-succ' 2 k) in
           let here : place ≡ 2 * ((place - 1) / 2) + 1 = omega arith in
-          let u = parent_of_left first ((place - 1) / 2) p.start p.stop (subst (λ (n : ℕ). StandsOver first n p.start p.stop) here p.stands) in
+          let u = parent_of_left first ((place - 1) / 2) p.start p.stop (subst (λ (n : ℕ). IsAbove first n p.start p.stop) here p.stands) in
           go k ((place - 1) / 2) (record { start = p.start; stop = u.0; stands = u.1; passed = p.passed }) (omega arith)
 
   -- from a block on
@@ -103,14 +103,14 @@ module _ (s : Sought) (first : ℕ) (nodes : List Node) where
   far_of false place left x c some e =
       let v = c.far some in let p = c.passed some in let here : place - 1 ≡ 2 * ((place - 1) / 2) + 1 = omega arith in
       let at : 2 * ((place - 1) / 2) + 2 ≡ place = omega arith in
-      let u = parent_of_left first ((place - 1) / 2) p.start p.stop (subst (λ (n : ℕ). StandsOver first n p.start p.stop) here p.stands) in
-      let t : StandsOver first place p.stop u.0 = subst (λ (n : ℕ). StandsOver first n p.stop u.0) at u.2 in
+      let u = parent_of_left first ((place - 1) / 2) p.start p.stop (subst (λ (n : ℕ). IsAbove first n p.start p.stop) here p.stands) in
+      let t : IsAbove first place p.stop u.0 = subst (λ (n : ℕ). IsAbove first n p.stop u.0) at u.2 in
       record { start = p.stop; stop = u.0; stands = t; passed = p.passed; covers = covers_at place p.stop u.0 x c.tree e t; onward = λ rest q. record { start = p.start; stop = u.0; stands = u.1; passed = q } }
   far_of true place left x c some e =
       let v = c.far some in let p = c.passed some in let here : place + 1 ≡ 2 * ((place - 1) / 2) + 2 = omega arith in
       let at : 2 * ((place - 1) / 2) + 1 ≡ place = omega arith in
-      let u = parent_of_right first ((place - 1) / 2) p.start p.stop (subst (λ (n : ℕ). StandsOver first n p.start p.stop) here p.stands) in
-      let t : StandsOver first place u.0 p.start = subst (λ (n : ℕ). StandsOver first n u.0 p.start) at u.2 in
+      let u = parent_of_right first ((place - 1) / 2) p.start p.stop (subst (λ (n : ℕ). IsAbove first n p.start p.stop) here p.stands) in
+      let t : IsAbove first place u.0 p.start = subst (λ (n : ℕ). IsAbove first n u.0 p.start) at u.2 in
       record { start = u.0; stop = p.start; stands = t; passed = p.passed; covers = covers_at place u.0 p.start x c.tree e t; onward = λ rest q. record { start = u.0; stop = p.stop; stands = u.1; passed = q } }
 
   module _ (back : Bool) (place : ℕ) (left : ℤ) (x : Node) (c : ComesTo back s first nodes place left) (some : 0 < place) (e : x ≡ get_or nodes place empty_node) where

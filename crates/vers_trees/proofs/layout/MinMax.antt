@@ -1,5 +1,5 @@
 -- The parts of the nodes of a tree, and what a node made of two says.
-use Rattle.vers_trees.proofs.Names.{◌≡◌, ℕ, zero, suc, ◌+◌, ◌-◌, ◌*◌, ◌/◌, ◌%◌, ◌^◌, ◌<◌, ◌≤◌, ◌⊎◌, inl, inr, Bool, List, length, ◌+ℤ◌, ◌≤ℤ◌, ◌<ℤ◌, arith, ⊎_elim, subst, refl, ap, ◌∙◌, pow-succ', pow-le-pow_right, pow_next, mul-le-mul_right, ints, cases_lt, excess, Node, combined, SumsFit, empty_node, IsPart, start_of, Covers, StandsOver}
+use Rattle.vers_trees.proofs.Names.{◌≡◌, ℕ, zero, suc, ◌+◌, ◌-◌, ◌*◌, ◌/◌, ◌%◌, ◌^◌, ◌<◌, ◌≤◌, ◌⊎◌, inl, inr, Bool, List, length, ◌+ℤ◌, ◌≤ℤ◌, ◌<ℤ◌, arith, ⊎_elim, subst, refl, ap, ◌∙◌, pow-succ', pow-le-pow_right, pow_next, mul-le-mul_right, ints, cases_lt, excess, Node, combined, SumsFit, empty_node, IsPart, start_of, Covers, IsAbove}
 use Rattle.vers_trees.proofs.searches.Scans.{part_joined, sums_fit}
 
 -- a later block begins no earlier
@@ -29,10 +29,10 @@ pub record HasChildren (first i s e : ℕ) : Type 0 where
   pub middle : ℕ
   pub after : s ≤ middle
   pub before : middle ≤ e
-  pub left : StandsOver first (2 * i + 1) s middle
-  pub right : StandsOver first (2 * i + 2) middle e
+  pub left : IsAbove first (2 * i + 1) s middle
+  pub right : IsAbove first (2 * i + 2) middle e
 
-pub stands_children : (first i s e : ℕ) → StandsOver first i s e → i < first → HasChildren first i s e
+pub stands_children : (first i s e : ℕ) → IsAbove first i s e → i < first → HasChildren first i s e
 stands_children first i s e p h = go p.height refl
   where
     go : (k : ℕ) → p.height ≡ k → HasChildren first i s e
@@ -50,53 +50,53 @@ stands_children first i s e p h = go p.height refl
         }
 
 -- the root's part is all
-pub root : (first h : ℕ) → 2 ^ h ≡ first + 1 → StandsOver first 0 0 (first + 1)
+pub root : (first h : ℕ) → 2 ^ h ≡ first + 1 → IsAbove first 0 0 (first + 1)
 root first h lv = grind (arith, ints)
 
 -- every node above the leaves stands over some part
-pub stands_every : (first h : ℕ) → 2 ^ h ≡ first + 1 → (fuel i : ℕ) → i ≤ fuel → i ≤ 2 * first → (s : ℕ) × (e : ℕ) × StandsOver first i s e
+pub stands_every : (first h : ℕ) → 2 ^ h ≡ first + 1 → (fuel i : ℕ) → i ≤ fuel → i ≤ 2 * first → (s : ℕ) × (e : ℕ) × IsAbove first i s e
 stands_every first h lv fuel zero a b = (0, first + 1, root first h lv)
 stands_every first h lv zero (suc i) a b = absurd (omega arith)
 stands_every first h lv (suc fuel) (suc i) a b =
     let p = stands_every first h lv fuel (i / 2) (omega arith) (omega arith) in let c = stands_children first (i / 2) p.0 p.1 p.2 (omega arith) in
     ⊎_elim
-    (λ (x : i % 2 < 1). (p.0, c.middle, subst (λ (n : ℕ). StandsOver first n p.0 c.middle) (omega arith) c.left))
-    (λ (x : 1 ≤ i % 2). (c.middle, p.1, subst (λ (n : ℕ). StandsOver first n c.middle p.1) (omega arith) c.right))
+    (λ (x : i % 2 < 1). (p.0, c.middle, subst (λ (n : ℕ). IsAbove first n p.0 c.middle) (omega arith) c.left))
+    (λ (x : 1 ≤ i % 2). (c.middle, p.1, subst (λ (n : ℕ). IsAbove first n c.middle p.1) (omega arith) c.right))
     (cases_lt (i % 2) 1)
 
 -- a node stands among the nodes of a tree with first + 1 leaves
-pub stands_within : (first i s e : ℕ) → StandsOver first i s e → i ≤ 2 * first
+pub stands_within : (first i s e : ℕ) → IsAbove first i s e → i ≤ 2 * first
 stands_within first i s e p = grind (arith, pow-le-pow_right)
 
 -- a node has one part
 pub order : (a b : ℕ) → 2 ^ a < 2 ^ (b + 1) → a ≤ b
 order a b h = grind (arith, pow-le-pow_right)
 
-one_part : (first i s e s' e' : ℕ) → StandsOver first i s e → StandsOver first i s' e' → (s ≡ s') × (e ≡ e')
+one_part : (first i s e s' e' : ℕ) → IsAbove first i s e → IsAbove first i s' e' → (s ≡ s') × (e ≡ e')
 one_part first i s e s' e' p q =
     let c = pow_next (p.level + p.height) in let d = pow_next (q.level + q.height) in grind (arith, ints, order, pow_next q.level, pow_next p.level)
 
 -- the parent of a child, with its other child
-parent_of : (first i j s e : ℕ) → StandsOver first i s e → (i ≡ 2 * j + 1) ⊎ (i ≡ 2 * j + 2) → (u : ℕ) × (v : ℕ) × StandsOver first j u v × HasChildren first j u v
+parent_of : (first i j s e : ℕ) → IsAbove first i s e → (i ≡ 2 * j + 1) ⊎ (i ≡ 2 * j + 2) → (u : ℕ) × (v : ℕ) × IsAbove first j u v × HasChildren first j u v
 parent_of first i j s e p is =
     let w = stands_within first i s e p in let q = stands_every first (p.level + p.height) p.levels j j (omega arith) (omega (arith, is)) in
     (q.0, q.1, q.2, stands_children first j q.0 q.1 q.2 (omega (arith, is)))
 
-pub parent_of_left : (first j s e : ℕ) → StandsOver first (2 * j + 1) s e → (u : ℕ) × StandsOver first j s u × StandsOver first (2 * j + 2) e u × (e ≤ u)
+pub parent_of_left : (first j s e : ℕ) → IsAbove first (2 * j + 1) s e → (u : ℕ) × IsAbove first j s u × IsAbove first (2 * j + 2) e u × (e ≤ u)
 parent_of_left first j s e p =
     let q = parent_of first (2 * j + 1) j s e p (inl refl) in let o = one_part first (2 * j + 1) _ _ _ _ p q.3.left in
     (q.1, rw (← o.0) at q.2, rw (← o.1) at q.3.right, rw (← o.1) at q.3.before)
 
-pub parent_of_right : (first j s e : ℕ) → StandsOver first (2 * j + 2) s e → (u : ℕ) × StandsOver first j u e × StandsOver first (2 * j + 1) u s
+pub parent_of_right : (first j s e : ℕ) → IsAbove first (2 * j + 2) s e → (u : ℕ) × IsAbove first j u e × IsAbove first (2 * j + 1) u s
 parent_of_right first j s e p = grind (arith, ints, one_part, parent_of first (2 * j + 2) j s e p (inr refl))
 
-pub stands_leaf : (first h k : ℕ) → 2 ^ h ≡ first + 1 → k ≤ first → StandsOver first (first + k) k (k + 1)
+pub stands_leaf : (first h k : ℕ) → 2 ^ h ≡ first + 1 → k ≤ first → IsAbove first (first + k) k (k + 1)
 stands_leaf first h k lv b = record { level = h; height = 0; offset = k; levels = ap (λ (n : ℕ). 2 ^ n) (let g : h + 0 ≡ h = omega arith in g) ∙ lv; inside = omega arith; place = omega arith; from = omega arith; upto = omega arith }
 
-pub leaf_stands : (first i s e : ℕ) → StandsOver first i s e → first ≤ i → (s ≡ i - first) × (e ≡ s + 1)
+pub leaf_stands : (first i s e : ℕ) → IsAbove first i s e → first ≤ i → (s ≡ i - first) × (e ≡ s + 1)
 leaf_stands first i s e p h =
     let w = stands_within first i s e p in let g : first + (i - first) ≡ i = omega arith in
     let o = one_part first i _ _ _ _ p (rw g at (stands_leaf first (p.level + p.height) (i - first) p.levels (omega arith))) in (omega arith, omega arith)
 
-pub root_stands : (first s e : ℕ) → StandsOver first 0 s e → (s ≡ 0) × (e ≡ first + 1)
+pub root_stands : (first s e : ℕ) → IsAbove first 0 s e → (s ≡ 0) × (e ≡ first + 1)
 root_stands first s e p = one_part first 0 _ _ _ _ p (root first (p.level + p.height) p.levels)

@@ -52,7 +52,7 @@ pub record IsGrowing (leaves w : ℕ) : Type 0 where
   pub power : 2 * 2 ^ exponent ≡ w
   pub short : (exponent ≡ 0) ⊎ (2 ^ exponent < leaves)
 
--- after `first` nodes stand those of the first n blocks
+-- after `first` nodes come those of the first n blocks
 pub record AreFirstBlocks (l : List Bool) (size first n : ℕ) (nodes : List Node) : Type 0 where
   pub counted : length nodes ≡ first + n
   pub part : (k : ℕ) → k < n → IsPart l (k * size) (min (k * size + size) (length l)) (slice_index_or nodes (first + k) empty_node)

@@ -32,11 +32,12 @@ pub record IsLevel (x : Node) : Type 0 where
   pub total : x.total ≡ pos 0
   pub least : pos 0 ≤ℤ x.least
 
--- what a node over no block holds: its range is empty
+-- the node over no block: its range is empty
 abbrev pub empty_node : Node
 empty_node = record { total = pos 0; least = pos 1; greatest = negsuc 0 }
 
--- x holds the total, least and greatest excess of the places from a up to b, which are some
+-- x is the node of the bits from position a to before b, of which there is at least one: the total of their excess, and
+-- the least and the greatest after one of them
 pub record IsPart (l : List Bool) (a b : ℕ) (x : Node) : Type 0 where
   pub total : excess l b ≡ excess l a +ℤ x.total
   pub low : (j : ℕ) → a < j → j ≤ b → (excess l a +ℤ x.least) ≤ℤ excess l j
@@ -49,7 +50,7 @@ pub record IsNumberAt (l : List Bool) (p n bits : ℕ) : Type 0 where
   pub within : p + n ≤ length l
   pub valued : bits ≡ number (part l p n)
 
--- where block k of `size` bits begins, or the end of the list
+-- the position at which block k of `size` bits begins, or the end of the list
 abbrev pub start_of : List Bool → ℕ → ℕ → ℕ
 start_of l size k = min (k * size) (length l)
 
@@ -57,8 +58,8 @@ start_of l size k = min (k * size) (length l)
 pub record Covers (l : List Bool) (size i e : ℕ) (x : Node) : Type 0 where
   pub part : IsPart l (start_of l size i) (start_of l size e) x ⊎ ((length l ≤ i * size) × (x ≡ empty_node))
 
--- in a tree with `first` nodes above its leaves, node i stands over the leaves from s up to e
-pub record StandsOver (first i s e : ℕ) : Type 0 where
+-- in a tree with `first` nodes above its leaves, node i is above the leaves from s to before e
+pub record IsAbove (first i s e : ℕ) : Type 0 where
   pub level : ℕ
   pub height : ℕ
   pub offset : ℕ
@@ -70,7 +71,7 @@ pub record StandsOver (first i s e : ℕ) : Type 0 where
 
 -- from node i on each node covers its part
 abbrev pub CoveredFrom : List Bool → ℕ → ℕ → List Node → ℕ → Type 0
-CoveredFrom l size first nodes i = (m s e : ℕ) → i ≤ m → StandsOver first m s e → Covers l size s e (slice_index_or nodes m empty_node)
+CoveredFrom l size first nodes i = (m s e : ℕ) → i ≤ m → IsAbove first m s e → Covers l size s e (slice_index_or nodes m empty_node)
 
 -- the leaves of a list that is not too long cover its blocks
 pub record AreLeaves (l : List Bool) (size first : ℕ) (nodes : List Node) : Type 0 where
@@ -138,14 +139,14 @@ pub record LeadsTo (back : Bool) (s : Sought) (first : ℕ) (nodes : List Node) 
   pub tree : IsMinMax s.bits s.size first nodes
   pub start : ℕ
   pub stop : ℕ
-  pub stands : StandsOver first place start stop
+  pub stands : IsAbove first place start stop
   pub ahead : IsAhead back s start stop left
 
 -- a search has passed the part of the node at `place`
 pub record PassedTo (back : Bool) (s : Sought) (first place : ℕ) (left : ℤ) : Type 0 where
   pub start : ℕ
   pub stop : ℕ
-  pub stands : StandsOver first place start stop
+  pub stands : IsAbove first place start stop
   pub passed : Passed back s (start_of s.bits s.size (edge back stop start)) left
 
 -- `odd` is `number` without the zeros at its end
@@ -154,7 +155,7 @@ pub record IsOddPart (number odd : ℕ) : Type 0 where
   pub splits : number ≡ odd * 2 ^ zeros
   pub ends : odd % 2 ≡ 1
 
--- `next` is the node over the blocks right past those of `node`, or 0 where there are none
+-- `next` is the node over the blocks right past those of `node`, or 0 if there are none
 abbrev pub IsBeside : (back : Bool) → ℕ → ℕ → Type 0
 IsBeside false node next = IsOddPart (node + 2) (next + 1)
 IsBeside true node next = (odd : ℕ) × IsOddPart (node + 1) odd × (next ≡ odd - 2)
@@ -184,7 +185,7 @@ pub record ComesTo (back : Bool) (s : Sought) (first : ℕ) (nodes : List Node) 
   pub passed : 0 < place → PassedTo back s first (beside_far back place) left
   pub none : place ≡ 0 → HasNone back s
 
--- a node tells that its part has a sum, which is `left` above the one at the end that a search meets first; and what is left past the part
+-- by its node, a part has the sum that a search needs: `left` above the sum at the end that the search meets first
 abbrev pub IsMet : (back : Bool) → Node → ℤ → Type 0
 IsMet false x left = IsInRange x left
 IsMet true x left = IsInRangeOrStart x (left +ℤ x.total)

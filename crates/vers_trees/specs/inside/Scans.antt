@@ -34,7 +34,7 @@ pub record HasNoRise (back : Bool) (l : List Bool) (from p : ℕ) (r rise : ℤ)
   pub risen : excess l p ≡ excess l from +ℤ rise
   pub none : (k : ℕ) → IsBetween back from p k → sum_past back l k ≢ excess l from +ℤ r
 
--- how many zeros no one stands right before, where p says whether a one stands before the list
+-- how many zeros don't directly follow a one; p says whether a one precedes the list
 abbrev pub falls : Bool → List Bool → ℕ
 falls p [] = 0
 falls p (true ∷ l) = falls true l
@@ -46,7 +46,7 @@ abbrev pub is_not_closed : List Bool → Bool
 is_not_closed [] = true
 is_not_closed (b ∷ l) = b
 
--- how many ones no zero stands right after
+-- how many ones no zero directly follows
 abbrev pub rises : List Bool → ℕ
 rises [] = 0
 rises (b ∷ l) = bit_value (b && is_not_closed l) + rises l
