@@ -35,7 +35,6 @@ use crate::items::{clones, compares, counted};
 use crate::proved::inverted as proved;
 use crate::rattle::Global;
 use crate::saved::saved;
-use crate::sets::without;
 use std::fmt;
 
 /// Ascending lists of documents, one for each term. Terms and documents are numbers, and no list has an equal document
@@ -205,13 +204,12 @@ impl InvertedIndex {
         EliasFanoVec { numbers: granted(self.index.union_of(Global, first, others)) }
     }
 
-    /// Returns the documents that have the first term and none of the others. As
-    /// [`sets::difference_of`](crate::sets::difference_of), it composes proved sources, and has no contract of its own.
+    /// Returns the documents that have the first term and none of the others.
+    #[doc = contract!(InvertedIndex::difference_of)]
     #[must_use]
     #[track_caller]
     pub fn difference_of(&self, first: u64, others: &[u64]) -> EliasFanoVec {
-        let list = |term| proved::ListOf::new(&self.index, term);
-        EliasFanoVec { numbers: granted(without(list(first), others.iter().map(|term| list(*term)))) }
+        EliasFanoVec { numbers: granted(self.index.difference_of(Global, first, others)) }
     }
 }
 

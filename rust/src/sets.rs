@@ -18,7 +18,7 @@ use crate::elias_fano::EliasFanoVec;
 use crate::error::granted;
 use crate::proved::sets as proved;
 use crate::proved::vers_sorted::elias_fano as lists;
-use crate::rattle::{AllocError, Global};
+use crate::rattle::Global;
 
 /// Returns the numbers that are in both lists, by at most one search more in each than the shorter has numbers.
 #[doc = contract!(intersection)]
@@ -59,26 +59,12 @@ pub fn union_of(first: &EliasFanoVec, others: &[&EliasFanoVec]) -> EliasFanoVec 
     made(proved::union_of(Global, &first.numbers, &numbers_of(others)))
 }
 
-/// Returns the numbers of the first list that are in none of the others. It composes two proved sources, the numbers in
-/// one of several lists and those of a list without another's, and has no contract of its own.
+/// Returns the numbers of the first list that are in none of the others, by at most one search more in each than the
+/// first has numbers.
+#[doc = contract!(difference_of)]
 #[must_use]
 pub fn difference_of(first: &EliasFanoVec, others: &[&EliasFanoVec]) -> EliasFanoVec {
-    made(without(proved::Cursor::new(&first.numbers), others.iter().map(|list| proved::Cursor::new(&list.numbers))))
-}
-
-/// Returns the numbers of the first source that are in none of the others.
-pub(crate) fn without<S: proved::Seek>(
-    one: S,
-    mut others: impl Iterator<Item = S>,
-) -> Result<lists::EliasFanoVec<Global>, AllocError> {
-    match others.next() {
-        None => proved::collect(Global, one),
-        Some(first) => {
-            let mut rest = crate::rattle::Vec::new(Global);
-            rest.extend(others)?;
-            proved::collect(Global, proved::Without { one, other: proved::AnyOf { first, others: rest } })
-        }
-    }
+    made(proved::difference_of(Global, &first.numbers, &numbers_of(others)))
 }
 
 /// Returns the proved structures of lists.
@@ -88,6 +74,6 @@ fn numbers_of<'a>(lists: &[&'a EliasFanoVec]) -> Vec<&'a lists::EliasFanoVec<Glo
 
 /// Returns a list that was made.
 #[track_caller]
-fn made(numbers: Result<lists::EliasFanoVec<Global>, AllocError>) -> EliasFanoVec {
+fn made(numbers: Result<lists::EliasFanoVec<Global>, crate::rattle::AllocError>) -> EliasFanoVec {
     EliasFanoVec { numbers: granted(numbers) }
 }

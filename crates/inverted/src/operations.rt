@@ -1,6 +1,6 @@
 //! Intersections, unions and differences of the lists of terms.
 ghost use Rattle.std.specs.Prelude.{◌≡◌, ◌∷◌, IfOk, if◌then◌else◌, length, map, nat_le};
-ghost use Rattle.sets.specs.Sets.{IsSetOf, in_all, in_any, in_both, in_either, in_first_alone};
+ghost use Rattle.sets.specs.Sets.{IsSetOf, in_all, in_any, in_both, in_either, in_first_alone, in_first_only};
 ghost use Rattle.inverted.specs.Lists.{documents_with, list_of, term_of};
 
 use crate::inverted_index::InvertedIndex;
@@ -133,6 +133,31 @@ impl<A: Allocator + Copy> InvertedIndex<A> {
             others,
         };
         collect(alloc, any)
+    }
+
+    /// Returns the documents that have the first term and none of the others. Errors: `AllocError` only if the
+    /// allocator refuses a request.
+    pub fn difference_of(
+        &self,
+        alloc: A,
+        first: u64,
+        others: &[u64],
+    ) -> Result<EliasFanoVec<A>, AllocError>
+        ensures { IfOk result
+            (IsSetOf (in_first_only (list_of self.now first) (map (list_of self.now) others.now))) }
+    {
+        let Some((second, rest)) = others.split_first() else {
+            return collect(alloc, ListOf::new(self, first));
+        };
+        let others = lists_of(alloc, self, rest)?;
+        let remaining = Without {
+            one: ListOf::new(self, first),
+            other: AnyOf {
+                first: ListOf::new(self, *second),
+                others,
+            },
+        };
+        collect(alloc, remaining)
     }
 }
 

@@ -322,7 +322,8 @@ fn wrong_row(alloc: Global, index: &Index) -> Option<usize> {
             && is_list(index.union(alloc, *one, *other), either)
             && is_list(index.union_of(alloc, *other, &[*one]), either)
             && is_list(index.difference(alloc, *one, *other), first)
-            && is_list(index.difference(alloc, *other, *one), second);
+            && is_list(index.difference(alloc, *other, *one), second)
+            && is_list(index.difference_of(alloc, *one, &[*other]), first);
         if !is_right {
             return Some(row);
         }
@@ -339,6 +340,9 @@ fn many_are_right(alloc: Global, index: &Index) -> bool {
         && is_list(index.union_of(alloc, 0, &[2, 3]), &[2, 4, 5, 6, 9, 12, 40])
         && is_list(index.union_of(alloc, 3, &[]), &[4, 6, 12])
         && is_list(index.union_of(alloc, 1, &[1, 7]), &[])
+        && is_list(index.difference_of(alloc, 0, &[2, 3]), &[2])
+        && is_list(index.difference_of(alloc, 2, &[3, 0]), &[5, 40])
+        && is_list(index.difference_of(alloc, 3, &[]), &[4, 6, 12])
 }
 
 #[test]

@@ -112,6 +112,7 @@ pub fn combined<A: Allocator + Copy>(
         Operation::Difference => index.difference(alloc, one, other),
         Operation::IntersectionOf => index.intersection_of(alloc, one, &[other]),
         Operation::UnionOf => index.union_of(alloc, one, &[other]),
+        Operation::DifferenceOf => index.difference_of(alloc, one, &[other]),
     }
 }
 

@@ -24,6 +24,10 @@ in_either one other x = is_member one x || is_member other x
 abbrev pub in_first_alone : List ℕ → List ℕ → ℕ → Bool
 in_first_alone one other x = is_member one x && not (is_member other x)
 
+-- whether x is in the first list and in none of the others
+abbrev pub in_first_only : List ℕ → List (List ℕ) → ℕ → Bool
+in_first_only first others x = is_member first x && not (list_any (λ other. is_member other x) others)
+
 -- whether x is in the first list and in each of the others
 abbrev pub in_all : List ℕ → List (List ℕ) → ℕ → Bool
 in_all first others x = is_member first x && list_all (λ other. is_member other x) others

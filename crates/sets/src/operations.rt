@@ -2,7 +2,7 @@
 ghost use Rattle.std.specs.Prelude.{◌≡◌, ◌+◌, ◌∷◌, IfOk, length, map, min};
 ghost use Rattle.std.specs.List.{sum_by};
 ghost use Rattle.vers_tally.specs.Reads.{AddsAtMost, plus, times};
-ghost use Rattle.sets.specs.Sets.{IsSetOf, in_all, in_any, in_both, in_either, in_first_alone};
+ghost use Rattle.sets.specs.Sets.{IsSetOf, in_all, in_any, in_both, in_either, in_first_alone, in_first_only};
 ghost use Rattle.sets.specs.Sources.{seek_reads, seek_reads_of};
 
 use crate::cursor::Cursor;
@@ -184,6 +184,48 @@ pub fn union_of_numbers_counted<'a, A: Allocator + Copy>(
         others,
     };
     numbers_of_counted(alloc, any, tally)
+}
+
+/// Returns the numbers that are in the first list and in none of the others. Errors: `AllocError` only if the
+/// allocator refuses a request.
+pub fn difference_of<'a, A: Allocator + Copy>(
+    alloc: A,
+    first: &'a EliasFanoVec<A>,
+    others: &[&'a EliasFanoVec<A>],
+) -> Result<EliasFanoVec<A>, AllocError>
+    ensures { IfOk result (IsSetOf (in_first_only first.now (map (λ list. list.now) others.now))) }
+{
+    let mut tally = Tally::new();
+    let found = difference_of_numbers_counted(alloc, first, others, &mut tally)?;
+    EliasFanoVec::from_slice(alloc, found.as_slice())
+}
+
+/// Returns the members of `difference_of(alloc, first, others)`. Takes at most one step more in each list than
+/// the first has members.
+pub fn difference_of_numbers_counted<'a, A: Allocator + Copy>(
+    alloc: A,
+    first: &'a EliasFanoVec<A>,
+    others: &[&'a EliasFanoVec<A>],
+    tally: &mut Tally,
+) -> Result<Vec<u64, A>, AllocError>
+    ensures value { IfOk result (λ found.
+        IsSetOf (in_first_only first.now (map (λ list. list.now) others.now)) found.items) }
+    ensures adds { AddsAtMost tally.old tally.new
+        (times (length first.now + 1)
+        (plus (seek_reads first.now) (seek_reads_of (map (λ list. list.now) others.now)))) }
+{
+    let Some((second, rest)) = others.split_first() else {
+        return numbers_of_counted(alloc, Cursor::new(first), tally);
+    };
+    let others = cursors_of(alloc, rest)?;
+    let remaining = Without {
+        one: Cursor::new(first),
+        other: AnyOf {
+            first: Cursor::new(second),
+            others,
+        },
+    };
+    numbers_of_counted(alloc, remaining, tally)
 }
 
 // Returns a cursor at the first member of each list.

@@ -1,6 +1,6 @@
 //! Rows that were worked out by hand.
 use crate::shared::{given, has_members, listed};
-use sets::{intersection_of, union_of};
+use sets::{difference_of, intersection_of, union_of};
 use std::alloc::{AllocError, Global};
 use test_alloc::{Operation, asked, asked_both};
 use vers_sorted::elias_fano::EliasFanoVec;
@@ -56,7 +56,8 @@ fn wrong_pair(alloc: Global, pairs: &[Pair]) -> Option<usize> {
             && given(alloc, Operation::Union, one, other, either)
             && given(alloc, Operation::UnionOf, one, other, either)
             && given(alloc, Operation::Difference, one, other, first)
-            && given(alloc, Operation::Difference, other, one, second);
+            && given(alloc, Operation::Difference, other, one, second)
+            && given(alloc, Operation::DifferenceOf, one, other, first);
         if !is_right {
             return Some(row);
         }
@@ -76,7 +77,7 @@ fn is_list(made: Result<List, AllocError>, wanted: &[u64]) -> bool {
     asked(made, |list: &List| has_members(list, wanted)) == Ok(true)
 }
 
-// Returns true if the intersection and the union of three lists, and those of fewer, are right.
+// Returns true if the intersection, union and difference of three lists, and those of fewer, are right.
 fn three_are_right(alloc: Global, one: &List, other: &List, third: &List) -> bool {
     is_list(intersection_of(alloc, one, &[other, third]), &[4, 12])
         && is_list(intersection_of(alloc, third, &[one, other]), &[4, 12])
@@ -86,6 +87,9 @@ fn three_are_right(alloc: Global, one: &List, other: &List, third: &List) -> boo
             &[2, 4, 5, 6, 9, 12, 40],
         )
         && is_list(union_of(alloc, third, &[]), &[4, 6, 12])
+        && is_list(difference_of(alloc, one, &[other, third]), &[2])
+        && is_list(difference_of(alloc, other, &[third, one]), &[5, 40])
+        && is_list(difference_of(alloc, third, &[]), &[4, 6, 12])
 }
 
 #[test]

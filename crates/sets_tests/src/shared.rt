@@ -1,8 +1,8 @@
 //! Operations on ascending lists, as tests need them.
 use sets::{
-    difference, difference_numbers_counted, intersection, intersection_numbers_counted,
-    intersection_of, intersection_of_numbers_counted, union, union_numbers_counted, union_of,
-    union_of_numbers_counted,
+    difference, difference_numbers_counted, difference_of, difference_of_numbers_counted,
+    intersection, intersection_numbers_counted, intersection_of, intersection_of_numbers_counted,
+    union, union_numbers_counted, union_of, union_of_numbers_counted,
 };
 use std::alloc::{AllocError, Allocator};
 use test_alloc::{Operation, asked};
@@ -57,6 +57,7 @@ pub fn combined<A: Allocator + Copy>(
         Operation::Difference => difference(alloc, one, other),
         Operation::IntersectionOf => intersection_of(alloc, one, &[other]),
         Operation::UnionOf => union_of(alloc, one, &[other]),
+        Operation::DifferenceOf => difference_of(alloc, one, &[other]),
     }
 }
 
@@ -76,6 +77,7 @@ pub fn counted<A: Allocator + Copy>(
             intersection_of_numbers_counted(alloc, one, &[other], tally)
         }
         Operation::UnionOf => union_of_numbers_counted(alloc, one, &[other], tally),
+        Operation::DifferenceOf => difference_of_numbers_counted(alloc, one, &[other], tally),
     }
 }
 

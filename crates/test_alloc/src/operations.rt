@@ -9,15 +9,17 @@ pub enum Operation {
     Difference,
     IntersectionOf,
     UnionOf,
+    DifferenceOf,
 }
 
 /// All operations.
-pub const OPERATIONS: [Operation; 5] = [
+pub const OPERATIONS: [Operation; 6] = [
     Operation::Intersection,
     Operation::Union,
     Operation::Difference,
     Operation::IntersectionOf,
     Operation::UnionOf,
+    Operation::DifferenceOf,
 ];
 
 /// Returns true if the result of an operation has a number that is in the first list if `one`, and in the other
@@ -26,7 +28,7 @@ pub fn is_in_result(operation: Operation, one: bool, other: bool) -> bool {
     match operation {
         Operation::Intersection | Operation::IntersectionOf => one && other,
         Operation::Union | Operation::UnionOf => one || other,
-        Operation::Difference => one && !other,
+        Operation::Difference | Operation::DifferenceOf => one && !other,
     }
 }
 
@@ -35,7 +37,7 @@ pub fn result_with_half<'a>(operation: Operation, list: &'a [u64]) -> &'a [u64] 
     let half = list.len() / 2;
     match operation {
         Operation::Union | Operation::UnionOf => list,
-        Operation::Difference => &list[..half],
+        Operation::Difference | Operation::DifferenceOf => &list[..half],
         Operation::Intersection | Operation::IntersectionOf => &list[half..],
     }
 }

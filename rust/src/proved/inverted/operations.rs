@@ -106,6 +106,28 @@ impl<A: Allocator + Copy> InvertedIndex<A> {
         };
         collect(alloc, any)
     }
+
+    /// Returns the documents that have the first term and none of the others. Errors: `AllocError` only if the
+    /// allocator refuses a request.
+    pub fn difference_of(
+        &self,
+        alloc: A,
+        first: u64,
+        others: &[u64],
+    ) -> Result<EliasFanoVec<A>, AllocError> {
+        let (second, rest) = match others.split_first() { Some((second, rest)) => (second, rest), _ => {
+            return collect(alloc, ListOf::new(self, first));
+        } };
+        let others = lists_of(alloc, self, rest)?;
+        let remaining = Without {
+            one: ListOf::new(self, first),
+            other: AnyOf {
+                first: ListOf::new(self, *second),
+                others,
+            },
+        };
+        collect(alloc, remaining)
+    }
 }
 
 // Returns two terms, the one with fewer documents first.

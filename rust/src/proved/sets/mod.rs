@@ -16,9 +16,9 @@ pub use cursor::Cursor;
 pub use gather::{collect, numbers_of, numbers_of_counted};
 pub use joined::{Both, Either, Without};
 pub use operations::{
-    difference, difference_numbers_counted, intersection, intersection_numbers_counted,
-    intersection_of, intersection_of_numbers_counted, union, union_numbers_counted, union_of,
-    union_of_numbers_counted,
+    difference, difference_numbers_counted, difference_of, difference_of_numbers_counted,
+    intersection, intersection_numbers_counted, intersection_of, intersection_of_numbers_counted,
+    union, union_numbers_counted, union_of, union_of_numbers_counted,
 };
 pub use seek::Seek;
 pub use several::{AllOf, AnyOf};

@@ -148,6 +148,40 @@ pub fn union_of_numbers_counted<'a, A: Allocator + Copy>(
     numbers_of_counted(alloc, any, tally)
 }
 
+/// Returns the numbers that are in the first list and in none of the others. Errors: `AllocError` only if the
+/// allocator refuses a request.
+pub fn difference_of<'a, A: Allocator + Copy>(
+    alloc: A,
+    first: &'a EliasFanoVec<A>,
+    others: &[&'a EliasFanoVec<A>],
+) -> Result<EliasFanoVec<A>, AllocError> {
+    let mut tally = Tally::new();
+    let found = difference_of_numbers_counted(alloc, first, others, &mut tally)?;
+    EliasFanoVec::from_slice(alloc, found.as_slice())
+}
+
+/// Returns the members of `difference_of(alloc, first, others)`. Takes at most one step more in each list than
+/// the first has members.
+pub fn difference_of_numbers_counted<'a, A: Allocator + Copy>(
+    alloc: A,
+    first: &'a EliasFanoVec<A>,
+    others: &[&'a EliasFanoVec<A>],
+    tally: &mut Tally,
+) -> Result<Vec<u64, A>, AllocError> {
+    let (second, rest) = match others.split_first() { Some((second, rest)) => (second, rest), _ => {
+        return numbers_of_counted(alloc, Cursor::new(first), tally);
+    } };
+    let others = cursors_of(alloc, rest)?;
+    let remaining = Without {
+        one: Cursor::new(first),
+        other: AnyOf {
+            first: Cursor::new(second),
+            others,
+        },
+    };
+    numbers_of_counted(alloc, remaining, tally)
+}
+
 // Returns a cursor at the first member of each list.
 fn cursors_of<'a, A: Allocator + Copy>(
     alloc: A,

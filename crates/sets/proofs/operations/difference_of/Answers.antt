@@ -1,0 +1,5 @@
+use Rattle.sets.proofs.Gathered.{ascending_set}
+use Rattle.sets.proofs.operations.difference_of.Goals as goal
+
+pub from_slice-requires : goal.from_slice-requires
+from_slice-requires g c = rw c.as_slice.ensures.value (ascending_set c.in_ok-found.ensures.value)
