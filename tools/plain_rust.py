@@ -1,7 +1,8 @@
 #!/usr/bin/env python3
 """Writes the proved sources as a crate of plain Rust, or compares the stored files with what it writes.
 
-    tools/plain_rust.py                writes proved, contracts.rs and definitions.md in rust/src
+    tools/plain_rust.py                writes proved, contracts.rs and definitions.md in rust/src, and the program in
+                                       rust/program/src/programs
     tools/plain_rust.py --tests        writes the tests of the proved sources to rust/target, where cargo takes them
                                        with RUSTFLAGS="--cfg proved_tests"
     tools/plain_rust.py --check        compares these, and rust/guards.txt with the sources (tools/rust_contracts.py)
@@ -27,13 +28,14 @@ postings text_index sets inverted vers_saved""".split()
 TESTS = """test_alloc vers_bits_tests vers_rank_tests word_rank_tests wavelet_tree_tests vers_sorted_tests
 vers_rmq_tests vers_wavelet_tests vers_trees_tests postings_tests text_index_tests sets_tests inverted_tests
 vers_saved_tests""".split()
-# The programs as libraries, the exports to C, and their tests: written only for the build of wrong bodies
-# (tools/mutants.py).
-PROGRAMS = "vers_io catalogue vers_words vers_engine vers_cli vers_texts vers_files vers_vecs vers_uses vers_c".split()
+# The program that cargo builds, with its libraries. The other programs, the exports to C, and their tests are written
+# only for the build of wrong bodies (tools/mutants.py).
+PROGRAM = "vers_io catalogue vers_words vers_engine vers_cli vers_texts vers_files vers_commands".split()
+PROGRAMS = [*PROGRAM, "vers_vecs", "vers_uses", "vers_c"]
 PROGRAM_TESTS = "vers_cli_tests vers_texts_tests vers_files_tests vers_uses_tests".split()
-# The module that each belongs to, and the one that is stored.
+# The module that each belongs to, and the folders of what is stored, from that of the crate's sources.
 MODULES = {"proved": CRATES, "proved_tests": TESTS, "programs": PROGRAMS, "program_tests": PROGRAM_TESTS}
-STORED = "proved"
+STORED = {"proved": CRATES, "../program/src/programs": PROGRAM}
 # The files that use raw pointers in Rattle, and their Rust form: types of the support module.
 BY_HAND = {
     "test_alloc/refusing.rs": "pub use crate::rattle::refusing::{Plan, Refusing, takes_none};\n",
@@ -68,8 +70,10 @@ std::hash::BuildHasherDefault std::error::Error std::str::from_utf8""".split()
 USES.update({it: it for it in SAME})
 # Those of programs besides.
 PROGRAM_USES = {**USES, "std::io::ErrorKind": "std::io::ErrorKind", "std::fs": HERE + "fs",
-                "std::fs::File": HERE + "fs::File", "std::fs::Files": HERE + "fs::Files",
-                "std::path::Path": HERE + "fs::Path", "std::sync::Arc": HERE + "owners::Arc"}
+                "std::fs::self": HERE + "fs", "std::fs::File": HERE + "fs::File", "std::fs::Files": HERE + "fs::Files",
+                "std::path::Path": HERE + "fs::Path", "std::sync::Arc": HERE + "owners::Arc",
+                "std::env": HERE + "host::env", "std::io::IsTerminal": "std::io::IsTerminal",
+                "std::process::ExitCode": "std::process::ExitCode"}
 
 # Methods that the proved sources call and don't define. Those of Rust's own types are assumed to mean the same in both
 # languages; the support module has the others.
@@ -80,9 +84,9 @@ saturating_mul saturating_sub simd_ge simd_ne size_hint sort_unstable sort_unsta
 split_first split_once strip_prefix then_some to_array to_bitmask to_le_bytes trailing_ones trailing_zeros unwrap
 unwrap_or wrapping_add wrapping_mul wrapping_sub write_once write_str write_usize""".split())
 # Those that programs call besides.
-PROGRAM_METHODS = set("""as_chunks as_str cast_signed cast_unsigned chain checked_add_unsigned
-checked_sub_unsigned copied discard into_box into_owner is_ascii_digit permissions position read_all replace
-set_permissions shrink_to sync_all take unsigned_abs""".split())
+PROGRAM_METHODS = set("""alloc as_chunks as_path as_str cast_signed cast_unsigned chain checked_add_unsigned
+checked_sub_unsigned collect copied discard into_box into_owner is_ascii_digit is_terminal permissions position read_all
+replace set_permissions shrink_to stderr stdin stdout sync_all take unsigned_abs""".split())
 # A method that takes a list of Rust's own there, and the one of the support module that takes a list of Rattle's.
 RENAMED = {"read_to_end": "read_all"}
 # A method that the oldest rustc lacks, and the one of the support module.
@@ -98,6 +102,8 @@ DERIVES = {"Clone", "Copy", "PartialEq", "Eq", "Debug"}
 MACROS = {"unreachable", "matches"}
 GHOST_MACROS = {"prove", "prove_eq", "prove_ne"}
 HANDLED_MACROS = {"assert", "assert_eq", "assert_ne"}
+# Those of programs, which return a result, and their forms in the support module.
+PRINTING = {"println": "crate::print_line", "eprintln": "crate::print_error"}
 CLAUSES = {"requires", "ensures"}
 # What may follow an item at the top of a file, a visibility or a ghost value.
 ITEMS = CLAUSES | set("# pub ( ghost use fn const static type mod struct enum trait impl macro_rules extern ; =".split()) | {""}
@@ -247,7 +253,7 @@ class Writer:
             return it.blank + it.text + self.code(it.inner) + it.tail + CLOSING[it.text], 1
         if it.kind == "word" and second.text == "!" and third.inner is not None:
             return self.macro(tokens, k)
-        if it.kind == "text" and "\n" in it.text:
+        if it.kind == "text" and "\n" in it.text and not is_program(self.crate):
             self.refuse(it, "a text of several lines")
         if it.kind == "ghost" or it.text == "#" or (it.kind == "word" and it.text in self.refused):
             self.refuse(it, f"{it.text!r} in code")
@@ -292,16 +298,17 @@ class Writer:
             return "", 4
         if name.text in self.macros:
             return f"{name.blank}{name.text}!", 2
-        if name.text in HANDLED_MACROS:
+        if name.text in HANDLED_MACROS or name.text in PRINTING and is_program(self.crate):
             rest = next((n for n, it in enumerate(group.inner, 1) if it.text == ";"), None)
             if rest is None:
                 self.refuse(name, f"{name.text}! without a handle")
-            return f"{name.blank}{name.text}!({self.code(group.inner[rest:]).lstrip()}{group.tail})", 3
+            macro = PRINTING.get(name.text, name.text)
+            return f"{name.blank}{macro}!({self.code(group.inner[rest:]).lstrip()}{group.tail})", 3
         if name.text == "vec" and (found := re.fullmatch(r"\[in ([^;]+); ([^;]+); ([^;]+)\]", text)):
             # An allocator, an item, and how many times.
             return name.blank + self.code(read(f"Vec::from_elem({', '.join(found.groups())})")), 3
         if name.text == "format" and re.match(r"\(in [^;]+; ", text):
-            return f"{name.blank}crate::rattle::testing::granted(format!({text.split('; ', 1)[1]})", 3
+            return f"{name.blank}crate::rattle::granted(format!({text.split('; ', 1)[1]})", 3
         return self.refuse(name, f"the macro {name.text}!")
 
     # The forms that the oldest rustc lacks.
@@ -446,6 +453,8 @@ class Writer:
         at = next((k for k, it in enumerate(lines) if not it.startswith("//!")), len(lines))
         lines[at:at] = ["", PRELUDE]
         text = re.sub(r"\{\n\n+", "{\n", re.sub(r"\n{3,}", "\n\n", "\n".join(lines)))
+        # The program's own `main` calls it.
+        text = re.sub(r"(?m)^fn main\(", "pub fn main(", text)
         for test in SLOW.get(self.name, ()):
             text, count = re.subn(rf"(?m)^#\[test\]\n(?=fn {test}\()",
                                   "#[test]\n#[ignore = \"slow without optimization\"]\n", text)
@@ -457,7 +466,7 @@ class Writer:
 def path_of(source):
     """Returns the path that a source file is written to."""
     stem = source.path.partition("/src/")[2].removesuffix(".rt")
-    return f"{source.crate}/{'mod' if stem == 'lib' else stem}.rs"
+    return f"{source.crate}/{'mod' if stem in ('lib', 'main') else stem}.rs"
 
 
 def written_of(crates):
@@ -476,23 +485,30 @@ def written_of(crates):
                 faults.append(str(why))
             calls.update({it: f"{path}:{line}" for it, line in writer.calls.items()})
             defines |= writer.defines
-    written["mod.rs"] = NOTE + "".join(f"pub mod {it};\n" for it in crates)
+    written["mod.rs"] = modules(crates)
     return written, faults, calls, defines
+
+
+def modules(crates):
+    """Returns the text of the module that has the modules of crates."""
+    return NOTE + "".join(f"pub mod {it};\n" for it in crates)
 
 
 def written(top):
     """Returns all files that the script stores, by their paths in the folder of the crate's sources, and the faults
     that it met, in the crates that it doesn't store too."""
     files, faults = pages(top, f"{top}/{RUST}", CRATES)
-    known = set(METHODS)
+    known, texts = set(METHODS), {}
     for module, crates in MODULES.items():
-        texts, wrong, calls, defines = written_of(crates)
+        made, wrong, calls, defines = written_of(crates)
         if crates in (CRATES, PROGRAMS):
             known |= defines | (PROGRAM_METHODS if crates is PROGRAMS else set())
             wrong += [f"{calls[it]}: the method {it}" for it in sorted(set(calls) - known)]
-        if module == STORED:
-            files.update({f"{module}/{path}": text for path, text in texts.items()})
+        texts.update(made)
         faults += [f"{module}: {it}" for it in wrong]
+    for folder, crates in STORED.items():
+        files.update({f"{folder}/{path}": text for path, text in texts.items() if path.split("/")[0] in crates})
+        files[f"{folder}/mod.rs"] = modules(crates)
     return files, faults
 
 
@@ -504,9 +520,10 @@ def write_tests():
 
 
 def stored(folder):
-    """Returns the files of the folder that the script alone writes, by their paths in the folder of the crate's
+    """Returns the files of the folders that the script alone writes, by their paths in the folder of the crate's
     sources."""
-    return {str(path.relative_to(folder)) for path in Path(folder, STORED).rglob("*") if path.is_file()}
+    return {f"{it}/{path.relative_to(Path(folder, it))}" for it in STORED for path in Path(folder, it).rglob("*")
+            if path.is_file()}
 
 
 TRIED = {

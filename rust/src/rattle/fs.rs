@@ -2,12 +2,18 @@
 
 use std::fs;
 use std::io;
-use std::io::Write;
+use std::io::{Read, Write};
+
+use super::host::HostRuntime;
 
 /// A file system.
 pub trait Files {
     /// Its files.
     type File;
+}
+
+impl Files for HostRuntime {
+    type File = File;
 }
 
 /// The path of a file.
@@ -31,13 +37,29 @@ impl<'a> Path<'a> {
     }
 }
 
+impl<'a> From<&'a str> for Path<'a> {
+    fn from(path: &'a str) -> Self {
+        Path(path)
+    }
+}
+
+/// The path of a file, on the heap.
+pub struct PathBuf(String);
+
+impl PathBuf {
+    /// Returns the path.
+    pub fn as_path(&self) -> Path<'_> {
+        Path(&self.0)
+    }
+}
+
 /// An open file.
 pub struct File(fs::File);
 
 impl File {
     /// Opens a file to read it.
-    pub fn open<R: Files<File = File>>(_files: &R, path: Path<'_>) -> io::Result<File> {
-        fs::File::open(path.0).map(File)
+    pub fn open<'a, R: Files<File = File>>(_files: &R, path: impl Into<Path<'a>>) -> io::Result<File> {
+        fs::File::open(path.into().0).map(File)
     }
 
     /// Creates a file, which must not be there, to write it.
@@ -56,6 +78,12 @@ impl File {
     }
 }
 
+impl Read for File {
+    fn read(&mut self, buf: &mut [u8]) -> io::Result<usize> {
+        self.0.read(buf)
+    }
+}
+
 impl Write for File {
     fn write(&mut self, buf: &[u8]) -> io::Result<usize> {
         self.0.write(buf)
@@ -69,6 +97,12 @@ impl Write for File {
 /// Returns what the system says of a file.
 pub fn metadata<R: Files<File = File>>(_files: &R, path: &str) -> io::Result<fs::Metadata> {
     fs::metadata(path)
+}
+
+/// Returns the path of a file without links.
+pub fn canonicalize<R: Files<File = File>>(_files: &R, path: &str) -> io::Result<PathBuf> {
+    let path = fs::canonicalize(path)?.into_os_string().into_string();
+    path.map(PathBuf).map_err(|_| io::ErrorKind::InvalidData.into())
 }
 
 /// Renames a file.

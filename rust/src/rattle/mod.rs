@@ -3,16 +3,18 @@
 //! All of it is safe Rust. The proofs are over the contracts that Rattle's library gives these names, so each body here is to do what the
 //! contract of that name says.
 
-#[cfg(mutants)]
+#[cfg(any(mutants, programs))]
 pub mod boxed;
-#[cfg(mutants)]
+#[cfg(any(mutants, programs))]
 pub mod fs;
+#[cfg(any(test, programs))]
+pub mod host;
 pub mod io;
 pub mod lanes;
 #[cfg(mutants)]
 pub mod mutants;
 pub mod older;
-#[cfg(mutants)]
+#[cfg(any(mutants, programs))]
 pub mod owners;
 #[cfg(test)]
 pub mod reads;
@@ -26,13 +28,13 @@ pub use vec::Vec;
 
 /// The names that every proved file sees.
 pub mod prelude {
-    #[cfg(mutants)]
+    #[cfg(any(mutants, programs))]
     pub use super::boxed::Box;
-    #[cfg(mutants)]
+    #[cfg(any(test, programs))]
+    pub use super::host::HostRuntime;
+    #[cfg(any(mutants, programs))]
     pub use super::io::ReadAll;
     pub use super::older::{Arrays, AsArrays, CeilingQuotient, InOrder};
-    #[cfg(test)]
-    pub use super::testing::HostRuntime;
     pub use super::{Clone, Vec};
 }
 
@@ -102,4 +104,10 @@ impl<A: Allocator> Allocator for &A {
 pub trait Clone: Sized {
     /// Makes the second value.
     fn clone(&self) -> Result<Self, AllocError>;
+}
+
+/// Returns a text that found memory.
+#[cfg(any(test, programs))]
+pub fn granted(text: String) -> Result<String, AllocError> {
+    Ok(text)
 }

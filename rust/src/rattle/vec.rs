@@ -186,7 +186,7 @@ impl<T, A: Allocator> Vec<T, A> {
     }
 
     /// Keeps room for `n` items, and for those that there are. The room stays as it is if the allocator refuses.
-    #[cfg(mutants)]
+    #[cfg(any(mutants, programs))]
     pub fn shrink_to(&mut self, n: usize) {
         let (held, kept) = (self.bytes(), self.items.len().max(n) * size_of::<T>());
         if held > kept && (kept == 0 || self.alloc.request(kept).is_ok()) {

@@ -1,0 +1,62 @@
+//! Lists of documents of an inverted index: of one term, and of two.
+
+use crate::rattle::prelude::*;
+
+use crate::proved::inverted::InvertedIndex;
+use crate::rattle::AllocError;
+use crate::rattle::Allocator;
+
+/// Which documents of two terms are listed.
+#[derive(Clone, Copy)]
+pub enum Joint {
+    /// Those that have both terms.
+    Intersection,
+    /// Those that have one of the terms, or both.
+    Union,
+    /// Those that have the first term and not the other.
+    Difference,
+}
+
+/// The `Joint` of each code of C, which is its index here.
+pub const JOINTS: [Joint; 3] = [Joint::Intersection, Joint::Union, Joint::Difference];
+
+impl Joint {
+    // Returns the entry at a position of a table.
+    fn at(table: &[Joint], place: usize) -> Option<Joint> {
+        table.get(place).copied()
+    }
+
+    /// Returns the `Joint` of a code, or `None` if there is none.
+    pub fn of(code: u32) -> Option<Joint> {
+        Joint::at(&JOINTS, code as usize)
+    }
+}
+
+/// Returns the documents of a term, ascending. Errors: `AllocError` if the allocator refuses a request.
+pub fn documents_of<A: Allocator + Copy>(
+    alloc: A,
+    index: &InvertedIndex<A>,
+    term: u64,
+) -> Result<Vec<u64, A>, AllocError> {
+    let mut found = Vec::with_capacity(alloc, index.count(term) as usize)?;
+    let mut documents = index.documents(term);
+    while let Some(document) = documents.next() {
+        found.push(document)?;
+    }
+    Ok(found)
+}
+
+/// Returns documents of two terms, ascending. Errors: `AllocError` if the allocator refuses a request.
+pub fn joined_documents<A: Allocator + Copy>(
+    alloc: A,
+    index: &InvertedIndex<A>,
+    joint: Joint,
+    one: u64,
+    other: u64,
+) -> Result<Vec<u64, A>, AllocError> {
+    match joint {
+        Joint::Intersection => index.intersection_numbers(alloc, one, other),
+        Joint::Union => index.union_numbers(alloc, one, other),
+        Joint::Difference => index.difference_numbers(alloc, one, other),
+    }
+}

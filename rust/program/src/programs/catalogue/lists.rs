@@ -1,0 +1,41 @@
+//! Queries of an inverted index, which has a list of documents for each term.
+
+use crate::rattle::prelude::*;
+
+use crate::programs::catalogue::answer::Answer;
+use crate::programs::catalogue::query::{Query, TermQuery};
+use crate::programs::catalogue::queryable::Queryable;
+use crate::proved::inverted::InvertedIndex;
+use crate::rattle::Allocator;
+
+impl<A: Allocator + Copy> Queryable for InvertedIndex<A> {
+    #[inline(always)]
+    fn answer(&self, query: Query, a: u64, b: u64, c: u64) -> Answer {
+        match query {
+            Query::Len => Answer::place(self.len()),
+            Query::Get => Answer::number_or_absent(self.pair_number(a as usize)),
+            Query::HeapSize => Answer::place(self.heap_size()),
+            Query::Terms => Answer::Found(self.terms()),
+            Query::Universe => Answer::Found(self.universe()),
+            Query::Term(query) => answer_of(self, query, a, b),
+            _ => Answer::Unknown,
+        }
+    }
+}
+
+// Returns the answer to a query of the documents of a term.
+#[inline(always)]
+fn answer_of<A: Allocator + Copy>(
+    index: &InvertedIndex<A>,
+    query: TermQuery,
+    term: u64,
+    number: u64,
+) -> Answer {
+    match query {
+        TermQuery::Count => Answer::Found(index.count(term)),
+        TermQuery::Get => Answer::number_or_absent(index.get(term, number as usize)),
+        TermQuery::Rank => Answer::Found(index.rank(term, number)),
+        TermQuery::Has => Answer::truth(index.contains(term, number)),
+        TermQuery::Successor => Answer::number_or_absent(index.next_at_least(term, number)),
+    }
+}

@@ -1,0 +1,67 @@
+//! Queries of lists of values for range minima, and of plain numbers.
+
+use crate::rattle::prelude::*;
+
+use crate::programs::catalogue::answer::Answer;
+use crate::programs::catalogue::query::Query;
+use crate::programs::catalogue::queryable::Queryable;
+use crate::rattle::Allocator;
+use crate::proved::vers_rmq::rmq::binary_rmq::BinaryRmq;
+use crate::proved::vers_rmq::rmq::fast_rmq::FastRmq;
+
+impl<A: Allocator + Copy> Queryable for FastRmq<A> {
+    #[inline(always)]
+    fn answer(&self, query: Query, a: u64, b: u64, c: u64) -> Answer {
+        match query {
+            Query::Len => Answer::place(self.len()),
+            Query::Get => Answer::number_or_absent(self.as_slice().get(a as usize).copied()),
+            Query::HeapSize => Answer::place(self.heap_size()),
+            Query::RangeMin => Answer::place_or_absent(fast_least(self, a as usize, b as usize)),
+            _ => Answer::Unknown,
+        }
+    }
+}
+
+// Returns the first position of a least value from position `i` to position `j`, both included.
+#[inline(always)]
+fn fast_least<A: Allocator + Copy>(values: &FastRmq<A>, i: usize, j: usize) -> Option<usize> {
+    if i <= j && j < values.len() {
+        Some(values.range_min(i, j))
+    } else {
+        None
+    }
+}
+
+impl<A: Allocator + Copy> Queryable for BinaryRmq<A> {
+    #[inline(always)]
+    fn answer(&self, query: Query, a: u64, b: u64, c: u64) -> Answer {
+        match query {
+            Query::Len => Answer::place(self.len()),
+            Query::Get => Answer::number_or_absent(self.as_slice().get(a as usize).copied()),
+            Query::HeapSize => Answer::place(self.heap_size()),
+            Query::RangeMin => Answer::place_or_absent(binary_least(self, a as usize, b as usize)),
+            _ => Answer::Unknown,
+        }
+    }
+}
+
+// Returns the first position of a least value from position `i` to position `j`, both included.
+#[inline(always)]
+fn binary_least<A: Allocator + Copy>(values: &BinaryRmq<A>, i: usize, j: usize) -> Option<usize> {
+    if i <= j && j < values.len() {
+        Some(values.range_min(i, j))
+    } else {
+        None
+    }
+}
+
+impl<A: Allocator + Copy> Queryable for Vec<u64, A> {
+    #[inline(always)]
+    fn answer(&self, query: Query, a: u64, b: u64, c: u64) -> Answer {
+        match query {
+            Query::Len => Answer::place(self.len()),
+            Query::Get => Answer::number_or_absent(self.as_slice().get(a as usize).copied()),
+            _ => Answer::Unknown,
+        }
+    }
+}

@@ -1,0 +1,25 @@
+//! Queries of documents with costs.
+
+use crate::rattle::prelude::*;
+
+use crate::programs::catalogue::answer::Answer;
+use crate::programs::catalogue::query::Query;
+use crate::programs::catalogue::queryable::Queryable;
+use crate::proved::postings::Postings;
+use crate::rattle::Allocator;
+
+impl<A: Allocator + Copy> Queryable for Postings<A> {
+    #[inline(always)]
+    fn answer(&self, query: Query, a: u64, b: u64, c: u64) -> Answer {
+        match query {
+            Query::Len => Answer::place(self.len()),
+            Query::Get => Answer::number_or_absent(self.documents().get(a as usize)),
+            Query::Cost => Answer::number_or_absent(self.costs().get(a as usize).copied()),
+            Query::Rank => Answer::Found(self.rank(a)),
+            Query::Has => Answer::truth(self.contains(a)),
+            Query::Successor => Answer::number_or_absent(self.next_at_least(a)),
+            Query::Cheapest => Answer::number_or_absent(self.cheapest(a, b)),
+            _ => Answer::Unknown,
+        }
+    }
+}

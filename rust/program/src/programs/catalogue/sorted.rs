@@ -1,0 +1,26 @@
+//! Queries of ascending lists.
+
+use crate::rattle::prelude::*;
+
+use crate::programs::catalogue::answer::Answer;
+use crate::programs::catalogue::query::Query;
+use crate::programs::catalogue::queryable::Queryable;
+use crate::rattle::Allocator;
+use crate::proved::vers_sorted::elias_fano::EliasFanoVec;
+
+impl<A: Allocator + Copy> Queryable for EliasFanoVec<A> {
+    #[inline(always)]
+    fn answer(&self, query: Query, a: u64, b: u64, c: u64) -> Answer {
+        match query {
+            Query::Len => Answer::place(self.len()),
+            Query::Get => Answer::number_or_absent(self.get(a as usize)),
+            Query::HeapSize => Answer::place(self.heap_size()),
+            Query::Rank => Answer::Found(self.rank(a)),
+            Query::Has => Answer::truth(self.has(a)),
+            Query::Predecessor => Answer::number_or_absent(self.predecessor(a)),
+            Query::Successor => Answer::number_or_absent(self.successor(a)),
+            Query::Delta => Answer::number_or_absent(self.delta(a as usize)),
+            _ => Answer::Unknown,
+        }
+    }
+}

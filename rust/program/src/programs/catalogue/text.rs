@@ -1,0 +1,22 @@
+//! Queries of texts.
+
+use crate::rattle::prelude::*;
+
+use crate::programs::catalogue::answer::Answer;
+use crate::programs::catalogue::query::Query;
+use crate::programs::catalogue::queryable::Queryable;
+use crate::rattle::Allocator;
+use crate::proved::text_index::TextIndex;
+
+impl<A: Allocator + Copy> Queryable for TextIndex<A> {
+    #[inline(always)]
+    fn answer(&self, query: Query, _a: u64, _b: u64, _c: u64) -> Answer {
+        match query {
+            Query::Len => Answer::place(self.len()),
+            Query::Width => Answer::Found(u64::from(self.bits_per_symbol())),
+            Query::HeapSize => Answer::place(self.heap_size()),
+            Query::Step => Answer::place(self.step()),
+            _ => Answer::Unknown,
+        }
+    }
+}

@@ -1,0 +1,47 @@
+//! The commands behind the script `vers`: lines about structures and texts, and structures in files. The status is
+//! 0, or 1 after an error, or 2 if the arguments name no command; standard error says why.
+
+use crate::rattle::prelude::*;
+
+mod command;
+mod files;
+mod help;
+mod lines;
+mod progress;
+
+use command::{Command, command_of};
+use crate::rattle::AllocError;
+use crate::rattle::host::env;
+use std::process::ExitCode;
+
+pub fn main() -> ExitCode {
+    let rt = HostRuntime;
+    let words: Result<Vec<String>, AllocError> = match env::args(&rt) {
+        Ok(arguments) => arguments.collect(rt.alloc()),
+        Err(_) => return lines::fail(&rt, "the arguments can't be read"),
+    };
+    let Ok(words) = words else {
+        return lines::fail(&rt, "out of memory");
+    };
+    match command_of(words.as_slice()) {
+        Some(command) => run(&rt, command),
+        None => {
+            let _ = crate::print_error!("vers: unknown arguments; vers --help lists the commands");
+            ExitCode::from(2)
+        }
+    }
+}
+
+fn run(rt: &HostRuntime, command: Command<'_>) -> ExitCode {
+    match command {
+        Command::Lines => lines::answer(rt),
+        Command::TextLines => lines::answer_text(rt),
+        Command::Save(path) => files::save(rt, path),
+        Command::Ask(path) => files::answer(rt, path),
+        Command::Text(path) => files::answer_text(rt, path),
+        Command::Index(path, index) => files::index(rt, path, index),
+        Command::IndexFasta(path, index) => files::index_fasta(rt, path, index),
+        Command::Show(path) => files::describe(rt, path),
+        Command::Print(text) => lines::print(rt, text),
+    }
+}
