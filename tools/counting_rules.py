@@ -39,7 +39,7 @@ WHOLE = {
 # Functions that make a counter, besides the calls whose names end in `_unchecked`: those without a counted form, and
 # lists that are made of counted numbers.
 FRESH = {"RsVec::has_places_of", "WaveletMatrix::place_from", "BothEnds::last",
-         "intersection", "union", "difference", "intersection_of", "union_of"}
+         "intersection", "union", "difference", "intersection_of", "union_of", "difference_of"}
 # Plain lists that types may keep: tables of numbers that are stored for queries, what is at work while something is
 # made, and iterators over counted lists.
 TABLES = {
@@ -99,7 +99,7 @@ SIDES = re.compile(r"(?:^|[({;,&|!]|= )([^={};,]*?)(?<![=!<>])(?:==|!=)(?!=)([^=
 # walk a list.
 KNOWN = re.compile(
     r"(?:saturating|checked|wrapping)_\w+|(?:leading|trailing|count)_(?:zeros|ones)|div_ceil|unwrap(?:_or)?|ok|is_none|is_some"
-    r"|map_err|push|reverse|splat|to_array|to_bitmask|copy_to_slice|simd_\w+"
+    r"|map_err|push|reverse|split_first|splat|to_array|to_bitmask|copy_to_slice|simd_\w+"
 )
 STANDARD = {"Some", "Ok", "Err", "Vec", "Option", "Result", "PhantomData"}
 TRAITS = {"Clone", "DoubleEndedIterator", "From", "IntoIterator", "Iterator", "PartialEq"}
