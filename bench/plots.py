@@ -28,7 +28,7 @@ def save(figure, name):
 
 def draw_speed():
     """Draws the ratio of each time to the original's, by structure and data."""
-    groups = [(name, list(group)) for name, group in groupby(pages.figures(compare.TOP), lambda it: f"{it.holder}, {it.data}")]
+    groups = [(name, list(group)) for name, group in groupby(pages.figures(), lambda it: f"{it.holder}, {it.data}")]
     sizes = [len(group) for _, group in groups]
     figure, panels = pyplot.subplots(len(groups), sharex=True, figsize=(7, 0.3 * sum(sizes) + 0.5 * len(groups)), height_ratios=sizes, layout="constrained")
     for panel, (name, group) in zip(panels, groups):

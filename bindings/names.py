@@ -106,7 +106,7 @@ def calls():
     """Returns the calls of each structure, without those that require a condition and those with a counter."""
     found = {}
     for crate in CRATES:
-        for owner, functions in sorted(public_calls(TOP, crate).items()):
+        for owner, functions in sorted(public_calls(crate).items()):
             if owner in STRUCTURES:
                 names = [it.name for it in functions]
                 found[owner] = [it for it in names if not it.endswith("_unchecked")
@@ -139,14 +139,14 @@ def has(structure, language, name):
     """Whether a structure has a name in a language."""
     prefix, files = STRUCTURES[structure]
     if language == "C":
-        return re.search(rf"\bvers_{prefix}_{name}\(", read(f"{TOP}/bindings/c/vers.h"))
+        return re.search(rf"\bvers_{prefix}_{name}\(", read("bindings/c/vers.h"))
     if language == "Rust":
         text = "".join(read(it) for it in glob(f"{TOP}/rust/src/{files}"))
-        text += read(f"{TOP}/rust/src/items.rs") if "lengths!(" in text else ""
+        text += read("rust/src/items.rs") if "lengths!(" in text else ""
         return "Deref" in text if name == "[]" else re.search(rf"(?m)\bfn {name}\b|\b{name},|^    {name}\(\w+: ", text)
     if language == "C++":
-        return re.search(rf"\b{name}\(", cpp_class(read(f"{TOP}/bindings/cpp/vers.hpp"), structure))
-    text = python_class("".join(read(f"{TOP}/bindings/python/vers/{it}.py") for it in ("_bases", "_lists")), structure)
+        return re.search(rf"\b{name}\(", cpp_class(read("bindings/cpp/vers.hpp"), structure))
+    text = python_class("".join(read(f"bindings/python/vers/{it}.py") for it in ("_bases", "_lists")), structure)
     special = {"len()": "__len__", "[]": "__getitem__", "()": "__new__", "in": "__contains__"}
     return re.search(rf"\bdef {re.escape(special.get(name, name))}\(", text)
 

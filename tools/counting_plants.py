@@ -1,4 +1,4 @@
-"""Ways around the counters, for the self-test of `counting_rules.py` to plant, and what has to be said of each.
+"""Ways around the counters, for the self-test of `counting_rules.py` to plant, and what has to be reported of each.
 
 Code is put at the beginning of a function's body, or before a struct's first field; `beside` at the end of its file; of
 `instead` the second text is written for the first. A plant whose place is gone is an error.
@@ -6,11 +6,11 @@ Code is put at the beginning of a function's body, or before a struct's first fi
 from collections import namedtuple
 
 from counting_rules import BARRED, CALLS
-from sources import Source
+from sources import Source, report_tests
 
 
-# A fault: what is wanted to be said, where it is planted, and what.
-Plant = namedtuple("Plant", "wanted place code beside instead", defaults=("", "", ()))
+# A fault: what has to be reported, where it is planted, and what.
+Plant = namedtuple("Plant", "expected place code beside instead", defaults=("", "", ()))
 
 
 def function(head, body):
@@ -53,8 +53,6 @@ IN_BODIES = (
     ("may be FastRmq::as_slice,", "Postings::cheapest_counted", "let _costs = self.costs.as_slice();"),
     ("makes `Uncounted`", RANK0, f"let _word = {WHOLE}.limb(0);"),
     ("makes `Tally::new`", RANK1, "let mut own = Tally::new();"),
-    ("`word_of!` stands where it may not", RANK0, "let _word = word_of!(self);"),
-    ("`unsafe` stands where it may not", RANK0, "let _word = unsafe { *place_of(0) };"),
     ("raises the counter 1 times for 2 reads", READ, "let _first = self.entries[0];"),
     ("or reads several", READ, "let BlockEntries { entries } = other;"),
     ("reads without the counter", "BlockEntries::len", "let _first = self.entries[0];"),
@@ -91,33 +89,33 @@ BESIDE = (
     ("a type that is not of these crates", RANK0, "",
      method("peek(&self) -> u64", "self[0]", "impl Peek for Vec<u64>")),
     ("a type that is not of these crates", RANK0, "", method("list(&self) -> u64", "0", "impl<T: Send> Indexed for T")),
-    ("`macro_rules!` stands where it may not", RANK0, "", f"macro_rules! word_of {{\n    () => {{ {WHOLE} }};\n}}"),
     ("may be RsVec::max,", RANK0, "self.max(place);", method("max(&self, n: usize) -> u64", WHOLE)),
     ("mentions `?`, which may be AllocError::from,", SHARED, "Err(self)?;",
      method("from(list: &RsVec<A>) -> AllocError", WHOLE, "impl<A> From<&RsVec<A>> for AllocError")),
-    ("`const TOKEN: Uncounted` stands where it may not", RANK0, "", "const TOKEN: Uncounted = Uncounted;"),
-    ("Cache.words keeps `W`", "RsVec", "cache: Cache,", "type W = Vec<u64>;\n\nstruct Cache {\n    words: W,\n}"),
+    ("`const TOKEN: Uncounted` is not allowed here", RANK0, "", "const TOKEN: Uncounted = Uncounted;"),
+    ("Cache.words contains `W`", "RsVec", "cache: Cache,", "type W = Vec<u64>;\n\nstruct Cache {\n    words: W,\n}"),
     ("gives `Tally` the name `Counter`", RANK1, "", "use vers_tally::tally::Tally as Counter;"),
-    ("`Tally` stands where it may not", RANK1, "", "type Counter = Tally;"),
-    ("`Tally` stands where it may not", RANK1, "", function("spare() -> Option<Tally>", "None")),
+    ("`Tally` is not allowed here", RANK1, "", "type Counter = Tally;"),
+    ("`Tally` is not allowed here", RANK1, "", function("spare() -> Option<Tally>", "None")),
     ("own_count is not its counted form", RANK1, "", function("own_count() -> u64", "let mut tally = Tally::new();")),
-    ("Cache.words keeps `Vec<u64, A>`", "RsVec", "cache: Cache<A>,", "struct Cache<A> {\n    words: Vec<u64, A>,\n}"),
-    ("Cache.0 keeps `Vec<u64, A>`", "RsVec", "cache: Cache<A>,", "struct Cache<A>(Vec<u64, A>);"),
-    ("keeps `Vec<u64, A>`", "RsVec", "cache: Cache<A>,", "enum Cache<A> {\n    None,\n    Words(Vec<u64, A>),\n}"),
+    ("Cache.words contains `Vec<u64, A>`", "RsVec", "cache: Cache<A>,",
+     "struct Cache<A> {\n    words: Vec<u64, A>,\n}"),
+    ("Cache.0 contains `Vec<u64, A>`", "RsVec", "cache: Cache<A>,", "struct Cache<A>(Vec<u64, A>);"),
+    ("contains `Vec<u64, A>`", "RsVec", "cache: Cache<A>,", "enum Cache<A> {\n    None,\n    Words(Vec<u64, A>),\n}"),
     ("reads without the counter", READ, "", f"pub {function(ENTRY, 'blocks.entries[0]')}"),
     ("reads without the counter", READ, "", f"pub {function(ENTRY, 'let BlockEntries { entries } = blocks;')}"),
 )
 # a text of a body or a struct, and its replacement
 INSTEAD = (
-    ("throws away what `differences` returns", "last_up_to", "let below = differences(zeros, bit, r);",
+    ("ignores what `differences` returns", "last_up_to", "let below = differences(zeros, bit, r);",
      "let _below = differences(zeros, bit, r); let below = zeros;"),
-    ("throws away what `far_below` returns", "last_up_to", "let block = 15 - far_below(below);",
+    ("ignores what `far_below` returns", "last_up_to", "let block = 15 - far_below(below);",
      "far_below(below); let block = 0;"),
     ("doesn't return the place that `place_met` gives", "bytes_forward", "return Ok(start + within + place);",
      "return Ok(start + within);"),
     ("doesn't return the place that `place_met` gives", "bytes_backward", "return Ok(start + within + place);",
      "return Ok(start + within);"),
-    ("BinaryRmq.table keeps `Vec<u64, A>`", "BinaryRmq", "table: Vec<u32, A>", "table: Vec<u64, A>"),
+    ("BinaryRmq.table contains `Vec<u64, A>`", "BinaryRmq", "table: Vec<u32, A>", "table: Vec<u64, A>"),
     ("raises the counter 0 times for 1 reads", READ, RAISE, ""),
     ("or reads several", READ, "self.entries[k]", "self.as_slice(Uncounted)[k]"),
     ("or reads several", READ, "self.entries[k]", "{ for j in 0..k {} self.entries[k] }"),
@@ -137,13 +135,13 @@ PLAIN = {
         "self.documents.rank(document) + 1", "self.documents.get(0); self.documents.rank(document)",
     ),
 }
-KEPT = ("Vec<u64, A>", "Option<BitVec<A>>", "BTreeMap<u64, u64>", "[u64; 4]", "u64x8", "Rc<u64>", "Cache<A>",
+LISTS = ("Vec<u64, A>", "Option<BitVec<A>>", "BTreeMap<u64, u64>", "[u64; 4]", "u64x8", "Rc<u64>", "Cache<A>",
         "&'static [u64]")
-PLANTS = [Plant(*it) for it in IN_BODIES + BESIDE] + [Plant(wanted, place, instead=texts)
-                                                      for wanted, place, *texts in INSTEAD]
+PLANTS = [Plant(*it) for it in IN_BODIES + BESIDE] + [Plant(expected, place, instead=texts)
+                                                      for expected, place, *texts in INSTEAD]
 for (place, old), others in PLAIN.items():
     PLANTS += [Plant(f"{place} is not its counted form", place, instead=(old, new)) for new in others]
-PLANTS += [Plant(f"RsVec.cache keeps `{it}`", "RsVec", f"cache: {it},") for it in KEPT]
+PLANTS += [Plant(f"RsVec.cache contains `{it}`", "RsVec", f"cache: {it},") for it in LISTS]
 for place, calls in CALLS.items():
     PLANTS += [Plant(f"{place} has no call of `{it}`", place, instead=(it, "another")) for it in calls.split()]
 for places, calls in BARRED.items():
@@ -168,7 +166,6 @@ def planted(plant, sources):
 
 
 def self_test(sources, faults):
-    """Plants each fault, and returns 1 where one isn't found."""
-    missed = [it for it in PLANTS if not any(it.wanted in line for line in faults(planted(it, sources)))]
-    print("\n".join(f"not found: {it}" for it in missed) or f"counting rules: {len(PLANTS)} planted faults are found")
-    return 1 if missed else 0
+    """Plants each fault, and returns the exit status, 1 if one isn't found."""
+    missed = [it for it in PLANTS if not any(it.expected in line for line in faults(planted(it, sources)))]
+    return report_tests(len(PLANTS), [f"not found: {it}" for it in missed])

@@ -12,8 +12,8 @@ function with a `&mut Tally`, leads there:
    one. A mention is a name before a bracket, after a dot or in a path. If the text shows the type of a call, the rule
    takes that type's function, otherwise all functions of that name. What Rust calls without a name counts as a mention:
    a loop over anything but a range, and a comparison that the text doesn't show to be one of numbers.
-4. The counter's type is written as `tally: &mut Tally`, and as in rule 2. Crates with counted bodies use no `unsafe`,
-   only the macro `unreachable!`, and only the Rust traits in `TRAITS`, which include no operators.
+4. The counter's type is written as `tally: &mut Tally`, and as in rule 2. Crates with counted bodies have only the Rust
+   traits in `TRAITS`, which include no operators. (`plain_rust.py` refuses `unsafe` and macros of their own there.)
 5. Types of these crates contain numbers, allocators, counted vectors, each other, and the plain lists in `TABLES`.
 6. A counted vector raises the counter once for each read: its counted calls are one raise and one read.
 7. Kernels work by lanes or by chunks of words, and makers by counting: their bodies make the calls in `CALLS` and none
@@ -27,20 +27,20 @@ import sys
 from collections import defaultdict
 
 from proofs import Crates
-from sources import TOP, bare_keeping_lines, closed, line_of, read_crate, report, without
+from sources import bare_keeping_lines, reaching, line_of, read_crate, report, without
 
 BELOW, COUNTERS = "vers_bits", "vers_tally"
 # The functions that may read a whole list without a counter.
 WHOLE = {
-    "RsVec::clone", "RsVec::into_bit_vec", "RsVec::eq", "EliasFanoVec::clone", "EliasFanoVec::low_parts", "BinaryRmq::clone",
-    "BinaryRmq::as_slice", "FastRmq::clone", "FastRmq::as_slice", "MinMaxTree::copied", "PackedNumbers::clone", "WordRank::bits",
-    "WordRank::clone", "WaveletTree::clone", "WaveletTree::to_integers",
+    "RsVec::clone", "RsVec::into_bit_vec", "RsVec::eq", "EliasFanoVec::clone", "EliasFanoVec::low_parts",
+    "BinaryRmq::clone", "BinaryRmq::as_slice", "FastRmq::clone", "FastRmq::as_slice", "MinMaxTree::copied",
+    "PackedNumbers::clone", "WordRank::bits", "WordRank::clone", "WaveletTree::clone", "WaveletTree::to_integers",
 }
 # Functions that make a counter, besides the calls whose names end in `_unchecked`: those without a counted form, and
 # lists that are made of counted numbers.
 FRESH = {"RsVec::has_places_of", "WaveletMatrix::place_from", "BothEnds::last",
          "intersection", "union", "difference", "intersection_of", "union_of", "difference_of"}
-# Plain lists that types may keep: tables of numbers that are stored for queries, what is at work while something is
+# Plain lists that types may contain: tables of numbers that are stored for queries, what is at work while something is
 # made, and iterators over counted lists.
 TABLES = {
     "BpBuilder.bits": "BitVec<A>", "BinaryRmq.table": "Vec<u32, A>", "FastRmq.places": "Vec<u8, A>",
@@ -88,12 +88,8 @@ BYTES = {"bytes_forward", "bytes_backward"}
 RETURNED = re.compile(r"\bif let Some\((\w+)\) = place_met\([^;{]*\{\s*return Ok\([^;]*\b\1\b[^;]*\);")
 BRACKETS = r"\([^()]*\)|\[[^\[\]]*\]"
 NUMBER = r"(?:[ui](?:8|16|32|64|128|size)|bool)"
-NUMBERS = re.compile(rf"{NUMBER}|(?:Option|Result)<{NUMBER}.*>|\({NUMBER}(?:, {NUMBER})*\)")
 # What shows that an expression is a number: how it begins or ends, a constant, or an operator between two.
-SHOWN = re.compile(
-    rf"(?s)-?\d|(?:true|false)\b|(?:u64|usize|i64)::|[A-Z][A-Z_0-9]*$"
-    rf"|.*(?:\blen$|[\w)\]] (?:[-+*/%|^]|>>|<<|&) [\w(]|\bas {NUMBER})"
-)
+SHOWN = re.compile(rf"(?s)-?\d|{NUMBER}::|[A-Z][A-Z_0-9]*$|.*(?:\blen$|[\w)\]] (?:[-+*/%|^]|>>|<<|&) [\w(])")
 SIDES = re.compile(r"(?:^|[({;,&|!]|= )([^={};,]*?)(?<![=!<>])(?:==|!=)(?!=)([^={};,]*?)(?=[){;,]|&&|\|\||$)", re.M)
 # Calls of the standard library that counted bodies make: on numbers, options, lanes and lists made there. Others may
 # walk a list.
@@ -108,13 +104,10 @@ MENTION = re.compile(
     r"\b(?!(?:if|while|match|for|in|return|let|mut|else|as|loop|break|continue|true|false|self|move|ref)\b)"
     r"(?P<name>[a-z_]\w*)\b(?P<call>\s*(?:\(|::<))?"
 )
-# Where the counter's type may stand, and in the file of counters besides; and what else may not stand where that
-# doesn't.
+# Where the counter's type is allowed, and where in the file of counters besides; and what is not allowed elsewhere.
 COUNTER = r"^\s*(?:pub )?use [^;]*;|\b\w+: &mut Tally(?=[,)])|let mut tally = Tally::new\(\);"
 OF_VECTORS = r"|struct Tally|impl (?:Model for )?Tally \{|-> Tally|^\s*Tally \{|struct Uncounted"
-MISPLACED = re.compile(
-    r"\bTally\b|\b(?!unreachable!)[a-z]\w*!(?!=)|\bunsafe\b|\b(?:struct|type) Uncounted|\b(?:const|static) \w+: [^=;]*Uncounted"
-)
+MISPLACED = re.compile(r"\bTally\b|\b(?:struct|type) Uncounted|\b(?:const|static) \w+: [^=;]*Uncounted")
 # A variable with the name of the counter that is none.
 BINDS = re.compile(
     r"\blet (?:mut )?tally\b(?! = Tally::new\(\);)|\blet \([^=;]*\btally\b|\bfor (?:\([^)]*)?tally\b"
@@ -141,10 +134,10 @@ class Library:
                         for word in re.findall(r"(?m)^(?:pub(?:\([a-z]+\))? )?type (\w+)", source.text)}
         self.traits = {word for source in sources for word in re.findall(r"\btrait (\w+)", source.text)}
         # the functions that lead to a token or to a fresh counter, other than counted bodies, which may not
-        plain = [it for it in self.functions if is_looked_at(it) and not takes_counter(it)]
+        plain = [it for it in self.functions if is_checked(it) and not takes_counter(it)]
         made = {it for it in plain if next(self.made(it), None)} | {it for it in self.functions
                                                                     if "Uncounted" in it.declared}
-        self.uncounted = closed(made, {it: {other for other, _ in self.mentions(it)} for it in plain})
+        self.uncounted = reaching(made, {it: {other for other, _ in self.mentions(it)} for it in plain})
 
     def of_type(self, holder, name):
         """Returns the functions of a name that a type or a trait has."""
@@ -199,39 +192,40 @@ class Library:
                 yield f"compares `{' '.join(sides[0].split())}`, of which neither side is seen to be a number"
 
     def is_number(self, function, text):
-        """Whether the text shows that an expression is a number, a truth value or one in an option."""
+        """Returns whether the text shows that an expression is a number, a truth value or one in an option."""
         text = re.sub(r"^(?:[\s(!*]|(?:if|while|return)\b)+", "", text).strip()
         types = [type_ for name, type_ in function.parameters if name == text]
         if field := re.fullmatch(r"[\w.]+\.(\w+)", text):
             types += self.types_of_field[field[1]]
-        return bool(types) and all(NUMBERS.fullmatch(it.strip())
-                                   for it in types) or bool(SHOWN.match(without(BRACKETS, text).split("(")[0]))
+        if types and all(re.fullmatch(NUMBER, it.strip()) for it in types):
+            return True
+        return bool(SHOWN.match(without(BRACKETS, text).split("(")[0]))
 
 
 def is_range(text):
-    """Whether the head of a loop is a range, maybe in brackets and backward."""
+    """Returns whether the head of a loop is a range, maybe in brackets and backward."""
     within = re.fullmatch(r"(?s)\s*\((.*)\)\.rev\(\)\s*", text)
     return ".." in without(BRACKETS, within[1] if within else text)
 
 
-def is_looked_at(function):
-    """Whether a body is looked at: not those below the counters, and not those of the counted vectors themselves."""
+def is_checked(function):
+    """Returns whether a body is checked: not those below the counters, and not those of the counted vectors."""
     return function.has_body and function.source.crate != BELOW and not is_vectors(function.source)
 
 
 def is_vectors(source):
-    """Whether a file is that of the counters and the counted vectors."""
+    """Returns whether a file is that of the counters and the counted vectors."""
     return source.crate == COUNTERS and source.module == "tally"
 
 
 def takes_counter(function):
-    """Whether a function takes a counter."""
+    """Returns whether a function takes a counter."""
     return any(type_ == "&mut Tally" for _, type_ in function.parameters)
 
 
 def on_one_line(function):
-    """Returns a body on one line, without arguments of types."""
-    return re.sub(r"::<\w+>", "", " ".join(function.code.split()).replace("( ", "(").replace(", )", ")"))
+    """Returns a body on one line."""
+    return " ".join(function.code.split()).replace("( ", "(").replace(", )", ")")
 
 
 def counted_faults(library, function):
@@ -247,8 +241,8 @@ def plain_faults(library, function):
     where = function.holder, function.source.crate
     counted = [it for it in library.by_name[f"{function.name}_counted"] if (it.holder, it.source.crate) == where]
     names, body = [name for name, _ in function.parameters], on_one_line(function)
-    asked = f"{function.name}_counted({', '.join([*names, '&mut tally'])})"
-    forms = [f"let mut tally = Tally::new(); {of}{asked}" for of in ("self.", "Self::", "")]
+    call = f"{function.name}_counted({', '.join([*names, '&mut tally'])})"
+    forms = [f"let mut tally = Tally::new(); {of}{call}" for of in ("self.", "Self::", "")]
     forms += [re.sub(r"_counted(\([^()]*?)(?:, )?tally\)", r"\1)", on_one_line(it)) for it in counted]
     forms += [f"self.{function.name}({', '.join(names)})"] if function.trait else []
     is_known = function.full_name in FRESH or function.name.endswith("_unchecked")
@@ -273,18 +267,17 @@ def function_faults(library, function):
     """Yields what is broken in a function."""
     if is_vectors(function.source):
         yield from vector_faults(function)
-    elif is_looked_at(function):
+    elif is_checked(function):
         yield from counted_faults(library, function) if takes_counter(function) else plain_faults(library, function)
     if function.trait and function.source.crate != BELOW:
         if function.trait not in TRAITS | library.traits:
             yield f"is a call of another trait, {function.trait}"
-        if len(function.holder) < 2 or function.holder in ("Vec", "Box",
-                                                           "Rc") or "[" in function.owner.partition(" for ")[2]:
+        if len(function.holder) < 2 or function.holder == "Vec" or "[" in function.owner.partition(" for ")[2]:
             yield "is a call of a type that is not of these crates"
 
 
 def file_faults(source):
-    """Yields a line for each place of a file at which the counter's type, a macro or `unsafe` stands and may not."""
+    """Yields a line for each place of a file at which the counter's type or a token is not allowed."""
     text, allowed = bare_keeping_lines(source.text), COUNTER
     for found in RENAMED.finditer(text):
         yield line_of(text, found.end()), f"gives `{found[1]}` the name `{found[2]}`"
@@ -294,27 +287,27 @@ def file_faults(source):
             yield line_of(text, found.end()), f"{found[1]} can be read from outside"
     rest = re.sub(allowed, lambda it: re.sub(r"[^\n]", " ", it[0]), text, flags=re.M)
     for found in MISPLACED.finditer(rest):
-        yield line_of(rest, found.end()), f"`{found[0]}` stands where it may not"
+        yield line_of(rest, found.end()), f"`{found[0]}` is not allowed here"
 
 
-def kept_faults(library, source):
-    """Yields a line for each field of a type that keeps a list other than in a counted vector."""
+def field_faults(library, source):
+    """Yields a line for each field of a type that contains a list other than in a counted vector."""
     known = library.structs - {"Tally", "BitVec", "Uncounted"} | library.traits
-    known |= set("A Span PhantomData Option Alloc Self AllocError a mut const dyn".split())
+    known |= {"PhantomData", "Option", "Alloc", "a"}
     for struct, fields, line in [] if is_vectors(source) else source.structs:
         for name, type_ in fields:
             words = set(re.findall(r"[A-Za-z_]\w*", type_)) - known
             is_list = "[" in type_ or any(not re.fullmatch(rf"{NUMBER}|[A-Z]|[A-Z][A-Z_]+", it) or it in library.aliases
                                           for it in words)
             if is_list and TABLES.get(f"{struct}.{name}") != type_:
-                yield line, f"{struct}.{name} keeps `{' '.join(type_.split())}`"
+                yield line, f"{struct}.{name} contains `{' '.join(type_.split())}`"
 
 
 def named_faults(library):
     """Yields what is broken in the functions that tables name: those that make tokens, and kernels."""
     made, bodies = {it.full_name for it in library.functions if "Uncounted" in it.code}, defaultdict(list)
     yield from (f"{name} reads a whole list without a counter" for name in sorted(made - WHOLE))
-    yield from (f"{name} is said to read a whole list, and doesn't" for name in sorted(WHOLE - made))
+    yield from (f"{name} reads no whole list; remove it from `WHOLE`" for name in sorted(WHOLE - made))
     for function in [it for it in library.functions if it.has_body]:
         bodies[function.full_name].append(function.code)
     for name, calls in CALLS.items():
@@ -323,26 +316,24 @@ def named_faults(library):
             made = set(re.findall(r"\b([a-z_]\w*)(?:::<[^<>]*>)?\(", body))
             yield from (f"{name} has no call of `{it}`" for it in calls.split() if it not in made)
             yield from (f"{name} calls `{it}`" for it in barred.split() if it in made)
-            yield from (f"{name} throws away what `{it}` returns" for it in calls.split()
-                        if is_thrown_away(library, it, body))
+            yield from (f"{name} ignores what `{it}` returns" for it in calls.split()
+                        if is_ignored(library, it, body))
             if name in WITHOUT_LOOPS and re.search(r"\b(?:for|while|loop)\b", body):
                 yield f"{name} has a loop"
             if name in BYTES and not RETURNED.search(body):
                 yield f"{name} doesn't return the place that `place_met` gives"
 
 
-def is_thrown_away(library, name, body):
-    """Whether each call of a function that returns something is a statement of its own, or gives a variable that nobody
-    reads."""
-    if not any(" -> " in it.head for it in library.by_name[name]):
-        return False
-    calls = re.findall(rf"\b{name}(?:::<[^<>]*>)?\(", body)
+def is_ignored(library, name, body):
+    """Returns whether each call of a function that returns something is a statement of its own, or gives a variable that
+    is never read."""
     flat = without(BRACKETS, re.sub(r"::<[^<>]*>", "", body))
-    start = r"(?:^|(?<=[;{}]))"
-    alone = re.findall(rf"{start}(?!\s*return\b)[\w.:&*\s]*\b{name}\s*;", flat)
-    bound = re.findall(rf"{start}\s*let (?:mut )?([a-z_]\w*)(?:: [^=;]*)? = [^;{{}}]*\b{name}\b", flat)
-    unread = [it for it in bound if len(re.findall(rf"\b{it}\b", body)) < 2]
-    return 0 < len(calls) == len(alone) + len(unread)
+    statements = [it for it in re.findall(r"[^;{}]*[;{}]?", flat) if re.search(rf"\b{name}\b", it)]
+    variables = [re.match(r"\s*let (?:mut )?(\w+)", it) for it in statements]
+    alone = [it for it in statements if re.fullmatch(rf"(?!\s*return\b)[\w.:&*\s]*\b{name}\s*;", it)]
+    unread = [it for it in variables if it and len(re.findall(rf"\b{it[1]}\b", body)) < 2]
+    is_known = any(" -> " in it.head for it in library.by_name[name])
+    return is_known and 0 < len(statements) == len(alone) + len(unread)
 
 
 def faults(sources):
@@ -352,15 +343,15 @@ def faults(sources):
         yield from (f"{it.where}: {it.full_name} {what}" for what in function_faults(library, it))
     for source in [it for it in sources if it.crate != BELOW]:
         yield from (f"{source.path}:{line}: {what}"
-                    for line, what in [*file_faults(source), *kept_faults(library, source)])
+                    for line, what in [*file_faults(source), *field_faults(library, source)])
     yield from named_faults(library)
 
 
 if __name__ == "__main__":
-    listed = Crates(TOP)
+    listed = Crates()
     named = [it for it in listed.lines if COUNTERS in [it, *listed.uses(it)]
              and not re.search(r"_tests$|_cli$|_saved$|_vecs$", it)]
-    read = [source for name in [BELOW, *named] for source in read_crate(TOP, name)]
+    read = [source for name in [BELOW, *named] for source in read_crate(name)]
     if "--self-test" in sys.argv:
         from counting_plants import self_test
         sys.exit(self_test(read, faults))

@@ -19,9 +19,9 @@ vers \\- answers lines about succinct data structures
 '''
 
 
-def texts_of_help(top):
+def texts_of_help():
     """Returns the texts that the commands print, by the names of their constants."""
-    found = re.findall(r'(?s)pub const (\w+): &str = "((?:[^"\\]|\\.)*)";', read(f"{top}/{HELP}"))
+    found = re.findall(r'(?s)pub const (\w+): &str = "((?:[^"\\]|\\.)*)";', read(HELP))
     return {name: re.sub(r"\\(.)", lambda it: it[1].replace("n", "\n"), text) for name, text in found}
 
 
@@ -55,9 +55,9 @@ def sections(paragraphs):
         yield paragraph(rest[0].upper() + rest[1:] if heading else rest) if rest else ""
 
 
-def page(top):
+def page():
     """Returns the text of the manual page."""
-    texts = texts_of_help(top)
+    texts = texts_of_help()
     version, (usage, *paragraphs) = texts.pop("VERSION"), texts.pop("HELP").split("\n\n")
     parts = [HEAD.format(version=version, usage=escaped(usage.partition(": ")[2])), *sections(paragraphs)]
     for text in texts.values():

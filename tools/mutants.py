@@ -2,17 +2,19 @@
 """Runs the wrong bodies of libraries, programs and exports as plain Rust: all of them in one build, each by the test
 that it names. docs/GATE.md says what a rejection is worth.
 
-    tools/mutants.py [CRATE..]           builds, and runs each wrong body; the last line is "N passed, M failed"
-    tools/mutants.py --find [CRATE..]    prints the quickest test that fails for each wrong body that names none
-    tools/mutants.py --self-test         tries edits of bodies, signatures and constants, and edits that are refused
+    tools/mutants.py [CRATE..]      builds, and runs each wrong body; the last line is "N passed, M failed"
+    tools/mutants.py --self-test    tries edits of bodies, signatures and constants, and edits that are refused
+
+A wrong body that names no test is a fault, and is printed with the quickest test that fails with it.
 
 Each edit is applied to the source in Rattle. A body with wrong ones becomes
 
-    match rattle::mutants::active(FUNCTION) { 17 => { .. } 18 => { .. } _ => { the right body } }
+    match rattle::mutants::active() { 17 => { .. } 18 => { .. } _ => { the right body } }
 
 which tools/plain_rust.py writes as Rust, under `cfg(mutants)`; the environment variable MUTANT says which is active. A
 test may lower the greatest length of a list, and have requests of the heap refused (rust/src/rattle/mutants.rs).
 """
+import functools
 import json
 import os
 import re
@@ -27,7 +29,7 @@ from pathlib import Path
 from mutant_plants import EDITS, RIGHT, SMALL
 from plain_rust import (BY_HAND, CRATES, MODULES, PROGRAM_TESTS, PROGRAMS, Refused, Writer, path_of, write_tests,
                         written_of)
-from sources import (ROW, TOP, Source, by_path, changed_function, has_cargo, load_edit, read, read_crate, write_files,
+from sources import (TOP, Source, has_cargo, load_edit, read, read_crate, report_tests, write_files,
                      wrong_bodies)
 
 RUST = f"{TOP}/rust"
@@ -54,13 +56,10 @@ class Mutant:
     """A wrong body: its crate, its name, its edit, the file that it changes, and the test that has to fail; or a right
     body, which the test of the wrong one of that name has to pass."""
 
-    def __init__(self, crate, name, edit, right=None):
-        self.crate, self.name, self.edit, self.is_right = crate, name, edit, bool(right)
-        if right:
-            self.edit = re.sub(r"(?m)^(?:old|new): .*\n", "", edit) + "old: {}\nnew: {}\n".format(*right)
-        row = ROW.search(self.edit)
-        self.row, self.path = row and row[1], f"crates/{crate}/{re.search(r'file: ?(.*)', self.edit)[1]}"
-        self.number, self.body = 0, None
+    def __init__(self, crate, name, edit, is_right=False):
+        self.crate, self.name, self.edit, self.is_right, self.number = crate, name, edit, is_right, 0
+        self.row = next(iter(re.findall(r"(?m)^row: (\S+)$", edit)), "")
+        self.path = f"crates/{crate}/{re.search(r'file: ?(.*)', edit)[1]}"
 
     def line(self, what):
         """Returns a line about it."""
@@ -68,10 +67,9 @@ class Mutant:
 
     def change(self, source):
         """Returns the function that it changes in a source and the lines of its body, or raises a `ValueError`."""
-        sources = by_path([source])
-        if self.row and not self.is_right:
-            load_edit(self.name, self.edit, sources)
-        function, lines = changed_function(self.edit, sources)
+        function, lines = load_edit(self.edit, [source])
+        if not self.name.startswith(f"{function.name}--") and not self.is_right:
+            raise ValueError(f"its name doesn't begin with `{function.name}--`, for the function that it changes")
         writer = Writer(self.crate, self.path)
         writer.macros = writer.macros | set(re.findall(r"macro_rules! (\w+)", source.text))
         writer.file("\n".join(["fn body() {", *lines, "}"]))
@@ -87,11 +85,11 @@ class Build:
     """The written files with all wrong bodies, and the faults that were met."""
 
     def __init__(self, mutants):
-        self.files, self.faults, self.bodies = {}, [], 0
+        self.files, self.faults = {}, []
         for number, it in enumerate(mutants, 1):
             it.number = number
         for module, crates in (("proved", CRATES), ("programs", PROGRAMS)):
-            for source in [it for crate in crates for it in read_crate(TOP, crate) if path_of(it) not in BY_HAND]:
+            for source in [it for crate in crates for it in read_crate(crate) if path_of(it) not in BY_HAND]:
                 path, text = path_of(source), self.with_arms(source, [it for it in mutants if it.path == source.path])
                 text = Writer(source.crate, path).file(text).replace("rattle::mutants", "crate::rattle::mutants")
                 # A body with many arms that is put into each of its callers would multiply.
@@ -116,10 +114,8 @@ class Build:
         for function in reversed([it for it in source.functions if it.has_body]):
             lines[function.body:function.last] = lowered(lines[function.body:function.last])
             if function in wrong:
-                self.bodies += 1
-                arms = [f"match rattle::mutants::active({self.bodies}) {{"]
+                arms = ["match rattle::mutants::active() {"]
                 for it, body in wrong[function]:
-                    it.body = str(self.bodies)
                     arms += [f"{it.number} => {{ // wrong body {it.number}", *lowered(body), "}"]
                 arms += ["_ => { // right body", *lines[function.body:function.last], "}", "}"]
                 lines[function.body:function.last] = arms
@@ -135,21 +131,16 @@ class Build:
         return found
 
 
-def cargo(*words):
-    """Runs cargo with the wrong bodies, and returns its messages."""
-    flags = {"RUSTFLAGS": "--cfg mutants --cap-lints allow", "CARGO_TARGET_DIR": f"{RUST}/target/mutants/built"}
-    done = subprocess.run(["cargo", *words, "--offline", "--message-format=json"], cwd=RUST,
-                          env={**os.environ, **flags},
-                          stdout=subprocess.PIPE, stderr=subprocess.DEVNULL, text=True, check=False)
-    return [json.loads(it) for it in done.stdout.splitlines()]
-
-
 def compiled(mutants):
     """Compiles the tests with all wrong bodies, and returns the program and the faults."""
     build = Build(mutants)
-    build.faults += write_tests()
+    write_tests()
     write_files(f"{RUST}/target/mutants", build.files)
-    messages = cargo("test", "--lib", "--no-run")
+    flags = {"RUSTFLAGS": "--cfg mutants --cap-lints allow", "CARGO_TARGET_DIR": f"{RUST}/target/mutants/built"}
+    done = subprocess.run(["cargo", "test", "--lib", "--no-run", "--offline", "--message-format=json"], cwd=RUST,
+                          env={**os.environ, **flags}, stdout=subprocess.PIPE, stderr=subprocess.DEVNULL, text=True,
+                          check=False)
+    messages = [json.loads(it) for it in done.stdout.splitlines()]
     errors = [it["message"] for it in messages
               if it["reason"] == "compiler-message" and it["message"]["level"] == "error"]
     wrong = build.at_fault(errors)
@@ -167,33 +158,29 @@ def module_of(row):
 
 
 def run(program, test, mutant, seconds):
-    """Runs one test with a wrong body, for some processor seconds, and returns how it failed, or None if it passed, and
-    what it printed."""
+    """Runs one test with a wrong body, for some processor seconds, and returns how it failed, or None if it passed."""
     command = ["prlimit", f"--as={MEMORY}", f"--cpu={int(seconds) + 1}", program, test, "--exact", "--include-ignored",
                "--test-threads=1", "--nocapture"]
     try:
         done = subprocess.run(command, env={**os.environ, "MUTANT": str(mutant), "RUST_BACKTRACE": "0"},
-                              timeout=WAITING, check=False,
-                              stdin=subprocess.DEVNULL, stdout=subprocess.PIPE, stderr=subprocess.PIPE, text=True,
-                              errors="replace")
+                              timeout=WAITING, check=False, stdin=subprocess.DEVNULL, capture_output=True,
+                              encoding="utf-8", errors="replace")
     except subprocess.TimeoutExpired:
-        return "waits", ""
+        return "waits"
     if done.returncode in (-signal.SIGXCPU, -signal.SIGKILL):
-        return "doesn't end", ""
-    if done.returncode == 0 and "1 passed" in done.stdout:
-        return None, done.stderr
+        return "doesn't end"
     if done.returncode == 0:
-        return "isn't there", done.stderr
-    at = re.search(r"panicked at (?:.*/)?(src/\S+:\d+)", done.stderr)
-    other = "returns an error" if "1 failed" in done.stdout else "ends the process"
-    return f"fails at {at[1]}" if at else other, done.stderr
+        return None if "1 passed" in done.stdout else "isn't there"
+    if at := re.search(r"panicked at (?:.*/)?(src/\S+:\d+)", done.stderr):
+        return f"fails at {at[1]}"
+    return "returns an error" if "1 failed" in done.stdout else "ends the process"
 
 
 def timed(program, test):
-    """Returns how many seconds a test takes with the right bodies, what it says of them, and how it failed."""
+    """Returns how many seconds a test takes with the right bodies, and how it failed."""
     start = time.monotonic()
-    end, output = run(program, test, "reach", 300)
-    return time.monotonic() - start, output, end
+    end = run(program, test, 0, 300)
+    return time.monotonic() - start, end
 
 
 def judged(program, mutants):
@@ -202,10 +189,10 @@ def judged(program, mutants):
     with ThreadPoolExecutor(len(os.sched_getaffinity(0))) as pool:
         rows = sorted({it.row for it in mutants})
         right = dict(zip(rows, pool.map(lambda row: timed(program, module_of(row)), rows)))
-        ends = pool.map(lambda it: run(program, module_of(it.row), it.number, SECONDS + TIMES * right[it.row][0])[0],
+        ends = pool.map(lambda it: run(program, module_of(it.row), it.number, SECONDS + TIMES * right[it.row][0]),
                         mutants)
         for it, end in zip(mutants, ends):
-            if fault := right[it.row][2]:
+            if fault := right[it.row][1]:
                 yield False, it.line(f"{it.row} fails with the right bodies too: {fault}"), ""
             else:
                 kind = re.sub(r"fails at src/(?:\S*/)?\w+_tests/.*", "fails in the test", end or "right: passes")
@@ -213,83 +200,71 @@ def judged(program, mutants):
                 yield bool(end) != it.is_right, it.line(f"{it.row} {end or 'passes'}"), kind
 
 
-def found_rows(program, mutants):
-    """Prints the quickest test that fails with each wrong body, and yields the wrong bodies that none finds."""
-    # only their own tests, and Rust's, reach programs
-    reaching = "program|inside" if {it.crate for it in mutants} <= set(PROGRAMS) else "proved|program|inside"
+def rows_found(program, mutants):
+    """Yields for each wrong body the quickest test that fails with it, of its own crate's if one does, or None."""
     listed = subprocess.run([program, "--list"], stdout=subprocess.PIPE, text=True, check=True).stdout
-    names = [it.split(": ")[0] for it in listed.splitlines() if it.endswith(": test")
-             and re.match(f"({reaching})_tests::", it)]
-    tests = {name: timed(program, name) for name in names}
-    reached = {name: set(re.findall(r"(?m)^reached (\d+)$", it[1])) for name, it in tests.items()}
+    names, time_of = re.findall(r"(?m)^(\w+::.*): test$", listed), functools.cache(lambda it: timed(program, it))
     for mutant in mutants:
-        # the tests of its own crate first
-        near = sorted(names, key=lambda it: (f"::{mutant.crate}_tests::" not in it, tests[it][0]))
-        for name in [it for it in near if mutant.body in reached[it] and not tests[it][2]]:
-            if run(program, name, mutant.number, SECONDS + TIMES * tests[name][0])[0]:
-                print(mutant.line(f"row: {re.sub('^(proved|program)_tests::', '', name)}"))
-                break
-        else:
-            yield mutant
+        near = [it for it in names if f"::{mutant.crate}_tests::" in it]
+        tried = (it for group in (near, names) for it in sorted(group, key=time_of) if not time_of(it)[1])
+        failing = (it for it in tried if run(program, it, mutant.number, SECONDS + TIMES * time_of(it)[0]))
+        yield re.sub("^(proved|program)_tests::", "", next(failing, "")) or None
 
 
 def self_test():
-    """Tries edits of a small source, and returns whether one is refused otherwise than is wanted."""
-    wrong = 0
-    for name, (edit, wanted) in EDITS.items():
-        said = ""
+    """Tries edits of a small source, and returns the exit status, 1 if one is refused otherwise than it has to be."""
+    faults, small = [], Source("small", "crates/small/src/lib.rt", SMALL)
+    for name, (edit, expected) in EDITS.items():
         try:
-            load_edit(name, edit, by_path([Source("small", "crates/small/src/lib.rt", SMALL)]))
+            mutant = Mutant("small", name, edit)
+            mutant.change(small)
+            refusal = "" if mutant.row else "names no test"
         except ValueError as why:
-            said = str(why)
-        if bool(said) != bool(wanted) or wanted not in said:
-            print(f"{name} is refused with {said!r}, and not with {wanted!r}")
-            wrong += 1
-    print(f"{len(EDITS) - wrong} passed, {wrong} failed")
-    return wrong > 0
+            refusal = str(why)
+        if bool(refusal) != bool(expected) or expected not in refusal:
+            faults.append(f"{name} is refused with {refusal!r}, and not with {expected!r}")
+    return report_tests(len(EDITS), faults)
 
 
-def all_mutants(crates, is_to_find):
-    """Returns the wrong bodies of crates, or of all of them, and the right ones; or those without a row, to find it."""
-    texts = {os.path.relpath(it, TOP): read(it) for folder in ("wrong", "must-fail")
-             for it in Path(TOP, "crates").glob(f"*/{folder}/**/*.edit*")}
+def all_mutants(crates):
+    """Returns the wrong bodies of crates, or of all of them, and the right ones."""
+    texts = {os.path.relpath(it, TOP): read(it) for it in Path(TOP, "crates").glob("*/wrong/**/*.edits")}
     edits = {(crate, name): edit for crate, name, edit in wrong_bodies(texts)}
     if unknown := set(crates) - {crate for crate, _ in edits}:
         sys.exit(f"no wrong bodies of {', '.join(sorted(unknown))}")
     mutants = [Mutant(*it, edit) for it, edit in edits.items() if it[0] in (crates or it)]
-    if is_to_find:
-        return [it for it in mutants if not it.row]
-    return mutants + [Mutant(crate, name, edits[crate, name], right) for crate, name, *right in RIGHT]
+    for crate, name, *pair in RIGHT:
+        head = re.sub(r"(?m)^(?:old|new): .*\n", "", edits[crate, name])
+        mutants.append(Mutant(crate, name, head + "old: {}\nnew: {}\n".format(*pair), is_right=True))
+    return mutants
 
 
 def main(arguments):
-    """Builds and runs the wrong bodies, or finds the tests that fail with them."""
+    """Builds and runs the wrong bodies."""
     if arguments == ["--self-test"]:
         return self_test()
     if not has_cargo():
         print("left out: the wrong bodies that a test refuses (no cargo 1.88 or newer)")
         return 0
-    is_to_find = arguments[:1] == ["--find"]
-    mutants = all_mutants(arguments[is_to_find:], is_to_find)
+    mutants, ends = all_mutants(arguments), Counter()
     program, faults = compiled(mutants)
-    passed, ends = 0, Counter()
-    if program and is_to_find:
-        faults += [it.line("no test finds it") for it in found_rows(program, mutants)]
-    elif program:
-        faults += [it.line("it names no test that fails with it") for it in mutants if not it.row]
+    if not program:
+        faults.append("the wrong bodies were not built")
+    else:
+        without_row = [it for it in mutants if not it.row]
+        for it, row in zip(without_row, rows_found(program, without_row)):
+            faults.append(it.line(f"it names no test that fails with it, such as `row: {row}`"))
         for is_as_wanted, line, end in judged(program, [it for it in mutants if it.row]):
-            passed += is_as_wanted
-            ends[end] += is_as_wanted
+            if is_as_wanted:
+                ends[end] += 1
+            else:
+                faults.append(line)
             if end == "doesn't end":
                 print(line)
-            if not is_as_wanted:
-                faults.append(line)
     counts = Counter(it.crate for it in mutants if not it.is_right)
     print("".join(f"{crate}: {count} wrong bodies\n" for crate, count in counts.items()), end="")
     print("".join(f"{end}: {count}\n" for end, count in ends.most_common()), end="")
-    print("".join(f"{it}\n" for it in faults), end="")
-    print(f"{passed} passed, {len(faults) + (program is None)} failed")
-    return bool(faults) or program is None
+    return report_tests(sum(ends.values()) + len(faults), faults)
 
 
 if __name__ == "__main__":

@@ -18,6 +18,7 @@ from collections import defaultdict, namedtuple
 
 import definitions
 import manual
+from plain_rust import CRATES
 from rust_contracts import ADDS, facade_files
 from sources import TOP, public_functions, read, read_crate, write_or_check
 
@@ -40,10 +41,10 @@ CALL = re.compile(r"`(?:(\w+)::)?(\w+)`(?:, (an? \w+)(?: asked or answered)?)?")
 Figure = namedtuple("Figure", "holder call data time ratio")
 
 
-def figures(top):
+def figures():
     """Returns the figures, in the order of the plot."""
     tables, heading, found = defaultdict(list), "", {}
-    for line in read(f"{top}/{SOURCE}").splitlines():
+    for line in read(SOURCE).splitlines():
         heading = line.lstrip("#").replace("`", "").strip() if line.startswith("#") else heading
         if line.startswith("|"):
             tables[heading].append([cell.strip() for cell in line.strip("|").split("|")])
@@ -66,12 +67,7 @@ def with_figures(text, found):
     return re.sub(r"(?m)^(\| `\w+`, `\w+` \| [^|\n]* \|).*$", lambda row: row[1] + rows[row[1]], text)
 
 
-# The crates of structures; those of the line programs have their calls in the sources.
-CRATES = """vers_bits vers_tally vers_rank word_rank vers_sorted vers_rmq vers_trees vers_wavelet wavelet_tree
-vers_saved postings sets inverted text_index""".split()
-# The crates whose calls the Rust crate has under the same names, and the types and modules of which it lacks the calls
-# that are named, or all.
-IN_RUST = set(CRATES) - {"vers_tally"}
+# The types and modules of which the Rust crate lacks the calls that are named, or all.
 NOT_IN_RUST = {
     "vers_bits::ListEnds": None, "vers_bits::Span": None, "vers_rank::Places": None, "vers_sorted::Successors": None,
     "vers_trees::ByteTables": None, "vers_wavelet::GatheredQuery": None, "vers_wavelet::GetQuery": None,
@@ -104,11 +100,11 @@ def reads_at_most(function):
 def call_with_comment(function, bound):
     """Returns a call as it is declared, below a comment of what this doesn't say."""
     conditions = [fact for kind, fact in function.clauses if kind == "requires"]
-    said = [first_sentence(function)]
-    said += [f"requires {', '.join(conditions)}"] if conditions else []
-    said += [f"reads {bound}"] if bound else []
+    notes = [first_sentence(function)]
+    notes += [f"requires {', '.join(conditions)}"] if conditions else []
+    notes += [f"reads {bound}"] if bound else []
     declared = textwrap.wrap(declaration(function), 120, subsequent_indent="    ")
-    return "\n".join([*(f"// {it}" for it in textwrap.wrap("; ".join(said), 117)), *declared])
+    return "\n".join([*(f"// {it}" for it in textwrap.wrap("; ".join(notes), 117)), *declared])
 
 
 def section(title, functions, in_rust):
@@ -128,37 +124,37 @@ def section(title, functions, in_rust):
     return "\n\n".join(it for it in [f"## {title}", *texts, code] if it)
 
 
-def public_calls(top, crate):
+def public_calls(crate):
     """Returns the public calls of a crate by their owners, without those of traits and the laws."""
     groups = defaultdict(list)
-    for it in sorted(public_functions(read_crate(top, crate)), key=lambda it: (it.source.path, it.first)):
+    for it in sorted(public_functions(read_crate(crate)), key=lambda it: (it.source.path, it.first)):
         if not it.trait and not it.is_declared_by_trait and it.source.module != "laws":
             groups[it.holder or it.source.module].append(it)
     return groups
 
 
-def page(top):
+def page():
     """Returns the text of the page of calls."""
-    files = [text for path, text in facade_files(f"{top}/rust/src") if not path.startswith("inside_tests/")]
+    files = [text for path, text in facade_files(f"{TOP}/rust/src") if not path.startswith("inside_tests/")]
     facade = re.sub(r"(?m)//.*$|^\w+! ?[({].*[)}];?$", "", "".join(files))
     # functions, and what macros make functions of
     in_rust = set(re.findall(r"(?<=\bfn )\w+|(?<![(&.])\b\w+(?=,)|\b\w+(?=\(\w+: .*\).*;\n)", facade))
-    parts = [read(f"{top}/{PAGE}").split("\n\n## ")[0]]
+    parts = [read(PAGE).split("\n\n## ")[0]]
     for crate in CRATES:
-        for name, of in sorted(public_calls(top, crate).items()):
+        for name, of in sorted(public_calls(crate).items()):
             owner = f"{crate}::{name}"
-            has = in_rust if crate in IN_RUST and NOT_IN_RUST.get(owner, ()) is not None else set()
-            parts.append(section(f"`{owner}`", of, has.difference(NOT_IN_RUST.get(owner) or ())))
+            lacks = in_rust if crate == "vers_tally" else NOT_IN_RUST.get(owner, ())
+            parts.append(section(f"`{owner}`", of, in_rust.difference(in_rust if lacks is None else lacks)))
     return "\n\n".join(parts) + "\n"
 
 
-def misplaced_names(top):
+def misplaced_names():
     """Yields a line for each name of our own that the table lacks, and for each one there that isn't our own."""
-    ours = read(f"{top}/{DIFFERENCES}").partition("\n## Names of our own\n")[2]
+    ours = read(DIFFERENCES).partition("\n## Names of our own\n")[2]
     listed = {name for row in re.findall(r"(?m)^\| (`.*?) \|", ours) for name in re.findall(r"`([^`]*)`", row)}
-    lists = re.findall(r"(?m)^(\w+):$((?:\n  .*)+)", read(f"{top}/{ORIGINAL}"))
+    lists = re.findall(r"(?m)^(\w+):$((?:\n  .*)+)", read(ORIGINAL))
     original = {crate: set(names.split()) for crate, names in lists}
-    facade = re.sub(r"(?s)pub mod laws \{.*?\n\}", "", read(f"{top}/{FACADE}"))
+    facade = re.sub(r"(?s)pub mod laws \{.*?\n\}", "", read(FACADE))
     own, types = set(), {"BothEnds", "MadeEnds", "ListEnds"}
     for crate, names in re.findall(r"pub use (\w+)::[\w:]*?\{?\s*(\w+(?:,\s*\w+)*),?\s*\}?;", facade):
         types.update(re.findall(r"\w+", names))
@@ -166,7 +162,7 @@ def misplaced_names(top):
     for crate in CRATES:
         # the bodies of all walks are in `vers_tally`, and their calls are those of the iterators
         known = original.get(crate) or set().union(*original.values())
-        for it in public_functions(read_crate(top, crate)):
+        for it in public_functions(read_crate(crate)):
             if it.holder in types and not it.name.endswith("_counted") and it.name not in known | {it.holder}:
                 own.add(it.full_name)
     yield from (f"{DIFFERENCES}: the table of our own names lacks `{name}`" for name in sorted(own - listed))
@@ -174,8 +170,8 @@ def misplaced_names(top):
 
 
 if __name__ == "__main__":
-    misplaced = list(misplaced_names(TOP))
+    misplaced = list(misplaced_names())
     print("".join(f"{it}\n" for it in misplaced), end="", file=sys.stderr)
-    readme = with_figures(read(f"{TOP}/{README}"), figures(TOP))
-    pages = {PAGE: page(TOP), definitions.PAGE: definitions.page(TOP), manual.PAGE: manual.page(TOP), README: readme}
+    readme = with_figures(read(README), figures())
+    pages = {PAGE: page(), definitions.PAGE: definitions.page(), manual.PAGE: manual.page(), README: readme}
     sys.exit(write_or_check(pages, "tools/pages.py") or bool(misplaced))

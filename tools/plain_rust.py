@@ -19,7 +19,7 @@ from pathlib import Path
 
 import rust_contracts
 from rust_contracts import guard_faults, pages
-from sources import TOP, read_crate, report, write_files, write_or_check
+from sources import TOP, read_crate, report, report_tests, write_files, write_or_check
 
 RUST = "rust/src"
 # The crates: each becomes a module of `proved`, and each crate of tests one of `proved_tests`, written for their runs.
@@ -203,7 +203,7 @@ def is_program(crate):
 @functools.cache
 def exported_macros():
     """Returns the names of the macros that programs export."""
-    return {name for crate in PROGRAMS for it in read_crate(TOP, crate) for name in EXPORTED_MACRO.findall(it.text)}
+    return {name for crate in PROGRAMS for it in read_crate(crate) for name in EXPORTED_MACRO.findall(it.text)}
 
 
 class Writer:
@@ -474,7 +474,7 @@ def written_of(crates):
     the functions that are defined."""
     written, faults, calls, defines = {}, [], {}, set()
     for crate in crates:
-        for path, text in [(path_of(it), it.text) for it in read_crate(TOP, crate)]:
+        for path, text in [(path_of(it), it.text) for it in read_crate(crate)]:
             if path in BY_HAND:
                 written[path] = BY_HAND[path]
                 continue
@@ -494,10 +494,10 @@ def modules(crates):
     return NOTE + "".join(f"pub mod {it};\n" for it in crates)
 
 
-def written(top):
+def written():
     """Returns all files that the script stores, by their paths in the folder of the crate's sources, and the faults
     that it met, in the crates that it doesn't store too."""
-    files, faults = pages(top, f"{top}/{RUST}", CRATES)
+    files, faults = pages(f"{TOP}/{RUST}", CRATES)
     known, texts = set(METHODS), {}
     for module, crates in MODULES.items():
         made, wrong, calls, defines = written_of(crates)
@@ -513,10 +513,11 @@ def written(top):
 
 
 def write_tests():
-    """Writes the tests of the proved sources into cargo's folder, and returns the faults that were met."""
-    texts, faults, _, _ = written_of(TESTS)
+    """Writes the tests of the proved sources into cargo's folder."""
+    texts, faults, *_ = written_of(TESTS)
+    if faults:
+        raise Refused("\n".join(faults))
     write_files(f"{TOP}/rust/target/proved_tests", texts)
-    return faults
 
 
 def stored(folder):
@@ -573,8 +574,8 @@ TRIED_IN_PROGRAMS = {
 
 
 def self_test():
-    """Tries forms that are written and forms that are refused, and returns whether one goes wrong."""
-    wrong = 0
+    """Tries forms that are written and forms that are refused, and returns the exit status."""
+    faults = [*rust_contracts.self_test(f"{TOP}/{RUST}", CRATES)]
     tried = [("vers_rank", *it) for it in TRIED.items()] + [("vers_cli", *it) for it in TRIED_IN_PROGRAMS.items()]
     for crate, text, wanted in tried:
         try:
@@ -582,13 +583,8 @@ def self_test():
         except Refused:
             got = None
         if got != wanted:
-            print(f"of {text!r} came {got!r}, and not {wanted!r}")
-            wrong += 1
-    faults = [*rust_contracts.self_test(TOP, f"{TOP}/{RUST}", CRATES)]
-    print("".join(f"{it}\n" for it in faults), end="")
-    count, wrong = len(tried) + len(rust_contracts.PLANTS), wrong + len(faults)
-    print(f"{count - wrong} passed, {wrong} failed")
-    return wrong > 0
+            faults.append(f"of {text!r} came {got!r}, and not {wanted!r}")
+    return report_tests(len(tried) + len(rust_contracts.PLANTS), faults)
 
 
 def main(arguments):
@@ -596,15 +592,18 @@ def main(arguments):
     if arguments == ["--self-test"]:
         return self_test()
     if arguments == ["--tests"]:
-        return report("tools/plain_rust.py", write_tests())
+        return write_tests()
     folder, is_check = f"{TOP}/{RUST}", arguments == ["--check"]
-    files, faults = written(TOP)
+    files, faults = written()
     faults += [f"{it} is written from nothing" for it in sorted(stored(folder) - set(files))]
-    faults += guard_faults(TOP, folder, CRATES) if is_check else []
+    faults += guard_faults(folder, CRATES) if is_check else []
     if report("tools/plain_rust.py", faults) and not is_check:
         return 1
     return write_or_check({f"{RUST}/{path}": text for path, text in files.items()}, "tools/plain_rust.py") or bool(faults)
 
 
 if __name__ == "__main__":
-    sys.exit(main(sys.argv[1:]))
+    try:
+        sys.exit(main(sys.argv[1:]))
+    except Refused as why:
+        sys.exit(f"tools/plain_rust.py: {why}")

@@ -36,80 +36,62 @@ def facade_files(folder):
             yield str(below), read(path)
 
 
-class Definitions:
-    """The page of definitions: its sections, by the crates whose words they define, and where each word is defined."""
-
-    def __init__(self, top, crates):
-        sections = re.split(r"(?m)^(?=## )", read(f"{top}/{DEFINITIONS}"))[1:]
-        named = ((re.search(r"crates/(\w+)/specs", it.partition("\n")[0]), it) for it in sections)
-        self.sections = {found[1]: it for found, it in named if found and found[1] in crates}
-        self.linked = defaultdict(set)
-
-    def link(self, crate, word):
-        """Returns a link to a word's definition, or None for a word that the page doesn't define."""
-        if not re.search(rf"`{re.escape(word)}[ `,]", self.sections.get(crate, "")):
-            return None
-        self.linked[crate].add(word)
-        return f"[`{word}`](crate::definitions#{crate}-{word})"
-
-    def page(self):
-        """Returns the page, with an anchor at each word to which a link leads."""
-        text = ""
-        for crate, section in self.sections.items():
-            for word in sorted(self.linked[crate]):
-                section = re.sub(rf"(?=`{re.escape(word)}[ `,])", f'<a id="{crate}-{word}"></a>', section, count=1)
-            text += re.sub(r"\A## (.*?) \(.*\)", r"# \1", section)
-        return re.sub(r"\[([^\]]*)\]\((?!#)[^)]*\)", r"\1", text)
+def definitions_of(crates):
+    """Returns the page of definitions of crates with an anchor at each word, and the words, as (crate, word)."""
+    page, words = "", set()
+    for section in re.split(r"(?m)^## ", read(DEFINITIONS))[1:]:
+        title, crate, rows = re.fullmatch(r"(?s)(.*?) \(`crates/(\w+)/specs`\)\n(.*)", section).groups()
+        if crate in crates:
+            words |= {(crate, it) for it in re.findall(r"(?m)^- `(\w+)", rows)}
+            page += f"# {title}\n" + re.sub(r"(?m)^- (?=`(\w+))", rf'- <a id="{crate}-\1"></a>', rows)
+    return re.sub(r"\[([^\]]*)\]\([^)]*\)", r"\1", page), words
 
 
-def contract_of(function, counted, definitions):
-    """Returns the section of a page that has a function's contract."""
-    said = ["# Contract", "", "```text", re.sub(r"(?m) +$", "", textwrap.dedent(function.declared)), "```", ""]
+def contract_of(function, counted, defined):
+    """Returns the section of a page that has a function's contract, with links to the words that are defined."""
+    lines = ["# Contract", "", "```text", re.sub(r"(?m) +$", "", textwrap.dedent(function.declared)), "```", ""]
     words = list(dict.fromkeys((crate, word) for crate, _, word in function.words))
     bounds = [fact.removeprefix(ADDS) for _, fact in counted.clauses if fact.startswith(ADDS)] if counted else []
     if bounds and counted is not function:
         words += [(crate, it) for crate, _, it in counted.words if (crate, it) not in words and it in bounds[0]]
-        said += [f"Reads at most `{re.sub(BRACKETS, PLAIN, bounds[0])}`, counted by `{counted.name}`.", ""]
-    links = [it for it in (definitions.link(*word) for word in words) if it]
-    return "\n".join(said + ([f"Words: {', '.join(links)}."] if links else []))
+        lines += [f"Reads at most `{re.sub(BRACKETS, PLAIN, bounds[0])}`, counted by `{counted.name}`.", ""]
+    links = [f"[`{word}`](crate::definitions#{crate}-{word})" for crate, word in words if (crate, word) in defined]
+    return "\n".join(lines + ([f"Words: {', '.join(links)}."] if links else []))
 
 
-def pages(top, folder, crates):
+def known_functions(crates):
+    """Returns the public functions of crates by their names, of two with one name the first."""
+    functions = [it for crate in crates for it in public_functions(read_crate(crate))]
+    return {it.full_name: it for it in reversed(functions)}
+
+
+def pages(folder, crates):
     """Returns the texts of the two files that the script writes for the facade in a folder, by their paths there, and
     the faults met."""
-    definitions, known = Definitions(top, crates), {}
-    for crate in crates:
-        for it in public_functions(read_crate(top, crate)):
-            known.setdefault(it.full_name, it)
-    said = {it for _, text in facade_files(folder) for it in CITED.findall(text)}
+    (definitions, defined), known = definitions_of(crates), known_functions(crates)
+    named = {it for _, text in facade_files(folder) for it in CITED.findall(text)}
     # a macro's variable matches any name
-    forms = [re.sub(r"\$\w+", r"\\w+", it) for it in said]
+    forms = [re.sub(r"\$\w+", r"\\w+", it) for it in named]
     cited = sorted({name for name in known if any(re.fullmatch(it, name) for it in forms)})
     arms, faults = [], [f"the facade cites the contract of {it}, which is no public function"
-                        for it in sorted(said - set(cited)) if "$" not in it]
+                        for it in sorted(named - set(cited)) if "$" not in it]
     for name, shown in [found for _, text in facade_files(folder) for found in SHOWN.findall(text)
                         if found[0] in known]:
         others = set(re.findall(r"(\w+):(?!:)", shown)) - ADDED - {it for it, _ in known[name].parameters}
         faults += [f"the contract of {name}, which the facade shows, has no parameter `{it}`" for it in sorted(others)]
     for it in [known[name] for name in cited]:
-        text = contract_of(it, known.get(f"{it.full_name}_counted"), definitions)
+        text = contract_of(it, known.get(f"{it.full_name}_counted"), defined)
         arms.append(f'    ({it.full_name}) => {{\n        r##"{text}"##\n    }};\n')
     head = "//! Written by tools/plain_rust.py from the proved sources: the contracts that pages cite. Not to be edited.\n\n"
     macro = f"/// Returns the text of a proved function's contract.\nmacro_rules! contract {{\n{''.join(arms)}}}\n\npub(crate) use contract;\n"
-    return {"contracts.rs": head + macro, "definitions.md": definitions.page()}, faults
-
-
-def conditions(top, crates):
-    """Returns what public proved functions require, by their types and names."""
-    known = {}
-    for it in [it for crate in crates for it in public_functions(read_crate(top, crate))]:
-        known.setdefault((it.holder, it.name), [fact for kind, fact in it.clauses if kind == "requires"])
-    return known
+    return {"contracts.rs": head + macro, "definitions.md": definitions}, faults
 
 
 def required_of(known, types, name):
     """Returns what a call of a name requires, of a value of one of these types."""
-    return next((known[it, name] for it in sorted(types) if known.get((it, name))), [])
+    found = [[fact for kind, fact in known[f"{it}::{name}"].clauses if kind == "requires"]
+             for it in sorted(types) if f"{it}::{name}" in known]
+    return next(filter(None, found), [])
 
 
 class FacadeFile:
@@ -146,17 +128,13 @@ class FacadeFile:
                 yield callee, text, callee, required
 
     def written_calls(self):
-        """Yields for each call that a macro of the file writes of a proved function the text of the macro with its use,
-        and the callee's name."""
-        for macro, pattern, body in re.findall(r"(?ms)^macro_rules! (\w+) \{\n +\((.*?)\) => \{\n(.*?)^\}", self.code):
-            called = set(re.findall(r"(?:self\.\w+\.|proved::\w+::)\$(\w+)\(", body))
-            names = re.findall(r"\$(\w+):ident", pattern.split("$($arg")[0].split("($arg")[0].split(": $first")[0])
-            for use in re.findall(rf"(?ms)^{macro}! \{{(.*?)^\}}", self.code):
-                for item in re.sub(r'"[^"]*"', "", use).split(";"):
-                    words = re.findall(r"\w+", re.split(r"[(:]", item)[0])
-                    yield from ((body + use, word)
-                                for name, word in zip(names[-len(words):] if len(names) > len(words) else names, words)
-                                if name in called)
+        """Yields for each name that a macro of the file is given, and may call as a proved function, the text of the
+        macro with its use, and the name. A name `.._unchecked` is the facade's own, if none such is called."""
+        for macro, body in re.findall(r"(?ms)^macro_rules! (\w+) \{\n(.*?)^\}", self.code):
+            called = " ".join(re.findall(r"(?:self\.\w+\.|proved::\w+::)(\$\w+)\(", body))
+            for use in re.findall(rf"(?ms)^{macro}! \{{(.*?)^\}}", self.code) if called else ():
+                names = re.findall(r"\w+", re.sub(r'"[^"]*"', "", use))
+                yield from ((body + use, it) for it in names if "_unchecked" in called or "_unchecked" not in it)
 
     def function_at(self, at):
         """Returns the name of the function in which a line is, and its text."""
@@ -168,14 +146,14 @@ class FacadeFile:
         return name, "\n".join(self.lines[first:end])
 
 
-def guard_faults(top, folder, crates):
+def guard_faults(folder, crates):
     """Yields a line for each call with a precondition that the list lacks, and for each row of the list that is not
     so."""
-    known, found = conditions(top, crates), {}
+    known, found = known_functions(crates), {}
     files = [FacadeFile(*it) for it in facade_files(folder)]
     for file in files:
         for function, body, callee, required in file.calls(known, files):
-            found[file.path, function, callee] = body, required
+            found.setdefault((file.path, function, callee), (body, required))
     listed = set()
     for row in [it for it in read(f"{folder}/../{GUARDS}").splitlines() if it and not it.startswith("#")]:
         path, function, callee, required, guard = row.split(" | ")
@@ -192,7 +170,7 @@ def guard_faults(top, folder, crates):
                 for path, name, callee in sorted(set(found) - listed))
 
 
-# Faults that are planted: the file of the crate, what is written for what, and what has to be said.
+# Faults that are planted: the file of the crate, what is written for what, and what has to be reported.
 PLANTS = (
     ("guards.txt", "bit_vec/mod.rs | BitVec::flip_bit |", "# ", "no row for flip_bit of bit_vec/mod.rs"),
     ("guards.txt", "| BitVec::flip_bit | requires { place < length self.old }",
@@ -211,15 +189,15 @@ PLANTS = (
 )
 
 
-def self_test(top, folder, crates):
+def self_test(folder, crates):
     """Plants the faults in copies of the facade, and yields a line for each that isn't found."""
     texts = {f"src/{path}": text for path, text in facade_files(folder)} | {"guards.txt": read(f"{folder}/../{GUARDS}")}
-    for path, old, new, wanted in PLANTS:
+    for path, old, new, expected in PLANTS:
         if old not in texts[path]:
             yield f"the text of a plant is gone: {path}: {old}"
             continue
         with tempfile.TemporaryDirectory() as room:
             write_files(room, {**texts, path: texts[path].replace(old, new, 1)})
-            said = [*guard_faults(top, f"{room}/src", crates), *pages(top, f"{room}/src", crates)[1]]
-        if not any(wanted in it for it in said):
-            yield f"not found: {path}: {new}, but {said[:3]}"
+            found = [*guard_faults(f"{room}/src", crates), *pages(f"{room}/src", crates)[1]]
+        if not any(expected in it for it in found):
+            yield f"not found: {path}: {new}, but {found[:3]}"

@@ -6,8 +6,7 @@ brace on its own line as far in.
 
 The wrong bodies of src/MODULE.rt are in wrong/MODULE.edits, each as a line 'mutant: FUNCTION--WHAT-IS-WRONG', pairs of
 lines 'old: TEXT' and 'new: TEXT', and a line 'row: TEST'. Each TEXT is one line, and the old one occurs once in the
-source. FUNCTION is the one that is changed, and TEST the test that fails with it. A wrong body that `rt` reads as well
-is the file must-fail/FUNCTION--WHAT-IS-WRONG.edit, with a line 'file: src/..' and '# ' before 'row'.
+source. FUNCTION is the one that is changed, and TEST the test that fails with it.
 """
 import os
 import re
@@ -22,13 +21,12 @@ TOP = os.path.dirname(os.path.dirname(os.path.abspath(__file__)))
 PUB = r"(?:pub(?:\([a-z]+\))? )?"
 HEAD = re.compile(rf"(?: {{4}})?{PUB}(?:const |unsafe |extern \"C\" )*fn (\w+)")
 OWNER = re.compile(rf"{PUB}(?:unsafe )?(?:impl|trait)\b")
+# The trait that the head of an impl names, and the type; or the trait itself: past a path, and without generics.
+OWNED = re.compile(r"\b(?:impl|trait) (?:(?:\w+::)*(\w+) for )?(?:&(?:'\w+ )?(?:mut )?)?(?:\w+::)*(\w+)")
 CLAUSE = re.compile(r"(?ms)^\s*(requires|ensures) (?:[a-z_]\w* )?\{ (.*?)\s\}\s*(?=^\s*(?:requires|ensures)\b|\Z)")
 STRUCT = re.compile(rf"(?ms)^{PUB}(struct|enum) (\w+)([^;{{(]*)(\{{.*?^\}}|\{{[^\n]*\}}|\([^;]*\);|;)")
 IMPORT = re.compile(r"\bghost use Rattle\.(\w+)\.specs\.([\w.]+)\.\{([^}]*)\}")
-# The test that fails with a wrong body.
-ROW = re.compile(r"(?m)^(?:# )?row: (\S+)$")
-# The path of a file of wrong bodies, and each of the bodies in it.
-EDITS = re.compile(r"crates/(\w+)/(?:wrong/(\S+)\.edits|must-fail/(\S+)\.edit)")
+# A wrong body, in a file of them.
 MUTANT = re.compile(r"(?ms)^mutant: (\S+)\n(.*?)(?=^mutant: |\Z)")
 # The oldest cargo by which the tests of the Rust crate and the library in C are built. (The crate itself needs 1.63.)
 NEW_CARGO = (1, 88)
@@ -36,20 +34,20 @@ PARAMETER = re.compile(r"(?:mut )?(\w+): ((?:[^,<()\[]|<[^<>]*(?:<[^<>]*>[^<>]*)
 
 
 def read(path):
-    """Returns the text of a file."""
-    return Path(path).read_text(encoding="utf-8")
+    """Returns the text of a file of the repository."""
+    return Path(TOP, path).read_text(encoding="utf-8")
 
 
 def line_of(text, at):
-    """Returns the number of the line in which a place of a text stands."""
+    """Returns the number of the line of a position in a text."""
     return text.count("\n", 0, at) + 1
 
 
-def closed(found, leads):
-    """Returns a set with all that leads into it, of what leads where."""
-    while more := {it for it, others in leads.items() if others & found} - found:
-        found = found | more
-    return found
+def reaching(targets, successors):
+    """Returns the targets and all nodes from which one can be reached, by the successors of each node."""
+    while more := {it for it, others in successors.items() if others & targets} - targets:
+        targets = targets | more
+    return targets
 
 
 def without(pattern, text):
@@ -57,14 +55,6 @@ def without(pattern, text):
     while (shorter := re.sub(pattern, "", text)) != text:
         text = shorter
     return text
-
-
-def split_owner(owner):
-    """Returns the type and the trait that the head of an impl names, or a trait itself and none, without their
-    generics."""
-    words = without(r"<[^<>]*>", re.sub(r"\bwhere\b.*", "", owner.replace("->", "")).split("{")[0])
-    trait, is_for, kind = re.sub(r"^.*?\b(?:impl|trait)\b", "", words).rpartition(" for ")
-    return kind, trait if is_for else ""
 
 
 class Function:
@@ -84,22 +74,21 @@ class Function:
         self.declared, self.code = declared.rstrip("{; \n"), bare(inside)
         self.head = " ".join(re.split(r"\n\s*(?:requires|ensures|where|ghost)\b", self.declared)[0].split())
         self.name = HEAD.match(self.text)[1]
-        # the type that it belongs to, or the trait that declares it; and the trait that its impl is of: past a path,
-        # and before bounds
-        named = (re.findall(r"\w+", it if "::" in it else it.split(":")[0]) for it in split_owner(owner))
-        self.holder, self.trait = ((it or [""])[-1] for it in named)
+        # the type that it belongs to, or the trait that declares it; and the trait that its impl is of
+        found = OWNED.search(without(r"<[^<>]*>", owner.replace("->", "")))
+        self.trait, self.holder = (it or "" for it in found.groups()) if found else ("", "")
         self.full_name = f"{self.holder}::{self.name}" if owner else self.name
         self.is_public = bool(re.match(r"pub (?:const |unsafe )?fn\b", self.head))
         self.is_declared_by_trait = bool(re.match(rf"{PUB}trait\b", owner))
 
     @cached_property
     def clauses(self):
-        """Its clauses, as (kind, fact)."""
+        """Returns its clauses, as (kind, fact)."""
         return [(kind, " ".join(fact.split())) for kind, fact in CLAUSE.findall(self.declared)]
 
     @cached_property
     def words(self):
-        """The words of `specs/` that its clauses cite, as (crate, page, word)."""
+        """Returns the words of `specs/` that its clauses cite, as (crate, page, word)."""
         cited = set(re.findall(r"(?<![\w.])\w+", " ".join(fact for _, fact in self.clauses)))
         imported = [(crate, page, it.split(" as ")) for crate, page, names in IMPORT.findall(self.source.text)
                     for it in re.split(r",\s*", names.strip())]
@@ -107,13 +96,13 @@ class Function:
 
     @cached_property
     def above(self):
-        """The lines of comments right above it."""
+        """Returns the lines of comments right above it."""
         found = takewhile(lambda it: it and not it.endswith(("{", "}")), reversed(self.source.lines[:self.first]))
         return [it for it in reversed([*found]) if it.lstrip().startswith("//")]
 
     @cached_property
     def parameters(self):
-        """Its parameters but `self`, as (name, type)."""
+        """Returns its parameters but `self`, as (name, type)."""
         return PARAMETER.findall(re.split(r"fn \w+(?:<.*?>)?\(", self.head)[1])
 
 
@@ -126,12 +115,13 @@ class Source:
 
     @cached_property
     def functions(self):
-        """Its functions, but for those inside another."""
+        """Returns its functions, but for those inside another."""
         found, owner = [], ""
         for at, line in enumerate(self.lines):
             if OWNER.match(line):
                 rest = self.lines[at:]
-                owner = " ".join(rest[: next(i for i, it in enumerate(rest, 1) if it.endswith(("{", "}")))])
+                head = rest[: next(i for i, it in enumerate(rest, 1) if it.endswith(("{", "}")))]
+                owner = " ".join(" ".join(head).split())
             elif line == "}":
                 owner = ""
             if HEAD.match(line):
@@ -155,7 +145,7 @@ class Source:
 
     @cached_property
     def structs(self):
-        """Its structs and enums, as (name, fields as (name, type), line)."""
+        """Returns its structs and enums, as (name, fields as (name, type), line)."""
         found, text = [], bare_keeping_lines(self.text)
         for it in STRUCT.finditer(text):
             fields = PARAMETER.findall(it[4].strip("{}();\n"))
@@ -174,21 +164,15 @@ def bare_keeping_lines(text):
     return re.sub(r"(?m)^(\s*)ghost [^\n]*", r"\1", re.sub(r"//[^\n]*", "", text))
 
 
-def read_crate(top, crate):
+def read_crate(crate):
     """Returns the sources of a crate."""
-    paths = [f"{at}/{name}" for at, _, names in sorted(os.walk(f"{top}/crates/{crate}/src")) for name in sorted(names)]
-    return [Source(crate, os.path.relpath(it, top), read(it)) for it in paths if it.endswith(".rt")]
-
-
-def by_path(sources):
-    """Returns the sources of a crate, by their paths in the crate."""
-    return {it.path.split("/", 2)[2]: it for it in sources}
+    paths = [f"{at}/{name}" for at, _, names in sorted(os.walk(f"{TOP}/crates/{crate}/src")) for name in sorted(names)]
+    return [Source(crate, os.path.relpath(it, TOP), read(it)) for it in paths if it.endswith(".rt")]
 
 
 def edited(text, edit):
     """Returns a file's text with the pairs of an edit, or raises a `ValueError` that says why they don't apply."""
-    fields = re.findall(r"(?m)^(file|old|new): ?(.*)$", edit)
-    pairs = [(old, new) for (one, old), (other, new) in zip(fields, fields[1:]) if (one, other) == ("old", "new")]
+    pairs = re.findall(r"(?m)^old: ?(.*)\nnew: ?(.*)$", edit)
     if not pairs:
         raise ValueError("it has no pair of texts")
     for old, new in pairs:
@@ -201,38 +185,25 @@ def edited(text, edit):
 def wrong_bodies(texts):
     """Yields the wrong bodies in the texts of a repository by their paths, as (crate, name, edit)."""
     for path, text in sorted(texts.items()):
-        crate, module, name = found.groups() if (found := EDITS.fullmatch(path)) else (None, None, None)
-        if name:
-            yield crate, name, text
-        elif module:
-            yield from ((crate, it[1], f"file: src/{module}.rt\n{it[2]}") for it in MUTANT.finditer(text))
+        if found := re.fullmatch(r"crates/(\w+)/wrong/(\S+)\.edits", path):
+            yield from ((found[1], it[1], f"file: src/{found[2]}.rt\n{it[2]}") for it in MUTANT.finditer(text))
 
 
-def changed_function(edit, sources):
-    """Returns the function whose body an edit changes and the lines of the body after it, or raises a `ValueError` that
-    says why it can't be tried."""
-    file = next(iter(re.findall(r"(?m)^file: ?(.*?) *$", edit)), "")
-    if file not in sources:
+def load_edit(edit, sources):
+    """Returns the function of a crate whose body an edit changes and the lines of the body after it, or raises a
+    `ValueError` that says why it can't be tried."""
+    file = re.search(r"(?m)^file: (.*)$", edit)[1]
+    source = next((it for it in sources if it.path.endswith(f"/{file}")), None)
+    if not source:
         raise ValueError(f"there is no file {file} in the crate")
-    lines, were = edited(sources[file].text, edit).split("\n"), sources[file].lines
+    lines, were = edited(source.text, edit).split("\n"), source.lines
     changed = [at for at, (was, now) in enumerate(zip(were, lines)) if was != now]
     if not changed or len(lines) != len(were):
         raise ValueError("it changes nothing, or the number of lines")
-    for it in sources[file].functions:
+    for it in source.functions:
         if it.has_body and it.body <= changed[0] and changed[-1] < it.last:
             return it, lines[it.body : it.last]
     raise ValueError(f"it changes no body of one function of {file}")
-
-
-def load_edit(name, text, sources):
-    """Returns the function that a wrong body changes and the lines of that body, or raises a `ValueError` that says why
-    it can't be tried."""
-    function, lines = changed_function(text, sources)
-    if not name.startswith(f"{function.name}--"):
-        raise ValueError(f"its name doesn't begin with `{function.name}--`, for the function that it changes")
-    if not ROW.search(text):
-        raise ValueError("it names no test that fails with it: a line `row: TEST`")
-    return function, lines
 
 
 def public_files(sources):
@@ -264,8 +235,8 @@ def public_functions(sources):
 
 def has_cargo():
     """Returns whether cargo is there, as new as the tests of the Rust crate need it."""
-    said = shutil.which("cargo") and subprocess.run(["cargo", "--version"], capture_output=True, text=True).stdout
-    found = re.search(r"cargo (\d+)\.(\d+)", said or "")
+    version = shutil.which("cargo") and subprocess.run(["cargo", "--version"], capture_output=True, text=True).stdout
+    found = re.search(r"cargo (\d+)\.(\d+)", version or "")
     return bool(found) and (int(found[1]), int(found[2])) >= NEW_CARGO
 
 
@@ -274,6 +245,12 @@ def report(name, faults):
     lines = list(faults)
     print("\n".join(lines) or f"{name}: ok")
     return int(bool(lines))
+
+
+def report_tests(count, faults):
+    """Prints which tests fail, and the numbers of those that pass and fail; returns the exit status."""
+    print("".join(f"{it}\n" for it in faults) + f"{count - len(faults)} passed, {len(faults)} failed")
+    return int(bool(faults))
 
 
 def write_files(top, files):
@@ -290,6 +267,6 @@ def write_or_check(pages, script):
     if sys.argv[1:] != ["--check"]:
         write_files(TOP, pages)
         return 0
-    stale = [it for it, text in pages.items() if not os.path.exists(f"{TOP}/{it}") or read(f"{TOP}/{it}") != text]
+    stale = [it for it, text in pages.items() if not os.path.exists(f"{TOP}/{it}") or read(it) != text]
     print("".join(f"{it} isn't what {script} writes\n" for it in stale), end="", file=sys.stderr)
     return 1 if stale else 0

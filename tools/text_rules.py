@@ -22,7 +22,8 @@ import sys
 from collections import defaultdict
 from functools import lru_cache
 
-from sources import TOP, Source, by_path, closed, line_of, load_edit, public_functions, read, report, wrong_bodies
+from sources import (TOP, Source, reaching, line_of, load_edit, public_functions, read, report, report_tests,
+                     wrong_bodies)
 
 DEFINITIONS = "docs/DEFINITIONS.md"
 NAMED = "docs/ARCHITECTURE.md"
@@ -30,35 +31,35 @@ DRAWN = "docs/LAYOUTS.md", "crates/vers_layouts/stdout"
 TEXTS = re.compile(r"(?!rust/src/(?:proved|contracts)).*\.(?:md|rt|antt|edits?|py|sh|txt|rs|h|hpp|c|cpp)|(?:.*/)?(?:test|vers|run|stdout)")
 # between two words of a phrase there may be the end of a line and the marks of a comment
 GAP = r"(?:\s|//[/!]?|#|--|\*)+"
-# the files that are clean of all phrases, and those whose lines have at most 120 columns
-# all texts but the old entries of the changes, the rules of language with their examples, and what only proofs need
+# the files without these phrases: all but the old entries of the changes, the rules of language with their examples,
+# and what only proofs need; and those whose lines have at most 120 columns
 PLAIN = r"(?!CHANGELOG\.md|CONTRIBUTING\.md|tools/text_rules\.py|crates/\w+/proofs/).*"
 WRAPPED = r"(?:tools|bindings)/\w+\.py|test|package|(?!CHANGELOG|rust/src/definitions|docs/LAYOUTS).*\.md"
-# the files, a phrase that isn't plain English, and what to write instead
+# a phrase that isn't plain English, and what to write instead
 PHRASES = (
-    (PLAIN, "want of memory", "out of memory"),
+    ("want of memory", "out of memory"),
     # `at the most recent` is plain
-    (PLAIN, r"at the most(?! \w+[ae]nt\b)", "at most"),
-    (PLAIN, "let go", "drop"),
-    (PLAIN, "(?:is|are|was|were) told", "returns, prints"),
-    (PLAIN, "hand(?:s|ed)? on", "passes, forwards"),
-    (PLAIN, "in the stead|in (?:the )?place of", "instead of"),
-    (PLAIN, r"wanted (?:was|were|are)|wanted is(?! not None)", "target: .."),
-    (PLAIN, "so many", "n"),
-    (PLAIN, "for want of", "without"),
-    (PLAIN, "stands? (?:alone|apart|at|behind|beside|for|in|on|so|there)", "is, depends on, means"),
-    (PLAIN, "lies? (?:at|between|beside|in(?! LIES)|on|up)", "is"),
-    (PLAIN, "comes? to lie", "is placed"),
-    (PLAIN, "as (?:it|they) stands?", "unchanged"),
-    (PLAIN, "just where", "exactly if"),
-    (PLAIN, "a further", "another"),
+    (r"at the most(?! \w+[ae]nt\b)", "at most"),
+    ("let go", "drop"),
+    ("(?:is|are|was|were) told", "returns, prints"),
+    ("hand(?:s|ed)? on", "passes, forwards"),
+    ("in the stead|in (?:the )?place of", "instead of"),
+    (r"wanted (?:was|were|are)|wanted is(?! not None)", "target: .."),
+    ("so many", "n"),
+    ("for want of", "without"),
+    ("stands? (?:alone|apart|at|behind|beside|for|in|on|so|there)", "is, depends on, means"),
+    ("lies? (?:at|between|beside|in(?! LIES)|on|up)", "is"),
+    ("comes? to lie", "is placed"),
+    ("as (?:it|they) stands?", "unchanged"),
+    ("just where", "exactly if"),
+    ("a further", "another"),
 )
 # the files, what they may not contain, and the message with the groups that were found
 PATTERNS = (
     (r".*(?<!_rules\.py)", r"(?<![\w-])[DFRTW][12]?\d(?![\w-])|(?<![\w./-])/(?:work|opt|tmp|home|root|srv)/",
      "cites {0}, which the repository doesn't hold"),
-    *((files, rf"(?i)\b(?:{words.replace(' ', GAP)})\b", f"says `{words}`; write `{instead}`")
-      for files, words, instead in PHRASES),
+    *((PLAIN, rf"(?i)\b(?:{words.replace(' ', GAP)})\b", f"says `{words}`; write `{instead}`")
+      for words, instead in PHRASES),
     (r"docs/DEFINITIONS\.md", r"(?m)^- `(\w+)[^`]*`:$", "`{1}` has no comment in `specs/`"),
     (r"crates/\w+/src/.*\.rt", r"\A(?:.*\n){800}", "has more than 800 lines"),
     (r".*\.rt", r'(?m)^(?! *(?:(?:ghost )?use |#\[))[^"\n]{121,}$', "has more than 120 columns"),
@@ -70,11 +71,11 @@ PATTERNS = (
     (r"crates/\w+/src/.*(?<!/main)\.rt", r"\blet _ = (?!(?:&\w+(?:\.\w+)+|\w+(?:\.\w+)*\.(?:len|last)\(\)|T::len_of\(\w+\));|eprintln!)([^;]*);",
      "drops `{1}`; allowed: a mention of a field, a length or a last member, and a message on standard error"),
 )
-PASSES_ON = re.compile(r"(?:[\w.:&*]+(?:::<\w+>)?(?:\([\w\s,&.*]*\)|\{\w+\})?)?")
+FORWARDS = re.compile(r"(?:[\w.:&*]+(?:::<\w+>)?(?:\([\w\s,&.*]*\)|\{\w+\})?)?")
 LINK = re.compile(r"\]\(([^)#:\s]*)(?:#([^)\s]*))?\)")
 HEADING = re.compile(r"(?m)^#+ (.*)$")
 READ_ONCE = lru_cache(maxsize=None)(Source)
-PASSED_ON = re.compile(r"(?m)^pub use Rattle\.\w+\.proofs\.PublicLaws as (\w+)$")
+EXPORTED_LAWS = re.compile(r"(?m)^pub use Rattle\.\w+\.proofs\.PublicLaws as (\w+)$")
 FOREIGN = re.compile(r"\b(\w+)(?:\.|::)(proofs|specs)(?:\.|::)(\w+)(?:(?:\.|::)(\w+))?")
 # proofs that depend only on the contracts of a part of their own crate, and the files of that part's inside
 ON_CONTRACTS = {
@@ -86,7 +87,7 @@ ON_CONTRACTS = {
 
 
 def imported_insides(path, text, pages):
-    """Yields a line for each import of what a crate, or a part of it, keeps to itself; `pages` are each crate's pages
+    """Yields a line for each import of what is private to a crate, or to a part of it; `pages` are each crate's pages
     of laws."""
     own = path.split("/")[1]
     for found in FOREIGN.finditer(text):
@@ -137,22 +138,22 @@ def missing_wrong_bodies(texts):
     """Yields a line for each public function that computes something and that no edit of its crate reaches."""
     for crate, sources in crates_of(texts).items():
         found, changed = [it for source in sources for it in source.functions if it.has_body], set()
-        for name, edit in [(name, edit) for owner, name, edit in wrong_bodies(texts) if owner == crate]:
+        for edit in [edit for owner, _, edit in wrong_bodies(texts) if owner == crate]:
             with contextlib.suppress(ValueError):
-                changed.add(load_edit(name, edit, by_path(sources))[0])
+                changed.add(load_edit(edit, sources)[0])
         named = {it: set(re.findall(r"\b\w+\b(?=(?:::<[^>]*>)?\()", it.code)) for it in found}
-        reached = closed(changed, {it: {other for other in found if other.name in named[it]} for it in found})
+        reached = reaching(changed, {it: {other for other in found if other.name in named[it]} for it in found})
         for it in found if not re.search("^test_|_tests$", crate) else ():
-            is_maker = PASSES_ON.fullmatch(re.sub(r"\s+", "", it.code))
+            is_maker = FORWARDS.fullmatch(re.sub(r"\s+", "", it.code))
             if it.is_public and "ensures" in it.declared and not is_maker and it not in reached:
                 yield f"{it.where}: no wrong body reaches {it.full_name}"
 
 
-def texts_of(top):
+def texts_of():
     """Returns the texts that git tracks or would, by their paths."""
-    command = ["git", "-C", top, "ls-files", "--cached", "--others", "--exclude-standard"]
+    command = ["git", "-C", TOP, "ls-files", "--cached", "--others", "--exclude-standard"]
     paths = sorted(subprocess.run(command, check=True, capture_output=True, text=True).stdout.splitlines())
-    return {it: read(f"{top}/{it}") for it in paths if TEXTS.fullmatch(it) and os.path.exists(f"{top}/{it}")}
+    return {it: read(it) for it in paths if TEXTS.fullmatch(it) and os.path.exists(f"{TOP}/{it}")}
 
 
 def crates_of(texts):
@@ -203,7 +204,7 @@ def faults(texts):
     if not texts[DRAWN[0]].endswith(f"```text\n{texts[DRAWN[1]]}```\n"):
         yield f"{DRAWN[0]}: its end isn't {DRAWN[1]}"
     yield from misnamed(texts)
-    pages = {it: {"PublicLaws", *PASSED_ON.findall(texts.get(f"crates/{it}/proofs/Lib.antt", ""))} for it in crates}
+    pages = {it: {"PublicLaws", *EXPORTED_LAWS.findall(texts.get(f"crates/{it}/proofs/Lib.antt", ""))} for it in crates}
     for path, text in texts.items():
         yield from text_faults(path, text)
         if path.startswith("crates/") and path.endswith((".antt", ".rt")):
@@ -258,19 +259,17 @@ BREAKS = {
 
 
 def self_test():
-    """Makes each change to the texts, and requires that what it breaks is found."""
-    texts = texts_of(TOP)
-    for want, (path, old, new) in BREAKS.items():
-        assert old in texts[path], (path, old)
+    """Makes each change to the texts, and returns the exit status, 1 if what it breaks isn't found."""
+    texts, missed = texts_of(), []
+    for expected, (path, old, new) in BREAKS.items():
         broken = {**texts, path: texts[path].replace(old, new)}
-        assert any(want in line for rule in (faults, missing_wrong_bodies) for line in rule(broken)), want
-    print(f"text rules: {len(BREAKS)} planted faults are found")
+        if not any(expected in line for rule in (faults, missing_wrong_bodies) for line in rule(broken)):
+            missed.append(f"not found: {expected}")
+    return report_tests(len(BREAKS), missed)
 
 
 if __name__ == "__main__":
     if "--self-test" in sys.argv:
-        self_test()
-    elif "--wrong-bodies" in sys.argv:
-        print("\n".join(missing_wrong_bodies(texts_of(TOP))))
-    else:
-        sys.exit(report("text rules", faults(texts_of(TOP))))
+        sys.exit(self_test())
+    rules = missing_wrong_bodies if "--wrong-bodies" in sys.argv else faults
+    sys.exit(report("text rules", rules(texts_of())))
