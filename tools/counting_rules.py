@@ -325,8 +325,8 @@ def named_faults(library):
 
 
 def is_ignored(library, name, body):
-    """Returns whether each call of a function that returns something is a statement of its own, or gives a variable that
-    is never read."""
+    """Returns whether each call of a function that returns something is a statement of its own, or gives a variable
+    that is never read."""
     flat = without(BRACKETS, re.sub(r"::<[^<>]*>", "", body))
     statements = [it for it in re.findall(r"[^;{}]*[;{}]?", flat) if re.search(rf"\b{name}\b", it)]
     variables = [re.match(r"\s*let (?:mut )?(\w+)", it) for it in statements]
