@@ -6,6 +6,8 @@
 
 mod corpus;
 mod grep;
+#[path = "../../original/src/clock.rs"]
+mod clock;
 mod roaring;
 
 use corpus::Corpus;
@@ -54,12 +56,6 @@ impl Random {
     }
 }
 
-#[repr(C)]
-struct TimeOfClock {
-    seconds: i64,
-    nanoseconds: i64,
-}
-
 /// The structure `rusage`: the times of the program and of the system, in seconds and microseconds, and other numbers.
 #[repr(C)]
 struct Usage {
@@ -68,26 +64,15 @@ struct Usage {
 }
 
 extern "C" {
-    fn clock_gettime(clock: i32, time: *mut TimeOfClock) -> i32;
     fn getrusage(who: i32, usage: *mut Usage) -> i32;
 }
-
-/// The clock of a thread's processor time, in Linux.
-const THREAD_CLOCK: i32 = 3;
 
 /// The processes that this one has waited for.
 const CHILDREN: i32 = -1;
 
 /// Returns the processor time of the thread in microseconds.
 fn now() -> f64 {
-    let mut time = TimeOfClock {
-        seconds: 0,
-        nanoseconds: 0,
-    };
-    // SAFETY: the pointer is to a value of the C structure.
-    let status = unsafe { clock_gettime(THREAD_CLOCK, &mut time) };
-    assert_eq!(status, 0, "no clock of the thread");
-    time.seconds as f64 * 1e6 + time.nanoseconds as f64 / 1e3
+    clock::processor_time().as_secs_f64() * 1e6
 }
 
 /// Returns the processor time of ended processes that this one started, in microseconds.

@@ -10,6 +10,7 @@
 
 mod batches;
 mod bits;
+mod clock;
 mod minima;
 mod report;
 mod sorted;

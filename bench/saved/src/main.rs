@@ -3,14 +3,13 @@
 //! and the lesser of each two values in bold. A copy is one of the bytes of this library's form. A divisor divides all
 //! sizes.
 
-#[allow(dead_code)]
-#[path = "../../original/src/report.rs"]
-mod report;
+#[path = "../../original/src/clock.rs"]
+mod clock;
 #[allow(dead_code)]
 #[path = "../../original/src/workload.rs"]
 mod workload;
 
-use report::processor_time;
+use clock::processor_time;
 use serde::{de::DeserializeOwned, Serialize};
 use std::hint::black_box;
 use std::time::Duration;

@@ -2,6 +2,9 @@
 //! numbers of members, the limit of these, the nanoseconds of an intersection a member of the first list, those of a union
 //! a number of the result, each with the ratio to that of sorted vectors, and the bytes a member of both lists.
 
+#[path = "../../original/src/clock.rs"]
+mod clock;
+
 use std::hint::black_box;
 use vers_vecs::{sets, EliasFanoVec};
 
@@ -85,29 +88,9 @@ fn either(one: &[u64], other: &[u64]) -> Vec<u64> {
     found
 }
 
-#[repr(C)]
-struct TimeOfClock {
-    seconds: i64,
-    nanoseconds: i64,
-}
-
-extern "C" {
-    fn clock_gettime(clock: i32, time: *mut TimeOfClock) -> i32;
-}
-
-/// The clock of a thread's processor time, in Linux.
-const THREAD_CLOCK: i32 = 3;
-
 /// Returns the processor time of the thread in nanoseconds.
 fn now() -> f64 {
-    let mut time = TimeOfClock {
-        seconds: 0,
-        nanoseconds: 0,
-    };
-    // SAFETY: the pointer is to a value of the C structure.
-    let status = unsafe { clock_gettime(THREAD_CLOCK, &mut time) };
-    assert_eq!(status, 0, "no clock of the thread");
-    time.seconds as f64 * 1e9 + time.nanoseconds as f64
+    clock::processor_time().as_secs_f64() * 1e9
 }
 
 /// Puts the time of a run into `least` if it is less. Returns what the run returned.
