@@ -7,7 +7,7 @@
     python3 bindings/check.py --quick    without clang, valgrind and pip
     python3 bindings/check.py --write    writes the codes anew, and checks nothing
 
-- The codes of statuses, queries and changes in vers.h, in the Python package and in bindings/c/src are those of
+- The codes of statuses, queries and changes in vers.h and in the Python package are those of
   crates/vers_c, one after another.
 - vers.h says of each export which handles differ, and which arrays it reads and writes.
 - C and C++ are compiled without a warning, C++ as C++17 and C++20, also for a sanitizer; their tests pass, also under
@@ -195,14 +195,6 @@ def written_codes(tables):
     return text
 
 
-def written_constants(tables):
-    """The Rust module of the codes."""
-    text = "//! The codes of statuses, queries and changes, as crates/vers_c has them. Written by bindings/check.py --write.\n"
-    for names in tables.values():
-        text += "\n" + "".join(f"pub const {name}: u32 = {k};\n" for k, name in enumerate(names))
-    return text
-
-
 def check_codes(checks, write):
     """Compares the codes with the crate's tables, or writes them."""
     source = os.path.join(TOP, "crates")
@@ -211,8 +203,7 @@ def check_codes(checks, write):
         return
     tables = code_tables(source)
     files = {os.path.join(C, "vers.h"): lambda text: written_header(text, tables),
-             os.path.join(PY, "vers", "_codes.py"): lambda _: written_codes(tables),
-             os.path.join(C, "src", "codes.rs"): lambda _: written_constants(tables)}
+             os.path.join(PY, "vers", "_codes.py"): lambda _: written_codes(tables)}
     for path, written in files.items():
         text, wanted = read(path), written(read(path))
         if write:

@@ -1,8 +1,8 @@
 #!/usr/bin/env python3
 """Writes the proved sources as a crate of plain Rust, or compares the stored files with what it writes.
 
-    tools/plain_rust.py                writes proved, contracts.rs and definitions.md in rust/src, and the program in
-                                       rust/program/src/programs
+    tools/plain_rust.py                writes proved, contracts.rs and definitions.md in rust/src, the program in
+                                       rust/program/src/programs, and the exports to C in bindings/c/src/programs
     tools/plain_rust.py --tests        writes the tests of the proved sources to rust/target, where cargo takes them
                                        with RUSTFLAGS="--cfg proved_tests"
     tools/plain_rust.py --check        compares these, and rust/guards.txt with the sources (tools/rust_contracts.py)
@@ -28,14 +28,19 @@ postings text_index sets inverted vers_saved""".split()
 TESTS = """test_alloc vers_bits_tests vers_rank_tests word_rank_tests wavelet_tree_tests vers_sorted_tests
 vers_rmq_tests vers_wavelet_tests vers_trees_tests postings_tests text_index_tests sets_tests inverted_tests
 vers_saved_tests""".split()
-# The program that cargo builds, with its libraries. The other programs, the exports to C, and their tests are written
-# only for the build of wrong bodies (tools/mutants.py).
+# The program that cargo builds, with its libraries, and the exports to C, which the oldest rustc compiles with the
+# catalogue. The other programs, and the tests of programs, are written only for the build of wrong bodies
+# (tools/mutants.py).
 PROGRAM = "vers_io catalogue vers_words vers_engine vers_cli vers_texts vers_files vers_commands".split()
-PROGRAMS = [*PROGRAM, "vers_vecs", "vers_uses", "vers_c"]
+EXPORTS = ["vers_c"]
+PROGRAMS = [*PROGRAM, *EXPORTS, "vers_vecs", "vers_uses"]
 PROGRAM_TESTS = "vers_cli_tests vers_texts_tests vers_files_tests vers_uses_tests".split()
 # The module that each belongs to, and the folders of what is stored, from that of the crate's sources.
 MODULES = {"proved": CRATES, "proved_tests": TESTS, "programs": PROGRAMS, "program_tests": PROGRAM_TESTS}
-STORED = {"proved": CRATES, "../program/src/programs": PROGRAM}
+STORED = {"proved": CRATES, "../program/src/programs": PROGRAM, "../../bindings/c/src/programs": EXPORTS}
+FOR_OLDEST = {*CRATES, *TESTS, *EXPORTS, "catalogue"}
+# The catalogue of the exports is that of the program.
+CATALOGUE = '#[path = "../../../../rust/program/src/programs/catalogue/mod.rs"]\npub mod catalogue;\n'
 # The files that use raw pointers in Rattle, and their Rust form: types of the support module.
 BY_HAND = {
     "test_alloc/refusing.rs": "pub use crate::rattle::refusing::{Plan, Refusing, takes_none};\n",
@@ -71,7 +76,7 @@ USES.update({it: it for it in SAME})
 # Those of programs besides.
 PROGRAM_USES = {**USES, "std::io::ErrorKind": "std::io::ErrorKind", "std::fs": HERE + "fs",
                 "std::fs::self": HERE + "fs", "std::fs::File": HERE + "fs::File", "std::fs::Files": HERE + "fs::Files",
-                "std::path::Path": HERE + "fs::Path", "std::sync::Arc": HERE + "owners::Arc",
+                "std::path::Path": HERE + "fs::Path", "std::sync::Arc": "crate::shared::Arc",
                 "std::env": HERE + "host::env", "std::io::IsTerminal": "std::io::IsTerminal",
                 "std::process::ExitCode": "std::process::ExitCode"}
 
@@ -94,8 +99,9 @@ RENAMED_FOR_OLDEST = {"as_chunks": "as_arrays"}
 
 KEPT_ATTRIBUTES = {"inline", "cfg", "test"}
 DROPPED_ATTRIBUTES = {"tactic"}
-# Those of exports: in the build of wrong bodies Rust's own tests call them.
-EXPORT_ATTRIBUTES = {"repr", "unsafe"}
+# That of an export: bindings/c/src/exports.rs exports the call, and Rust's own tests call it in the build of wrong
+# bodies.
+EXPORT_ATTRIBUTE = "unsafe"
 # A macro of a program for other crates; their modules are in one crate there.
 EXPORTED_MACRO = re.compile(r"#\[macro_export\]\nmacro_rules! (\w+)")
 DERIVES = {"Clone", "Copy", "PartialEq", "Eq", "Debug"}
@@ -222,12 +228,12 @@ class Writer:
                       "+": self.bound, ":": self.bound, ".": self.call}
         if is_program(crate):
             self.refused, self.uses, self.renamed = REFUSED - IN_PROGRAMS, PROGRAM_USES, RENAMED
-            self.dropped = DROPPED_ATTRIBUTES | EXPORT_ATTRIBUTES
-            self.kept, self.macros = KEPT_ATTRIBUTES | {"macro_export"}, MACROS | exported_macros()
+            self.dropped = DROPPED_ATTRIBUTES | {EXPORT_ATTRIBUTE}
+            self.kept, self.macros = KEPT_ATTRIBUTES | {"macro_export", "repr"}, MACROS | exported_macros()
             self.forms.update({"macro_rules": self.own_macro, "extern": self.export})
-        else:
-            # the forms that the oldest rustc lacks, which never compiles programs
-            self.renamed = RENAMED_FOR_OLDEST
+        if crate in FOR_OLDEST:
+            # the forms that the oldest rustc lacks
+            self.renamed = {**self.renamed, **RENAMED_FOR_OLDEST}
             self.forms.update({"let": self.let_else, "&": self.arrays})
 
     def refuse(self, token, why):
@@ -453,8 +459,10 @@ class Writer:
         at = next((k for k, it in enumerate(lines) if not it.startswith("//!")), len(lines))
         lines[at:at] = ["", PRELUDE]
         text = re.sub(r"\{\n\n+", "{\n", re.sub(r"\n{3,}", "\n\n", "\n".join(lines)))
-        # The program's own `main` calls it.
+        # The program's own `main` calls it, and `bindings/c/src/exports.rs` the exports.
         text = re.sub(r"(?m)^fn main\(", "pub fn main(", text)
+        if self.crate in EXPORTS:
+            text = re.sub(r"(?m)^mod ", "pub mod ", text)
         for test in SLOW.get(self.name, ()):
             text, count = re.subn(rf"(?m)^#\[test\]\n(?=fn {test}\()",
                                   "#[test]\n#[ignore = \"slow without optimization\"]\n", text)
@@ -489,9 +497,9 @@ def written_of(crates):
     return written, faults, calls, defines
 
 
-def modules(crates):
-    """Returns the text of the module that has the modules of crates."""
-    return NOTE + "".join(f"pub mod {it};\n" for it in crates)
+def modules(crates, before=""):
+    """Returns the text of the module that has the modules of crates, after other lines."""
+    return NOTE + before + "".join(f"pub mod {it};\n" for it in crates)
 
 
 def written():
@@ -508,7 +516,7 @@ def written():
         faults += [f"{module}: {it}" for it in wrong]
     for folder, crates in STORED.items():
         files.update({f"{folder}/{path}": text for path, text in texts.items() if path.split("/")[0] in crates})
-        files[f"{folder}/mod.rs"] = modules(crates)
+        files[f"{folder}/mod.rs"] = modules(crates, CATALOGUE * (crates is EXPORTS))
     return files, faults
 
 
@@ -565,7 +573,7 @@ TRIED_IN_PROGRAMS = {
     "use catalogue::with_list;\n\nfn f() -> u8 {\n    with_list!(s, list => 1)\n}\n":
         "use crate::with_list;\n\nfn f() -> u8 {\n    with_list!(s, list => 1)\n}\n",
     "#[unsafe(no_mangle)]\npub extern \"C\" fn f(x: u8) -> u8\n    ensures { result ≡ x }\n{\n    x\n}\n": "pub fn f(x: u8) -> u8 {\n    x\n}\n",
-    "#[repr(C)]\npub struct S {\n    a: u8,\n    pub ghost low: { a < 2 },\n}\n": "pub struct S {\n    a: u8,\n}\n",
+    "#[repr(C)]\npub struct S {\n    a: u8,\n    pub ghost low: { a < 2 },\n}\n": "#[repr(C)]\npub struct S {\n    a: u8,\n}\n",
     "fn f() -> u8 { m!(1) }": None,
     "fn f() { vec![1, 2] }": None,
     "use std::net::TcpStream;": None,

@@ -13,8 +13,8 @@
  *  Memory. A list copies what it is made of, so the caller may change or free the array when the call returns. `_free`,
  *  and nothing else, frees what a call has put into a handle (`_of`, `_load`, `_clone`, `_intersect`, `_places`,
  *  `_extract`).
- *  Answers are numbers, never pointers. Without memory a call returns VERS_NO_MEMORY and changes nothing. A batch of
- *  queries of symbols allocates memory too, and is answered without it, but more slowly.
+ *  Answers are numbers, never pointers. If an allocation fails, a call returns VERS_NO_MEMORY and changes nothing. A
+ *  batch of queries of symbols allocates memory too, and is answered without it, but more slowly.
  *
  *  Threads. A handle is used by one thread at a time, also for queries. Each thread asks through a handle of its
  *  own, which `_clone` makes in constant time: handles of one list may be asked and freed by many threads at once,
@@ -52,9 +52,9 @@ enum vers_status {
     VERS_DONE = 0,           /**< It was done, or something was found. */
     VERS_ABSENT = 1,         /**< There is no such thing. */
     VERS_UNKNOWN = 2,        /**< The list has no such query or change. */
-    VERS_VACANT = 3,         /**< The handle holds nothing. */
+    VERS_VACANT = 3,         /**< The handle is empty. */
     VERS_REFUSED = 4,        /**< The numbers that were passed are refused. */
-    VERS_OCCUPIED = 5,       /**< The handle that is to be filled holds a list already. */
+    VERS_OCCUPIED = 5,       /**< The handle that is to be filled already has a list. */
     VERS_NO_MEMORY = 6,      /**< There is no memory, or the list would be too long. */
     VERS_SHARED = 7,         /**< The list has another handle, so it can't change. */
     VERS_TOO_SHORT = 8,      /**< The bytes are fewer than a saved form has, or than its head says. */
@@ -205,7 +205,7 @@ uint32_t vers_ask_rows(vers_handle *handle, uint32_t query, vers_row *rows, size
  *  another handle, in whatever thread. One handle, no array. */
 uint32_t vers_change(vers_handle *handle, uint32_t change, uint64_t a, uint64_t b);
 
-/** Makes an empty handle one more handle of a list, for another thread. VERS_VACANT, VERS_OCCUPIED, VERS_NO_MEMORY.
+/** Makes an empty handle another owner of a list, for another thread. VERS_VACANT, VERS_OCCUPIED, VERS_NO_MEMORY.
  *  The two handles differ; afterwards each is for a thread of its own. */
 uint32_t vers_clone(vers_handle *handle, vers_handle *other);
 
@@ -328,8 +328,8 @@ static inline uint64_t vers_value_or(vers_answer answer, uint64_t other) {
 /** What a status says, in words. */
 static inline const char *vers_status_text(uint32_t status) {
     static const char *const texts[] = {
-        "done", "there is no such thing", "the list has no such query or change", "the handle holds nothing",
-        "the numbers are refused", "the handle holds a list already",
+        "done", "there is no such thing", "the list has no such query or change", "the handle is empty",
+        "the numbers are refused", "the handle already has a list",
         "there is no memory, or the list would be too long", "the list has another handle, so it can't change",
         "the bytes are no saved form, or are cut off", "the bytes do not begin as a saved form does",
         "the saved form is of another version", "the saved form is of another kind of list",
@@ -361,7 +361,7 @@ static inline vers_handle *vers_held(const vers_handle *handle) {
     return (vers_handle *)(uintptr_t)handle;
 }
 
-/** Makes an empty handle one more handle of a list. The list's own handle isn't empty. */
+/** Makes an empty handle another owner of a list. The list's own handle isn't empty. */
 static inline uint32_t vers_cloned(const vers_handle *handle, vers_handle *other) {
     if (handle == other) return handle->is_built ? VERS_OCCUPIED : VERS_VACANT;
     return vers_clone(vers_held(handle), other);
@@ -465,7 +465,7 @@ static inline void vers_growing_free(vers_growing *list) {
     if (list) vers_free(&list->handle);
 }
 
-/** Makes an empty handle one more handle of the list, for another thread. VERS_VACANT, VERS_OCCUPIED,
+/** Makes an empty handle another owner of the list, for another thread. VERS_VACANT, VERS_OCCUPIED,
  * VERS_NO_MEMORY. */
 static inline uint32_t vers_growing_clone(const vers_growing *list, vers_growing *other) {
     return vers_cloned(&list->handle, &other->handle);
@@ -561,7 +561,7 @@ static inline void vers_bits_free(vers_bits *list) {
     if (list) vers_free(&list->handle);
 }
 
-/** Makes an empty handle one more handle of the list, for another thread. VERS_VACANT, VERS_OCCUPIED,
+/** Makes an empty handle another owner of the list, for another thread. VERS_VACANT, VERS_OCCUPIED,
  * VERS_NO_MEMORY. */
 static inline uint32_t vers_bits_clone(const vers_bits *list, vers_bits *other) {
     return vers_cloned(&list->handle, &other->handle);
@@ -706,7 +706,7 @@ static inline void vers_sorted_free(vers_sorted *list) {
     if (list) vers_free(&list->handle);
 }
 
-/** Makes an empty handle one more handle of the list, for another thread. VERS_VACANT, VERS_OCCUPIED,
+/** Makes an empty handle another owner of the list, for another thread. VERS_VACANT, VERS_OCCUPIED,
  * VERS_NO_MEMORY. */
 static inline uint32_t vers_sorted_clone(const vers_sorted *list, vers_sorted *other) {
     return vers_cloned(&list->handle, &other->handle);
@@ -804,7 +804,7 @@ static inline void vers_sparse_free(vers_sparse *list) {
     if (list) vers_free(&list->handle);
 }
 
-/** Makes an empty handle one more handle of the list, for another thread. VERS_VACANT, VERS_OCCUPIED,
+/** Makes an empty handle another owner of the list, for another thread. VERS_VACANT, VERS_OCCUPIED,
  * VERS_NO_MEMORY. */
 static inline uint32_t vers_sparse_clone(const vers_sparse *list, vers_sparse *other) {
     return vers_cloned(&list->handle, &other->handle);
@@ -913,7 +913,7 @@ static inline void vers_symbols_free(vers_symbols *list) {
     if (list) vers_free(&list->handle);
 }
 
-/** Makes an empty handle one more handle of the list, for another thread. VERS_VACANT, VERS_OCCUPIED,
+/** Makes an empty handle another owner of the list, for another thread. VERS_VACANT, VERS_OCCUPIED,
  * VERS_NO_MEMORY. */
 static inline uint32_t vers_symbols_clone(const vers_symbols *list, vers_symbols *other) {
     return vers_cloned(&list->handle, &other->handle);
@@ -1046,7 +1046,7 @@ static inline void vers_fast_rmq_free(vers_fast_rmq *list) {
     if (list) vers_free(&list->handle);
 }
 
-/** Makes an empty handle one more handle of the list, for another thread. VERS_VACANT, VERS_OCCUPIED,
+/** Makes an empty handle another owner of the list, for another thread. VERS_VACANT, VERS_OCCUPIED,
  * VERS_NO_MEMORY. */
 static inline uint32_t vers_fast_rmq_clone(const vers_fast_rmq *list, vers_fast_rmq *other) {
     return vers_cloned(&list->handle, &other->handle);
@@ -1121,7 +1121,7 @@ static inline void vers_binary_rmq_free(vers_binary_rmq *list) {
     if (list) vers_free(&list->handle);
 }
 
-/** Makes an empty handle one more handle of the list, for another thread. VERS_VACANT, VERS_OCCUPIED,
+/** Makes an empty handle another owner of the list, for another thread. VERS_VACANT, VERS_OCCUPIED,
  * VERS_NO_MEMORY. */
 static inline uint32_t vers_binary_rmq_clone(const vers_binary_rmq *list, vers_binary_rmq *other) {
     return vers_cloned(&list->handle, &other->handle);
@@ -1199,7 +1199,7 @@ static inline void vers_tree_free(vers_tree *list) {
     if (list) vers_free(&list->handle);
 }
 
-/** Makes an empty handle one more handle of the list, for another thread. VERS_VACANT, VERS_OCCUPIED,
+/** Makes an empty handle another owner of the list, for another thread. VERS_VACANT, VERS_OCCUPIED,
  * VERS_NO_MEMORY. */
 static inline uint32_t vers_tree_clone(const vers_tree *list, vers_tree *other) {
     return vers_cloned(&list->handle, &other->handle);
@@ -1403,7 +1403,7 @@ static inline void vers_postings_free(vers_postings *list) {
     if (list) vers_free(&list->handle);
 }
 
-/** Makes an empty handle one more handle of the list, for another thread. VERS_VACANT, VERS_OCCUPIED,
+/** Makes an empty handle another owner of the list, for another thread. VERS_VACANT, VERS_OCCUPIED,
  * VERS_NO_MEMORY. */
 static inline uint32_t vers_postings_clone(const vers_postings *list, vers_postings *other) {
     return vers_cloned(&list->handle, &other->handle);
@@ -1493,7 +1493,7 @@ static inline void vers_numbers_free(vers_numbers *list) {
     if (list) vers_free(&list->handle);
 }
 
-/** Makes an empty handle one more handle of the list, for another thread. VERS_VACANT, VERS_OCCUPIED,
+/** Makes an empty handle another owner of the list, for another thread. VERS_VACANT, VERS_OCCUPIED,
  * VERS_NO_MEMORY. */
 static inline uint32_t vers_numbers_clone(const vers_numbers *list, vers_numbers *other) {
     return vers_cloned(&list->handle, &other->handle);
@@ -1517,7 +1517,7 @@ static inline uint32_t vers_numbers_copy(const vers_numbers *list, uint64_t *num
 }
 
 /** Puts the documents that two lists share, ascending, into an empty third handle. The two may be one. VERS_REFUSED if
- * one of them holds nothing, VERS_OCCUPIED, VERS_NO_MEMORY. */
+ * one of them is empty, VERS_OCCUPIED, VERS_NO_MEMORY. */
 static inline uint32_t vers_postings_intersect(const vers_postings *one, const vers_postings *two,
                                                vers_numbers *into) {
     vers_handle *first = vers_held(&one->handle), *second = vers_held(&two->handle), other = {false, NULL};
@@ -1557,7 +1557,7 @@ static inline void vers_inverted_free(vers_inverted *index) {
     if (index) vers_free(&index->handle);
 }
 
-/** Makes an empty handle one more handle of the index, for another thread. VERS_VACANT, VERS_OCCUPIED,
+/** Makes an empty handle another owner of the index, for another thread. VERS_VACANT, VERS_OCCUPIED,
  * VERS_NO_MEMORY. */
 static inline uint32_t vers_inverted_clone(const vers_inverted *index, vers_inverted *other) {
     return vers_cloned(&index->handle, &other->handle);
@@ -1631,7 +1631,7 @@ static inline vers_answer vers_inverted_next_at_least(const vers_inverted *index
     return vers_asked(&index->handle, VERS_TERM_SUCCESSOR, term, number, 0);
 }
 
-/** Puts the documents of a term, ascending, into an empty other handle. VERS_REFUSED if the first holds nothing,
+/** Puts the documents of a term, ascending, into an empty other handle. VERS_REFUSED if the first is empty,
  * VERS_OCCUPIED, VERS_NO_MEMORY. */
 static inline uint32_t vers_inverted_documents(const vers_inverted *index, uint64_t term, vers_numbers *into) {
     return vers_documents(vers_held(&index->handle), term, &into->handle);
@@ -1645,14 +1645,14 @@ static inline uint32_t vers_inverted_intersection(const vers_inverted *index, ui
 }
 
 /** Puts the documents that have one of two terms, or both, ascending, into an empty other handle. VERS_REFUSED if the
- * first holds nothing, VERS_OCCUPIED, VERS_NO_MEMORY. */
+ * first is empty, VERS_OCCUPIED, VERS_NO_MEMORY. */
 static inline uint32_t vers_inverted_union(const vers_inverted *index, uint64_t one, uint64_t other,
                                            vers_numbers *into) {
     return vers_joined(vers_held(&index->handle), VERS_UNION, one, other, &into->handle);
 }
 
 /** Puts the documents that have the first term and not the other, ascending, into an empty other handle. VERS_REFUSED if
- * the first holds nothing, VERS_OCCUPIED, VERS_NO_MEMORY. */
+ * the first is empty, VERS_OCCUPIED, VERS_NO_MEMORY. */
 static inline uint32_t vers_inverted_difference(const vers_inverted *index, uint64_t one, uint64_t other,
                                                 vers_numbers *into) {
     return vers_joined(vers_held(&index->handle), VERS_DIFFERENCE, one, other, &into->handle);
@@ -1707,7 +1707,7 @@ static inline void vers_text_free(vers_text *text) {
     if (text) vers_free(&text->handle);
 }
 
-/** Makes an empty handle one more handle of the text, for another thread. VERS_VACANT, VERS_OCCUPIED,
+/** Makes an empty handle another owner of the text, for another thread. VERS_VACANT, VERS_OCCUPIED,
  * VERS_NO_MEMORY. */
 static inline uint32_t vers_text_clone(const vers_text *text, vers_text *other) {
     return vers_cloned(&text->handle, &other->handle);
@@ -1774,7 +1774,7 @@ static inline vers_answer vers_text_contains(const vers_text *text, const uint64
     return answer;
 }
 
-/** Puts the positions of a pattern, ascending, into an empty other handle. VERS_REFUSED if the first holds nothing,
+/** Puts the positions of a pattern, ascending, into an empty other handle. VERS_REFUSED if the first is empty,
  * VERS_OCCUPIED, VERS_NO_MEMORY. */
 static inline uint32_t vers_text_places(const vers_text *text, const uint64_t *pattern, size_t count,
                                         vers_numbers *into) {
@@ -1791,7 +1791,7 @@ static inline uint32_t vers_text_first_places(const vers_text *text, const uint6
 }
 
 /** Puts the symbols from position `start` up to `end` into an empty other handle. VERS_REFUSED if the text has no such
- * positions, or the handle holds nothing, VERS_OCCUPIED, VERS_NO_MEMORY. */
+ * positions, or the handle is empty, VERS_OCCUPIED, VERS_NO_MEMORY. */
 static inline uint32_t vers_text_extract(const vers_text *text, size_t start, size_t end, vers_numbers *into) {
     return vers_extract(vers_held(&text->handle), start, end, &into->handle);
 }

@@ -24,7 +24,7 @@ TOP = os.path.dirname(os.path.dirname(HERE))
 ARCHIVES = [os.path.join(TOP, "lib", "libvers_c.a"), os.path.join(TOP, "crates", "vers_c", "out", "libvers_c.a")]
 # what cargo builds the library of, in a clone; a source distribution has the same in the folder "library"
 SOURCES = ["bindings/c/Cargo.toml", "bindings/c/Cargo.lock", "bindings/c/.cargo/config.toml", "bindings/c/src",
-           "rust/src/proved", "rust/src/rattle"]
+           "rust/src/proved", "rust/src/rattle", "rust/program/src/programs/catalogue"]
 LIBRARIES = ("libvers.so", "libvers.dylib", "vers.dll")
 NO_LIBRARY = ("vers: neither an archive libvers_c.a for this processor, which VERS_C can name, nor cargo "
               "(https://rustup.rs) with the sources bindings/c and rust of the repository")

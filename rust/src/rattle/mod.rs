@@ -3,7 +3,6 @@
 //! All of it is safe Rust. The proofs are over the contracts that Rattle's library gives these names, so each body here is to do what the
 //! contract of that name says.
 
-#[cfg(any(mutants, programs))]
 pub mod boxed;
 #[cfg(any(mutants, programs))]
 pub mod fs;
@@ -14,7 +13,6 @@ pub mod lanes;
 #[cfg(mutants)]
 pub mod mutants;
 pub mod older;
-#[cfg(any(mutants, programs))]
 pub mod owners;
 #[cfg(test)]
 pub mod reads;
@@ -26,15 +24,15 @@ mod vec;
 
 pub use vec::Vec;
 
-/// The names that every proved file sees.
+/// The names that every proved file sees. Not each crate uses them all.
+#[allow(unused_imports)]
 pub mod prelude {
-    #[cfg(any(mutants, programs))]
     pub use super::boxed::Box;
     #[cfg(any(test, programs))]
     pub use super::host::HostRuntime;
     #[cfg(any(mutants, programs))]
     pub use super::io::ReadAll;
-    pub use super::older::{Arrays, AsArrays, CeilingQuotient, InOrder};
+    pub use super::older::{Arrays, AsArrays, CastSigned, CastUnsigned, CeilingQuotient, InOrder};
     pub use super::{Clone, Vec};
 }
 

@@ -1,4 +1,4 @@
-//! What the oldest rustc that compiles this crate lacks. A newer one has the first three as methods of its own, and takes those.
+//! What the oldest rustc that compiles this crate lacks. A newer one has the first four as methods of its own, and takes those.
 
 #[cfg(test)]
 use super::reads::{note, Way};
@@ -25,6 +25,34 @@ macro_rules! ceiling_quotients {
 }
 
 ceiling_quotients!(usize, u64);
+
+/// Numbers whose bits are also those of a number with a sign.
+pub trait CastSigned {
+    /// Returns the number with a sign that has the same bits.
+    #[must_use]
+    fn cast_signed(self) -> i64;
+}
+
+impl CastSigned for u64 {
+    #[inline(always)]
+    fn cast_signed(self) -> i64 {
+        self as i64
+    }
+}
+
+/// Numbers whose bits are also those of a number without a sign.
+pub trait CastUnsigned {
+    /// Returns the number without a sign that has the same bits.
+    #[must_use]
+    fn cast_unsigned(self) -> u64;
+}
+
+impl CastUnsigned for i64 {
+    #[inline(always)]
+    fn cast_unsigned(self) -> u64 {
+        self as u64
+    }
+}
 
 /// Slices in order.
 pub trait InOrder<T> {

@@ -1,4 +1,4 @@
-//! Values with several owners, and what a handle of an export has, without raw pointers.
+//! Values with several owners, and what the handle of an export has, without raw pointers.
 
 use super::boxed::Box;
 use super::{AllocError, AllocFailed, Allocator, Global};
@@ -56,9 +56,10 @@ impl<T, A: Allocator> Loose<T, A> {
     }
 }
 
-/// The pointer to an owner, or to nothing. It is kept until it is taken.
+/// The pointer to an owner, or a null pointer, as C has it. It is kept until it is taken.
+#[repr(transparent)]
 pub struct Held<T> {
-    owner: Option<Loose<T, Global>>,
+    owner: Option<std::boxed::Box<[T; 1]>>,
 }
 
 impl<T> Held<T> {
@@ -68,16 +69,20 @@ impl<T> Held<T> {
     }
 
     /// The pointer to an owner.
+    #[inline(always)]
     pub fn of(owner: Loose<T, Global>) -> Self {
-        Held { owner: Some(owner) }
+        Held { owner: Some(owner.into_box().into_boxed_array()) }
     }
 
     /// The owner, which is there.
+    #[inline(always)]
     pub fn into_owner(self) -> Loose<T, Global> {
-        self.owner.expect("an owner")
+        let owner = self.owner.expect("an owner");
+        Loose { owner: Box::of_boxed_array(Global, owner) }
     }
 
     /// Drops a pointer to nothing.
+    #[inline(always)]
     pub fn discard(self) {
         assert!(self.owner.is_none(), "an owner is lost");
     }

@@ -1,0 +1,125 @@
+//! Batches of queries of symbols.
+
+use crate::rattle::prelude::*;
+
+use super::{Batch, GROUP, in_wide_groups};
+use crate::programs::vers_c::asked::{Ask, Row, answer_each};
+use crate::programs::catalogue::answer::Answer;
+use crate::programs::catalogue::query::{Query, SymbolsQuery};
+use crate::rattle::Global;
+use crate::proved::vers_wavelet::wavelet::{GetQuery, QuantileQuery, RankQuery, SelectQuery, WaveletMatrix};
+
+// Symbols at positions.
+#[derive(Clone, Copy)]
+struct Gets;
+
+impl Batch<WaveletMatrix<Global>, GetQuery> for Gets {
+    #[inline(always)]
+    fn of(self, ask: Ask) -> GetQuery {
+        GetQuery::new(ask.a as usize)
+    }
+
+    #[inline(always)]
+    fn ask_all(self, symbols: &WaveletMatrix<Global>, queries: &mut [GetQuery]) {
+        symbols.get_u64_each(queries)
+    }
+
+    #[inline(always)]
+    fn answer(self, query: GetQuery) -> Answer {
+        Answer::number_or_absent(query.answer)
+    }
+}
+
+// Ranks of symbols.
+#[derive(Clone, Copy)]
+struct Ranks;
+
+impl Batch<WaveletMatrix<Global>, RankQuery> for Ranks {
+    #[inline(always)]
+    fn of(self, ask: Ask) -> RankQuery {
+        RankQuery::new(ask.a as usize, ask.b)
+    }
+
+    #[inline(always)]
+    fn ask_all(self, symbols: &WaveletMatrix<Global>, queries: &mut [RankQuery]) {
+        symbols.rank_u64_each(queries)
+    }
+
+    #[inline(always)]
+    fn answer(self, query: RankQuery) -> Answer {
+        Answer::place_or_absent(query.answer)
+    }
+}
+
+// Positions of symbols by the numbers of their occurrences.
+#[derive(Clone, Copy)]
+struct Selects;
+
+impl Batch<WaveletMatrix<Global>, SelectQuery> for Selects {
+    #[inline(always)]
+    fn of(self, ask: Ask) -> SelectQuery {
+        SelectQuery::new(ask.a as usize, ask.b)
+    }
+
+    #[inline(always)]
+    fn ask_all(self, symbols: &WaveletMatrix<Global>, queries: &mut [SelectQuery]) {
+        symbols.select_u64_each(queries)
+    }
+
+    #[inline(always)]
+    fn answer(self, query: SelectQuery) -> Answer {
+        Answer::place_or_absent(query.answer)
+    }
+}
+
+// Quantiles of ranges.
+#[derive(Clone, Copy)]
+struct Quantiles;
+
+impl Batch<WaveletMatrix<Global>, QuantileQuery> for Quantiles {
+    #[inline(always)]
+    fn of(self, ask: Ask) -> QuantileQuery {
+        QuantileQuery::new(ask.a as usize, ask.b as usize, ask.c as usize)
+    }
+
+    #[inline(always)]
+    fn ask_all(self, symbols: &WaveletMatrix<Global>, queries: &mut [QuantileQuery]) {
+        symbols.quantile_u64_each(queries)
+    }
+
+    #[inline(always)]
+    fn answer(self, query: QuantileQuery) -> Answer {
+        Answer::number_or_absent(query.answer)
+    }
+}
+
+/// Replaces each row by the answer of a list of symbols to its numbers, level by level for each frequent query.
+pub fn each_of_symbols<R: Row>(
+    alloc: Global,
+    symbols: &WaveletMatrix<Global>,
+    query: Query,
+    rows: &mut [R],
+    b: u64,
+    c: u64,
+    other: u64,
+) {
+    match query {
+        Query::Get => {
+            let mut few = [GetQuery::new(0); GROUP];
+            in_wide_groups(alloc, Gets, symbols, &mut few, rows, b, c, other)
+        }
+        Query::Symbols(SymbolsQuery::RankOf) => {
+            let mut few = [RankQuery::new(0, 0); GROUP];
+            in_wide_groups(alloc, Ranks, symbols, &mut few, rows, b, c, other)
+        }
+        Query::Symbols(SymbolsQuery::SelectOf) => {
+            let mut few = [SelectQuery::new(0, 0); GROUP];
+            in_wide_groups(alloc, Selects, symbols, &mut few, rows, b, c, other)
+        }
+        Query::Symbols(SymbolsQuery::Quantile) => {
+            let mut few = [QuantileQuery::new(0, 0, 0); GROUP];
+            in_wide_groups(alloc, Quantiles, symbols, &mut few, rows, b, c, other)
+        }
+        _ => answer_each(symbols, query, rows, b, c, other),
+    }
+}

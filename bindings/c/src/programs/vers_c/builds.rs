@@ -1,0 +1,194 @@
+//! Exports that build a structure into an empty handle. Each returns a status.
+
+use crate::rattle::prelude::*;
+
+use crate::programs::vers_c::handle::VersHandle;
+use crate::programs::vers_c::kept::Kept;
+use crate::programs::vers_c::makes::{binary, bits, fast, growing, posted, sparse, tree};
+use crate::programs::vers_c::owners::{fill, fill_made};
+use crate::programs::vers_c::status::{NO_MEMORY, OCCUPIED, REFUSED};
+use crate::programs::catalogue::structure::Structure;
+use crate::rattle::Global;
+use crate::proved::vers_sorted::elias_fano::EliasFanoVec;
+use crate::proved::vers_sorted::order::{are_below, is_ascending, is_strictly_ascending};
+use crate::proved::vers_wavelet::wavelet::{Integer, WaveletMatrix};
+
+/// Builds a list of bits that can change: the first `len` bits of words.
+pub fn vers_growing_build(
+    alloc: Global,
+    words: &[u64],
+    len: usize,
+    handle: &mut VersHandle,
+) -> u32 {
+    if handle.is_built {
+        return OCCUPIED;
+    }
+    match growing(alloc, words, len) {
+        Ok(bits) => fill(alloc, handle, Kept::Other(Structure::Growing(bits))),
+        Err(_) => NO_MEMORY,
+    }
+}
+
+/// Builds a list of bits with rank and select: the first `len` bits of words.
+pub fn vers_bits_build(
+    alloc: Global,
+    words: &[u64],
+    len: usize,
+    handle: &mut VersHandle,
+) -> u32 {
+    if handle.is_built {
+        return OCCUPIED;
+    }
+    match bits(alloc, words, len) {
+        Ok(bits) => fill(alloc, handle, Kept::Other(Structure::Bits(bits))),
+        Err(_) => NO_MEMORY,
+    }
+}
+
+/// Builds a list of `len` bits from the positions of its ones. Refuses positions that don't ascend strictly, or
+/// are past the length.
+pub fn vers_sparse_build(
+    alloc: Global,
+    ones: &[u64],
+    len: u64,
+    handle: &mut VersHandle,
+) -> u32 {
+    if handle.is_built {
+        return OCCUPIED;
+    }
+    if !is_strictly_ascending(ones) || !are_below(ones, len) {
+        return REFUSED;
+    }
+    match sparse(alloc, ones, len) {
+        Ok(bits) => fill(alloc, handle, Kept::Other(Structure::Sparse(bits))),
+        Err(_) => NO_MEMORY,
+    }
+}
+
+/// Builds an ascending list. Refuses numbers that don't ascend.
+pub fn vers_sorted_build(alloc: Global, numbers: &[u64], handle: &mut VersHandle) -> u32 {
+    if handle.is_built {
+        return OCCUPIED;
+    }
+    if !is_ascending(numbers) {
+        return REFUSED;
+    }
+    match EliasFanoVec::from_slice(alloc, numbers) {
+        Ok(members) => fill(alloc, handle, Kept::Other(Structure::Sorted(members))),
+        Err(_) => NO_MEMORY,
+    }
+}
+
+// Builds the list of symbols of integers of any type.
+fn build_symbols<N: Integer>(
+    alloc: Global,
+    numbers: &[N],
+    width: u32,
+    handle: &mut VersHandle,
+) -> u32 {
+    if handle.is_built {
+        return OCCUPIED;
+    }
+    if width > 64 {
+        return REFUSED;
+    }
+    match WaveletMatrix::from_integers(alloc, numbers, width as u16) {
+        Ok(symbols) => fill(alloc, handle, Kept::Other(Structure::Symbols(symbols))),
+        Err(_) => NO_MEMORY,
+    }
+}
+
+/// Builds a list of symbols: the `width` low bits of numbers. Refuses a width above 64.
+pub fn vers_symbols_build(
+    alloc: Global,
+    numbers: &[u64],
+    width: u32,
+    handle: &mut VersHandle,
+) -> u32 {
+    build_symbols(alloc, numbers, width, handle)
+}
+
+/// Builds the list of symbols that `vers_symbols_build` does, from bytes.
+pub fn vers_symbols_build_bytes(
+    alloc: Global,
+    bytes: &[u8],
+    width: u32,
+    handle: &mut VersHandle,
+) -> u32 {
+    build_symbols(alloc, bytes, width, handle)
+}
+
+/// Builds the list of symbols that `vers_symbols_build` does, from numbers in 16 bits each.
+pub fn vers_symbols_build_u16s(
+    alloc: Global,
+    u16s: &[u16],
+    width: u32,
+    handle: &mut VersHandle,
+) -> u32 {
+    build_symbols(alloc, u16s, width, handle)
+}
+
+/// Builds the list of symbols that `vers_symbols_build` does, from numbers in 32 bits each.
+pub fn vers_symbols_build_u32s(
+    alloc: Global,
+    u32s: &[u32],
+    width: u32,
+    handle: &mut VersHandle,
+) -> u32 {
+    build_symbols(alloc, u32s, width, handle)
+}
+
+/// Builds a list of parentheses, of which a one opens: the first `len` bits of words.
+pub fn vers_tree_build(
+    alloc: Global,
+    words: &[u64],
+    len: usize,
+    handle: &mut VersHandle,
+) -> u32 {
+    if handle.is_built {
+        return OCCUPIED;
+    }
+    match tree(alloc, words, len) {
+        Ok(made) => fill(alloc, handle, Kept::Tree(made)),
+        Err(_) => NO_MEMORY,
+    }
+}
+
+/// Builds a list of values with range minima from blocks.
+pub fn vers_fast_rmq_build(alloc: Global, values: &[u64], handle: &mut VersHandle) -> u32 {
+    if handle.is_built {
+        return OCCUPIED;
+    }
+    match fast(alloc, values) {
+        Ok(made) => fill(alloc, handle, Kept::Other(Structure::Fast(made))),
+        Err(_) => NO_MEMORY,
+    }
+}
+
+/// Builds a list of values with range minima from a sparse table.
+pub fn vers_binary_rmq_build(
+    alloc: Global,
+    values: &[u64],
+    handle: &mut VersHandle,
+) -> u32 {
+    if handle.is_built {
+        return OCCUPIED;
+    }
+    match binary(alloc, values) {
+        Ok(made) => fill(alloc, handle, Kept::Other(Structure::Binary(made))),
+        Err(_) => NO_MEMORY,
+    }
+}
+
+/// Builds documents with costs. Refuses documents that don't ascend strictly, or another number of costs.
+pub fn vers_postings_build(
+    alloc: Global,
+    documents: &[u64],
+    costs: &[u64],
+    handle: &mut VersHandle,
+) -> u32 {
+    if handle.is_built {
+        return OCCUPIED;
+    }
+    fill_made(alloc, handle, posted(alloc, documents, costs))
+}

@@ -1,0 +1,1 @@
+pub type Held = crate::rattle::owners::Held<super::kept::Owner>;

@@ -1,0 +1,281 @@
+//! Exports of one query each: they return what `vers_ask` does for any structure, fastest for one kind.
+
+use crate::rattle::prelude::*;
+
+use crate::programs::vers_c::answer::VersAnswer;
+use crate::programs::vers_c::handle::VersHandle;
+use crate::programs::vers_c::kept::answer_as;
+use crate::programs::vers_c::owners::{put, taken};
+use crate::programs::catalogue::query::{Query, SymbolsQuery, TreeQuery};
+use crate::programs::catalogue::structure::Kind;
+use crate::rattle::Global;
+use crate::proved::vers_trees::trees::bp::{Measure, Relative};
+
+// Returns the answer of the handle's structure, fastest if it is of a given kind.
+#[inline(always)]
+fn ask_as(
+    alloc: Global,
+    handle: &mut VersHandle,
+    kind: Kind,
+    query: Query,
+    a: u64,
+    b: u64,
+    c: u64,
+) -> VersAnswer {
+    if !handle.is_built {
+        return VersAnswer::vacant();
+    }
+    let owner = taken(alloc, handle);
+    let answer = answer_as(&owner, kind, query, a, b, c);
+    put(handle, owner);
+    VersAnswer::of(answer)
+}
+
+/// Returns the bit at a position, fastest for bits with rank and select.
+pub fn vers_quick_bits_get(
+    alloc: Global,
+    handle: &mut VersHandle,
+    place: u64,
+) -> VersAnswer {
+    ask_as(alloc, handle, Kind::Bits, Query::Get, place, 0, 0)
+}
+
+/// Returns the number of zeros below a position, fastest for bits with rank and select.
+pub fn vers_quick_bits_rank0(
+    alloc: Global,
+    handle: &mut VersHandle,
+    place: u64,
+) -> VersAnswer {
+    ask_as(alloc, handle, Kind::Bits, Query::Rank0, place, 0, 0)
+}
+
+/// Returns the number of ones below a position, fastest for bits with rank and select.
+pub fn vers_quick_bits_rank1(
+    alloc: Global,
+    handle: &mut VersHandle,
+    place: u64,
+) -> VersAnswer {
+    ask_as(alloc, handle, Kind::Bits, Query::Rank1, place, 0, 0)
+}
+
+/// Returns the position of a zero by its number, fastest for bits with rank and select.
+pub fn vers_quick_bits_select0(
+    alloc: Global,
+    handle: &mut VersHandle,
+    number: u64,
+) -> VersAnswer {
+    ask_as(alloc, handle, Kind::Bits, Query::Select0, number, 0, 0)
+}
+
+/// Returns the position of a one by its number, fastest for bits with rank and select.
+pub fn vers_quick_bits_select1(
+    alloc: Global,
+    handle: &mut VersHandle,
+    number: u64,
+) -> VersAnswer {
+    ask_as(alloc, handle, Kind::Bits, Query::Select1, number, 0, 0)
+}
+
+/// Returns the member at a position, fastest for ascending lists.
+pub fn vers_quick_sorted_get(
+    alloc: Global,
+    handle: &mut VersHandle,
+    place: u64,
+) -> VersAnswer {
+    ask_as(alloc, handle, Kind::Sorted, Query::Get, place, 0, 0)
+}
+
+/// Returns the number of members below a number, fastest for ascending lists.
+pub fn vers_quick_sorted_rank(
+    alloc: Global,
+    handle: &mut VersHandle,
+    number: u64,
+) -> VersAnswer {
+    ask_as(alloc, handle, Kind::Sorted, Query::Rank, number, 0, 0)
+}
+
+/// Returns the greatest member that is at most a number, fastest for ascending lists.
+pub fn vers_quick_sorted_predecessor(
+    alloc: Global,
+    handle: &mut VersHandle,
+    number: u64,
+) -> VersAnswer {
+    ask_as(
+        alloc,
+        handle,
+        Kind::Sorted,
+        Query::Predecessor,
+        number,
+        0,
+        0,
+    )
+}
+
+/// Returns the least member that is at least a number, fastest for ascending lists.
+pub fn vers_quick_sorted_successor(
+    alloc: Global,
+    handle: &mut VersHandle,
+    number: u64,
+) -> VersAnswer {
+    ask_as(alloc, handle, Kind::Sorted, Query::Successor, number, 0, 0)
+}
+
+/// Returns the symbol at a position, fastest for lists of symbols.
+pub fn vers_quick_symbols_get(
+    alloc: Global,
+    handle: &mut VersHandle,
+    place: u64,
+) -> VersAnswer {
+    ask_as(alloc, handle, Kind::Symbols, Query::Get, place, 0, 0)
+}
+
+/// Returns 1 if a parenthesis opens, otherwise 0, fastest for parentheses.
+pub fn vers_quick_tree_get(
+    alloc: Global,
+    handle: &mut VersHandle,
+    place: u64,
+) -> VersAnswer {
+    ask_as(alloc, handle, Kind::Tree, Query::Get, place, 0, 0)
+}
+
+/// Returns the value at a position, fastest for values with blocks.
+pub fn vers_quick_values_get(
+    alloc: Global,
+    handle: &mut VersHandle,
+    place: u64,
+) -> VersAnswer {
+    ask_as(alloc, handle, Kind::Fast, Query::Get, place, 0, 0)
+}
+
+/// Returns the first position of a least value from one position to another, both included, fastest for values
+/// with blocks.
+pub fn vers_quick_values_range_min(
+    alloc: Global,
+    handle: &mut VersHandle,
+    from: u64,
+    to: u64,
+) -> VersAnswer {
+    ask_as(alloc, handle, Kind::Fast, Query::RangeMin, from, to, 0)
+}
+
+/// Returns the number of occurrences of a symbol in the first positions, fastest for symbols.
+pub fn vers_quick_symbols_rank(
+    alloc: Global,
+    handle: &mut VersHandle,
+    end: u64,
+    symbol: u64,
+) -> VersAnswer {
+    ask_as(
+        alloc,
+        handle,
+        Kind::Symbols,
+        Query::Symbols(SymbolsQuery::RankOf),
+        end,
+        symbol,
+        0,
+    )
+}
+
+/// Returns a symbol of a range of positions by its number in ascending order, fastest for symbols.
+pub fn vers_quick_symbols_quantile(
+    alloc: Global,
+    handle: &mut VersHandle,
+    from: u64,
+    to: u64,
+    number: u64,
+) -> VersAnswer {
+    ask_as(
+        alloc,
+        handle,
+        Kind::Symbols,
+        Query::Symbols(SymbolsQuery::Quantile),
+        from,
+        to,
+        number,
+    )
+}
+
+/// Returns the zero that closes the one at a position, fastest for trees.
+pub fn vers_quick_tree_close(
+    alloc: Global,
+    handle: &mut VersHandle,
+    place: u64,
+) -> VersAnswer {
+    ask_as(
+        alloc,
+        handle,
+        Kind::Tree,
+        Query::Tree(TreeQuery::Close),
+        place,
+        0,
+        0,
+    )
+}
+
+/// Returns the parent of a node, fastest for trees.
+pub fn vers_quick_tree_parent(
+    alloc: Global,
+    handle: &mut VersHandle,
+    node: u64,
+) -> VersAnswer {
+    ask_as(
+        alloc,
+        handle,
+        Kind::Tree,
+        Query::Node(Relative::Parent),
+        node,
+        0,
+        0,
+    )
+}
+
+/// Returns the first child of a node, fastest for trees.
+pub fn vers_quick_tree_first_child(
+    alloc: Global,
+    handle: &mut VersHandle,
+    node: u64,
+) -> VersAnswer {
+    ask_as(
+        alloc,
+        handle,
+        Kind::Tree,
+        Query::Node(Relative::FirstChild),
+        node,
+        0,
+        0,
+    )
+}
+
+/// Returns the next sibling of a node, fastest for trees.
+pub fn vers_quick_tree_next_sibling(
+    alloc: Global,
+    handle: &mut VersHandle,
+    node: u64,
+) -> VersAnswer {
+    ask_as(
+        alloc,
+        handle,
+        Kind::Tree,
+        Query::Node(Relative::NextSibling),
+        node,
+        0,
+        0,
+    )
+}
+
+/// Returns the depth of a node, fastest for trees.
+pub fn vers_quick_tree_depth(
+    alloc: Global,
+    handle: &mut VersHandle,
+    node: u64,
+) -> VersAnswer {
+    ask_as(
+        alloc,
+        handle,
+        Kind::Tree,
+        Query::Measure(Measure::Depth),
+        node,
+        0,
+        0,
+    )
+}
