@@ -13,7 +13,7 @@ use std::fmt;
 ///
 /// let error = EliasFanoVec::try_from_slice(&[3, 8, 5]).unwrap_err();
 /// assert_eq!(error, BuildError::NotAscending { position: 2 });
-/// assert_eq!(error.to_string(), "the numbers must ascend, and the one at position 2 is not above the one before it");
+/// assert_eq!(error.to_string(), "the numbers must ascend, and the one at position 2 doesn't");
 /// ```
 #[derive(Clone, Copy, PartialEq, Eq, Hash, Debug)]
 #[non_exhaustive]
@@ -54,11 +54,7 @@ impl fmt::Display for BuildError {
     fn fmt(&self, f: &mut fmt::Formatter<'_>) -> fmt::Result {
         match self {
             BuildError::NotAscending { position } => {
-                write!(
-                    f,
-                    "the numbers must ascend, and the one at position {} is not above the one before it",
-                    position
-                )
+                write!(f, "the numbers must ascend, and the one at position {} doesn't", position)
             }
             BuildError::OutOfRange { position } => {
                 write!(f, "the number at position {} is not below its limit", position)
@@ -115,7 +111,7 @@ fn refused(error: BuildError) -> ! {
     panic!("{}", error)
 }
 
-/// Stops at bits that a list doesn't have, or that are too many.
+/// Panics for bits past the end of a list, or more than a word has.
 #[cold]
 #[inline(never)]
 #[track_caller]
@@ -128,10 +124,13 @@ pub(crate) fn no_bits(place: usize, n: usize) -> ! {
 #[inline(never)]
 #[track_caller]
 pub(crate) fn no_range(i: usize, j: usize) -> ! {
+    if i > j {
+        panic!("the range from {} to {} is empty", i, j);
+    }
     panic!("the list has no range from {} to {}", i, j)
 }
 
-/// Stops at a position past the end of a list of bits.
+/// Panics for a position past the end of a list of bits.
 #[cold]
 #[inline(never)]
 #[track_caller]

@@ -226,6 +226,13 @@ clones!(InvertedIndex, index);
 compares!(InvertedIndex, |it| [it.terms(), it.universe()].into_iter().chain(it.index.pair_numbers().iter()));
 saved!(InvertedIndex, index);
 
+impl Default for InvertedIndex {
+    /// Returns the index of no terms and no documents.
+    fn default() -> Self {
+        granted(InvertedIndex::from_pairs(0, 0, &[]))
+    }
+}
+
 impl fmt::Debug for InvertedIndex {
     fn fmt(&self, f: &mut fmt::Formatter<'_>) -> fmt::Result {
         f.debug_struct("InvertedIndex").field("terms", &self.terms()).field("universe", &self.universe()).finish()

@@ -499,7 +499,7 @@ pub(crate) fn answer_each(items: &mut [u64], other: u64, mut ask: impl FnMut(&mu
         let found = &mut found[..group.len()];
         found.iter_mut().zip(group.iter()).for_each(|(found, asked)| *found = Some(*asked));
         ask(found);
-        group.iter_mut().zip(found).for_each(|(told, found)| *told = found.unwrap_or(other));
+        group.iter_mut().zip(found).for_each(|(slot, found)| *slot = found.unwrap_or(other));
     }
 }
 

@@ -12,6 +12,7 @@
 
 use std::error::Error;
 use std::fmt;
+use std::io::{self, Read, Write};
 
 use crate::proved::vers_saved::fault;
 use crate::proved::vers_saved::saved as proved;
@@ -59,6 +60,34 @@ pub trait Saved: Sized {
     /// # Errors
     /// The first test that the bytes don't pass.
     fn load(bytes: &[u8]) -> Result<Self, LoadError>;
+
+    /// Writes the saved form, such as to a file.
+    ///
+    /// ```
+    /// use vers_vecs::saved::Saved;
+    /// use vers_vecs::RsVec;
+    ///
+    /// let (bits, mut file) = (RsVec::default(), Vec::new());
+    /// bits.save_to(&mut file).unwrap();
+    /// assert_eq!(RsVec::load_from(&file[..]).unwrap(), bits);
+    /// ```
+    ///
+    /// # Errors
+    /// That of the writer, or one of the kind `Other` with the [`SaveError`] before anything is written.
+    fn save_to<W: Write>(&self, mut writer: W) -> io::Result<()> {
+        let bytes = self.save().map_err(|error| io::Error::new(io::ErrorKind::Other, error))?;
+        writer.write_all(&bytes)
+    }
+
+    /// Makes the structure of a saved form, which is all that the reader returns up to its end.
+    ///
+    /// # Errors
+    /// That of the reader, or one of the kind `InvalidData` with the [`LoadError`].
+    fn load_from<R: Read>(mut reader: R) -> io::Result<Self> {
+        let mut bytes = Vec::new();
+        reader.read_to_end(&mut bytes)?;
+        Self::load(&bytes).map_err(|error| io::Error::new(io::ErrorKind::InvalidData, error))
+    }
 }
 
 /// Why a structure can't be saved.

@@ -8,16 +8,14 @@ use crate::proved::vers_saved::texts::load_text_from_slice;
 use crate::rattle::Global;
 use crate::reads::Tally;
 use crate::saved::{bytes_of, LoadError, SaveError, Saved};
+use crate::wavelet_tree::numbers;
 use std::ops::Range;
 
 /// The distance of two sampled positions, if the caller doesn't choose it.
 const DEFAULT_STEP: usize = 32;
 
-/// How many symbols a comparison extracts at once.
-const PIECE: usize = 1 << 16;
-
 /// A compressed text of symbols that counts and finds patterns. The empty pattern occurs at each position and at the
-/// end. Texts are equal if their symbols and the bits of a symbol are, whatever the step. A comparison extracts both.
+/// end. Texts are equal if their symbols and the bits of a symbol are, whatever the step.
 ///
 /// ```
 /// use vers_vecs::text::TextIndex;
@@ -46,7 +44,7 @@ pub struct TextIndex {
 }
 
 impl TextIndex {
-    /// Indexes some symbols, with a sampled position for each 32.
+    /// Indexes symbols, and samples every 32nd position.
     ///
     /// # Errors
     /// Those of [`with_step`](Self::with_step).
@@ -55,8 +53,8 @@ impl TextIndex {
         TextIndex::with_step(symbols, bits_per_symbol, DEFAULT_STEP)
     }
 
-    /// Indexes some symbols, with a sampled position for each `step`: finding a position takes fewer than `step` steps,
-    /// and a smaller `step` more memory.
+    /// Indexes symbols, and samples every `step`-th position: finding a position takes at most `step` steps, and a smaller
+    /// `step` more memory.
     ///
     /// # Errors
     /// `UnsupportedWidth` if `bits_per_symbol` is 0 or above 16, `SymbolTooWide` if a symbol has more bits, `ZeroStep`,
@@ -66,7 +64,7 @@ impl TextIndex {
         made(proved::TextIndex::with_step(Global, symbols, bits_per_symbol, step), symbols, bits_per_symbol)
     }
 
-    /// Indexes bytes, with a sampled position for each 32. A copy of the bytes isn't made.
+    /// Indexes bytes, and samples every 32nd position. Doesn't copy the bytes.
     ///
     /// ```
     /// use vers_vecs::text::TextIndex;
@@ -82,7 +80,7 @@ impl TextIndex {
         TextIndex::bytes_with_step(bytes, bits_per_symbol, DEFAULT_STEP)
     }
 
-    /// Indexes bytes, with a sampled position for each `step`.
+    /// Indexes bytes, and samples every `step`-th position.
     ///
     /// # Errors
     /// Those of [`with_step`](Self::with_step).
@@ -91,7 +89,7 @@ impl TextIndex {
         made(proved::TextIndex::bytes_with_step(Global, bytes, bits_per_symbol, step), bytes, bits_per_symbol)
     }
 
-    /// Indexes numbers of 16 bits, with a sampled position for each 32.
+    /// Indexes numbers of 16 bits, and samples every 32nd position.
     ///
     /// # Errors
     /// Those of [`with_step`](Self::with_step).
@@ -100,7 +98,7 @@ impl TextIndex {
         TextIndex::u16s_with_step(numbers, bits_per_symbol, DEFAULT_STEP)
     }
 
-    /// Indexes numbers of 16 bits, with a sampled position for each `step`.
+    /// Indexes numbers of 16 bits, and samples every `step`-th position.
     ///
     /// # Errors
     /// Those of [`with_step`](Self::with_step).
@@ -116,7 +114,7 @@ impl TextIndex {
         self.text.bits_per_symbol()
     }
 
-    /// Returns the distance of two sampled positions.
+    /// Returns the distance between two sampled positions.
     #[doc = contract!(TextIndex::step)]
     #[must_use]
     pub fn step(&self) -> usize {
@@ -251,14 +249,6 @@ impl TextIndex {
     }
 }
 
-impl TextIndex {
-    /// Iterates over the symbols.
-    fn symbols(&self) -> impl Iterator<Item = u64> + '_ {
-        let starts = (0..self.len()).step_by(PIECE);
-        starts.flat_map(move |start| self.extract(start..self.len().min(start + PIECE)).unwrap_or_default())
-    }
-}
-
 /// Returns bytes as symbols.
 fn symbols_of(bytes: &[u8]) -> Vec<u64> {
     bytes.iter().map(|byte| u64::from(*byte)).collect()
@@ -283,6 +273,13 @@ fn made<T: Copy + Into<u64>>(
     }
 }
 
+impl Default for TextIndex {
+    /// Returns the index of an empty text of bytes.
+    fn default() -> Self {
+        granted(TextIndex::from_bytes(&[], 8))
+    }
+}
+
 impl Saved for TextIndex {
     fn save(&self) -> Result<Vec<u8>, SaveError> {
         bytes_of(&self.text)
@@ -299,6 +296,7 @@ counted! { TextIndex, text:
 }
 
 clones!(TextIndex, text);
-compares!(TextIndex, |text| std::iter::once(u64::from(text.bits_per_symbol())).chain(text.symbols()));
+// The column and the row of the whole text determine the text, as it determines them.
+compares!(TextIndex, |it| std::iter::once(it.text.whole_row() as u64).chain(numbers(it.text.column())));
 shows!(TextIndex, "symbols", |text| text.extract(0..text.len().min(40)).unwrap_or_default().into_iter());
 lengths!(TextIndex, text, "symbols", usize);

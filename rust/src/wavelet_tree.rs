@@ -230,10 +230,19 @@ impl Default for WaveletTree {
     }
 }
 
+/// Iterates over numbers that determine the symbols of a tree and its width, as these determine the numbers: how many
+/// elements are below each symbol, and the limbs of the tree.
+pub(crate) fn numbers(tree: &proved::WaveletTree<Global>) -> impl Iterator<Item = u64> + '_ {
+    let starts = (0..=1 << tree.bit_len()).map(move |symbol| tree.start(symbol));
+    starts.chain((0..(tree.tree_bit_count() + 63) / 64).map(move |k| tree.tree_limb(k)))
+}
+
 impl PartialEq for WaveletTree {
     /// Returns true if the width and all symbols are equal.
     fn eq(&self, other: &Self) -> bool {
-        self.bit_len() == other.bit_len() && self.len() == other.len() && self.iter().eq(other)
+        self.bit_len() == other.bit_len()
+            && self.len() == other.len()
+            && numbers(&self.symbols).eq(numbers(&other.symbols))
     }
 }
 
@@ -242,6 +251,6 @@ impl Eq for WaveletTree {}
 impl Hash for WaveletTree {
     fn hash<H: Hasher>(&self, state: &mut H) {
         (self.bit_len(), self.len()).hash(state);
-        self.iter().for_each(|symbol| symbol.hash(state));
+        numbers(&self.symbols).for_each(|number| number.hash(state));
     }
 }

@@ -160,8 +160,9 @@ impl<const BLOCK_SIZE: usize> BpTree<BLOCK_SIZE> {
         self.balanced && self.tree.is_open(place) == Some(true)
     }
 
-    /// Stops with debug assertions if no node opens.
+    /// Panics if no node opens, in a build with debug assertions.
     #[inline]
+    #[track_caller]
     fn assert_node(&self, node: usize) {
         debug_assert_eq!(self.tree.is_open(node), Some(true), "no node opens at {}", node);
     }
@@ -389,6 +390,7 @@ impl<const BLOCK_SIZE: usize> Tree for BpTree<BLOCK_SIZE> {
 
     #[doc = contract!(BpTree::parent)]
     #[inline]
+    #[track_caller]
     fn parent(&self, node: usize) -> Option<usize> {
         if self.has_node(node) {
             return self.tree.parent(node);
@@ -399,6 +401,7 @@ impl<const BLOCK_SIZE: usize> Tree for BpTree<BLOCK_SIZE> {
 
     #[doc = contract!(BpTree::first_child)]
     #[inline]
+    #[track_caller]
     fn first_child(&self, node: usize) -> Option<usize> {
         if self.has_node(node) {
             return self.tree.first_child(node);
@@ -409,6 +412,7 @@ impl<const BLOCK_SIZE: usize> Tree for BpTree<BLOCK_SIZE> {
 
     #[doc = contract!(BpTree::next_sibling)]
     #[inline]
+    #[track_caller]
     fn next_sibling(&self, node: usize) -> Option<usize> {
         if self.has_node(node) {
             return self.tree.next_sibling(node);
@@ -419,6 +423,7 @@ impl<const BLOCK_SIZE: usize> Tree for BpTree<BLOCK_SIZE> {
 
     #[doc = contract!(BpTree::previous_sibling)]
     #[inline]
+    #[track_caller]
     fn previous_sibling(&self, node: usize) -> Option<usize> {
         if self.has_node(node) {
             return self.tree.previous_sibling(node);
@@ -433,6 +438,7 @@ impl<const BLOCK_SIZE: usize> Tree for BpTree<BLOCK_SIZE> {
 
     #[doc = contract!(BpTree::last_child)]
     #[inline]
+    #[track_caller]
     fn last_child(&self, node: usize) -> Option<usize> {
         if self.has_node(node) {
             return self.tree.last_child(node);
@@ -444,6 +450,7 @@ impl<const BLOCK_SIZE: usize> Tree for BpTree<BLOCK_SIZE> {
 
     #[doc = contract!(BpTree::node_index)]
     #[inline]
+    #[track_caller]
     fn node_index(&self, node: usize) -> usize {
         if self.has_node(node) {
             return self.tree.node_index(node);
@@ -461,6 +468,7 @@ impl<const BLOCK_SIZE: usize> Tree for BpTree<BLOCK_SIZE> {
 
     #[doc = contract!(BpTree::is_leaf)]
     #[inline]
+    #[track_caller]
     fn is_leaf(&self, node: usize) -> bool {
         if self.has_node(node) {
             return self.tree.is_leaf(node);
@@ -471,6 +479,7 @@ impl<const BLOCK_SIZE: usize> Tree for BpTree<BLOCK_SIZE> {
 
     #[doc = contract!(BpTree::depth)]
     #[inline]
+    #[track_caller]
     fn depth(&self, node: usize) -> u64 {
         if self.has_node(node) {
             return self.tree.depth(node);
@@ -494,6 +503,7 @@ impl<const BLOCK_SIZE: usize> Tree for BpTree<BLOCK_SIZE> {
 impl<const BLOCK_SIZE: usize> IsAncestor for BpTree<BLOCK_SIZE> {
     #[doc = contract!(BpTree::is_ancestor)]
     #[inline]
+    #[track_caller]
     fn is_ancestor(&self, ancestor: usize, descendant: usize) -> Option<bool> {
         if self.has_node(ancestor) && self.has_node(descendant) {
             return self.tree.is_ancestor(ancestor, descendant);
@@ -520,6 +530,7 @@ impl<const BLOCK_SIZE: usize> LevelTree for BpTree<BLOCK_SIZE> {
 
     #[doc = contract!(BpTree::level_next)]
     #[inline]
+    #[track_caller]
     fn level_next(&self, node: usize) -> Option<usize> {
         if self.has_node(node) {
             return self.tree.level_next(node);
@@ -530,6 +541,7 @@ impl<const BLOCK_SIZE: usize> LevelTree for BpTree<BLOCK_SIZE> {
 
     #[doc = contract!(BpTree::level_prev)]
     #[inline]
+    #[track_caller]
     fn level_prev(&self, node: usize) -> Option<usize> {
         if self.has_node(node) {
             return self.tree.level_prev(node);
@@ -562,6 +574,7 @@ impl<const BLOCK_SIZE: usize> LevelTree for BpTree<BLOCK_SIZE> {
 impl<const BLOCK_SIZE: usize> SubtreeSize for BpTree<BLOCK_SIZE> {
     #[doc = contract!(BpTree::subtree_size)]
     #[inline]
+    #[track_caller]
     fn subtree_size(&self, node: usize) -> Option<usize> {
         if self.has_node(node) {
             return self.tree.subtree_size(node);

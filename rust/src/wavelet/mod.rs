@@ -3,6 +3,7 @@
 use crate::contracts::contract;
 use crate::error::{granted, BuildError};
 use crate::items::{clones, counted, counted_iterator, first_of, iterates, iterators, last_of};
+use crate::proved::vers_saved::bits::limb_of;
 use crate::proved::vers_wavelet::wavelet as proved;
 use crate::rattle::Global;
 use crate::reads::Tally;
@@ -281,7 +282,7 @@ macro_rules! batches {
                     assert_eq!($first.len(), $second.len(), "the slices have different lengths");
                     let mut queries: Vec<_> = $first.iter().zip($second).map(|($one, $other)| $query).collect();
                     queries.chunks_mut(GROUP).for_each(|group| self.symbols.$proved(group));
-                    $first.iter_mut().zip(queries).for_each(|(told, query)| *told = number(query.answer, other));
+                    $first.iter_mut().zip(queries).for_each(|(slot, query)| *slot = number(query.answer, other));
                 }
 
                 #[doc = crate::items::counts!($each)]
@@ -293,7 +294,7 @@ macro_rules! batches {
                     assert_eq!($first.len(), $second.len(), "the slices have different lengths");
                     let mut queries: Vec<_> = $first.iter().zip($second).map(|($one, $other)| $query).collect();
                     queries.chunks_mut(GROUP).for_each(|group| self.symbols.$proved_counted(group, &mut tally.0));
-                    $first.iter_mut().zip(queries).for_each(|(told, query)| *told = number(query.answer, other));
+                    $first.iter_mut().zip(queries).for_each(|(slot, query)| *slot = number(query.answer, other));
                 }
             )*
         }
@@ -343,14 +344,14 @@ impl WaveletMatrix {
     pub fn get_u64_each(&self, places: &mut [u64], other: u64) {
         let mut queries: Vec<_> = places.iter().map(|place| proved::GetQuery::new(*place as usize)).collect();
         queries.chunks_mut(GROUP).for_each(|group| self.symbols.get_u64_each(group));
-        places.iter_mut().zip(queries).for_each(|(told, query)| *told = number(query.answer, other));
+        places.iter_mut().zip(queries).for_each(|(slot, query)| *slot = number(query.answer, other));
     }
 
     /// Answers as [`get_u64_each`](Self::get_u64_each), and adds what is read to `tally`.
     pub fn get_u64_each_counted(&self, places: &mut [u64], other: u64, tally: &mut Tally) {
         let mut queries: Vec<_> = places.iter().map(|place| proved::GetQuery::new(*place as usize)).collect();
         queries.chunks_mut(GROUP).for_each(|group| self.symbols.get_u64_each_counted(group, &mut tally.0));
-        places.iter_mut().zip(queries).for_each(|(told, query)| *told = number(query.answer, other));
+        places.iter_mut().zip(queries).for_each(|(slot, query)| *slot = number(query.answer, other));
     }
 }
 
@@ -888,16 +889,20 @@ impl Default for WaveletMatrix {
     }
 }
 
+impl WaveletMatrix {
+    /// Iterates over the limbs of the levels, which determine the symbols, as these determine the levels.
+    fn limbs(&self) -> impl Iterator<Item = u64> + '_ {
+        let levels = (0..self.bits_per_element()).map(move |k| self.symbols.level(k));
+        levels.flat_map(|level| (0..(level.len() + 63) / 64).map(move |k| limb_of(level, k)))
+    }
+}
+
 impl PartialEq for WaveletMatrix {
     /// Returns true if the width and all symbols are equal.
     fn eq(&self, other: &Self) -> bool {
-        if self.bits_per_element() != other.bits_per_element() || self.len() != other.len() {
-            return false;
-        }
-        match (self.iter_u64(), other.iter_u64()) {
-            (Some(mine), Some(theirs)) => mine.eq(theirs),
-            _ => self.iter().eq(other.iter()),
-        }
+        self.bits_per_element() == other.bits_per_element()
+            && self.len() == other.len()
+            && self.limbs().eq(other.limbs())
     }
 }
 
@@ -906,10 +911,7 @@ impl Eq for WaveletMatrix {}
 impl Hash for WaveletMatrix {
     fn hash<H: Hasher>(&self, state: &mut H) {
         (self.bits_per_element(), self.len()).hash(state);
-        match self.iter_u64() {
-            Some(symbols) => symbols.for_each(|symbol| symbol.hash(state)),
-            None => self.iter().for_each(|symbol| symbol.hash(state)),
-        }
+        self.limbs().for_each(|limb| limb.hash(state));
     }
 }
 

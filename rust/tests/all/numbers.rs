@@ -85,7 +85,7 @@ fn least_values_are_found() {
 }
 
 #[test]
-#[should_panic(expected = "no range from 2 to 1")]
+#[should_panic(expected = "the range from 2 to 1 is empty")]
 fn reversed_ranges_stop() {
     let _ = FastRmq::from_vec(vec![1, 2, 3]).range_min(2, 1);
 }

@@ -102,7 +102,7 @@ fn indexed_bits_stop() {
         "no 2 bits from 69 on": bits.get_bits_unchecked(69, 2);
         "no 65 bits from 0 on": bits.get_bits_unchecked(0, 65);
         "bits from": bits.get_bits_unchecked(FAR, 64);
-        "one at position 1 is not above the one before": SparseRSVec::new(&[5, 5], 10);
+        "must ascend, and the one at position 1 doesn't": SparseRSVec::new(&[5, 5], 10);
         "position 1 is not below its limit": SparseRSVec::new(&[5, 10], 10);
         "no number at 2": EliasFanoVec::from_slice(&[5, 5]).get_unchecked(2);
         "must ascend": EliasFanoVec::from_slice(&[5, 4]);
@@ -119,15 +119,15 @@ fn minima_stop() {
     let mut tally = Tally::new();
     stops! {
         "no range from 1 to 3": binary.range_min(1, 3);
-        "no range from 2 to 1": fast.range_min(2, 1);
+        "from 2 to 1 is empty": fast.range_min(2, 1);
         "no range": binary.range_min_counted(0, FAR, &mut tally);
         "no range": fast.range_min_counted(0, 3, &mut tally);
-        "no range": binary.range_min_item(2, 1);
+        "is empty": binary.range_min_item(2, 1);
         "no range": binary.range_min_item_counted(0, 3, &mut tally);
         "no value at 3": binary.item_counted(3, &mut tally);
-        "no range from 2 to 0": fast.range_min_with_range(2..1);
+        "from 2 to 0 is empty": fast.range_min_with_range(2..1);
         "the range is empty": binary.range_min_with_range(0..0);
-        "no range from 2 to 0": fast.range_min_with_range_counted(2..1, &mut tally);
+        "from 2 to 0 is empty": fast.range_min_with_range_counted(2..1, &mut tally);
         "no values": BinaryRmq::default().range_min_with_range(..);
         "no values": FastRmq::default().range_min_with_range(0..=0);
     }
