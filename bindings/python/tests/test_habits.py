@@ -4,6 +4,7 @@ import collections.abc
 import copy
 import ctypes
 import errno
+import gzip
 import os
 import pathlib
 import pickle
@@ -252,6 +253,7 @@ class Makers(unittest.TestCase):
             "^the width is 17, and it is from 1 to 16$": lambda: vers.TextIndex([3], 17),
             "^the step is 0$": lambda: vers.TextIndex([3], 2, 0),
             "^the width is 65, and it is at most 64$": lambda: vers.WaveletMatrix([3], 65),
+            "^the width is 0, and a symbol has at least 1 bit$": lambda: vers.WaveletMatrix([0, 0], 0),
             f"^the width is {1 << 40}, and it is at most 64$": lambda: vers.WaveletMatrix([3], 1 << 40),
             f"^the width is {1 << 40}, and it is from 1 to 16$": lambda: vers.TextIndex([3], 1 << 40),
             "^the count is 65, and it is at most 64$": lambda: vers.BitVec().append_bits(0, 65),
@@ -673,7 +675,9 @@ class Fasta(unittest.TestCase):
             path, index = os.path.join(folder, "two.fa"), os.path.join(folder, "two.vers")
             with open(path, "wb") as file:
                 file.write(b">ch one\nACGTA\n>d\nGTAC\n")
-            for name in path, os.fsencode(path), pathlib.Path(path):
+            with open(path, "rb") as file, gzip.open(f"{path}.gz", "wb") as compressed:
+                compressed.write(file.read())
+            for name in path, os.fsencode(path), pathlib.Path(path), f"{path}.gz":
                 self.assertEqual(vers.TextIndex.from_fasta(name), self.text)
             vers.TextIndex.from_fasta(path).save(index)
             self.assertEqual(vers.TextIndex.load(index).sites(b"TA"), [("ch", 3), ("d", 1)])
@@ -682,6 +686,16 @@ class Fasta(unittest.TestCase):
             with open(path, "ab") as file:
                 file.write(b"A C\n")
             self.refused(f"^{re.escape(path)}: line 5 is neither ", vers.TextIndex.from_fasta, path)
+
+    def test_upper_case(self):
+        lines = [b">chr1 Homo\n", b"acgTN\n", b">d\n", b"g-*a"]
+        text = vers.TextIndex.from_fasta(lines, upper=True)
+        self.assertEqual(bytes(text[:]), b"\n\xe3\xe8\xf2\xb1\nACGTN\n\xe4\nG-*A")
+        self.assertEqual([name for name, _, _ in text.sequences()], ["chr1", "d"])
+
+    def test_sequences_are_a_list_of_the_caller(self):
+        self.text.sequences().clear()
+        self.assertEqual(self.text.sequences(), [("ch", 4, 9), ("d", 12, 16)])
 
     def test_lines_that_are_wrong(self):
         for lines in [b"AC"], [b">"], [b"> a"], [b">a", b"A C"], [b">a", b"A\rC"], [b">\xe4"], [b">a", b"A", b"1"]:
@@ -708,10 +722,14 @@ class Habits(unittest.TestCase):
             (vers.Postings([1], [2]), vers.Postings([1], [3])),
             (vers.WaveletMatrix([1], 2), vers.WaveletMatrix([1], 3)),
             (vers.FastRmq([1]), vers.BinaryRmq([1])), (vers.BpTree("()"), vers.BpTree(")(")),
-            (vers.TextIndex(b"ab", 8), vers.TextIndex(b"ba", 8)),
+            (vers.TextIndex(b"ab", 8), vers.TextIndex(b"ba", 8)), (vers.TextIndex(b"ab"), vers.TextIndex(b"ba", 8, 2)),
+            (vers.WaveletMatrix([1, 2], 2), vers.WaveletMatrix([2, 1], 2)),
         ]
         for one, other in different:
             self.assertTrue(one != other and not one == other, (one, other))
+        one, other = vers.TextIndex(b"abracadabra" * 50), vers.TextIndex(b"abracadabra" * 50, 8, 3)
+        self.assertEqual((one, hash(one)), (other, hash(other)))
+        self.assertEqual(vers.WaveletMatrix([], 0), vers.WaveletMatrix([], 0))
         for made in some_lists():
             self.assertEqual(pickle.loads(pickle.dumps(made)), made)
             self.assertEqual(copy.copy(made), made)

@@ -474,6 +474,7 @@ class Owners(unittest.TestCase):
         counts = [sum(list(plain[k:k + len(it)]) == list(it) for k in range(56)) for it in patterns]
         self.assertEqual(text.count_each(patterns), array("q", counts))
         self.assertEqual(text.count_each(map(bytes, patterns[:200])), array("q", counts[:200]))
+        self.assertEqual(text.count_each([bytes(it) for it in patterns[:200]]), array("q", counts[:200]))
         self.assertEqual((text.count_each([]), text.count_each([]).typecode), (array("q"), "q"))
         self.assertGreater(copy.copy(text).heap_size(), 55)
         for wrong in (lambda: text.extract(5, 56), lambda: text.extract(2, 1), lambda: vers.TextIndex([4], 2),

@@ -5,7 +5,7 @@ import ctypes
 import operator
 import sys
 from array import array
-from itertools import islice
+from itertools import accumulate, islice
 from typing import Any, Container, Iterable, Iterator, NamedTuple, Optional, Sequence, Tuple
 
 #: Anything that has whole numbers: a list, an array, a numpy array, another object with a buffer.
@@ -255,6 +255,8 @@ def joined(patterns: Any) -> Tuple[Held, Held]:
         return _held(copied(patterns, "symbol")), _held(ends)
     if numpy is not None and patterns.size and patterns.dtype.kind not in "OSU":
         raise ValueError(f"the patterns have the shape {patterns.shape}, and rows of symbols have two dimensions")
+    if isinstance(patterns, (list, tuple)) and all(type(it) is bytes for it in patterns):
+        return _held(array("Q", list(b"".join(patterns)))), _held(array("q", accumulate(map(len, patterns))))
     numbers, ends = array("Q"), array("q")
     for k, it in enumerate(patterns):
         if not is_many(it) and not isinstance(it, str):

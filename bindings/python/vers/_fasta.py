@@ -16,8 +16,9 @@ _HIGH, _LOW = bytes(128 + it % 128 for it in range(256)), bytes(it % 128 for it 
 _BLANK = re.compile(rb"[ \t]")
 
 
-def text_of(lines: Iterable[bytes]) -> bytearray:
-    """The text of the lines of a FASTA file. Raises Refused with the number of the first line that is wrong."""
+def text_of(lines: Iterable[bytes], upper: bool) -> bytearray:
+    """The text of the lines of a FASTA file, with residues in `upper` case or as they are. Raises Refused with the number
+    of the first line that is wrong."""
     text = bytearray()
     for number, line in enumerate(lines, 1):
         if not isinstance(line, bytes):
@@ -26,7 +27,7 @@ def text_of(lines: Iterable[bytes]) -> bytearray:
         symbols = _symbols_of(line[:-1] if line.endswith(b"\r") else line, not text)
         if symbols is None:
             raise Refused(f"line {number} is neither a header with a name nor residues of one")
-        text += symbols
+        text += symbols.upper() if upper else symbols
     return text
 
 

@@ -2,10 +2,11 @@
 
 import contextlib
 import errno
+import gzip
 import os
 import shutil
 import tempfile
-from typing import Union
+from typing import Any, Iterator, Union
 
 #: The path of a file.
 Path = Union[str, bytes, "os.PathLike[str]", "os.PathLike[bytes]"]
@@ -14,6 +15,17 @@ Path = Union[str, bytes, "os.PathLike[str]", "os.PathLike[bytes]"]
 def shown(path: Path) -> str:
     """A path as a text."""
     return os.fsdecode(path)
+
+
+@contextlib.contextmanager
+def opened(path: Path) -> Iterator[Any]:
+    """The lines of a file, which may be compressed by gzip."""
+    with open(path, "rb") as file:
+        is_compressed = file.read(2) == b"\x1f\x8b"
+        file.seek(0)
+        lines: Any = gzip.open(file) if is_compressed else file
+        with contextlib.closing(lines):
+            yield lines
 
 
 def write(path: Path, content: bytes) -> None:

@@ -387,8 +387,8 @@ class EliasFanoVec(Ascending[_SortedQuery]):
 
 
 class WaveletMatrix(Fixed[_SymbolsQuery]):
-    """Symbols, which are numbers of `bits_per_symbol` bits, at most 64; with a width of 0, the list is empty. Ranges
-    exclude their end. A query takes the low bits of a symbol that is wider."""
+    """Symbols, which are numbers of `bits_per_symbol` bits, at most 64. Ranges exclude their end. A query takes the low
+    bits of a symbol that is wider."""
 
     _items = "symbols"
     _kind = codes.KIND_SYMBOLS
@@ -399,6 +399,8 @@ class WaveletMatrix(Fixed[_SymbolsQuery]):
         held = _buffers.held(symbols, "symbol", library.symbols_builds)
         width = number(bits_per_symbol, "the width")
         size = held.keeper.itemsize
+        if width == 0 and held.size:
+            raise Refused("the width is 0, and a symbol has at least 1 bit")
         wide = None if truncate or width >= 8 * size else _buffers.above("symbol", held, (1 << width) - 1)
         if wide:
             raise Refused(f"{wide}, the greatest of {width} bits; `truncate` takes the low bits")
@@ -407,6 +409,10 @@ class WaveletMatrix(Fixed[_SymbolsQuery]):
 
     def _traits(self) -> Any:
         return len(self), self.bits_per_element()
+
+    def _contents(self) -> Iterator[Any]:
+        # the saved form has the bits by levels, and takes less time than the symbols
+        return iter([array("B", self.to_bytes())] if self.bits_per_element() else [])
 
     def _slice(self, places: range) -> Any:
         return _buffers.narrowed(super()._slice(places), self.bits_per_element())
@@ -997,24 +1003,28 @@ class TextIndex(Shared[str]):
             return cls(symbols[:], symbols.bits_per_element(), step)
 
     @classmethod
-    def from_fasta(cls, file: Union[Path, Iterable[bytes]], step: int = 32) -> TextIndex:
+    def from_fasta(cls, file: Union[Path, Iterable[bytes]], step: int = 32, *, upper: bool = False) -> TextIndex:
         """Makes the index of the sequences of a FASTA file with their names, as `vers text index --fasta` does, of its
-        path or of its lines: `gzip.open(path)`. Residues are letters, `*` and `-`, and stay as they are. A name is what
-        follows `>` up to a blank. Raises Refused with the number of the first line that is wrong."""
+        path or of its lines. The file may be compressed by gzip. Residues are letters, `*` and `-`, and stay as they
+        are, unless `upper` makes them upper case. A name is what follows `>` up to a blank, and stays as it is. Raises
+        Refused with the number of the first line that is wrong."""
         if not isinstance(file, (str, bytes, os.PathLike)):
-            found: TextIndex = cls(_fasta.text_of(file), 8, step)
+            found: TextIndex = cls(_fasta.text_of(file, upper), 8, step)
             return found
-        with open(file, "rb") as lines:
+        with _files.opened(file) as lines:
             try:
-                return cls.from_fasta(lines, step)
+                return cls.from_fasta(lines, step, upper=upper)
             except Refused as fault:
                 raise Refused(f"{_files.shown(file)}: {fault}") from None
 
     def sequences(self) -> List[Tuple[str, int, int]]:
         """Returns the sequences of a FASTA file, whose text `from_fasta` made: the name of each, and the positions at
         which it starts and ends. Raises Refused for another text."""
-        found = self._sites()
-        return [(found.name(self, k), *found.ends(k)) for k in range(len(found))]
+        known: Optional[List[Tuple[str, int, int]]] = getattr(self, "_known_sequences", None)
+        if known is None:
+            found = self._sites()
+            known = self._known_sequences = [(found.name(self, k), *found.ends(k)) for k in range(len(found))]
+        return known[:]
 
     def site(self, place: int) -> Optional[Tuple[str, int]]:
         """Returns the name of the sequence at a position, and the offset in it from 0 on. None if the position is in a
@@ -1056,6 +1066,17 @@ class TextIndex(Shared[str]):
 
     def _traits(self) -> Any:
         return len(self), self.bits_per_symbol()
+
+    def __eq__(self, other: object) -> bool:
+        # with the same step the saved forms are equal exactly if the texts are, and take less time
+        if isinstance(other, TextIndex) and self._traits() == other._traits() and self.step() == other.step():
+            return self.to_bytes() == other.to_bytes()
+        return super().__eq__(other)
+
+    def __hash__(self) -> int:
+        # the ends are enough, since a text is read by a step for each symbol
+        length = len(self)
+        return hash((self._traits(), self[:64].tobytes(), self[max(length - 64, 0):].tobytes()))
 
     def _part(self, start: int, end: int) -> Any:
         return self.extract(start, end)._all()
