@@ -3,8 +3,8 @@
 /// Printed by `--help`.
 pub const HELP: &str = "Usage: vers < LINES
 
-Prints one line for each line of standard input. A load line replaces the current structure. Below each load line are
-the queries of its structure:
+Prints one line for each line of standard input that has a word. A load line replaces the current structure. Below each
+load line are the queries of its structure:
 
 bits 0110  (a bit vector)
     len, get I, rank0 I, rank1 I, select0 I, select1 I
@@ -50,13 +50,17 @@ Commands:
     vers ask FILE < LINES     answers lines about the structure in FILE
     vers show FILE            describes the structure in FILE
     vers --help, -h           prints this; after a command, prints the help of the command
-    vers --version            prints the version of the library";
+    vers --version            prints the version of the library
+
+Exit status: 0 if each line has its answer, which may be `bad line`, `refused` or `wrong structure`; 1 if reading,
+writing or an allocation fails, or a file has no saved form; 2 for arguments that are no command.";
 
 /// Printed by `text --help`.
 pub const TEXT_HELP: &str = "Usage: vers text [FILE] < LINES
        vers text index [--fasta] FILE INDEX
 
-Prints one line for each line of standard input. The text is that of the last line `text`, or the one saved in FILE.
+Prints one line for each line of standard input that has a word. The text is that of the last line `text`, or of
+FILE, which has its index.
 `index` saves the index of the bytes of FILE to INDEX, which it replaces completely or not at all.
 If FILE is /dev/stdin, it reads standard input.
 With --fasta, FILE is a FASTA file. The text has the sequences, and each name between two line feeds.
@@ -102,4 +106,4 @@ Prints the kind of the structure in FILE, its length, the bits of an element or 
 FILE.";
 
 /// Printed by `--version`.
-pub const VERSION: &str = "vers 0.25.0";
+pub const VERSION: &str = "vers 0.26.0";

@@ -3,8 +3,7 @@ ghost use Rattle.std.specs.Prelude.{◌≡◌};
 
 use std::alloc::AllocError;
 
-/// Why bytes were not loaded. The tests are made in this order, except those of the length, which are repeated
-/// if the head is complete: see `fault_of`.
+/// Why bytes were not loaded: the first test that fails, in the order of `fault_of`.
 #[derive(Clone, Copy, PartialEq, Eq, Debug, Drop)]
 pub enum LoadError {
     /// There are fewer bytes than a head and a sum take, or than the head says.

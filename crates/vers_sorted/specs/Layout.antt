@@ -7,11 +7,11 @@ use Rattle.vers_sorted.specs.Ones.{ones_at}
 use Rattle.vers_tally.specs.Reads.{Reads, plus, times, digits}
 pub use Rattle.vers_tally.specs.Reads.{clog}
 
--- the first and the last element, 0 for the empty list
+-- the first element; 0 for the empty list
 abbrev pub first_of : List ℕ → ℕ
 first_of members = slice_index members 0
 
--- the last element of a list that has one
+-- the last element; 0 for the empty list
 abbrev pub last_of : List ℕ → ℕ
 last_of members = slice_index members (length members - 1)
 
@@ -23,10 +23,11 @@ width n u = max (clog (max u 2)) (clog (n + 2)) - clog (max n 2)
 unfoldable pub low_width : List ℕ → ℕ
 low_width members = width (length members) (last_of members - first_of members)
 
--- the high part of a number v, and its low part
+-- the high part of a number v: how many times 2 to the low width is in its distance from the first element
 unfoldable pub high_of : List ℕ → ℕ → ℕ
 high_of members v = (v - first_of members) / 2 ^ low_width members
 
+-- the low part of a number v: the rest of that division
 unfoldable pub low_of : List ℕ → ℕ → ℕ
 low_of members v = (v - first_of members) % 2 ^ low_width members
 
@@ -50,7 +51,7 @@ low_parts members = pack (map (λ m. m - first_of members) members) (low_width m
 abbrev pub low_count : ℕ → ℕ → ℕ
 low_count n u = n * width n u
 
--- and how many the high parts
+-- how many bits the high parts of n elements take, the last of which is u above the first
 abbrev pub high_count : ℕ → ℕ → ℕ
 high_count n u = if n == 0 then 0 else 2 + n + u / 2 ^ width n u
 

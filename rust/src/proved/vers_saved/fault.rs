@@ -4,8 +4,7 @@ use crate::rattle::prelude::*;
 
 use crate::rattle::AllocError;
 
-/// Why bytes were not loaded. The tests are made in this order, except those of the length, which are repeated
-/// if the head is complete: see `fault_of`.
+/// Why bytes were not loaded: the first test that fails, in the order of `fault_of`.
 #[derive(Clone, Copy, PartialEq, Eq, Debug)]
 pub enum LoadError {
     /// There are fewer bytes than a head and a sum take, or than the head says.
