@@ -7,7 +7,7 @@ pub use Rattle.std.proofs.lemmas.Result.{err_from_is_err_and}
 pub use Rattle.std.specs.Io.KnownBytes.{Appends, Consumes, IsAtEnd}
 pub use Rattle.std.specs.List.{All, filter, position, slice_split}
 pub use Rattle.vers_engine.specs.Answers.{Answering, AreLinesRead, BeginsAnswer, WrittenOf, answers_of, held_after}
-pub use Rattle.vers_engine.specs.Lines.{front, last_or, lines_of, whole_lines}
+pub use Rattle.vers_engine.specs.Lines.{front, last_element_or, lines_of, whole_lines}
 pub use Rattle.vers_engine.specs.declared.engine.RunError.{RunError}
 pub use Rattle.vers_engine.specs.declared.engine.RunError.TheVariants.{Memory, Read, Write}
 pub use Rattle.vers_engine.specs.inside.Session.{AnswersOrStays, FinishesOrFails, IsSplit, StandsAt, TakesOrFails, TakesSome, ended_by}

@@ -1,5 +1,5 @@
 -- A text split at a byte, as it grows.
-use Rattle.vers_engine.proofs.Names.{◌≡◌, ◌==◌, ℕ, List, [], ◌∷◌, ◌++◌, false, inl, inr, refl, sym, ap, ◌∙◌, append_assoc, rules, slice_split, All, append-nil, eq-eqb, eqb_tells, front, last_or, ended_by, IsSplit}
+use Rattle.vers_engine.proofs.Names.{◌≡◌, ◌==◌, ℕ, List, [], ◌∷◌, ◌++◌, false, inl, inr, refl, sym, ap, ◌∙◌, append_assoc, rules, slice_split, All, append-nil, eq-eqb, eqb_tells, front, last_element_or, ended_by, IsSplit}
 use Rattle.std.proofs.lemmas.List.Elements.{All-push, All-append, All-head, All-tail}
 use Rattle.std.proofs.lemmas.List.Splits.{slice_split_at, slice_split_none}
 
@@ -56,6 +56,6 @@ front-push [] y = refl
 front-push (x ∷ []) y = refl
 front-push (x ∷ z ∷ xs) y = ap (λ l. x ∷ l) (front-push (z ∷ xs) y)
 
-pub last_or-push : {X : Type 0} (d : X) (xs : List X) (y : X) → last_or d (xs ++ y ∷ []) ≡ y
-last_or-push d [] y = refl
-last_or-push d (x ∷ xs) y = last_or-push x xs y
+pub last_element_or-push : {X : Type 0} (d : X) (xs : List X) (y : X) → last_element_or d (xs ++ y ∷ []) ≡ y
+last_element_or-push d [] y = refl
+last_element_or-push d (x ∷ xs) y = last_element_or-push x xs y

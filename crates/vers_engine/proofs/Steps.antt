@@ -1,6 +1,6 @@
 -- What the parts of a session add to what it has read and answered.
 use Rattle.vers_engine.proofs.Names.{◌≡◌, ◌==◌, ℕ, List, [], ◌∷◌, ◌++◌, length, take, drop, false, Ok, Err, Result, OnOk, OnErr, IfErr, refl, sym, ap, ◌∙◌, append_assoc, append-nil, take-append-drop, filter, All, has_bytes, RunError, Read, Write, Memory, front, whole_lines, lines_of, Answering, answers_of, held_after, BeginsAnswer, IsSplit, AnswersOrStays, TakesOrFails, TakesSome, FinishesOrFails}
-use Rattle.vers_engine.proofs.Splits.{IsSplit-end, IsSplit-others, IsSplit-more, slice_split-IsSplit, front-push, last_or-push}
+use Rattle.vers_engine.proofs.Splits.{IsSplit-end, IsSplit-others, IsSplit-more, slice_split-IsSplit, front-push, last_element_or-push}
 use Rattle.vers_engine.proofs.Lines.{answers_of-append, held_after-append}
 
 -- the lines of a text that is split at its line ends
@@ -8,7 +8,7 @@ pub whole_lines-IsSplit : (read : List ℕ) (lines : List (List ℕ)) (rest : Li
 whole_lines-IsSplit read lines rest h = ap front (slice_split-IsSplit 10 read lines rest h) ∙ front-push lines rest
 
 pub lines_of-IsSplit : (read : List ℕ) (lines : List (List ℕ)) (rest : List ℕ) → IsSplit 10 read lines rest → lines_of read ≡ lines ++ filter has_bytes (rest ∷ [])
-lines_of-IsSplit read lines rest h = rw (slice_split-IsSplit 10 read lines rest h, front-push, last_or-push) refl
+lines_of-IsSplit read lines rest h = rw (slice_split-IsSplit 10 read lines rest h, front-push, last_element_or-push) refl
 
 -- one more line was answered
 answers-more : {H : Type 0} (by : Answering H) (start : H) (lines : List (List ℕ)) (answers : List ℕ) (h : H) (line text : List ℕ)

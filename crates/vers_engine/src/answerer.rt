@@ -11,7 +11,7 @@ pub trait Answerer<A: Allocator> {
     ghost answering: { Answering Self };
 
     /// Appends the answer of a line, with its end. Errors: `AllocError` if the allocator refuses a request; the
-    /// answers are then unchanged.
+    /// answers are then unchanged, the state of `self` is unspecified, and the run ends.
     fn answer(&mut self, line: &[u8], answers: &mut Vec<u8, A>) -> Result<(), AllocError>
         ensures answer { OnOk result (answers.new.items
             ≡ answers.old.items ++ answering.answer_to self.old line.now) }

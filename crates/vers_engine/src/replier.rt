@@ -16,7 +16,7 @@ pub trait Replier<A: Allocator + Copy> {
     ghost replying: { Replying Self };
 
     /// Returns the reply to a line, from its first word and the text after it. Errors: `AllocError` if the
-    /// allocator refuses a request.
+    /// allocator refuses a request; the state of `self` is then unspecified, and the run ends.
     fn reply(&mut self, word: &[u8], arguments: &[u8]) -> Result<Reply<A>, AllocError>
         ensures reply { IfOk result (λ reply. plain_reply reply
             ≡ replying.reply_to self.old word.now arguments.now) }

@@ -13,7 +13,7 @@ use crate::programs::vers_words::text::{split_first_word, without_return};
 /// its reply, and a line without words with nothing. It implements `Answerer`.
 pub trait Replier<A: Allocator + Copy> {
     /// Returns the reply to a line, from its first word and the text after it. Errors: `AllocError` if the
-    /// allocator refuses a request.
+    /// allocator refuses a request; the state of `self` is then unspecified, and the run ends.
     fn reply(&mut self, word: &[u8], arguments: &[u8]) -> Result<Reply<A>, AllocError>;
 }
 
