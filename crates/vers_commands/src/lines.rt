@@ -2,6 +2,7 @@
 use std::io::IsTerminal;
 use std::process::ExitCode;
 use vers_cli::{Device, RunError, fault_line};
+use vers_texts::Store;
 
 /// Answers lines.
 pub fn answer(rt: &HostRuntime) -> ExitCode {
@@ -14,9 +15,13 @@ pub fn answer(rt: &HostRuntime) -> ExitCode {
 /// Answers lines about a text.
 pub fn answer_text(rt: &HostRuntime) -> ExitCode {
     say_waiting(rt, "`text 2 0 1 2 0 1` and `places 0 1`");
+    let store = Store::new(rt.alloc());
     let mut reader = Device::new(rt.stdin());
     let mut writer = Device::new(rt.stdout());
-    status(rt, vers_texts::run(rt.alloc(), &mut reader, &mut writer))
+    status(
+        rt,
+        vers_texts::run_from(rt.alloc(), store, &mut reader, &mut writer),
+    )
 }
 
 /// Says on a terminal which lines the program waits for.

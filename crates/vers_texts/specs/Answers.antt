@@ -1,5 +1,5 @@
 -- Answer texts: what the program writes for the lines of an input.
-use Rattle.std.specs.Prelude.{ℕ, List, Option, None, Result}
+use Rattle.std.specs.Prelude.{ℕ, List, Option, Result}
 use Rattle.vers_engine.specs.declared.engine.RunError.{RunError}
 use Rattle.vers_engine.specs.Answers.{Answering, answers_of, WrittenOf}
 use Rattle.vers_engine.specs.Replies.{answering_by}
@@ -16,7 +16,3 @@ answers_to held lines = answers_of by_the_rules held lines
 -- the output is the answers to the lines that a run read, beginning with the given text, depending on how the run ended
 abbrev pub WrittenFrom : Option (List ℕ) → Result (Unit {0}) RunError → List (List ℕ) → List ℕ → Type 0
 WrittenFrom held result lines text = WrittenOf (answers_to held) result lines text
-
--- `WrittenFrom` for a run that begins without a text
-abbrev pub WrittenAt : Result (Unit {0}) RunError → List (List ℕ) → List ℕ → Type 0
-WrittenAt result lines text = WrittenFrom None result lines text

@@ -3,15 +3,15 @@ ghost use Rattle.std.specs.Prelude.{◌≡◌, ◌<◌, ◌↔◌, IsTrue, List,
 ghost use Rattle.std.specs.Io.KnownBytes.{Appends, Consumes};
 ghost use Rattle.vers_io.specs.Device.{FollowsReadFault, FollowsWriteFault};
 ghost use Rattle.vers_engine.specs.Answers.{AreLinesRead};
-ghost use Rattle.vers_texts.specs.Answers.{WrittenAt, WrittenFrom};
+ghost use Rattle.vers_texts.specs.Answers.{WrittenFrom};
 
 use crate::store::Store;
 use std::alloc::Allocator;
 use vers_engine::{RunError, answer_lines};
 use vers_io::{Device, Sink, Source};
 
-/// Reads lines to the end of the input and writes the answer of each, every whole line before the next read.
-/// There is no text before the first line.
+/// Reads lines to the end of the input and writes the answer of each, every whole line before the next read. The text
+/// before the first line is that of `store`, if it has one.
 ///
 /// A line ends with byte 10 or with the end of the input, and its words are separated by spaces. The answer is
 /// `bad line` if a line is malformed, `wrong structure` if it queries a text and there is none, and `refused` if
@@ -28,33 +28,6 @@ use vers_io::{Device, Sink, Source};
 /// The result is `Read` or `Write` exactly if the device has failed when the function returns. `Read` directly
 /// follows a read of the inner reader that returned an error, and `Write` a failed write to the inner writer. A
 /// reader that has not ended after 2^64 - 1 reads that returned bytes counts as failed too.
-pub fn run<A: Allocator + Copy, R: Source, W: Sink>(
-    alloc: A,
-    reader: &mut Device<R>,
-    writer: &mut Device<W>,
-) -> Result<(), RunError>
-    requires reader { reader.old.has_failed ≡ false }
-    requires writer { writer.old.has_failed ≡ false }
-    ensures answers { (read : List ℕ) × (written : List ℕ) × (lines : List (List ℕ))
-        × Consumes (R.remaining reader.old.inner) (R.remaining reader.new.inner) read
-        × Appends (W.contents writer.old.inner) (W.contents writer.new.inner) written
-        × AreLinesRead result (R.remaining reader.new.inner) read lines
-        × WrittenAt result lines written }
-    ensures read { (result ≡ Err RunError.Read) ↔ IsTrue reader.new.has_failed }
-    ensures write { (result ≡ Err RunError.Write) ↔ IsTrue writer.new.has_failed }
-    ensures read_cause { result ≡ Err RunError.Read → 0 < reader.new.reads_left
-        → FollowsReadFault R.read_gives reader.new.inner }
-    ensures write_cause { result ≡ Err RunError.Write
-        → FollowsWriteFault W.write_gives writer.new.inner }
-{
-    run_from(alloc, Store::new(alloc), reader, writer)
-}
-
-/// Does what `run` does, with the text in `store` before the first line.
-///
-/// # Errors
-///
-/// As for `run`.
 pub fn run_from<A: Allocator + Copy, R: Source, W: Sink>(
     alloc: A,
     store: Store<A>,

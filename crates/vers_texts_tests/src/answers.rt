@@ -3,7 +3,7 @@ use std::alloc::{Allocator, Global};
 use std::process::Abort;
 use std::test::Fail;
 use test_alloc::{lines_of, wrong_row};
-use vers_texts::{Device, RunError, run};
+use vers_texts::{Device, RunError, Store, run_from};
 
 /// The result of a run over memory, and its output.
 #[derive(Drop)]
@@ -16,7 +16,7 @@ pub struct Ended {
 pub fn run_over<A: Allocator + Copy>(alloc: A, host: Global, input: &[u8]) -> Ended {
     let mut reader = Device::new(input);
     let mut writer = Device::new(Vec::new(host));
-    let result = run(alloc, &mut reader, &mut writer);
+    let result = run_from(alloc, Store::new(alloc), &mut reader, &mut writer);
     Ended {
         result,
         text: writer.into_inner(),

@@ -4,6 +4,7 @@ use crate::rattle::prelude::*;
 use std::io::IsTerminal;
 use std::process::ExitCode;
 use crate::programs::vers_cli::{Device, RunError, fault_line};
+use crate::programs::vers_texts::Store;
 
 /// Answers lines.
 pub fn answer(rt: &HostRuntime) -> ExitCode {
@@ -16,9 +17,13 @@ pub fn answer(rt: &HostRuntime) -> ExitCode {
 /// Answers lines about a text.
 pub fn answer_text(rt: &HostRuntime) -> ExitCode {
     say_waiting(rt, "`text 2 0 1 2 0 1` and `places 0 1`");
+    let store = Store::new(rt.alloc());
     let mut reader = Device::new(rt.stdin());
     let mut writer = Device::new(rt.stdout());
-    status(rt, crate::programs::vers_texts::run(rt.alloc(), &mut reader, &mut writer))
+    status(
+        rt,
+        crate::programs::vers_texts::run_from(rt.alloc(), store, &mut reader, &mut writer),
+    )
 }
 
 /// Says on a terminal which lines the program waits for.

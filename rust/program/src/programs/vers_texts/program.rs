@@ -7,8 +7,8 @@ use crate::rattle::Allocator;
 use crate::programs::vers_engine::{RunError, answer_lines};
 use crate::programs::vers_io::{Device, Sink, Source};
 
-/// Reads lines to the end of the input and writes the answer of each, every whole line before the next read.
-/// There is no text before the first line.
+/// Reads lines to the end of the input and writes the answer of each, every whole line before the next read. The text
+/// before the first line is that of `store`, if it has one.
 ///
 /// A line ends with byte 10 or with the end of the input, and its words are separated by spaces. The answer is
 /// `bad line` if a line is malformed, `wrong structure` if it queries a text and there is none, and `refused` if
@@ -25,19 +25,6 @@ use crate::programs::vers_io::{Device, Sink, Source};
 /// The result is `Read` or `Write` exactly if the device has failed when the function returns. `Read` directly
 /// follows a read of the inner reader that returned an error, and `Write` a failed write to the inner writer. A
 /// reader that has not ended after 2^64 - 1 reads that returned bytes counts as failed too.
-pub fn run<A: Allocator + Copy, R: Source, W: Sink>(
-    alloc: A,
-    reader: &mut Device<R>,
-    writer: &mut Device<W>,
-) -> Result<(), RunError> {
-    run_from(alloc, Store::new(alloc), reader, writer)
-}
-
-/// Does what `run` does, with the text in `store` before the first line.
-///
-/// # Errors
-///
-/// As for `run`.
 pub fn run_from<A: Allocator + Copy, R: Source, W: Sink>(
     alloc: A,
     store: Store<A>,
