@@ -704,6 +704,8 @@ class Fasta(unittest.TestCase):
     def test_other_texts(self):
         for text in b"GATTA", b"\nGAT", b"A\n\nGT", b"\n\nA", b"\nname\nGAT":
             self.refused("^the text isn't that of a FASTA file$", vers.TextIndex(text).sites, b"A")
+        for text in b"a\nbc\nGATTA\n", b"\nbc\nGATTA", b"\n\xe3\n\xe4\nTA\n":
+            self.refused("^the text isn't that of a FASTA file$", vers.TextIndex(text).sites, b"TA")
         self.refused("^the text isn't that of a FASTA file$", vers.TextIndex([10, 200, 10, 65], 9).sequences)
 
 

@@ -3,7 +3,7 @@ So a pattern of residues occurs in no name, and across no two sequences. `crates
 
 import re
 from bisect import bisect_left
-from typing import Any, Iterable, Optional, Sequence, Tuple
+from typing import Any, Iterable, List, Optional, Sequence, Tuple
 
 from ._faults import Refused
 
@@ -78,3 +78,12 @@ class Sites:
         if before % 2 or before == 0 or place >= self.ends(before // 2 - 1)[1]:
             return None
         return before // 2 - 1, place - self._feeds[before - 1] - 1
+
+    def sites(self, places: Iterable[int]) -> List[Tuple[int, int]]:
+        """`site` for each position. Raises Refused if one is in no sequence."""
+        sites = []
+        for site in map(self.site, places):
+            if site is None:
+                raise Refused("the text isn't that of a FASTA file")
+            sites.append(site)
+        return sites

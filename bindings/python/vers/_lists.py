@@ -1038,7 +1038,7 @@ class TextIndex(Shared[str]):
         Refused for a pattern of none or of other symbols, and for a text that isn't that of a FASTA file."""
         found, held = self._sites(), _buffers.pattern(pattern)
         _fasta.check_residues(held.keeper.tolist())
-        sites = [site for site in map(found.site, self.places(held.keeper)) if site is not None]
+        sites = found.sites(self.places(held.keeper))
         names = {k: found.name(self, k) for k in {k for k, _ in sites}}
         return [(names[k], offset) for k, offset in sites]
 

@@ -204,6 +204,15 @@ pub answer-sites_of_none : answer_to (Some (codes "GATTA")) (codes "sites \"T\""
 unfolding answer_to_parts places_of stands_at begins_with
 answer-sites_of_none = refl
 
+-- a text with an unpaired line feed, and one with other bytes between two of them
+pub answer-sites_of_lines : answer_to (Some (ended (codes "a") ++ ended (codes "bc") ++ ended (codes "GATTA"))) (codes "sites \"TA\"") ≡ ended (codes "refused")
+unfolding answer_to_parts places_of stands_at begins_with
+answer-sites_of_lines = refl
+
+pub answer-sites_of_no_name : answer_to (Some (ended [] ++ ended (codes "bc") ++ codes "GATTA")) (codes "sites \"TA\"") ≡ ended (codes "refused")
+unfolding answer_to_parts places_of stands_at begins_with
+answer-sites_of_no_name = refl
+
 -- a piece as a pattern, which reads back
 pub answer-piece : answer_to (Some text_of_two) (codes "piece 8 13") ≡ ended (codes "\"A\" 0x0A 0xE4 0x0A \"G\"")
 unfolding answer_to_parts number_of pattern_text gone_on

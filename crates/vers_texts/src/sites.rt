@@ -1,21 +1,22 @@
 //! Occurrences in the sequences of a FASTA text, by the name of the sequence and the offset in it.
-ghost use Rattle.std.specs.Prelude.{◌≡◌, ◌≤◌, ◌+◌, ◌++◌, ◌%◌, length, map, true, slice_range, IfOk, OnOk};
+ghost use Rattle.std.specs.Prelude.{◌≡◌, ◌==◌, ◌&&◌, ◌||◌, ◌≤◌, ◌+◌, ◌++◌, ◌%◌, length, map, nat_le, nat_lt, true, false, slice_index, slice_range, IfNone, IfOk, IfSome, OnOk};
+ghost use Rattle.std.specs.Bool.{OnTrue};
 ghost use Rattle.std.specs.List.{list_all};
 ghost use Rattle.std.specs.List.Sorted.{IsNonDecreasing};
 ghost use Rattle.vers_words.specs.Reply.{plain_reply};
 ghost use Rattle.vers_texts.specs.Fasta.{is_residue as is_residue_symbol};
-ghost use Rattle.vers_texts.specs.Sites.{are_in_sequences as are_all_in, feeds_before as count_before, feeds_of, site_of, sites_of, sites_reply as reply_of_sites};
+ghost use Rattle.vers_texts.specs.Sites.{feeds_before as count_before, feeds_of, is_in_sequence, is_marked_name as are_marked_name, site_of, sites_of, sites_reply as reply_of_sites};
 
 use std::alloc::{AllocError, Allocator};
 use text_index::TextIndex;
 use vers_words::reply::{Reply, append_number};
 
-// The line feed, which stands before and behind each name.
+// The line feed, which precedes and follows each name.
 const FEED: u64 = 10;
 
 /// Returns the reply with the sites of a pattern, in the order of the text: for each occurrence the name of its
-/// sequence and the offset there. It is refused unless the pattern has residues alone, at least one, and a name
-/// precedes each occurrence.
+/// sequence and the offset there. It is refused unless the pattern has residues alone, at least one, the text has the
+/// line feeds of a FASTA text, and each occurrence is in a sequence with a name.
 pub fn sites_reply<A: Allocator + Copy>(
     alloc: A,
     text: &TextIndex<A>,
@@ -27,12 +28,14 @@ pub fn sites_reply<A: Allocator + Copy>(
         return Ok(Reply::Refused);
     }
     let feeds = text.places_ascending(&[FEED])?;
-    let places = text.places_ascending(pattern)?;
-    if !are_in_sequences(feeds.as_slice(), places.as_slice()) {
+    if !has_pairs_of_feeds(text.is_empty(), feeds.as_slice()) {
         return Ok(Reply::Refused);
     }
+    let places = text.places_ascending(pattern)?;
     let mut line = Vec::new(alloc);
-    append_sites(text, feeds.as_slice(), places.as_slice(), &mut line)?;
+    if !append_sites(text, feeds.as_slice(), places.as_slice(), &mut line)? {
+        return Ok(Reply::Refused);
+    }
     Ok(Reply::Text(line))
 }
 
@@ -56,79 +59,108 @@ fn feeds_before(feeds: &[usize], place: usize) -> usize
     feeds.partition_point(|feed| *feed < place)
 }
 
-// Returns true if two line feeds precede each position.
-fn are_in_sequences(feeds: &[usize], places: &[usize]) -> bool
-    requires { IsNonDecreasing feeds.now }
-    ensures { result ≡ are_all_in feeds.now places.now }
+// Returns true if line feeds are those of a FASTA text: two for each sequence, the first at the text's start unless
+// the text is empty.
+fn has_pairs_of_feeds(is_empty: bool, feeds: &[usize]) -> bool
+    ensures { result ≡ (length feeds.now % 2 == 0)
+        && (is_empty || (nat_lt 0 (length feeds.now) && (slice_index feeds.now 0 == 0))) }
 {
-    for place in places {
-        if feeds_before(feeds, *place) < 2 {
-            return false;
-        }
-    }
-    true
+    feeds.len() % 2 == 0 && (is_empty || !feeds.is_empty() && feeds[0] == 0)
 }
 
-// Appends the sites of positions, with spaces between them.
+// Appends the sites of positions, with spaces between them, up to the first position in no sequence. Returns true if
+// all are in sequences.
 fn append_sites<A: Allocator + Copy>(
     text: &TextIndex<A>,
     feeds: &[usize],
     places: &[usize],
     line: &mut Vec<u8, A>,
-) -> Result<(), AllocError>
-    requires feeds { feeds.now ≡ feeds_of text.now.items }
-    requires named { are_all_in feeds.now places.now ≡ true }
-    ensures { OnOk result (line.new.items
-        ≡ line.old.items ++ sites_of text.now.items feeds.now places.now) }
+) -> Result<bool, AllocError>
+    requires { feeds.now ≡ feeds_of text.now.items }
+    ensures sequences { IfOk result (λ all. all ≡ list_all (is_in_sequence text.now.items feeds.now) places.now) }
+    ensures sites { IfOk result (λ all. OnTrue all (line.new.items
+        ≡ line.old.items ++ sites_of text.now.items feeds.now places.now)) }
 {
     let Some((first, others)) = places.split_first() else {
-        return Ok(());
+        return Ok(true);
     };
-    append_site(text, feeds, *first, line)?;
+    if !append_site(text, feeds, *first, line)? {
+        return Ok(false);
+    }
     for place in others {
         line.push(b' ')?;
-        append_site(text, feeds, *place, line)?;
+        if !append_site(text, feeds, *place, line)? {
+            return Ok(false);
+        }
     }
-    Ok(())
+    Ok(true)
 }
 
-// Appends the site of a position: the name of its sequence, a space, and the offset.
+// Appends the site of a position: the name of its sequence, a space, and the offset. Returns false, and appends
+// nothing, if the position is in no sequence.
 fn append_site<A: Allocator + Copy>(
     text: &TextIndex<A>,
     feeds: &[usize],
     place: usize,
     line: &mut Vec<u8, A>,
-) -> Result<(), AllocError>
-    requires feeds { feeds.now ≡ feeds_of text.now.items }
-    requires named { 2 ≤ count_before feeds.now place }
-    ensures { OnOk result (line.new.items ≡ line.old.items ++ site_of text.now.items feeds.now place) }
+) -> Result<bool, AllocError>
+    requires { feeds.now ≡ feeds_of text.now.items }
+    ensures sequence { IfOk result (λ found. found ≡ is_in_sequence text.now.items feeds.now place) }
+    ensures site { IfOk result (λ found. OnTrue found (line.new.items
+        ≡ line.old.items ++ site_of text.now.items feeds.now place)) }
 {
     let number = feeds_before(feeds, place);
-    let from = feeds[number - 2];
+    if number < 2 || number % 2 != 0 {
+        return Ok(false);
+    }
     let to = feeds[number - 1];
-    append_name(text, from, to, line)?;
+    let Some(name) = name_between(text, feeds[number - 2], to)? else {
+        return Ok(false);
+    };
+    append_low_bits(name.as_slice(), line)?;
     line.push(b' ')?;
-    append_number(place.saturating_sub(to).saturating_sub(1) as u64, line)
+    append_number(place.saturating_sub(to).saturating_sub(1) as u64, line)?;
+    Ok(true)
 }
 
-// Appends the name between two line feeds.
-fn append_name<A: Allocator + Copy>(
+// Returns the symbols between two line feeds, or `None` if they are no name.
+fn name_between<A: Allocator + Copy>(
     text: &TextIndex<A>,
     from: usize,
     to: usize,
-    line: &mut Vec<u8, A>,
-) -> Result<(), AllocError>
+) -> Result<Option<Vec<u64, A>>, AllocError>
     requires from { from ≤ length text.now.items }
     requires to { to ≤ length text.now.items }
-    ensures { OnOk result (line.new.items
-        ≡ line.old.items ++ map (λ s. s % 128) (slice_range text.now.items (from + 1) to)) }
+    ensures none { IfOk result (λ found. IfNone found
+        (are_marked_name (slice_range text.now.items (from + 1) to) ≡ false)) }
+    ensures name { IfOk result (λ found. IfSome found (λ name.
+        name.items ≡ slice_range text.now.items (from + 1) to)) }
+    ensures marked { IfOk result (λ found. IfSome found (λ name. are_marked_name name.items ≡ true)) }
 {
     // A position of a text is below the greatest number.
     let _ = text.len();
-    match text.extract(from + 1..to)? {
-        Some(symbols) => append_low_bits(symbols.as_slice(), line),
-        None => Ok(()),
+    let Some(symbols) = text.extract(from + 1..to)? else {
+        return Ok(None);
+    };
+    if !is_marked_name(symbols.as_slice()) {
+        return Ok(None);
     }
+    Ok(Some(symbols))
+}
+
+// Returns true if symbols are a name: one or more bytes, each with its highest bit set.
+fn is_marked_name(symbols: &[u64]) -> bool
+    ensures { result ≡ are_marked_name symbols.now }
+{
+    !symbols.is_empty() && are_marked(symbols)
+}
+
+fn are_marked(symbols: &[u64]) -> bool
+    ensures { result ≡ list_all (λ s. nat_le 128 s && nat_le s 255) symbols.now }
+{
+    symbols
+        .iter()
+        .all(|symbol| *symbol >= 128 && *symbol <= 255)
 }
 
 // Appends symbols as bytes, each without its highest bit.

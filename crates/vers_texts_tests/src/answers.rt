@@ -40,7 +40,7 @@ fn assert_answered(rt: &impl Abort, alloc: Global, name: &str, rows: &[&str]) ->
     Ok(())
 }
 
-const CASES: [Case; 16] = [
+const CASES: [Case; 17] = [
     (
         "a genome, its pieces and their places",
         &[
@@ -143,10 +143,21 @@ const CASES: [Case; 16] = [
         ],
     ),
     (
-        "sites in a text without names, and in one of lines",
+        "sites in texts without the line feeds of sequences",
         &[
-            "text 8 \"GATTA\" -> 5; sites \"T\" -> refused; sites \"C\" -> (empty); text 8 0x0A \"GAT\" -> 4; sites \"T\" -> refused",
-            "text 8 \"AC\" 0x0A \"GT\" 0x0A \"CA\" -> 8; sites \"A\" -> refused; sites \"CA\" -> GT 0; text 8 0x0A0A \"A\" -> 3; sites \"A\" ->  0",
+            "text 8 \"GATTA\" -> 5; sites \"T\" -> refused; sites \"C\" -> refused; text 8 0x0A \"GAT\" -> 4; sites \"T\" -> refused",
+            "text 8 \"a\" 0x0A \"bc\" 0x0A \"GATTA\" 0x0A -> 11; count \"TA\" -> 1; sites \"TA\" -> refused; text 8 -> 0; sites \"A\" -> (empty)",
+            "text 8 \"A\" 0x0AE30A \"C\" -> 5; sites \"C\" -> refused; text 8 0x0AE30A \"A\" 0x0A -> 5; sites \"A\" -> refused",
+            "text 8 0x0AE30AE40A \"GT\" 0x0A -> 8; sites \"GT\" -> refused; sites \"A\" -> (empty)",
+        ],
+    ),
+    (
+        "sites in texts with other symbols between two line feeds",
+        &[
+            "text 8 0x0A \"bc\" 0x0A \"GATTA\" -> 9; sites \"TA\" -> refused; sites \"C\" -> (empty); sites \"b\" -> refused",
+            "text 8 0x0AE3630A \"GATTA\" -> 9; sites \"TA\" -> refused; text 8 0x0A0A \"A\" -> 3; sites \"A\" -> refused",
+            "text 16 10 227 10 65 -> 4; sites 65 -> c 0; text 16 10 355 10 65 -> 4; sites 65 -> refused",
+            "text 8 0x0AE30A \"A\" 0x0A640A \"GA\" -> 9; sites \"A\" -> refused; sites \"AG\" -> (empty)",
         ],
     ),
     (

@@ -7,12 +7,12 @@ use crate::rattle::Allocator;
 use crate::proved::text_index::TextIndex;
 use crate::programs::vers_words::reply::{Reply, append_number};
 
-// The line feed, which stands before and behind each name.
+// The line feed, which precedes and follows each name.
 const FEED: u64 = 10;
 
 /// Returns the reply with the sites of a pattern, in the order of the text: for each occurrence the name of its
-/// sequence and the offset there. It is refused unless the pattern has residues alone, at least one, and a name
-/// precedes each occurrence.
+/// sequence and the offset there. It is refused unless the pattern has residues alone, at least one, the text has the
+/// line feeds of a FASTA text, and each occurrence is in a sequence with a name.
 pub fn sites_reply<A: Allocator + Copy>(
     alloc: A,
     text: &TextIndex<A>,
@@ -22,12 +22,14 @@ pub fn sites_reply<A: Allocator + Copy>(
         return Ok(Reply::Refused);
     }
     let feeds = text.places_ascending(&[FEED])?;
-    let places = text.places_ascending(pattern)?;
-    if !are_in_sequences(feeds.as_slice(), places.as_slice()) {
+    if !has_pairs_of_feeds(text.is_empty(), feeds.as_slice()) {
         return Ok(Reply::Refused);
     }
+    let places = text.places_ascending(pattern)?;
     let mut line = Vec::new(alloc);
-    append_sites(text, feeds.as_slice(), places.as_slice(), &mut line)?;
+    if !append_sites(text, feeds.as_slice(), places.as_slice(), &mut line)? {
+        return Ok(Reply::Refused);
+    }
     Ok(Reply::Text(line))
 }
 
@@ -46,62 +48,83 @@ fn feeds_before(feeds: &[usize], place: usize) -> usize {
     feeds.partition_point(|feed| *feed < place)
 }
 
-// Returns true if two line feeds precede each position.
-fn are_in_sequences(feeds: &[usize], places: &[usize]) -> bool {
-    for place in places {
-        if feeds_before(feeds, *place) < 2 {
-            return false;
-        }
-    }
-    true
+// Returns true if line feeds are those of a FASTA text: two for each sequence, the first at the text's start unless
+// the text is empty.
+fn has_pairs_of_feeds(is_empty: bool, feeds: &[usize]) -> bool {
+    feeds.len() % 2 == 0 && (is_empty || !feeds.is_empty() && feeds[0] == 0)
 }
 
-// Appends the sites of positions, with spaces between them.
+// Appends the sites of positions, with spaces between them, up to the first position in no sequence. Returns true if
+// all are in sequences.
 fn append_sites<A: Allocator + Copy>(
     text: &TextIndex<A>,
     feeds: &[usize],
     places: &[usize],
     line: &mut Vec<u8, A>,
-) -> Result<(), AllocError> {
+) -> Result<bool, AllocError> {
     let Some((first, others)) = places.split_first() else {
-        return Ok(());
+        return Ok(true);
     };
-    append_site(text, feeds, *first, line)?;
+    if !append_site(text, feeds, *first, line)? {
+        return Ok(false);
+    }
     for place in others {
         line.push(b' ')?;
-        append_site(text, feeds, *place, line)?;
+        if !append_site(text, feeds, *place, line)? {
+            return Ok(false);
+        }
     }
-    Ok(())
+    Ok(true)
 }
 
-// Appends the site of a position: the name of its sequence, a space, and the offset.
+// Appends the site of a position: the name of its sequence, a space, and the offset. Returns false, and appends
+// nothing, if the position is in no sequence.
 fn append_site<A: Allocator + Copy>(
     text: &TextIndex<A>,
     feeds: &[usize],
     place: usize,
     line: &mut Vec<u8, A>,
-) -> Result<(), AllocError> {
+) -> Result<bool, AllocError> {
     let number = feeds_before(feeds, place);
-    let from = feeds[number - 2];
+    if number < 2 || number % 2 != 0 {
+        return Ok(false);
+    }
     let to = feeds[number - 1];
-    append_name(text, from, to, line)?;
+    let Some(name) = name_between(text, feeds[number - 2], to)? else {
+        return Ok(false);
+    };
+    append_low_bits(name.as_slice(), line)?;
     line.push(b' ')?;
-    append_number(place.saturating_sub(to).saturating_sub(1) as u64, line)
+    append_number(place.saturating_sub(to).saturating_sub(1) as u64, line)?;
+    Ok(true)
 }
 
-// Appends the name between two line feeds.
-fn append_name<A: Allocator + Copy>(
+// Returns the symbols between two line feeds, or `None` if they are no name.
+fn name_between<A: Allocator + Copy>(
     text: &TextIndex<A>,
     from: usize,
     to: usize,
-    line: &mut Vec<u8, A>,
-) -> Result<(), AllocError> {
+) -> Result<Option<Vec<u64, A>>, AllocError> {
     // A position of a text is below the greatest number.
     let _ = text.len();
-    match text.extract(from + 1..to)? {
-        Some(symbols) => append_low_bits(symbols.as_slice(), line),
-        None => Ok(()),
+    let Some(symbols) = text.extract(from + 1..to)? else {
+        return Ok(None);
+    };
+    if !is_marked_name(symbols.as_slice()) {
+        return Ok(None);
     }
+    Ok(Some(symbols))
+}
+
+// Returns true if symbols are a name: one or more bytes, each with its highest bit set.
+fn is_marked_name(symbols: &[u64]) -> bool {
+    !symbols.is_empty() && are_marked(symbols)
+}
+
+fn are_marked(symbols: &[u64]) -> bool {
+    symbols
+        .iter()
+        .all(|symbol| *symbol >= 128 && *symbol <= 255)
 }
 
 // Appends symbols as bytes, each without its highest bit.
