@@ -1,6 +1,6 @@
 -- FASTA files, by their lines: a header begins with `>` and names a sequence, and the lines up to the next header have its residues.
-use Rattle.std.specs.Prelude.{◌≡◌, ℕ, Bool, false, not, ◌&&◌, ◌||◌, ◌==◌, ◌+◌, ◌%◌, nat_le, List, [], ◌∷◌, ◌++◌, map, flat_map, Option, Some, None, is_some, if◌then◌else◌}
-use Rattle.std.specs.List.{slice_split, list_all, before_first}
+use Rattle.std.specs.Prelude.{◌≡◌, ℕ, Bool, not, ◌&&◌, ◌||◌, ◌==◌, ◌+◌, ◌-◌, ◌%◌, nat_le, List, [], ◌∷◌, ◌++◌, length, map, flat_map, take, find, Option, Some, None, is_some, if◌then◌else◌}
+use Rattle.std.specs.List.{slice_split, list_all, list_any, before_first, range_with_len, slice_index_or}
 use Rattle.std.specs.Io.BufRead.{strip_last}
 use Rattle.vers_words.specs.Text.{has_bytes}
 use Rattle.vers_texts.specs.declared.fasta.FastaError.{FastaError}
@@ -41,10 +41,19 @@ symbols_of None line = line
 unfoldable pub text_of_lines : List (List ℕ) → List ℕ
 text_of_lines lines = flat_map (λ line. symbols_of (name_in line) line) lines
 
--- the number of the first line, from n, that is none of a FASTA file, if there is one
-unfoldable pub wrong_line : Bool → ℕ → List (List ℕ) → Option ℕ
-wrong_line begun n [] = None
-wrong_line begun n (line ∷ lines) = if is_line begun (name_in line) line then wrong_line (begun || is_some (name_in line)) (n + 1) lines else Some n
+-- whether a line is a header
+abbrev pub is_header : List ℕ → Bool
+is_header line = is_some (name_in line)
+
+-- whether the line of this number, from 1, is one of a FASTA file, by the lines before it
+abbrev pub is_right_line : List (List ℕ) → ℕ → Bool
+is_right_line lines n =
+    let line = slice_index_or lines (n - 1) [] in
+    is_line (list_any is_header (take (n - 1) lines)) (name_in line) line
+
+-- the number of the first line that is none of a FASTA file, if there is one
+unfoldable pub wrong_line : List (List ℕ) → Option ℕ
+wrong_line lines = find (λ n. not (is_right_line lines n)) (range_with_len 1 (length lines))
 
 -- the text of a FASTA file
 abbrev pub fasta_text : List ℕ → List ℕ
@@ -52,9 +61,9 @@ fasta_text file = text_of_lines (lines_in file)
 
 -- the number of its first wrong line, from 1
 abbrev pub fasta_fault : List ℕ → Option ℕ
-fasta_fault file = wrong_line false 1 (lines_in file)
+fasta_fault file = wrong_line (lines_in file)
 
--- why a file has no text
+-- why there is no text of a file: it has a wrong line, or it has none and memory ran out
 abbrev pub IsNoFasta : List ℕ → FastaError → Type 0
 IsNoFasta file (Line n) = fasta_fault file ≡ Some n
-IsNoFasta file Memory = Unit {0}
+IsNoFasta file Memory = fasta_fault file ≡ None

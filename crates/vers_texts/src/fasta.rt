@@ -1,5 +1,5 @@
 //! FASTA files as texts.
-ghost use Rattle.std.specs.Prelude.{◌≡◌, ◌==◌, ◌||◌, ◌∷◌, ◌++◌, ◌%◌, ◌+◌, ◌<◌, [], map, length, position, None, IfOk, IfErr, IfSome, OnOk, option_map, MatchOption};
+ghost use Rattle.std.specs.Prelude.{◌≡◌, ◌==◌, ◌||◌, ◌∷◌, ◌++◌, ◌%◌, ◌+◌, ◌<◌, [], map, length, position, None, IfOk, IfErr, IfSome, IsOkAnd, OnOk, option_map, MatchOption};
 ghost use Rattle.std.specs.List.{list_all};
 ghost use Rattle.vers_texts.specs.Fasta.{IsNoFasta, fasta_fault, fasta_text as text_of_fasta, is_line as are_line, is_name as are_name, is_residue, is_visible, lines_in, name_in as name_in_line, symbols_of};
 
@@ -12,7 +12,7 @@ pub enum FastaError {
     /// The first line, by its number from 1, that is neither a header with a name, nor empty, nor residues after a
     /// header.
     Line(usize),
-    /// The allocator refused a request.
+    /// No line is wrong, and the allocator refused a request.
     Memory,
 }
 
@@ -33,13 +33,13 @@ impl From<AllocError> for FastaError {
 ///
 /// # Errors
 ///
-/// `Line` with the first line that is wrong; `Memory` if the allocator refuses a request.
+/// `Line` with the first line that is wrong; `Memory` if no line is wrong and the allocator refuses a request.
 pub fn fasta_text<A: Allocator>(alloc: A, file: &[u8]) -> Result<Vec<u8, A>, FastaError>
     ensures right { IfOk result (λ _. fasta_fault file.now ≡ None) }
     ensures text { IfOk result (λ text. text.items ≡ text_of_fasta file.now) }
     ensures refused { IfErr result (IsNoFasta file.now) }
 {
-    let mut text = Vec::with_capacity(alloc, file.len())?;
+    let mut text = Vec::with_capacity(alloc, file.len());
     let mut left = Some(file);
     let mut is_begun = false;
     let mut number = 1usize;
@@ -48,11 +48,25 @@ pub fn fasta_text<A: Allocator>(alloc: A, file: &[u8]) -> Result<Vec<u8, A>, Fas
         if !is_line(is_begun, line) {
             return Err(FastaError::Line(number));
         }
-        append_line(line, &mut text)?;
+        // Without memory, the other lines are still tested.
+        text = appended(text, line);
         is_begun |= name_in(line).is_some();
         number += 1;
         left = others;
     }
+    Ok(text?)
+}
+
+// Returns a text with the symbols of a line appended, unless it or they have no memory.
+fn appended<A: Allocator>(
+    text: Result<Vec<u8, A>, AllocError>,
+    line: &[u8],
+) -> Result<Vec<u8, A>, AllocError>
+    ensures { IfOk result (λ after. IsOkAnd text (λ before.
+        after.items ≡ before.items ++ symbols_of (name_in_line line.now) line.now)) }
+{
+    let mut text = text?;
+    append_line(line, &mut text)?;
     Ok(text)
 }
 

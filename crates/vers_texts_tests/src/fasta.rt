@@ -57,7 +57,7 @@ fn files_and_their_texts(rt: HostRuntime) {
 }
 
 // Returns the first wrong line of a file, if it has one.
-fn wrong_line(alloc: Global, file: &[u8]) -> Option<FastaError> {
+fn wrong_line<A: Allocator>(alloc: A, file: &[u8]) -> Option<FastaError> {
     match fasta_text(alloc, file) {
         Ok(_) => None,
         Err(fault) => Some(fault),
@@ -68,6 +68,16 @@ fn wrong_line(alloc: Global, file: &[u8]) -> Option<FastaError> {
 fn files_and_their_wrong_lines(rt: HostRuntime) {
     for (file, number) in WRONG {
         let found = wrong_line(rt.alloc(), file);
+        assert!(rt; found == Some(FastaError::Line(number)), "{file:?}");
+    }
+}
+
+// A file is tested also if there is no memory for its text.
+#[test]
+fn wrong_lines_are_found_without_memory(rt: HostRuntime) {
+    for (file, number) in WRONG {
+        let heap = Refusing::nth(rt.alloc(), 1);
+        let found = wrong_line(&heap, file);
         assert!(rt; found == Some(FastaError::Line(number)), "{file:?}");
     }
 }

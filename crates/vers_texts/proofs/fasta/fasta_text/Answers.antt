@@ -1,7 +1,14 @@
-use Rattle.std.proofs.Common.{◌∙◌, ◌++◌, sym, ap, arith}
-use Rattle.vers_texts.proofs.FastaLines.{fewer_left, left_is, lines_left, next_lines, right_end, right_then, text_end, text_then, wrong_here}
-use Rattle.vers_texts.specs.Fasta.{text_of_lines, wrong_line}
+use Rattle.std.proofs.Common.{◌≡◌, ◌∙◌, None, sym, ap, arith}
+use Rattle.vers_texts.proofs.FastaLines.{appended_then, fault_is, fewer_left, left_is, lines_left, next_lines, no_memory, right_end, right_then, text_begun, text_ended, wrong_from, wrong_here}
+use Rattle.vers_texts.specs.Fasta.{fasta_fault, fasta_text}
 use Rattle.vers_texts.proofs.fasta.fasta_text.Goals as goal
+
+pub loop-left-init : goal.loop-left-init
+loop-left-init g c = record {
+  text = text_begun (λ t. t.items) c.with_capacity-text.result c.args.file.now c.with_capacity-text.ensures.items;
+  fault = fault_is c.args.file.now;
+  short = omega arith;
+}
 
 pub returns-then-not-is_line-clause-refused : goal.returns-then-not-is_line-clause-refused
 returns-then-not-is_line-clause-refused g c =
@@ -12,7 +19,7 @@ returns-then-not-is_line-clause-refused g c =
     let next = (left_is left rest c.in-Some.is).0 ∙ next_lines rest.now line others c.split_line.ensures.lines in
     let begun = c.loop-left.is_begun in
     let n = c.loop-left.number in
-    sym c.loop-left.invariant.fault ∙ ap (wrong_line begun n) next ∙ wrong_here begun n line (lines_left others) (grind arith)
+    sym c.loop-left.invariant.fault ∙ ap (wrong_from begun n) next ∙ wrong_here begun n line (lines_left others) (grind arith)
 
 pub loop-left-preserved : goal.loop-left-preserved
 loop-left-preserved g c =
@@ -25,14 +32,19 @@ loop-left-preserved g c =
     let begun = c.loop-left.is_begun in
     let n = c.loop-left.number in
     record {
-      text = ap (λ text. text ++ text_of_lines (lines_left others)) c.in_ok-append_line.ensures ∙ text_then c.loop-left.text.items line (lines_left others)
-          ∙ ap (λ lines. c.loop-left.text.items ++ text_of_lines lines) (sym next) ∙ c.loop-left.invariant.text;
+      text = appended_then (λ t. t.items) c.loop-left.text c.appended-text.result line (lines_left left) (lines_left others) (fasta_text c.args.file.now) next c.appended-text.ensures c.loop-left.invariant.text;
       fault = grind (arith, right_then begun n line (lines_left others));
       short = omega (arith, c.loop-left.invariant.short, known.1, fewer_left rest.now others c.split_line.ensures.shorter);
     }
+
+pub returns-in_err-text-clause-refused : goal.returns-in_err-text-clause-refused
+returns-in_err-text-clause-refused g c =
+    let right : fasta_fault c.args.file.now ≡ None = grind (arith, right_end) in
+    no_memory c.from_residual.result c.args.file.now c.from_residual.ensures.1 right
 
 pub returns-clause-right : goal.returns-clause-right
 returns-clause-right g c = grind (arith, right_end)
 
 pub returns-clause-text : goal.returns-clause-text
-returns-clause-text g c = grind (arith, text_end)
+returns-clause-text g c =
+    text_ended (λ t. t.items) c.loop-left.text c.in_ok-text.field-0 (lines_left c.loop-left.left) (fasta_text c.args.file.now) c.in_ok-text.was (ap lines_left c.in_default.is) c.loop-left.invariant.text

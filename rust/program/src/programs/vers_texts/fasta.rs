@@ -12,7 +12,7 @@ pub enum FastaError {
     /// The first line, by its number from 1, that is neither a header with a name, nor empty, nor residues after a
     /// header.
     Line(usize),
-    /// The allocator refused a request.
+    /// No line is wrong, and the allocator refused a request.
     Memory,
 }
 
@@ -29,9 +29,9 @@ impl From<AllocError> for FastaError {
 ///
 /// # Errors
 ///
-/// `Line` with the first line that is wrong; `Memory` if the allocator refuses a request.
+/// `Line` with the first line that is wrong; `Memory` if no line is wrong and the allocator refuses a request.
 pub fn fasta_text<A: Allocator>(alloc: A, file: &[u8]) -> Result<Vec<u8, A>, FastaError> {
-    let mut text = Vec::with_capacity(alloc, file.len())?;
+    let mut text = Vec::with_capacity(alloc, file.len());
     let mut left = Some(file);
     let mut is_begun = false;
     let mut number = 1usize;
@@ -40,11 +40,22 @@ pub fn fasta_text<A: Allocator>(alloc: A, file: &[u8]) -> Result<Vec<u8, A>, Fas
         if !is_line(is_begun, line) {
             return Err(FastaError::Line(number));
         }
-        append_line(line, &mut text)?;
+        // Without memory, the other lines are still tested.
+        text = appended(text, line);
         is_begun |= name_in(line).is_some();
         number += 1;
         left = others;
     }
+    Ok(text?)
+}
+
+// Returns a text with the symbols of a line appended, unless it or they have no memory.
+fn appended<A: Allocator>(
+    text: Result<Vec<u8, A>, AllocError>,
+    line: &[u8],
+) -> Result<Vec<u8, A>, AllocError> {
+    let mut text = text?;
+    append_line(line, &mut text)?;
     Ok(text)
 }
 
