@@ -14,10 +14,12 @@ pub enum Command<'a> {
     Ask(&'a str),
     /// Answers lines about the text in a file.
     Text(&'a str),
-    /// Saves the index of the bytes of a file to another file.
-    Index(&'a str, &'a str),
-    /// Saves the index of a FASTA file to another file.
-    IndexFasta(&'a str, &'a str),
+    /// Saves the index of the bytes of a file, or of a FASTA file, to another file.
+    Index {
+        file: &'a str,
+        index: &'a str,
+        is_fasta: bool,
+    },
     /// Describes the structure in a file.
     Show(&'a str),
     /// Prints a text.
@@ -46,16 +48,19 @@ pub fn command_of(words: &[String]) -> Option<Command<'_>> {
             Some(Command::Print(help_of_verb(word.as_str(), verb.as_str())?))
         }
         [_, word, verb, file, index] => match (word.as_str(), verb.as_str()) {
-            ("text", "index") if !is_flag(file.as_str()) => {
-                Some(Command::Index(file.as_str(), index.as_str()))
-            }
+            ("text", "index") if !is_flag(file.as_str()) => Some(Command::Index {
+                file: file.as_str(),
+                index: index.as_str(),
+                is_fasta: false,
+            }),
             _ => None,
         },
         [_, word, verb, flag, file, index] => match (word.as_str(), verb.as_str()) {
-            ("text", "index") if is_flag(flag.as_str()) => Some(Command::IndexFasta(
-                file.as_str(),
-                index.as_str(),
-            )),
+            ("text", "index") if is_flag(flag.as_str()) => Some(Command::Index {
+                file: file.as_str(),
+                index: index.as_str(),
+                is_fasta: true,
+            }),
             _ => None,
         },
         _ => None,

@@ -103,8 +103,8 @@ fn target_of(rt: &HostRuntime, path: &str) -> Result<Target, AllocError> {
     })
 }
 
-/// Saves the index of the bytes of a file to another file.
-pub fn index(rt: &HostRuntime, path: &str, index: &str) -> ExitCode {
+/// Saves the index of the bytes of a file, or of a FASTA file, to another file.
+pub fn index(rt: &HostRuntime, path: &str, index: &str, is_fasta: bool) -> ExitCode {
     let Some(file) = opened(rt, path) else {
         return ExitCode::FAILURE;
     };
@@ -117,25 +117,12 @@ pub fn index(rt: &HostRuntime, path: &str, index: &str) -> ExitCode {
         path: target.file.as_str(),
         beside: target.beside.as_str(),
     };
-    let saved = index_to(rt.alloc(), &mut file, &mut place);
-    status_of_index(&file, index, &target, saved)
-}
-
-/// Saves the index of a FASTA file to another file.
-pub fn index_fasta(rt: &HostRuntime, path: &str, index: &str) -> ExitCode {
-    let Some(file) = opened(rt, path) else {
-        return ExitCode::FAILURE;
+    let indexed = if is_fasta {
+        index_fasta_to(rt.alloc(), &mut file, &mut place)
+    } else {
+        Ok(index_to(rt.alloc(), &mut file, &mut place))
     };
-    let Ok(target) = target_of(rt, index) else {
-        return fail(rt, "out of memory");
-    };
-    let mut file = Progress::new(rt, path, file);
-    let mut place = FilePlace {
-        files: rt,
-        path: target.file.as_str(),
-        beside: target.beside.as_str(),
-    };
-    match index_fasta_to(rt.alloc(), &mut file, &mut place) {
+    match indexed {
         Ok(saved) => status_of_index(&file, index, &target, saved),
         Err(WrongLine { number }) => {
             let _ = crate::print_error!("vers: {path}: line {number} is no header with a name, nor residues after a header"

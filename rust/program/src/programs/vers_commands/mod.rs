@@ -39,8 +39,11 @@ fn run(rt: &HostRuntime, command: Command<'_>) -> ExitCode {
         Command::Save(path) => files::save(rt, path),
         Command::Ask(path) => files::answer(rt, path),
         Command::Text(path) => files::answer_text(rt, path),
-        Command::Index(path, index) => files::index(rt, path, index),
-        Command::IndexFasta(path, index) => files::index_fasta(rt, path, index),
+        Command::Index {
+            file,
+            index,
+            is_fasta,
+        } => files::index(rt, file, index, is_fasta),
         Command::Show(path) => files::describe(rt, path),
         Command::Print(text) => lines::print(rt, text),
     }
