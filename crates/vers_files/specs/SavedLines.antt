@@ -1,5 +1,5 @@
 -- What is written of a load line.
-use Rattle.std.specs.Prelude.{◌≡◌, ◌==◌, ⊤, ◌⊎◌, Bool, true, false, Result, Ok, Err, if◌then◌else◌}
+use Rattle.std.specs.Prelude.{◌≡◌, ◌≢◌, ◌==◌, ⊤, ◌⊎◌, Bool, true, false, Result, Ok, Err, if◌then◌else◌}
 use Rattle.vers_words.specs.declared.loading.Loading.{Loading}
 use Rattle.vers_words.specs.declared.loading.Loading.TheVariants.{Malformed, Inadmissible, Accepted}
 use Rattle.vers_saved.specs.declared.fault.SaveError.{SaveError}
@@ -46,6 +46,17 @@ IsOfLine Sync = ⊥
 IsOfLine Put = ⊥
 IsOfLine Settle = ⊥
 IsOfLine _ = ⊤
+
+-- an error of a line, of a writer or of a file: each except a failed read
+abbrev pub IsOfSave : SaveFault → Type 0
+IsOfSave fault = fault ≢ Read
+
+-- an error of an index of bytes, of a writer or of a file, and not of a line
+abbrev pub IsOfIndex : SaveFault → Type 0
+IsOfIndex BadLine = ⊥
+IsOfIndex Refused = ⊥
+IsOfIndex NoBits = ⊥
+IsOfIndex _ = ⊤
 
 -- the file is in place: the save succeeded, or only the sync of its folder failed
 abbrev pub IsPut : Result (Unit {0}) SaveFault → Type 0

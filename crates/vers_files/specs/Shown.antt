@@ -6,12 +6,13 @@ use Rattle.vers_files.specs.declared.showing.Shown.{Shown}
 use Rattle.vers_files.specs.Forms.{IsFormOf}
 use Rattle.vers_files.specs.TextFiles.{IsIndexOf}
 
--- the description is that of a structure, with the size of the form that a save writes, if it has one
+-- the description is that of a structure, with the size of the form that a save writes, or 0 if it has none
 pub record Describes (shown : Shown) (content : Content) : Type 0 where
   pub kind : kind_of content ≡ Some shown.kind
   pub len : shown.len ≡ length_of content
   pub width : shown.width ≡ width_of content
   pub bytes : HasForm content → shown.bytes ≡ length (saved_form content)
+  pub none : ¬ HasForm content → shown.bytes ≡ 0
 
 -- the description is that of a list, of which the bytes left in a reader are the saved form
 abbrev pub IsListShown : Option (List ℕ) → Shown → Type 0

@@ -4,7 +4,7 @@ ghost use Rattle.std.specs.Io.KnownBytes.{Appends};
 ghost use Rattle.vers_saved.specs.Format.{saved_text};
 ghost use Rattle.vers_texts.specs.Fasta.{fasta_fault, fasta_text as text_of_fasta};
 ghost use Rattle.vers_files.specs.Indexed.{AreTooMany, text_of_bytes};
-ghost use Rattle.vers_files.specs.SavedLines.{IsPut};
+ghost use Rattle.vers_files.specs.SavedLines.{IsOfIndex, IsPut};
 
 use crate::indexing::put_index;
 use crate::loading::read;
@@ -40,6 +40,7 @@ pub fn index_fasta_to<A: Allocator + Copy, F: Read, P: Place>(
     ensures settled { IfOk result (λ saved. OnOk saved (P.settled place.new ≡ P.bytes place.new)) }
     ensures too_long { IfOk result (λ saved. IfErr saved (λ e. e ≡ SaveFault.TooLong
         → IfSome (F.remaining file.old) (λ bytes. AreTooMany (text_of_fasta bytes)))) }
+    ensures kind { IfOk result (λ saved. IfErr saved IsOfIndex) }
     ensures wrong { IfErr result (λ line. IfSome (F.remaining file.old) (λ bytes.
         fasta_fault bytes ≡ Some line.number)) }
     ensures kept { IfOk result (λ saved. ¬ IsPut saved → P.bytes place.new ≡ P.bytes place.old) }
@@ -59,7 +60,8 @@ fn text_in<A: Allocator + Copy, F: Read>(
 ) -> Result<Result<Vec<u8, A>, SaveFault>, WrongLine>
     ensures text { IfOk result (λ read. IfOk read (λ text. IfSome (F.remaining file.old) (λ bytes.
         (fasta_fault bytes ≡ None) × (text.items ≡ text_of_fasta bytes)))) }
-    ensures kind { IfOk result (λ read. IfErr read (λ e. (e ≢ SaveFault.Settle) × (e ≢ SaveFault.TooLong))) }
+    ensures kind { IfOk result (λ read. IfErr read (λ e.
+        IsOfIndex e × (e ≢ SaveFault.Settle) × (e ≢ SaveFault.TooLong))) }
     ensures wrong { IfErr result (λ line. IfSome (F.remaining file.old) (λ bytes.
         fasta_fault bytes ≡ Some line.number)) }
 {

@@ -4,7 +4,7 @@ ghost use Rattle.std.specs.Io.KnownBytes.{Appends};
 ghost use Rattle.vers_saved.specs.Format.{saved, saved_text};
 ghost use Rattle.vers_saved.specs.Kinds.{may_be_saved};
 ghost use Rattle.vers_files.specs.Indexed.{AreTooMany, text_of_bytes};
-ghost use Rattle.vers_files.specs.SavedLines.{IsPut};
+ghost use Rattle.vers_files.specs.SavedLines.{IsOfIndex, IsPut};
 
 use crate::loading::read;
 use crate::place::Place;
@@ -24,8 +24,8 @@ const BYTE_BITS: u16 = 8;
 ///
 /// # Errors
 ///
-/// `Read` if the reader fails; `TooLong` if there are more bytes than a text or a saved form can have. On `Settle`,
-/// the place has the new bytes; on any other error, the old ones.
+/// `Read` if the reader fails; `TooLong` if there are more bytes than a text or a saved form can have; never
+/// `BadLine`, `Refused` or `NoBits`. On `Settle`, the place has the new bytes; on any other error, the old ones.
 pub fn index_to<A: Allocator + Copy, F: Read, P: Place>(
     alloc: A,
     file: &mut F,
@@ -36,6 +36,7 @@ pub fn index_to<A: Allocator + Copy, F: Read, P: Place>(
     ensures settled { OnOk result (P.settled place.new ≡ P.bytes place.new) }
     ensures too_long { IfErr result (λ e. e ≡ SaveFault.TooLong
         → IfSome (F.remaining file.old) AreTooMany) }
+    ensures kind { IfErr result IsOfIndex }
     ensures kept { ¬ IsPut result → P.bytes place.new ≡ P.bytes place.old }
 {
     match indexed(alloc, file) {
@@ -49,7 +50,7 @@ fn indexed<A: Allocator + Copy, F: Read>(alloc: A, file: &mut F) -> Result<TextI
     ensures text { IfOk result (λ text. IfSome (F.remaining file.old) (λ bytes. text ≡ text_of_bytes bytes)) }
     ensures too_long { IfErr result (λ e. e ≡ SaveFault.TooLong
         → IfSome (F.remaining file.old) AreTooMany) }
-    ensures kind { IfErr result (λ e. e ≢ SaveFault.Settle) }
+    ensures kind { IfErr result (λ e. IsOfIndex e × (e ≢ SaveFault.Settle)) }
 {
     match read(alloc, file) {
         Ok(bytes) => index_of(alloc, bytes.as_slice()),
@@ -62,7 +63,7 @@ fn indexed<A: Allocator + Copy, F: Read>(alloc: A, file: &mut F) -> Result<TextI
 fn index_of<A: Allocator + Copy>(alloc: A, bytes: &[u8]) -> Result<TextIndex<A>, SaveFault>
     ensures text { IfOk result (λ text. text ≡ text_of_bytes bytes.now) }
     ensures too_long { IfErr result (λ e. e ≡ SaveFault.TooLong → AreTooMany bytes.now) }
-    ensures kind { IfErr result (λ e. e ≢ SaveFault.Settle) }
+    ensures kind { IfErr result (λ e. IsOfIndex e × (e ≢ SaveFault.Settle) × (e ≢ SaveFault.Read)) }
 {
     match TextIndex::from_bytes(alloc, bytes, BYTE_BITS) {
         Ok(text) => Ok(text),
@@ -72,8 +73,8 @@ fn index_of<A: Allocator + Copy>(alloc: A, bytes: &[u8]) -> Result<TextIndex<A>,
 }
 
 /// Replaces the bytes of a place by the saved form of the index of bytes, and syncs the replacement. Errors as for
-/// `index_to`.
-pub fn put_index<A: Allocator + Copy, P: Place>(
+/// `index_to`, except `Read`.
+pub(crate) fn put_index<A: Allocator + Copy, P: Place>(
     alloc: A,
     bytes: &[u8],
     place: &mut P,
@@ -81,6 +82,7 @@ pub fn put_index<A: Allocator + Copy, P: Place>(
     ensures whole { IsPut result → Appends P.nothing (P.bytes place.new) (saved_text (text_of_bytes bytes.now)) }
     ensures settled { OnOk result (P.settled place.new ≡ P.bytes place.new) }
     ensures too_long { IfErr result (λ e. e ≡ SaveFault.TooLong → AreTooMany bytes.now) }
+    ensures kind { IfErr result (λ e. IsOfIndex e × (e ≢ SaveFault.Read)) }
     ensures kept { ¬ IsPut result → P.bytes place.new ≡ P.bytes place.old }
 {
     match index_of(alloc, bytes) {
@@ -96,6 +98,7 @@ fn put<A: Allocator, S: Saved, P: Place>(alloc: A, list: &S, place: &mut P) -> R
     ensures settled { OnOk result (P.settled place.new ≡ P.bytes place.new) }
     ensures none { IfErr result (λ e. e ≡ SaveFault.TooLong
         → may_be_saved S.kind (S.count list.now) (S.width list.now) ≡ false) }
+    ensures kind { IfErr result (λ e. IsOfIndex e × (e ≢ SaveFault.Read)) }
     ensures kept { ¬ IsPut result → P.bytes place.new ≡ P.bytes place.old }
 {
     let Ok(mut beside) = place.begin() else {
@@ -122,7 +125,7 @@ fn put_synced<A: Allocator, S: Saved, P: Place>(
         (saved S.kind.version S.kind.number (S.count list.now) (S.width list.now) (S.words list.now))) }
     ensures none { IfErr result (λ e. e ≡ SaveFault.TooLong
         → may_be_saved S.kind (S.count list.now) (S.width list.now) ≡ false) }
-    ensures kind { IfErr result (λ e. e ≢ SaveFault.Settle) }
+    ensures kind { IfErr result (λ e. IsOfIndex e × (e ≢ SaveFault.Read) × (e ≢ SaveFault.Settle)) }
     ensures kept { OnErr result (P.bytes place.new ≡ P.bytes place.old) }
 {
     match save_list(alloc, list, beside) {

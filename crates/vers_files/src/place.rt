@@ -24,7 +24,8 @@ pub trait Place {
     // The bytes that stay in the place even if the machine fails, if they are known.
     ghost settled: { Self → Option (List ℕ) };
 
-    /// Creates the temporary file. Errors: another save has begun, and neither put nor left it.
+    /// Creates the temporary file. Errors: it can't be created, for example because another save has begun, and
+    /// neither put nor left it.
     fn begin(&mut self) -> io::Result<Self::Beside>
         ensures nothing { IfOk result (λ beside. Self.Beside.contents beside ≡ nothing) }
         ensures kept { bytes self.new ≡ bytes self.old };

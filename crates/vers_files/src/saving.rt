@@ -6,7 +6,7 @@ ghost use Rattle.vers_saved.specs.Streams.{Writes};
 ghost use Rattle.catalogue.specs.Structures.{content_of, HasForm, saved_form};
 ghost use Rattle.vers_cli.specs.Holding.{is_accepted};
 ghost use Rattle.vers_cli.specs.Rules.{line_loaded};
-ghost use Rattle.vers_files.specs.SavedLines.{IfAccepted, SaysWhy, IsFormless, IsOfLine, IsPut, has_no_bits, line_saved};
+ghost use Rattle.vers_files.specs.SavedLines.{IfAccepted, SaysWhy, IsFormless, IsOfLine, IsOfSave, IsPut, has_no_bits, line_saved};
 
 use crate::place::Place;
 use catalogue::structure::Structure;
@@ -33,7 +33,7 @@ pub enum SaveFault {
     Read,
     /// The writer returned an error, or took no byte of a nonempty piece.
     Write,
-    /// The temporary file could not be created: another save has begun, or one was cut off.
+    /// The temporary file can't be created, for example because another save has begun, or was interrupted.
     Begin,
     /// What was written could not be synced.
     Sync,
@@ -71,7 +71,8 @@ fn line_saved(has_no_bits: bool, saved: Result<(), SaveError>) -> Result<(), Sav
 ///
 /// # Errors
 ///
-/// On `Write`, a prefix of the form was written; on any other error, nothing.
+/// Those of a line, `OutOfMemory` and `Write`. On `Write`, a prefix of the form was written; on any other error,
+/// nothing.
 pub fn save_line<A: Allocator + Copy, W: Write>(
     alloc: A,
     line: &[u8],
@@ -105,7 +106,7 @@ pub fn save_line<A: Allocator + Copy, W: Write>(
 ///
 /// # Errors
 ///
-/// On `Settle`, the place has the new bytes; on any other error, the old ones.
+/// Each except `Read`. On `Settle`, the place has the new bytes; on any other error, the old ones.
 pub fn save_to<A: Allocator + Copy, P: Place>(
     alloc: A,
     line: &[u8],
@@ -117,6 +118,7 @@ pub fn save_to<A: Allocator + Copy, P: Place>(
     ensures form { IsPut result → IfAccepted (line_loaded (words_of line.now)) HasForm }
     ensures settled { OnOk result (P.settled place.new ≡ P.bytes place.new) }
     ensures refused { IfErr result (λ e. SaysWhy e (line_loaded (words_of line.now))) }
+    ensures kind { IfErr result IsOfSave }
     ensures kept { ¬ IsPut result → P.bytes place.new ≡ P.bytes place.old }
 {
     let Ok(mut beside) = place.begin() else {
@@ -145,7 +147,7 @@ fn put_line<A: Allocator + Copy, P: Place>(
     ensures accepted { OnOk result (is_accepted (line_loaded (words_of line.now)) ≡ true) }
     ensures form { OnOk result (IfAccepted (line_loaded (words_of line.now)) HasForm) }
     ensures refused { IfErr result (λ e. SaysWhy e (line_loaded (words_of line.now))) }
-    ensures kind { IfErr result (λ e. e ≢ SaveFault.Settle) }
+    ensures kind { IfErr result (λ e. IsOfSave e × (e ≢ SaveFault.Settle)) }
     ensures kept { OnErr result (P.bytes place.new ≡ P.bytes place.old) }
 {
     save_line(alloc, line, beside)?;

@@ -90,6 +90,7 @@ fn description_of<A: Allocator + Copy>(structure: &Structure<'_, A>) -> Shown
     ensures width { result.width ≡ width_of (content_of structure.now) }
     ensures bytes { HasForm (content_of structure.now)
         → result.bytes ≡ length (saved_form (content_of structure.now)) }
+    ensures none { ¬ HasForm (content_of structure.now) → result.bytes ≡ 0 }
 {
     Shown {
         kind: structure.kind().unwrap_or(Kind::Bits),

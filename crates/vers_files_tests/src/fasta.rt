@@ -1,5 +1,6 @@
 //! Indexes of FASTA files that are saved to a place, of which each call fails in turn, and each request for memory is
 //! refused.
+use crate::indexes::Unreadable;
 use crate::places::holding;
 use std::alloc::Global;
 use std::test::Fail;
@@ -92,6 +93,17 @@ fn wrong_lines_are_told(rt: HostRuntime) {
     assert!(rt; is_wrong(alloc, b"AC\n", 1));
     assert!(rt; is_wrong(alloc, b">d\nAC\nA C\nA\n", 3));
     assert!(rt; is_wrong(alloc, b">d\nAC\n>\nA\n", 3));
+}
+
+#[test]
+fn a_file_that_cannot_be_read_is_not_indexed(rt: HostRuntime) {
+    let Ok(mut place) = holding(rt.alloc(), OLD, 0) else {
+        assert!(rt; false);
+        return;
+    };
+    let mut file = Unreadable;
+    assert!(rt; index_fasta_to(rt.alloc(), &mut file, &mut place) == Ok(Err(SaveFault::Read)));
+    assert!(rt; place.bytes.as_slice() == OLD && !place.is_begun);
 }
 
 // Returns true if an index whose call with this number fails, if it gets that far, leaves the place unchanged or

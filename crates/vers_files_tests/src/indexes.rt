@@ -1,8 +1,12 @@
 //! Indexes of bytes that are saved to a place, of which each call fails in turn, and each request for memory is
 //! refused.
+ghost use Rattle.std.specs.Prelude.{None};
+
 use crate::files::index;
 use crate::places::holding;
 use std::alloc::Global;
+use std::io;
+use std::io::Read;
 use test_alloc::{Ending, Refusing, done_if, each_refused, out_of_memory_if};
 use vers_files::{SaveFault, index_to};
 
@@ -46,6 +50,30 @@ fn a_place_has_an_index_or_what_it_had(rt: HostRuntime) {
     for fails_at in [0, 1, 2, 3, 4, 5, 6, 243, 244, 245, 246] {
         assert!(rt; is_whole_or_not_at_all(rt.alloc(), fails_at));
     }
+}
+
+/// A reader of which each read fails.
+#[derive(Drop)]
+pub struct Unreadable;
+
+impl Read for Unreadable {
+    ghost remaining = { λ _. None };
+
+    fn read(&mut self, _buf: &mut [u8]) -> io::Result<usize> {
+        Err(io::Error::from(io::ErrorKind::Other))
+    }
+}
+
+#[test]
+fn a_file_that_cannot_be_read_is_not_indexed(rt: HostRuntime) {
+    let Ok(mut place) = holding(rt.alloc(), b"old", 0) else {
+        assert!(rt; false);
+        return;
+    };
+    let mut file = Unreadable;
+    assert!(rt; index_to(rt.alloc(), &mut file, &mut place) == Err(SaveFault::Read));
+    let old: &[u8] = b"old";
+    assert!(rt; place.bytes.as_slice() == old && !place.is_begun);
 }
 
 // Tests an index with a refused request: the place has its old bytes, with no temporary file, or the index is put

@@ -10,5 +10,6 @@ returns-in-Ok-clause-shown g c = (
     len = c.description_of-shown.ensures.len;
     width = c.description_of-shown.ensures.width;
     bytes = c.description_of-shown.ensures.bytes;
+    none = c.description_of-shown.ensures.none;
   },
 )

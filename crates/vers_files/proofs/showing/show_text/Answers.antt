@@ -12,5 +12,6 @@ returns-in-Ok-clause-shown g c =
         len = c.len.ensures.value;
         width = c.from.ensures ∙ c.bits_per_symbol.ensures;
         bytes = λ _. c.unwrap_or.ensures ∙ size_of_form c.saved_size.result _ _ c.saved_size.ensures.some c.saved_size.ensures.none whole.0.may;
+        none = λ formless. absurd (formless whole.0);
       },
     )

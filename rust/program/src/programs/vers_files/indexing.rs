@@ -20,8 +20,8 @@ const BYTE_BITS: u16 = 8;
 ///
 /// # Errors
 ///
-/// `Read` if the reader fails; `TooLong` if there are more bytes than a text or a saved form can have. On `Settle`,
-/// the place has the new bytes; on any other error, the old ones.
+/// `Read` if the reader fails; `TooLong` if there are more bytes than a text or a saved form can have; never
+/// `BadLine`, `Refused` or `NoBits`. On `Settle`, the place has the new bytes; on any other error, the old ones.
 pub fn index_to<A: Allocator + Copy, F: Read, P: Place>(
     alloc: A,
     file: &mut F,
@@ -52,8 +52,8 @@ fn index_of<A: Allocator + Copy>(alloc: A, bytes: &[u8]) -> Result<TextIndex<A>,
 }
 
 /// Replaces the bytes of a place by the saved form of the index of bytes, and syncs the replacement. Errors as for
-/// `index_to`.
-pub fn put_index<A: Allocator + Copy, P: Place>(
+/// `index_to`, except `Read`.
+pub(crate) fn put_index<A: Allocator + Copy, P: Place>(
     alloc: A,
     bytes: &[u8],
     place: &mut P,

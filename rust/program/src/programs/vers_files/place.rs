@@ -15,7 +15,8 @@ pub trait Place {
     /// The temporary file.
     type Beside: Write;
 
-    /// Creates the temporary file. Errors: another save has begun, and neither put nor left it.
+    /// Creates the temporary file. Errors: it can't be created, for example because another save has begun, and
+    /// neither put nor left it.
     fn begin(&mut self) -> io::Result<Self::Beside>;
 
     /// Syncs what was written.

@@ -27,7 +27,7 @@ pub enum SaveFault {
     Read,
     /// The writer returned an error, or took no byte of a nonempty piece.
     Write,
-    /// The temporary file could not be created: another save has begun, or one was cut off.
+    /// The temporary file can't be created, for example because another save has begun, or was interrupted.
     Begin,
     /// What was written could not be synced.
     Sync,
@@ -61,7 +61,8 @@ fn line_saved(has_no_bits: bool, saved: Result<(), SaveError>) -> Result<(), Sav
 ///
 /// # Errors
 ///
-/// On `Write`, a prefix of the form was written; on any other error, nothing.
+/// Those of a line, `OutOfMemory` and `Write`. On `Write`, a prefix of the form was written; on any other error,
+/// nothing.
 pub fn save_line<A: Allocator + Copy, W: Write>(
     alloc: A,
     line: &[u8],
@@ -86,7 +87,7 @@ pub fn save_line<A: Allocator + Copy, W: Write>(
 ///
 /// # Errors
 ///
-/// On `Settle`, the place has the new bytes; on any other error, the old ones.
+/// Each except `Read`. On `Settle`, the place has the new bytes; on any other error, the old ones.
 pub fn save_to<A: Allocator + Copy, P: Place>(
     alloc: A,
     line: &[u8],
