@@ -106,9 +106,12 @@ pub fn index(rt: &HostRuntime, path: &str, index: &str, is_fasta: bool) -> ExitC
     let Some(file) = opened(rt, path) else {
         return ExitCode::FAILURE;
     };
-    let Ok(target) = target_of(rt, index) else {
+    let (Ok(source), Ok(target)) = (target_of(rt, path), target_of(rt, index)) else {
         return fail(rt, "out of memory");
     };
+    if source.file == target.file {
+        return fail_about(rt, index, "the index would replace the file itself");
+    }
     let mut file = Progress::new(rt, path, file);
     let mut place = FilePlace {
         files: rt,
