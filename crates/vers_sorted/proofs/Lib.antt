@@ -26,3 +26,4 @@ pub mod Chunks
 pub mod Decoding
 pub mod PublicLaws
 pub mod Parted
+pub mod Steps

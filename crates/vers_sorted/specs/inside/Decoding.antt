@@ -1,13 +1,22 @@
 -- How high and low parts decode to a list, member by member.
-use Rattle.std.specs.Prelude.{◌≡◌, ℕ, ◌+◌, ◌-◌, ◌*◌, ◌/◌, ◌^◌, ◌<◌, ◌≤◌, ◌==◌, Bool, true, List, if◌then◌else◌}
-use Rattle.vers_bits.specs.Bits.{number, part, select}
+use Rattle.std.specs.Prelude.{◌≡◌, ℕ, ◌+◌, ◌-◌, ◌*◌, ◌/◌, ◌^◌, ◌<◌, ◌≤◌, ◌==◌, Bool, true, List, nat_lt, if◌then◌else◌}
+use Rattle.vers_bits.specs.Bits.{bit_value, number, part, select}
 use Rattle.vers_sorted.specs.Sorted.{order_of}
 use Rattle.vers_sorted.specs.declared.elias_fano.parts.Bits.{Bits}
+use Rattle.vers_sorted.specs.declared.elias_fano.parts.Walk.{Walk}
 
--- bits that were read ahead are those from their place on, with zeros past the end
+-- the position of the first bit that was read ahead
+abbrev pub place_ahead : Bits → ℕ
+place_ahead ahead = 64 * ahead.limbs - ahead.len
+
+-- bits that were read ahead are those from their position on
 pub record AreReadAhead (bits : List Bool) (ahead : Bits) : Type 0 where
-  pub few : ahead.len ≤ 64
-  pub read : ahead.word ≡ number (part bits ahead.place ahead.len)
+  pub few : ahead.len ≤ 64 * ahead.limbs
+  pub read : ahead.word ≡ number (part bits (place_ahead ahead) ahead.len)
+
+-- the low part of member i
+abbrev pub low_at : List Bool → ℕ → ℕ → ℕ
+low_at low width i = number (part low (width * i) width)
 
 -- how far member i is above the first, decoded from the parts
 abbrev pub above : List Bool → List Bool → ℕ → ℕ → ℕ
@@ -31,3 +40,23 @@ pub record IsDecodable (rising : Bool) (high low : List Bool) (span width i : �
 pub record AreDecodable (rising : Bool) (high low : List Bool) (span width n : ℕ) : Type 0 where
   pub each : (i : ℕ) → i < n → IsDecodable rising high low span width i
   pub end : above high low width (n - 1) ≡ span
+
+-- the position of the one before that of member i, 0 if there is none
+abbrev pub place_before : List Bool → ℕ → ℕ
+place_before high i = if i == 0 then 0 else select true high (i - 1)
+
+-- the least low part that member i may have if its one is at the next position
+abbrev pub least_low : Bool → List Bool → ℕ → ℕ → ℕ
+least_low rising low width i = if i == 0 then 0 else low_at low width (i - 1) + bit_value rising
+
+-- the one of member i is past the one before, and past a zero too if its low part is less than the least one
+abbrev pub StepsUp : Bool → List Bool → List Bool → ℕ → ℕ → Type 0
+StepsUp rising high low width i = place_before high i + bit_value (nat_lt (low_at low width i) (least_low rising low width i)) < select true high i
+
+-- a walk has read i members, each of which steps up
+pub record HasRead (rising : Bool) (high low : List Bool) (width i : ℕ) (walk : Walk) : Type 0 where
+  pub place : walk.place ≡ place_before high i
+  pub least : walk.least ≡ least_low rising low width i
+  pub part : place_ahead walk.lows ≡ width * i
+  pub ahead : AreReadAhead low walk.lows
+  pub each : (j : ℕ) → j < i → StepsUp rising high low width j

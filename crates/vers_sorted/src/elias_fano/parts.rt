@@ -1,10 +1,10 @@
 //! The parts of an ascending list, and a test of whether parts are those of one.
-ghost use Rattle.std.specs.Prelude.{◌≡◌, ◌+◌, ◌-◌, ◌*◌, ◌/◌, ◌^◌, ◌<◌, ◌≤◌, ℕ, Bool, List, false, true, length, IfOk, IfSome, None};
+ghost use Rattle.std.specs.Prelude.{◌≡◌, ◌+◌, ◌-◌, ◌*◌, ◌/◌, ◌^◌, ◌<◌, ◌≤◌, ℕ, Bool, List, IsTrue, false, nat_lt, true, length, IfOk, IfSome, None, ◌↔◌};
 ghost use Rattle.std.specs.List.Sorted.{IsNonDecreasing};
-ghost use Rattle.vers_bits.specs.Bits.{count, limb, number, part, select};
+ghost use Rattle.vers_bits.specs.Bits.{bit_value, count, limb, number, part, select};
 ghost use Rattle.vers_sorted.specs.Layout.{ArePartsOf, first_of, high_count, high_parts, last_of, low_count, low_parts, width};
 ghost use Rattle.vers_sorted.specs.Sorted.{each_next, order_of};
-ghost use Rattle.vers_sorted.specs.inside.Decoding.{AreDecodable, AreReadAhead, IsNear, above, follows};
+ghost use Rattle.vers_sorted.specs.inside.Decoding.{AreDecodable, AreReadAhead, HasRead, IsNear, StepsUp, above, place_ahead};
 
 use super::EliasFanoVec;
 use super::make::width_of;
@@ -106,104 +106,129 @@ fn limb_or_zero<L: Limbs>(bits: &L, k: usize) -> u64
     }
 }
 
-// Returns the 64 bits from position `place` as a number, with zeros past the length.
-#[inline(always)]
-#[tactic(auto, using(crate::proofs::Decoding::words))]
-fn word_at<L: Limbs>(bits: &L, place: usize) -> u64
-    ensures { result ≡ number (part (L.bits bits.now) place 64) }
-{
-    let skip = place % 64;
-    let first = limb_or_zero(bits, place / 64) >> skip;
-    if skip == 0 {
-        return first;
-    }
-    first | (limb_or_zero(bits, place / 64 + 1) << (64 - skip))
-}
-
-// Bits of a list that were read ahead: `len` of them from `place` on, as a number.
+// Bits of a list that were read ahead, as a number: the last `len` of the first `limbs` limbs.
 #[derive(Clone, Copy, Drop)]
 struct Bits {
-    place: usize,
+    limbs: usize,
     len: usize,
     word: u64,
 }
 
-impl Bits {
-    // Returns no bits, before a list.
-    fn none() -> Bits
-        ensures { result ≡ record { place = 0; len = 0; word = 0 } }
-    {
-        Bits {
-            place: 0,
-            len: 0,
-            word: 0,
-        }
-    }
-}
-
-// Returns bits that were read ahead if they are as many as `width`, and otherwise the next 64.
-#[inline(always)]
-fn enough_of<L: Limbs>(low: &L, width: usize, bits: Bits) -> Bits
-    requires narrow { width < 64 }
-    requires read { AreReadAhead (L.bits low.now) bits }
-    ensures place { result.place ≡ bits.place }
-    ensures enough { width ≤ result.len }
-    ensures read { AreReadAhead (L.bits low.now) result }
-{
-    if bits.len >= width {
-        return bits;
-    }
-    Bits {
-        place: bits.place,
-        len: 64,
-        word: word_at(low, bits.place),
-    }
-}
-
-// Returns the next `width` bits, which are read with those after them unless they were.
+// Returns the next `width` bits. Reads one more limb if fewer were read ahead.
 #[inline(always)]
 #[tactic(auto, using(crate::proofs::Decoding::parts))]
 fn next_part<L: Limbs>(low: &L, width: usize, bits: &mut Bits) -> u64
     requires narrow { width < 64 }
-    requires within { bits.old.place + width ≤ length (L.bits low.now) }
+    requires within { place_ahead bits.old + width ≤ length (L.bits low.now) }
     requires read { AreReadAhead (L.bits low.now) bits.old }
-    ensures value { result ≡ number (part (L.bits low.now) bits.old.place width) }
+    ensures value { result ≡ number (part (L.bits low.now) (place_ahead bits.old) width) }
     ensures small { result < 2 ^ width }
-    ensures place { bits.new.place ≡ bits.old.place + width }
+    ensures place { place_ahead bits.new ≡ place_ahead bits.old + width }
     ensures read { AreReadAhead (L.bits low.now) bits.new }
 {
     let _ = low.len();
-    let read = enough_of(low, width, *bits);
+    if bits.len >= width {
+        let word = bits.word;
+        bits.word = word >> width;
+        bits.len -= width;
+        return word % (1 << width);
+    }
+    let next = low.limb(bits.limbs);
+    let word = bits.word | (next << bits.len);
     *bits = Bits {
-        place: read.place + width,
-        len: read.len - width,
-        word: read.word >> width,
+        limbs: bits.limbs + 1,
+        len: bits.len + 64 - width,
+        word: next >> (width - bits.len),
     };
-    read.word % (1 << width)
+    word % (1 << width)
 }
 
-// Returns the position of one `r`, the next one past those that were read.
+// A walk over the members of a list: what was read ahead of their low parts, the position of the one of the last
+// member, and the least low part that the next member may have if its one is at the next position.
+#[derive(Clone, Copy, Drop)]
+struct Walk {
+    lows: Bits,
+    place: usize,
+    least: u64,
+}
+
+impl Walk {
+    // Returns a walk before the first member.
+    fn new() -> Walk
+        ensures { result ≡ record { lows = record { limbs = 0; len = 0; word = 0 }; place = 0; least = 0 } }
+    {
+        let lows = Bits {
+            limbs: 0,
+            len: 0,
+            word: 0,
+        };
+        Walk {
+            lows,
+            place: 0,
+            least: 0,
+        }
+    }
+}
+
+// Reads the low part of the next member, whose one is at `place`. Returns true if the member may follow the last one.
 #[inline(always)]
-#[tactic(auto, using(crate::proofs::Decoding::ones))]
-fn next_one<L: Limbs>(high: &L, r: usize, bits: &mut Bits) -> usize
-    requires some { r < count true (L.bits high.now) (length (L.bits high.now)) }
-    requires before { count true (L.bits high.now) bits.old.place ≡ r }
-    requires read { AreReadAhead (L.bits high.now) bits.old }
-    ensures value { result ≡ select true (L.bits high.now) r }
-    ensures past { count true (L.bits high.now) bits.new.place ≡ r + 1 }
-    ensures read { AreReadAhead (L.bits high.now) bits.new }
+fn read_member<L: Limbs>(
+    low: &L,
+    width: usize,
+    rising: bool,
+    place: usize,
+    walk: &mut Walk,
+) -> bool
+    requires narrow { width < 64 }
+    requires within { place_ahead walk.old.lows + width ≤ length (L.bits low.now) }
+    requires read { AreReadAhead (L.bits low.now) walk.old.lows }
+    requires near { walk.old.place ≤ MOST_BITS }
+    ensures follows { let low_part = number (part (L.bits low.now) (place_ahead walk.old.lows) width) in
+        result ≡ nat_lt (walk.old.place + bit_value (nat_lt low_part walk.old.least)) place }
+    ensures place { walk.new.place ≡ place }
+    ensures least { walk.new.least
+        ≡ number (part (L.bits low.now) (place_ahead walk.old.lows) width) + bit_value rising }
+    ensures part { place_ahead walk.new.lows ≡ place_ahead walk.old.lows + width }
+    ensures read { AreReadAhead (L.bits low.now) walk.new.lows }
+{
+    let part = next_part(low, width, &mut walk.lows);
+    let past = walk.place + usize::from(part < walk.least);
+    walk.place = place;
+    walk.least = part + u64::from(rising);
+    past < place
+}
+
+// Reads the members whose ones are in limb `k` of the high parts. Returns true if each may follow the one before it.
+#[inline(always)]
+fn read_limb<L: Limbs, H: Limbs>(
+    low: &L,
+    high: &H,
+    width: usize,
+    rising: bool,
+    k: usize,
+    walk: &mut Walk,
+) -> bool
+    requires narrow { width < 64 }
+    requires low { length (L.bits low.now)
+        ≡ count true (H.bits high.now) (length (H.bits high.now)) * width }
+    requires within { 64 * k < length (H.bits high.now) }
+    requires read { HasRead rising (H.bits high.now) (L.bits low.now) width
+        (count true (H.bits high.now) (64 * k)) walk.old }
+    ensures yes { result ≡ true → HasRead rising (H.bits high.now) (L.bits low.now) width
+        (count true (H.bits high.now) (64 * (k + 1))) walk.new }
+    ensures no { result ≡ false → ((i : ℕ) → i < count true (H.bits high.now) (length (H.bits high.now))
+        → StepsUp rising (H.bits high.now) (L.bits low.now) width i) → ⊥ }
 {
     let _ = high.len();
-    while bits.word == 0 {
-        bits.place += bits.len;
-        bits.len = 64;
-        bits.word = word_at(high, bits.place);
+    let mut word = high.limb(k);
+    while word != 0 {
+        let place = 64 * k + word.trailing_zeros() as usize;
+        word &= word - 1;
+        if !read_member(low, width, rising, place, walk) {
+            return false;
+        }
     }
-    let skip = bits.word.trailing_zeros() as usize;
-    bits.place += skip + 1;
-    bits.len -= skip + 1;
-    bits.word = (bits.word >> skip) >> 1;
-    bits.place - 1
+    true
 }
 
 // Returns the number of ones.
@@ -239,15 +264,15 @@ fn above_of(i: usize, place: usize, low: u64, width: usize, span: u64) -> Option
     Some((high << width) | low)
 }
 
-// Returns true if a member that is `now` above the first may follow one that is `before` above it, as member `i`.
-#[inline(always)]
-fn may_follow(rising: bool, i: usize, before: u64, now: u64) -> bool
-    ensures { result ≡ follows rising i before now }
+// Returns true if member 0 is the first one: its one is at position 1, and its low part is 0.
+#[tactic(auto, using(crate::proofs::Decoding::words))]
+fn begins_at_first<L: Limbs, H: Limbs>(low: &L, high: &H, width: usize) -> bool
+    requires narrow { width < 64 }
+    requires some { 0 < count true (H.bits high.now) (length (H.bits high.now)) }
+    ensures { IsTrue result ↔ ((select true (H.bits high.now) 0 ≡ 1)
+        × (number (part (L.bits low.now) 0 width) ≡ 0)) }
 {
-    if i == 0 {
-        return now == 0;
-    }
-    if rising { before < now } else { before <= now }
+    limb_or_zero(high, 0) % 4 == 2 && limb_or_zero(low, 0) % (1 << width) == 0
 }
 
 // Returns true if parts with as many bits and ones as a list with these ends has are those of such a list.
@@ -267,21 +292,21 @@ fn are_decodable<L: Limbs, H: Limbs>(
     ensures no { result ≡ false
         → AreDecodable rising (H.bits high.now) (L.bits low.now) (ends.last - ends.first) width ends.len → ⊥ }
 {
-    let span = ends.span();
-    let (mut highs, mut lows) = (Bits::none(), Bits::none());
-    let mut before = 0;
-    for i in 0..ends.len {
-        let place = next_one(high, i, &mut highs);
-        let part = next_part(low, width, &mut lows);
-        let Some(now) = above_of(i, place, part, width, span) else {
-            return false;
-        };
-        if !may_follow(rising, i, before, now) {
+    if !begins_at_first(low, high, width) {
+        return false;
+    }
+    let mut walk = Walk::new();
+    for k in 0..high.len().div_ceil(64) {
+        if !read_limb(low, high, width, rising, k, &mut walk) {
             return false;
         }
-        before = now;
     }
-    before == span
+    let part = walk.least - u64::from(rising);
+    let span = ends.span();
+    let Some(end) = above_of(ends.len - 1, walk.place, part, width, span) else {
+        return false;
+    };
+    end == span
 }
 
 /// Returns true if these are the ends and the parts of a list that ascends, strictly if `rising`. Reads the parts

@@ -83,76 +83,95 @@ fn limb_or_zero<L: Limbs>(bits: &L, k: usize) -> u64 {
     }
 }
 
-// Returns the 64 bits from position `place` as a number, with zeros past the length.
-#[inline(always)]
-fn word_at<L: Limbs>(bits: &L, place: usize) -> u64 {
-    let skip = place % 64;
-    let first = limb_or_zero(bits, place / 64) >> skip;
-    if skip == 0 {
-        return first;
-    }
-    first | (limb_or_zero(bits, place / 64 + 1) << (64 - skip))
-}
-
-// Bits of a list that were read ahead: `len` of them from `place` on, as a number.
+// Bits of a list that were read ahead, as a number: the last `len` of the first `limbs` limbs.
 #[derive(Clone, Copy)]
 struct Bits {
-    place: usize,
+    limbs: usize,
     len: usize,
     word: u64,
 }
 
-impl Bits {
-    // Returns no bits, before a list.
-    fn none() -> Bits {
-        Bits {
-            place: 0,
+// Returns the next `width` bits. Reads one more limb if fewer were read ahead.
+#[inline(always)]
+fn next_part<L: Limbs>(low: &L, width: usize, bits: &mut Bits) -> u64 {
+    let _ = low.len();
+    if bits.len >= width {
+        let word = bits.word;
+        bits.word = word >> width;
+        bits.len -= width;
+        return word % (1 << width);
+    }
+    let next = low.limb(bits.limbs);
+    let word = bits.word | (next << bits.len);
+    *bits = Bits {
+        limbs: bits.limbs + 1,
+        len: bits.len + 64 - width,
+        word: next >> (width - bits.len),
+    };
+    word % (1 << width)
+}
+
+// A walk over the members of a list: what was read ahead of their low parts, the position of the one of the last
+// member, and the least low part that the next member may have if its one is at the next position.
+#[derive(Clone, Copy)]
+struct Walk {
+    lows: Bits,
+    place: usize,
+    least: u64,
+}
+
+impl Walk {
+    // Returns a walk before the first member.
+    fn new() -> Walk {
+        let lows = Bits {
+            limbs: 0,
             len: 0,
             word: 0,
+        };
+        Walk {
+            lows,
+            place: 0,
+            least: 0,
         }
     }
 }
 
-// Returns bits that were read ahead if they are as many as `width`, and otherwise the next 64.
+// Reads the low part of the next member, whose one is at `place`. Returns true if the member may follow the last one.
 #[inline(always)]
-fn enough_of<L: Limbs>(low: &L, width: usize, bits: Bits) -> Bits {
-    if bits.len >= width {
-        return bits;
-    }
-    Bits {
-        place: bits.place,
-        len: 64,
-        word: word_at(low, bits.place),
-    }
+fn read_member<L: Limbs>(
+    low: &L,
+    width: usize,
+    rising: bool,
+    place: usize,
+    walk: &mut Walk,
+) -> bool {
+    let part = next_part(low, width, &mut walk.lows);
+    let past = walk.place + usize::from(part < walk.least);
+    walk.place = place;
+    walk.least = part + u64::from(rising);
+    past < place
 }
 
-// Returns the next `width` bits, which are read with those after them unless they were.
+// Reads the members whose ones are in limb `k` of the high parts. Returns true if each may follow the one before it.
 #[inline(always)]
-fn next_part<L: Limbs>(low: &L, width: usize, bits: &mut Bits) -> u64 {
-    let _ = low.len();
-    let read = enough_of(low, width, *bits);
-    *bits = Bits {
-        place: read.place + width,
-        len: read.len - width,
-        word: read.word >> width,
-    };
-    read.word % (1 << width)
-}
-
-// Returns the position of one `r`, the next one past those that were read.
-#[inline(always)]
-fn next_one<L: Limbs>(high: &L, r: usize, bits: &mut Bits) -> usize {
+fn read_limb<L: Limbs, H: Limbs>(
+    low: &L,
+    high: &H,
+    width: usize,
+    rising: bool,
+    k: usize,
+    walk: &mut Walk,
+) -> bool {
     let _ = high.len();
-    while bits.word == 0 {
-        bits.place += bits.len;
-        bits.len = 64;
-        bits.word = word_at(high, bits.place);
+    let mut word = high.limb(k);
+    while word != 0 {
+        let place = 64 * k + word.trailing_zeros() as usize;
+        word &= word - 1;
+        if !read_member(low, width, rising, place, walk) {
+            return false;
+        }
     }
-    let skip = bits.word.trailing_zeros() as usize;
-    bits.place += skip + 1;
-    bits.len -= skip + 1;
-    bits.word = (bits.word >> skip) >> 1;
-    bits.place - 1
+    true
 }
 
 // Returns the number of ones.
@@ -178,13 +197,9 @@ fn above_of(i: usize, place: usize, low: u64, width: usize, span: u64) -> Option
     Some((high << width) | low)
 }
 
-// Returns true if a member that is `now` above the first may follow one that is `before` above it, as member `i`.
-#[inline(always)]
-fn may_follow(rising: bool, i: usize, before: u64, now: u64) -> bool {
-    if i == 0 {
-        return now == 0;
-    }
-    if rising { before < now } else { before <= now }
+// Returns true if member 0 is the first one: its one is at position 1, and its low part is 0.
+fn begins_at_first<L: Limbs, H: Limbs>(low: &L, high: &H, width: usize) -> bool {
+    limb_or_zero(high, 0) % 4 == 2 && limb_or_zero(low, 0) % (1 << width) == 0
 }
 
 // Returns true if parts with as many bits and ones as a list with these ends has are those of such a list.
@@ -195,21 +210,21 @@ fn are_decodable<L: Limbs, H: Limbs>(
     high: &H,
     rising: bool,
 ) -> bool {
-    let span = ends.span();
-    let (mut highs, mut lows) = (Bits::none(), Bits::none());
-    let mut before = 0;
-    for i in 0..ends.len {
-        let place = next_one(high, i, &mut highs);
-        let part = next_part(low, width, &mut lows);
-        let now = match above_of(i, place, part, width, span) { Some(now) => now, _ => {
-            return false;
-        } };
-        if !may_follow(rising, i, before, now) {
+    if !begins_at_first(low, high, width) {
+        return false;
+    }
+    let mut walk = Walk::new();
+    for k in 0..high.len().div_ceil(64) {
+        if !read_limb(low, high, width, rising, k, &mut walk) {
             return false;
         }
-        before = now;
     }
-    before == span
+    let part = walk.least - u64::from(rising);
+    let span = ends.span();
+    let end = match above_of(ends.len - 1, walk.place, part, width, span) { Some(end) => end, _ => {
+        return false;
+    } };
+    end == span
 }
 
 /// Returns true if these are the ends and the parts of a list that ascends, strictly if `rising`. Reads the parts

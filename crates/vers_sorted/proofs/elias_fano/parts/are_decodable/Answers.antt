@@ -1,68 +1,87 @@
-use Rattle.vers_sorted.proofs.Names.{◌≡◌, ℕ, Bool, List, refl, subst, count, count_none, ◌+◌, ◌-◌, ◌*◌, ◌^◌, ◌∙◌, ap, sym, take, drop, true, arith, eqb-true, mul_comm, number}
-use Rattle.vers_sorted.specs.inside.Decoding.{AreReadAhead, above}
-use Rattle.vers_sorted.specs.declared.elias_fano.parts.Bits.{Bits}
+use Rattle.vers_sorted.proofs.Names.{◌≡◌, ℕ, ◌+◌, ◌-◌, ◌*◌, ◌^◌, ◌≤◌, ◌∙◌, true, length, refl, sym, subst, arith, eq-eqb, eqb-true, count_none, select}
 use Rattle.std.proofs.lemmas.Bool.{false≢true}
-use Rattle.vers_sorted.proofs.Chunks.{chunk_within}
-use Rattle.vers_sorted.proofs.Parted.{follow_is, now_is, one_more_decoded}
+use Rattle.vers_bits.proofs.PublicLaws.{byte_value}
+use Rattle.vers_sorted.specs.inside.Decoding.{HasRead, low_at}
+use Rattle.vers_sorted.proofs.Decoding.{ones_all}
+use Rattle.vers_sorted.proofs.Steps.{decoded_steps, first_low, first_place, last_read, low_small, none_read, steps_decoded}
 use Rattle.vers_sorted.proofs.elias_fano.parts.are_decodable.Goals as goal
 
-none_read : (l : List Bool) → AreReadAhead l (record { place = 0; len = 0; word = 0 })
-none_read l = record { few = omega arith; read = refl }
+end_is : (w n place at least part end : ℕ) → end ≡ 2 ^ w * (place - (n - 1) - 1) + least → place ≡ at → least ≡ part → end ≡ 2 ^ w * (at - (n - 1) - 1) + part
+end_is w n place at least part end is same_place same_part = is ∙ rw (same_place, same_part) refl
 
-mul_suc : (w i : ℕ) → w * (i + 1) ≡ w * i + w
-mul_suc w i = omega arith
-
-pub next_part-part-requires-clause-within : goal.next_part-part-requires-clause-within
-next_part-part-requires-clause-within g c =
-    omega (arith, c.requires.low, c.loop-i.invariant.place, chunk_within c.args.width c.args.ends.len c.loop-i.i (omega arith), mul_comm c.args.ends.len c.args.width)
-
-pub loop-i-preserved : goal.loop-i-preserved
-loop-i-preserved g c =
+pub returns-then-not-begins_at_first-clause-no : goal.returns-then-not-begins_at_first-clause-no
+returns-then-not-begins_at_first-clause-no g c = λ no decoded.
     let high = g.H.Limbs.bits c.args.high.now in
     let low = g.L.Limbs.bits c.args.low.now in
-    let value : c.in-Some.now ≡ 2 ^ c.args.width * (c.next_one-place.result - c.loop-i.i - 1) + number (take c.args.width (drop (c.args.width * c.loop-i.i) low)) =
-    c.in-Some.ensures.value ∙ ap (λ k. 2 ^ c.args.width * (c.next_one-place.result - c.loop-i.i - 1) + k) (c.next_part-part.ensures.value ∙ ap (λ p. number (take c.args.width (drop p low))) c.loop-i.invariant.place) in
-    record {
-      from = c.next_one-place.ensures.past;
-      high = c.next_one-place.ensures.read;
-      place = omega (arith, c.next_part-part.ensures.place, c.loop-i.invariant.place, mul_suc c.args.width c.loop-i.i);
-      low = c.next_part-part.ensures.read;
-      before = λ h.
-          let back : c.loop-i.i + 1 - 1 ≡ c.loop-i.i = omega arith in
-          now_is c.args.rising high low c.span-span.result c.args.width c.loop-i.i c.next_one-place.result c.loop-i.before c.in-Some.now c.next_one-place.ensures.value value c.loop-i.invariant.before
-          ∙ ap (above high low c.args.width) (sym back);
-      each = one_more_decoded c.args.rising high low c.span-span.result c.args.width c.loop-i.i c.next_one-place.result c.loop-i.before c.in-Some.now c.next_one-place.ensures.value value c.loop-i.invariant.before
-          c.in-Some.ensures.near (sym c.may_follow.ensures ∙ c.if-not-may_follow.false) c.loop-i.invariant.each;
-    }
+    let span = c.args.ends.last - c.args.ends.first in
+    let first = first_place c.args.rising high low span c.args.width c.args.ends.len c.requires.some c.requires.ones decoded in
+    let part = first_low c.args.rising high low span c.args.width c.args.ends.len c.requires.some c.requires.ones decoded in
+    absurd (false≢true (sym c.if-not-begins_at_first.true ∙ c.begins_at_first.ensures.1 (first, part)))
 
-pub returns-then-not-may_follow-clause-no : goal.returns-then-not-may_follow-clause-no
-returns-then-not-may_follow-clause-no g c = λ no decoded.
+pub loop-k-init : goal.loop-k-init
+loop-k-init g c =
     let high = g.H.Limbs.bits c.args.high.now in
     let low = g.L.Limbs.bits c.args.low.now in
-    let value : c.in-Some.now ≡ 2 ^ c.args.width * (c.next_one-place.result - c.loop-i.i - 1) + number (take c.args.width (drop (c.args.width * c.loop-i.i) low)) =
-    c.in-Some.ensures.value ∙ ap (λ k. 2 ^ c.args.width * (c.next_one-place.result - c.loop-i.i - 1) + k) (c.next_part-part.ensures.value ∙ ap (λ p. number (take c.args.width (drop p low))) c.loop-i.invariant.place) in
-    let follow = follow_is c.args.rising high low c.span-span.result c.args.width c.loop-i.i c.next_one-place.result c.loop-i.before c.in-Some.now c.next_one-place.ensures.value value c.loop-i.invariant.before in
-    absurd (false≢true (sym c.if-not-may_follow.true ∙ c.may_follow.ensures ∙ follow ∙ (decoded.each c.loop-i.i (omega arith)).next))
+    subst (λ (i : ℕ). HasRead c.args.rising high low c.args.width i c.new-walk.result) (sym (count_none true high))
+    (subst (HasRead c.args.rising high low c.args.width 0) (sym c.new-walk.ensures) (none_read c.args.rising high low c.args.width))
 
-pub loop-i-init : goal.loop-i-init
-loop-i-init g c =
+pub returns-then-not-read_limb-clause-no : goal.returns-then-not-read_limb-clause-no
+returns-then-not-read_limb-clause-no g c = λ no decoded.
     let high = g.H.Limbs.bits c.args.high.now in
     let low = g.L.Limbs.bits c.args.low.now in
-    let zero : 0 ≡ c.args.width * 0 = omega arith in
-    record {
-      from = ap (λ (b : Bits). count true high b.place) c.none-highs.ensures ∙ count_none true high;
-      high = subst (AreReadAhead high) (sym c.none-highs.ensures) (none_read high);
-      place = ap (λ (b : Bits). b.place) c.none-lows.ensures ∙ zero;
-      low = subst (AreReadAhead low) (sym c.none-lows.ensures) (none_read low);
-      before = λ h. absurd (omega (arith, h));
-      each = λ k h. absurd (omega (arith, h));
-    }
+    let span = c.args.ends.last - c.args.ends.first in
+    c.read_limb.ensures.no c.if-not-read_limb.true (λ i h. decoded_steps c.args.rising high low span c.args.width c.args.ends.len c.requires.some c.requires.ones decoded i (omega (arith, h, c.requires.ones)))
+
+pub overflow_sub-part : goal.overflow_sub-part
+overflow_sub-part g c =
+    let high = g.H.Limbs.bits c.args.high.now in
+    let low = g.L.Limbs.bits c.args.low.now in
+    let past : length high ≤ 64 * c.loop-k.k = omega (arith, c.loop-k-test.false, c.loop-k.auto.k-end, c.div_ceil-k-end.ensures, c.len.ensures.value) in
+    let read = subst (λ (i : ℕ). HasRead c.args.rising high low c.args.width i c.loop-k.walk) (ones_all high c.loop-k.k past ∙ c.requires.ones) c.loop-k.invariant in
+    omega (arith, (last_read c.args.rising high low c.args.width c.args.ends.len c.loop-k.walk c.requires.some read).1, c.from.ensures, byte_value c.args.rising)
+
+pub above_of-requires-clause-small : goal.above_of-requires-clause-small
+above_of-requires-clause-small g c =
+    let high = g.H.Limbs.bits c.args.high.now in
+    let low = g.L.Limbs.bits c.args.low.now in
+    let past : length high ≤ 64 * c.loop-k.k = omega (arith, c.loop-k-test.false, c.loop-k.auto.k-end, c.div_ceil-k-end.ensures, c.len.ensures.value) in
+    let read = subst (λ (i : ℕ). HasRead c.args.rising high low c.args.width i c.loop-k.walk) (ones_all high c.loop-k.k past ∙ c.requires.ones) c.loop-k.invariant in
+    let last = last_read c.args.rising high low c.args.width c.args.ends.len c.loop-k.walk c.requires.some read in
+    omega (arith, last.1, c.from.ensures, byte_value c.args.rising, low_small low c.args.width (c.args.ends.len - 1))
+
+pub returns-in_default-clause-no : goal.returns-in_default-clause-no
+returns-in_default-clause-no g c = λ no decoded.
+    let high = g.H.Limbs.bits c.args.high.now in
+    let low = g.L.Limbs.bits c.args.low.now in
+    let past : length high ≤ 64 * c.loop-k.k = omega (arith, c.loop-k-test.false, c.loop-k.auto.k-end, c.div_ceil-k-end.ensures, c.len.ensures.value) in
+    let read = subst (λ (i : ℕ). HasRead c.args.rising high low c.args.width i c.loop-k.walk) (ones_all high c.loop-k.k past ∙ c.requires.ones) c.loop-k.invariant in
+    let last = last_read c.args.rising high low c.args.width c.args.ends.len c.loop-k.walk c.requires.some read in
+    let near = (decoded.each (c.args.ends.len - 1) (omega (arith, c.requires.some))).near in
+    c.in_default.ensures.none refl (rw (last.0, c.span-span.ensures) near)
 
 pub returns-clause-yes : goal.returns-clause-yes
 returns-clause-yes g c = λ h.
-    let same : c.loop-i.i ≡ c.args.ends.len = omega (arith, c.loop-i-test.false, c.loop-i.auto.i-end) in
-    record {
-      each = λ i less. rw (sym c.span-span.ensures) (c.loop-i.invariant.each i (omega (arith, less)));
-      end = ap (λ n. above (g.H.Limbs.bits c.args.high.now) (g.L.Limbs.bits c.args.low.now) c.args.width (n - 1)) (sym same)
-          ∙ sym (c.loop-i.invariant.before (omega (arith, c.requires.some))) ∙ eqb-true c.loop-i.before c.span-span.result h ∙ c.span-span.ensures;
-    }
+    let high = g.H.Limbs.bits c.args.high.now in
+    let low = g.L.Limbs.bits c.args.low.now in
+    let span = c.args.ends.last - c.args.ends.first in
+    let n = c.args.ends.len in
+    let past : length high ≤ 64 * c.loop-k.k = omega (arith, c.loop-k-test.false, c.loop-k.auto.k-end, c.div_ceil-k-end.ensures, c.len.ensures.value) in
+    let read = subst (λ (i : ℕ). HasRead c.args.rising high low c.args.width i c.loop-k.walk) (ones_all high c.loop-k.k past ∙ c.requires.ones) c.loop-k.invariant in
+    let last = last_read c.args.rising high low c.args.width n c.loop-k.walk c.requires.some read in
+    let part : c.loop-k.walk.least - c.from.result ≡ low_at low c.args.width (n - 1) = omega (arith, last.1, c.from.ensures, byte_value c.args.rising) in
+    let first = c.begins_at_first.ensures.0 c.if-not-begins_at_first.false in
+    let near = rw (last.0, c.span-span.ensures) at c.in-Some.ensures.near in
+    let end = end_is c.args.width n c.loop-k.walk.place (select true high (n - 1)) (c.loop-k.walk.least - c.from.result) (low_at low c.args.width (n - 1)) c.in-Some.end c.in-Some.ensures.value last.0 part in
+    steps_decoded c.args.rising high low span c.args.width n c.requires.some c.requires.ones read.each first.0 first.1 near (sym end ∙ eqb-true c.in-Some.end c.span-span.result h ∙ c.span-span.ensures)
+
+pub returns-clause-no : goal.returns-clause-no
+returns-clause-no g c = λ h decoded.
+    let high = g.H.Limbs.bits c.args.high.now in
+    let low = g.L.Limbs.bits c.args.low.now in
+    let n = c.args.ends.len in
+    let past : length high ≤ 64 * c.loop-k.k = omega (arith, c.loop-k-test.false, c.loop-k.auto.k-end, c.div_ceil-k-end.ensures, c.len.ensures.value) in
+    let read = subst (λ (i : ℕ). HasRead c.args.rising high low c.args.width i c.loop-k.walk) (ones_all high c.loop-k.k past ∙ c.requires.ones) c.loop-k.invariant in
+    let last = last_read c.args.rising high low c.args.width n c.loop-k.walk c.requires.some read in
+    let part : c.loop-k.walk.least - c.from.result ≡ low_at low c.args.width (n - 1) = omega (arith, last.1, c.from.ensures, byte_value c.args.rising) in
+    let end = end_is c.args.width n c.loop-k.walk.place (select true high (n - 1)) (c.loop-k.walk.least - c.from.result) (low_at low c.args.width (n - 1)) c.in-Some.end c.in-Some.ensures.value last.0 part in
+    absurd (false≢true (sym h ∙ eq-eqb c.in-Some.end c.span-span.result (end ∙ decoded.end ∙ sym c.span-span.ensures)))
