@@ -147,28 +147,6 @@ module _ (rising : Bool) (s : List ℕ) (h : each_next (order_of rising) s ≡ t
     end = above_is (length s - 1) (omega arith);
   }
 
--- ---- a step from a member to the next
-
-follow_same : (rising : Bool) (i before same now : ℕ) → (0 < i → before ≡ same) → follows rising i before now ≡ follows rising i same now
-follow_same rising zero before same now h = refl
-follow_same rising (suc i) before same now h = ap (λ m. follows rising (suc i) m now) (h (omega arith))
-
-module _ (rising : Bool) (high low : List Bool) (span w i place before now : ℕ) (at : place ≡ select true high i) (is : now ≡ 2 ^ w * (place - i - 1) + number (take w (drop (w * i) low)))
-    (last : 0 < i → before ≡ above high low w (i - 1)) where
-  pub now_is : now ≡ above high low w i
-  now_is = is ∙ ap (λ q. 2 ^ w * (q - i - 1) + number (take w (drop (w * i) low))) at
-
-  pub follow_is : follows rising i before now ≡ follows rising i (above high low w (i - 1)) (above high low w i)
-  follow_is = follow_same rising i before (above high low w (i - 1)) now last ∙ ap (follows rising i (above high low w (i - 1))) now_is
-
-  pub one_more_decoded : IsNear span w i place → follows rising i before now ≡ true → ((k : ℕ) → k < i → IsDecodable rising high low span w k) → (k : ℕ) → k < i + 1 → IsDecodable rising high low span w k
-  one_more_decoded near follow each k h = elim (cases_lt k i) [
-    | inl less ↦ each k less
-    | inr here ↦
-        let same : i ≡ k = omega arith in
-        subst (IsDecodable rising high low span w) same (record { near = subst (IsNear span w i) at near; next = sym follow_is ∙ follow })
-  ]
-
 -- ---- their numbers of bits
 
 pub high_count_some : (n u w : ℕ) → 0 < n → w ≡ width n u → high_count n u ≡ 2 + n + u / 2 ^ w

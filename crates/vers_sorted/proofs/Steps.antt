@@ -1,6 +1,6 @@
 -- Members that step up are those of a list in order.
 use Rattle.vers_sorted.proofs.Names.{◌≡◌, ℕ, zero, suc, ◌+◌, ◌-◌, ◌*◌, ◌^◌, ◌<◌, ◌≤◌, ◌⊎◌, Bool, true, false, List, length, take, drop, refl, subst, sym, ap, ◌∙◌, inl, inr, arith, nat_lt, cases_lt, ne_eqb, eq-eqb, eqb-true, le-leb, leb-true, lt-ltb, ltb-true, pow_pos, mul-le-mul_left, bit_value, number, select, count, count_at_select, select_up, order_of}
-use Rattle.std.proofs.lemmas.Bool.{le-ltb}
+use Rattle.std.proofs.lemmas.Bool.{false≢true, le-ltb}
 use Rattle.std.proofs.lemmas.List.{length-take}
 use Rattle.vers_bits.proofs.PublicLaws.{number_below}
 use Rattle.vers_sorted.specs.declared.elias_fano.parts.Walk.{Walk}
@@ -43,18 +43,18 @@ module _ (rising : Bool) (w p q i a b : ℕ) (zero_before : i + 1 ≤ p) (past :
   ordered step = in_order rising (2 ^ w * (p - i - 1) + a) (2 ^ w * (q - suc i - 1) + b) (elim (cases_lt (p + 1) q) [
     | inl apart ↦ omega (arith, more, some_between apart, at_most_one rising)
     | inr next ↦ elim (behind b (a + bit_value rising)) [
-        | inl falls ↦ absurd (omega (arith, falls.1))
-        | inr rises ↦ omega (arith, more, none_between (omega arith), rises.0)
-      ]
+      | inl falls ↦ absurd (omega (arith, falls.1))
+      | inr rises ↦ omega (arith, more, none_between (omega arith), rises.0)
+    ]
   ])
 
   pub stepped : order_of rising (2 ^ w * (p - i - 1) + a) (2 ^ w * (q - suc i - 1) + b) ≡ true → p + bit_value (nat_lt b (a + bit_value rising)) < q
   stepped order = elim (cases_lt (p + 1) q) [
     | inl apart ↦ omega (arith, at_most_one (nat_lt b (a + bit_value rising)))
     | inr next ↦ elim (behind b (a + bit_value rising)) [
-        | inl falls ↦ absurd (omega (arith, falls.0, more, none_between (omega arith), order_says rising (2 ^ w * (p - i - 1) + a) (2 ^ w * (q - suc i - 1) + b) order))
-        | inr rises ↦ omega (arith, rises.1)
-      ]
+      | inl falls ↦ absurd (omega (arith, falls.0, more, none_between (omega arith), order_says rising (2 ^ w * (p - i - 1) + a) (2 ^ w * (q - suc i - 1) + b) order))
+      | inr rises ↦ omega (arith, rises.1)
+    ]
   ]
 
 -- ---- the member before
@@ -80,9 +80,15 @@ module _ (rising : Bool) (high low : List Bool) (w i : ℕ) (walk : Walk) (place
   part_is : number (take w (drop (place_ahead walk.lows) low)) ≡ low_at low w i
   part_is = ap (λ p. number (take w (drop p low))) read.part
 
-  pub step_test : (result : Bool) → result ≡ nat_lt (walk.place + bit_value (nat_lt (number (take w (drop (place_ahead walk.lows) low))) walk.least)) place
+  test_is : (result : Bool) → result ≡ nat_lt (walk.place + bit_value (nat_lt (number (take w (drop (place_ahead walk.lows) low))) walk.least)) place
       → result ≡ nat_lt (place_before high i + bit_value (nat_lt (low_at low w i) (least_low rising low w i))) (select true high i)
-  step_test result is = is ∙ rw (read.place, part_is, read.least, here) refl
+  test_is result is = is ∙ rw (read.place, part_is, read.least, here) refl
+
+  pub passed : (result : Bool) → result ≡ nat_lt (walk.place + bit_value (nat_lt (number (take w (drop (place_ahead walk.lows) low))) walk.least)) place → result ≡ true → StepsUp rising high low w i
+  passed result is held = ltb-true (place_before high i + bit_value (nat_lt (low_at low w i) (least_low rising low w i))) (select true high i) (sym (test_is result is) ∙ held)
+
+  pub failed : (result : Bool) → result ≡ nat_lt (walk.place + bit_value (nat_lt (number (take w (drop (place_ahead walk.lows) low))) walk.least)) place → result ≡ false → StepsUp rising high low w i → ⊥
+  failed result is broken steps = false≢true (sym broken ∙ test_is result is ∙ lt-ltb (place_before high i + bit_value (nat_lt (low_at low w i) (least_low rising low w i))) (select true high i) steps)
 
   pub one_read : (next : Walk) → StepsUp rising high low w i → next.place ≡ place → next.least ≡ number (take w (drop (place_ahead walk.lows) low)) + bit_value rising → place_ahead next.lows ≡ place_ahead walk.lows + w → AreReadAhead low next.lows
       → HasRead rising high low w (i + 1) next

@@ -172,10 +172,9 @@ impl Walk {
 
 // Reads the low part of the next member, whose one is at `place`. Returns true if the member may follow the last one.
 #[inline(always)]
-fn read_member<L: Limbs>(
+fn read_member<L: Limbs, const RISING: bool>(
     low: &L,
     width: usize,
-    rising: bool,
     place: usize,
     walk: &mut Walk,
 ) -> bool
@@ -187,24 +186,23 @@ fn read_member<L: Limbs>(
         result ≡ nat_lt (walk.old.place + bit_value (nat_lt low_part walk.old.least)) place }
     ensures place { walk.new.place ≡ place }
     ensures least { walk.new.least
-        ≡ number (part (L.bits low.now) (place_ahead walk.old.lows) width) + bit_value rising }
+        ≡ number (part (L.bits low.now) (place_ahead walk.old.lows) width) + bit_value RISING }
     ensures part { place_ahead walk.new.lows ≡ place_ahead walk.old.lows + width }
     ensures read { AreReadAhead (L.bits low.now) walk.new.lows }
 {
     let part = next_part(low, width, &mut walk.lows);
     let past = walk.place + usize::from(part < walk.least);
     walk.place = place;
-    walk.least = part + u64::from(rising);
+    walk.least = part + u64::from(RISING);
     past < place
 }
 
 // Reads the members whose ones are in limb `k` of the high parts. Returns true if each may follow the one before it.
 #[inline(always)]
-fn read_limb<L: Limbs, H: Limbs>(
+fn read_limb<L: Limbs, H: Limbs, const RISING: bool>(
     low: &L,
     high: &H,
     width: usize,
-    rising: bool,
     k: usize,
     walk: &mut Walk,
 ) -> bool
@@ -212,19 +210,19 @@ fn read_limb<L: Limbs, H: Limbs>(
     requires low { length (L.bits low.now)
         ≡ count true (H.bits high.now) (length (H.bits high.now)) * width }
     requires within { 64 * k < length (H.bits high.now) }
-    requires read { HasRead rising (H.bits high.now) (L.bits low.now) width
+    requires read { HasRead RISING (H.bits high.now) (L.bits low.now) width
         (count true (H.bits high.now) (64 * k)) walk.old }
-    ensures yes { result ≡ true → HasRead rising (H.bits high.now) (L.bits low.now) width
+    ensures yes { result ≡ true → HasRead RISING (H.bits high.now) (L.bits low.now) width
         (count true (H.bits high.now) (64 * (k + 1))) walk.new }
     ensures no { result ≡ false → ((i : ℕ) → i < count true (H.bits high.now) (length (H.bits high.now))
-        → StepsUp rising (H.bits high.now) (L.bits low.now) width i) → ⊥ }
+        → StepsUp RISING (H.bits high.now) (L.bits low.now) width i) → ⊥ }
 {
     let _ = high.len();
     let mut word = high.limb(k);
     while word != 0 {
         let place = 64 * k + word.trailing_zeros() as usize;
         word &= word - 1;
-        if !read_member(low, width, rising, place, walk) {
+        if !read_member::<L, RISING>(low, width, place, walk) {
             return false;
         }
     }
@@ -276,32 +274,32 @@ fn begins_at_first<L: Limbs, H: Limbs>(low: &L, high: &H, width: usize) -> bool
 }
 
 // Returns true if parts with as many bits and ones as a list with these ends has are those of such a list.
-fn are_decodable<L: Limbs, H: Limbs>(
+#[inline(never)]
+fn are_decodable<L: Limbs, H: Limbs, const RISING: bool>(
     ends: Ends,
     width: usize,
     low: &L,
     high: &H,
-    rising: bool,
 ) -> bool
     requires some { 0 < ends.len }
     requires narrow { width < 64 }
     requires low { length (L.bits low.now) ≡ ends.len * width }
     requires ones { count true (H.bits high.now) (length (H.bits high.now)) ≡ ends.len }
     ensures yes { result ≡ true
-        → AreDecodable rising (H.bits high.now) (L.bits low.now) (ends.last - ends.first) width ends.len }
+        → AreDecodable RISING (H.bits high.now) (L.bits low.now) (ends.last - ends.first) width ends.len }
     ensures no { result ≡ false
-        → AreDecodable rising (H.bits high.now) (L.bits low.now) (ends.last - ends.first) width ends.len → ⊥ }
+        → AreDecodable RISING (H.bits high.now) (L.bits low.now) (ends.last - ends.first) width ends.len → ⊥ }
 {
     if !begins_at_first(low, high, width) {
         return false;
     }
     let mut walk = Walk::new();
     for k in 0..high.len().div_ceil(64) {
-        if !read_limb(low, high, width, rising, k, &mut walk) {
+        if !read_limb::<L, H, RISING>(low, high, width, k, &mut walk) {
             return false;
         }
     }
-    let part = walk.least - u64::from(rising);
+    let part = walk.least - u64::from(RISING);
     let span = ends.span();
     let Some(end) = above_of(ends.len - 1, walk.place, part, width, span) else {
         return false;
@@ -330,7 +328,12 @@ pub fn are_parts<L: Limbs, H: Limbs>(ends: Ends, low: &L, high: &H, rising: bool
     if ends.first > ends.last || count_ones_in(high) != ends.len {
         return false;
     }
-    are_decodable(ends, width_of(ends.len, ends.span()), low, high, rising)
+    let width = width_of(ends.len, ends.span());
+    if rising {
+        are_decodable::<L, H, true>(ends, width, low, high)
+    } else {
+        are_decodable::<L, H, false>(ends, width, low, high)
+    }
 }
 
 #[tactic(auto, using(crate::proofs::Packed::packed))]

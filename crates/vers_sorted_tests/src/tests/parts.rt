@@ -212,3 +212,105 @@ fn is_far_made_again<A: Allocator + Copy>(alloc: A) -> Result<bool, AllocError> 
 fn far_members_are_made_of_their_parts(rt: HostRuntime) {
     assert!(rt; is_far_made_again(rt.alloc()) == Ok(true));
 }
+
+// Returns true if the low parts of a list, with one bit flipped if there is one, are right with its high parts.
+fn are_right_with<A: Allocator + Copy>(
+    list: &EliasFanoVec<A>,
+    high: &BitVec<A>,
+    flipped: Option<usize>,
+    rising: bool,
+) -> Result<bool, AllocError> {
+    let mut low = list.low_parts().clone()?;
+    if let Some(place) = flipped {
+        if place < low.len() {
+            low.flip_bit(place);
+        }
+    }
+    Ok(are_parts(list.ends(), &low, high, rising))
+}
+
+// Returns the same with the high parts of the list.
+fn are_right_parts<A: Allocator + Copy>(
+    list: &EliasFanoVec<A>,
+    flipped: Option<usize>,
+    rising: bool,
+) -> Result<bool, AllocError> {
+    let high = list.high_parts().clone()?.into_bit_vec();
+    are_right_with(list, &high, flipped, rising)
+}
+
+// Returns true if the parts of the list of the numbers are right after one low bit is flipped, or `None` if there is
+// not enough memory.
+fn are_right<A: Allocator + Copy>(
+    alloc: A,
+    numbers: &[u64],
+    flipped: Option<usize>,
+    rising: bool,
+) -> Option<bool> {
+    let made = asked(
+        list_of(alloc, numbers),
+        |list| are_right_parts(list, flipped, rising),
+    );
+    made.ok()?.ok()
+}
+
+// Returns the same for 62 zeros, 8 ones and 1000, whose low parts have 3 bits. The ones of members 62 and 63 are at
+// positions 63 and 64.
+fn are_right_of_ones<A: Allocator + Copy>(
+    alloc: A,
+    flipped: Option<usize>,
+) -> Result<Option<bool>, AllocError> {
+    let numbers = with_equal(alloc, &[0; 62], 8, 1, 1000)?;
+    Ok(are_right(alloc, &numbers, flipped, false))
+}
+
+#[test]
+fn members_fall_in_a_limb_and_across_limbs(rt: HostRuntime) {
+    let alloc = rt.alloc();
+    assert!(rt; are_right_of_ones(alloc, None) == Ok(Some(true)));
+    // Member 69 is 3 and not 1, and 1000 follows.
+    assert!(rt; are_right_of_ones(alloc, Some(208)) == Ok(Some(true)));
+    // Member 30 is 1 before zeros, and member 21, with bits of two limbs, is 2.
+    assert!(rt; are_right_of_ones(alloc, Some(90)) == Ok(Some(false)));
+    assert!(rt; are_right_of_ones(alloc, Some(64)) == Ok(Some(false)));
+    // Member 63 is 0 after 1, and member 62 is 3 before 1.
+    assert!(rt; are_right_of_ones(alloc, Some(189)) == Ok(Some(false)));
+    assert!(rt; are_right_of_ones(alloc, Some(187)) == Ok(Some(false)));
+}
+
+// Even numbers, and 63. Low parts have one bit, and the ones of 62 and 63 are at positions 63 and 64.
+const EVEN_AND_63: [u64; 34] = [
+    0, 2, 4, 6, 8, 10, 12, 14, 16, 18, 20, 22, 24, 26, 28, 30, 32, 34, 36, 38, 40, 42, 44, 46, 48,
+    50, 52, 54, 56, 58, 60, 62, 63, 66,
+];
+
+// All numbers up to 31, and 31 again. Low parts have no bits, and the last ones are at positions 63 and 64.
+const TWICE_31: [u64; 33] = [
+    0, 1, 2, 3, 4, 5, 6, 7, 8, 9, 10, 11, 12, 13, 14, 15, 16, 17, 18, 19, 20, 21, 22, 23, 24, 25,
+    26, 27, 28, 29, 30, 31, 31,
+];
+
+#[test]
+fn strictly_ascending_members_are_not_equal_across_limbs(rt: HostRuntime) {
+    let alloc = rt.alloc();
+    assert!(rt; are_right(alloc, &EVEN_AND_63, None, true) == Some(true));
+    // 62 twice.
+    assert!(rt; are_right(alloc, &EVEN_AND_63, Some(32), false) == Some(true));
+    assert!(rt; are_right(alloc, &EVEN_AND_63, Some(32), true) == Some(false));
+    // 63 for 62 is equal to the next member, and 61 for 60 is below it.
+    assert!(rt; are_right(alloc, &EVEN_AND_63, Some(31), true) == Some(false));
+    assert!(rt; are_right(alloc, &EVEN_AND_63, Some(30), true) == Some(true));
+    assert!(rt; are_right(alloc, &TWICE_31, None, false) == Some(true));
+    assert!(rt; are_right(alloc, &TWICE_31, None, true) == Some(false));
+    assert!(rt; are_right(alloc, &TWICE_31[..32], None, true) == Some(true));
+}
+
+// Low parts of 63 bits: the first member is the first one, and the last one is the last.
+#[test]
+fn wide_members_begin_and_end_at_the_ends(rt: HostRuntime) {
+    let alloc = rt.alloc();
+    assert!(rt; are_right(alloc, &[0, u64::MAX], None, true) == Some(true));
+    assert!(rt; are_right(alloc, &[0, u64::MAX], Some(62), true) == Some(false));
+    assert!(rt; are_right(alloc, &[0, u64::MAX], Some(63), true) == Some(false));
+    assert!(rt; are_right(alloc, &[0, u64::MAX], Some(125), true) == Some(false));
+}

@@ -138,27 +138,25 @@ impl Walk {
 
 // Reads the low part of the next member, whose one is at `place`. Returns true if the member may follow the last one.
 #[inline(always)]
-fn read_member<L: Limbs>(
+fn read_member<L: Limbs, const RISING: bool>(
     low: &L,
     width: usize,
-    rising: bool,
     place: usize,
     walk: &mut Walk,
 ) -> bool {
     let part = next_part(low, width, &mut walk.lows);
     let past = walk.place + usize::from(part < walk.least);
     walk.place = place;
-    walk.least = part + u64::from(rising);
+    walk.least = part + u64::from(RISING);
     past < place
 }
 
 // Reads the members whose ones are in limb `k` of the high parts. Returns true if each may follow the one before it.
 #[inline(always)]
-fn read_limb<L: Limbs, H: Limbs>(
+fn read_limb<L: Limbs, H: Limbs, const RISING: bool>(
     low: &L,
     high: &H,
     width: usize,
-    rising: bool,
     k: usize,
     walk: &mut Walk,
 ) -> bool {
@@ -167,7 +165,7 @@ fn read_limb<L: Limbs, H: Limbs>(
     while word != 0 {
         let place = 64 * k + word.trailing_zeros() as usize;
         word &= word - 1;
-        if !read_member(low, width, rising, place, walk) {
+        if !read_member::<L, RISING>(low, width, place, walk) {
             return false;
         }
     }
@@ -203,23 +201,23 @@ fn begins_at_first<L: Limbs, H: Limbs>(low: &L, high: &H, width: usize) -> bool 
 }
 
 // Returns true if parts with as many bits and ones as a list with these ends has are those of such a list.
-fn are_decodable<L: Limbs, H: Limbs>(
+#[inline(never)]
+fn are_decodable<L: Limbs, H: Limbs, const RISING: bool>(
     ends: Ends,
     width: usize,
     low: &L,
     high: &H,
-    rising: bool,
 ) -> bool {
     if !begins_at_first(low, high, width) {
         return false;
     }
     let mut walk = Walk::new();
     for k in 0..high.len().div_ceil(64) {
-        if !read_limb(low, high, width, rising, k, &mut walk) {
+        if !read_limb::<L, H, RISING>(low, high, width, k, &mut walk) {
             return false;
         }
     }
-    let part = walk.least - u64::from(rising);
+    let part = walk.least - u64::from(RISING);
     let span = ends.span();
     let end = match above_of(ends.len - 1, walk.place, part, width, span) { Some(end) => end, _ => {
         return false;
@@ -243,7 +241,12 @@ pub fn are_parts<L: Limbs, H: Limbs>(ends: Ends, low: &L, high: &H, rising: bool
     if ends.first > ends.last || count_ones_in(high) != ends.len {
         return false;
     }
-    are_decodable(ends, width_of(ends.len, ends.span()), low, high, rising)
+    let width = width_of(ends.len, ends.span());
+    if rising {
+        are_decodable::<L, H, true>(ends, width, low, high)
+    } else {
+        are_decodable::<L, H, false>(ends, width, low, high)
+    }
 }
 
 impl<A: Allocator + Copy> EliasFanoVec<A> {

@@ -1,10 +1,10 @@
-use Rattle.vers_sorted.proofs.Names.{ℕ, ◌+◌, ◌*◌, ◌<◌, ◌∙◌, true, length, sym, subst, arith, w64, trailing_zeros, lt-ltb, ltb-true, mul_comm, count}
-use Rattle.std.proofs.lemmas.Bool.{false≢true}
+use Rattle.std.proofs.Common.{nat_eq}
+use Rattle.vers_sorted.proofs.Names.{not, ℕ, ◌+◌, ◌*◌, ◌<◌, ◌∙◌, true, length, sym, subst, arith, w64, trailing_zeros, lt-ltb, ltb-true, mul_comm, count}
 use Rattle.vers_bits.proofs.PublicLaws.{count_le_all}
 use Rattle.vers_sorted.specs.inside.Decoding.{HasRead}
 use Rattle.vers_sorted.proofs.Chunks.{chunk_within}
 use Rattle.vers_sorted.proofs.Decoding.{lowest_one, none_left, rest_left}
-use Rattle.vers_sorted.proofs.Steps.{before_within, one_read, step_test}
+use Rattle.vers_sorted.proofs.Steps.{before_within, failed, one_read, passed}
 use Rattle.vers_sorted.proofs.elias_fano.parts.read_limb.Goals as goal
 
 pub read_member-requires-clause-within : goal.read_member-requires-clause-within
@@ -29,8 +29,7 @@ returns-then-not-read_member-clause-no g c = λ no steps.
     let i = count true high (64 * c.args.k + inv.0) in
     let one = lowest_one high c.args.k inv.0 c.loop-word.word inv.1 inv.2 (omega (arith, c.loop-word-test.true)) (omega (arith, c.loop-word.auto.word-fits)) in
     let some : i < count true high (length high) = omega (arith, one.3, count_le_all true high (64 * c.args.k + (trailing_zeros w64 c.loop-word.word + 1))) in
-    let test = step_test c.args.rising high low c.args.width i c.loop-word.walk (64 * c.args.k + trailing_zeros w64 c.loop-word.word) inv.3 one.2 c.read_member.result c.read_member.ensures.follows in
-    absurd (false≢true (sym c.if-not-read_member.true ∙ test ∙ lt-ltb _ _ (steps i some)))
+    failed (not (nat_eq g.row.RISING 0)) high low c.args.width i c.loop-word.walk (64 * c.args.k + trailing_zeros w64 c.loop-word.word) inv.3 one.2 c.read_member.result c.read_member.ensures.follows c.if-not-read_member.true (steps i some)
 
 pub loop-word-preserved : goal.loop-word-preserved
 loop-word-preserved g c =
@@ -40,13 +39,12 @@ loop-word-preserved g c =
     let i = count true high (64 * c.args.k + inv.0) in
     let place = 64 * c.args.k + trailing_zeros w64 c.loop-word.word in
     let one = lowest_one high c.args.k inv.0 c.loop-word.word inv.1 inv.2 (omega (arith, c.loop-word-test.true)) (omega (arith, c.loop-word.auto.word-fits)) in
-    let test = step_test c.args.rising high low c.args.width i c.loop-word.walk place inv.3 one.2 c.read_member.result c.read_member.ensures.follows in
-    let step = ltb-true _ _ (sym test ∙ c.if-not-read_member.false) in
-    let read = one_read c.args.rising high low c.args.width i c.loop-word.walk place inv.3 one.2 c.read_member.new.walk step c.read_member.ensures.place c.read_member.ensures.least c.read_member.ensures.part c.read_member.ensures.read in (
+    let step = passed (not (nat_eq g.row.RISING 0)) high low c.args.width i c.loop-word.walk place inv.3 one.2 c.read_member.result c.read_member.ensures.follows c.if-not-read_member.false in
+    let read = one_read (not (nat_eq g.row.RISING 0)) high low c.args.width i c.loop-word.walk place inv.3 one.2 c.read_member.new.walk step c.read_member.ensures.place c.read_member.ensures.least c.read_member.ensures.part c.read_member.ensures.read in (
       trailing_zeros w64 c.loop-word.word + 1,
       omega (arith, one.0),
       rest_left high c.args.k inv.0 c.loop-word.word inv.1 inv.2 (omega (arith, c.loop-word-test.true)) (omega (arith, c.loop-word.auto.word-fits)),
-      subst (λ (n : ℕ). HasRead c.args.rising high low c.args.width n c.read_member.new.walk) (sym one.3) read,
+      subst (λ (n : ℕ). HasRead (not (nat_eq g.row.RISING 0)) high low c.args.width n c.read_member.new.walk) (sym one.3) read,
     )
 
 pub returns-clause-yes : goal.returns-clause-yes
@@ -54,4 +52,4 @@ returns-clause-yes g c = λ yes.
     let high = g.H.Limbs.bits c.args.high.now in
     let low = g.L.Limbs.bits c.args.low.now in
     let inv = c.loop-word.invariant in
-    subst (λ (n : ℕ). HasRead c.args.rising high low c.args.width n c.loop-word.walk) (sym (none_left high c.args.k inv.0 c.loop-word.word inv.1 inv.2 (omega (arith, c.loop-word-test.false)))) inv.3
+    subst (λ (n : ℕ). HasRead (not (nat_eq g.row.RISING 0)) high low c.args.width n c.loop-word.walk) (sym (none_left high c.args.k inv.0 c.loop-word.word inv.1 inv.2 (omega (arith, c.loop-word-test.false)))) inv.3
