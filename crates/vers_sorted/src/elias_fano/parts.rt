@@ -273,7 +273,8 @@ fn begins_at_first<L: Limbs, H: Limbs>(low: &L, high: &H, width: usize) -> bool
     limb_or_zero(high, 0) % 4 == 2 && limb_or_zero(low, 0) % (1 << width) == 0
 }
 
-// Returns true if parts with as many bits and ones as a list with these ends has are those of such a list.
+// Returns true if parts with as many bits and ones as a list with these ends has are those of such a list. The loop is
+// faster in a function of its own, which isn't inlined.
 #[inline(never)]
 fn are_decodable<L: Limbs, H: Limbs, const RISING: bool>(
     ends: Ends,
