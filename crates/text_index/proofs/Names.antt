@@ -47,7 +47,7 @@ pub use Rattle.vers_wavelet.specs.Symbols.{IsKth, Symbols}
 pub use Rattle.wavelet_tree.proofs.PublicLaws.{depth-le-height}
 pub use Rattle.text_index.specs.declared.rows.RowRange.{RowRange}
 pub use Rattle.text_index.specs.declared.rows.TheConstants.{GROUP}
-pub use Rattle.wavelet_tree.specs.Queries.{IsSortedRange, fork_reads, occurring, query_reads, sorted_place, tree_size, walk_reads}
+pub use Rattle.wavelet_tree.specs.Queries.{IsSortedRange, access_fork_reads, access_reads, fork_reads, occurring, query_reads, sorted_place, tree_size, walk_reads}
 unfoldable pub use Rattle.wavelet_tree.specs.Queries.{sum_reads}
 pub use Rattle.wavelet_tree.specs.declared.batch.RangeQuery.{RangeQuery}
 unfoldable pub use Rattle.wavelet_tree.specs.Trees.{balanced, depth, height}

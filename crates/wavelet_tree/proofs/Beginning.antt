@@ -1,5 +1,5 @@
 -- The whole tree of a list: where walks begin, and which symbols its bits lead to.
-use Rattle.wavelet_tree.proofs.Names.{◌≡◌, ℕ, ◌+◌, ◌*◌, ◌^◌, ◌/◌, ◌<◌, ◌≤◌, Bool, true, cond, ltb, eqb, List, map, length, take, get_or, refl, sym, ap, ◌∙◌, subst, arith, inl, inr, count_by, All, div-eq_of_lt, lt-div-mul-add, pow-le-pow_right, pow_pos, cases_lt, cases_eq, eq-eqb, ne_eqb, count_by-le-length, false≢true, get_or_default, get_or-map-range_with_len, length-map-range_with_len, same_lists, range_with_len, sum_by-take-le, take-take, take_all, Reads, adds_nothing, Symbols, Tree, leaf, fork, depth, forks, lesser, starts_of, tree_of, occurring, sorted_place, link, entry, weight, Stands, led, symbols_in, IsTreeOf, Walks, CountsWithin, AreForks, balanced, Node, LEAVES}
+use Rattle.wavelet_tree.proofs.Names.{◌≡◌, ℕ, ◌+◌, ◌*◌, ◌^◌, ◌/◌, ◌<◌, ◌≤◌, Bool, true, cond, ltb, eqb, List, map, length, take, get_or, refl, sym, ap, ◌∙◌, subst, arith, inl, inr, count_by, All, div-eq_of_lt, lt-div-mul-add, pow-le-pow_right, pow_pos, cases_lt, cases_eq, eq-eqb, ne_eqb, count_by-le-length, false≢true, get_or_default, get_or-map-range_with_len, length-map-range_with_len, same_lists, range_with_len, sum_by-take-le, take-take, take_all, Reads, AddsAtMost, Symbols, Tree, leaf, fork, depth, forks, lesser, starts_of, tree_of, occurring, sorted_place, link, entry, weight, Stands, led, symbols_in, IsTreeOf, Walks, CountsWithin, AreForks, balanced, Node, LEAVES, times, rules}
 use Rattle.wavelet_tree.proofs.Lists.{count_none, none_counted}
 use Rattle.wavelet_tree.proofs.Splits.{lesser_none}
 use Rattle.wavelet_tree.proofs.Lesser.{lesser_next, lesser_zero}
@@ -23,12 +23,16 @@ root_entry symbols (leaf c) nodes bits used some small stands =
     start_at symbols c (omega (arith, here, small 0 0 some)) ∙ lesser_none symbols.items c (λ k d inside. omega (arith, stands.0 k d inside))
 root_entry symbols (fork m l r) nodes bits used some small stands = refl
 
+-- no fork reads nothing
+no_fork : (each old : Reads) → AddsAtMost old old (times 0 each)
+no_fork each old = search rules
+
 -- a walk begins at the root
 pub walk_begins : {symbols : Symbols} {starts : List ℕ} {nodes : List Node} {bits : List Bool} {root width len : ℕ} → IsTreeOf symbols starts nodes bits root width len
-    → (here : Bool) (s i j : ℕ) (old : Reads) → 0 < count_by (λ x. eqb x s) symbols.items → i ≤ length symbols.items → j ≤ length symbols.items
+    → (here : Bool) (each : Reads) (s i j : ℕ) (old : Reads) → 0 < count_by (λ x. eqb x s) symbols.items → i ≤ length symbols.items → j ≤ length symbols.items
     → (here ≡ true → (i < length symbols.items) × (get_or symbols.items i 0 ≡ s))
-    → Walks starts nodes bits (weight (tree_of symbols) symbols.items) here s (depth (tree_of symbols) s) (sorted_place symbols.items i s) (sorted_place symbols.items j s) old old root i j
-walk_begins {symbols} {starts} {nodes} {bits} is here s i j old occurs i_within j_within found =
+    → Walks starts nodes bits (weight (tree_of symbols) symbols.items) here each s (depth (tree_of symbols) s) (sorted_place symbols.items i s) (sorted_place symbols.items j s) old old root i j
+walk_begins {symbols} {starts} {nodes} {bits} is here each s i j old occurs i_within j_within found =
     let some : 0 < length symbols.items = omega (arith, occurs, count_by-le-length (λ x. eqb x s) symbols.items) in
     let small : s < 2 ^ symbols.width = occurs_small symbols.items s (2 ^ symbols.width) (rw (is.same_width) is.small) occurs in
     let stands : Stands (tree_of symbols) (starts_of symbols) nodes bits (weight (tree_of symbols) symbols.items) 0 0 symbols.items =
@@ -55,7 +59,7 @@ walk_begins {symbols} {starts} {nodes} {bits} is here s i j old occurs i_within 
         goal_is = omega (arith, start);
         other_is = omega (arith, start);
         steps_are = omega arith;
-        adds = adds_nothing old;
+        adds = no_fork each old;
         at_symbol = found;
       },
     )

@@ -1,5 +1,5 @@
 -- Walks from the root of a stored tree to a leaf.
-use Rattle.wavelet_tree.proofs.Names.{◌≡◌, ℕ, zero, suc, ◌+◌, ◌-◌, ◌^◌, ◌%◌, ◌<◌, ◌≤◌, Bool, true, false, cond, ltb, leb, eqb, List, length, take, get_or, refl, sym, ap, ◌∙◌, subst, arith, inl, inr, rules, filter, count_by, All, cases_lt, cases_eq, lt-ltb, le-ltb, lt-leb, le-leb, eqb-true, eq-eqb, ne_eqb, get_or_default, length-take, length-filter, All-take, sum_by-take-le, count, count_le, AddsAtMost, Reads, times, adds_then, Tree, leaf, fork, depth, forks, fork_reads, shift, link, entry, lows, highs, weight, Stands, no_node, led, Walks, WalksIn, Node, LEAVES}
+use Rattle.wavelet_tree.proofs.Names.{◌≡◌, ℕ, zero, suc, ◌+◌, ◌-◌, ◌^◌, ◌%◌, ◌<◌, ◌≤◌, Bool, true, false, cond, ltb, leb, eqb, List, length, take, get_or, refl, sym, ap, ◌∙◌, subst, arith, inl, inr, rules, filter, count_by, All, cases_lt, cases_eq, lt-ltb, le-ltb, lt-leb, le-leb, eqb-true, eq-eqb, ne_eqb, get_or_default, length-take, length-filter, All-take, sum_by-take-le, count, count_le, AddsAtMost, Reads, times, adds_then, Tree, leaf, fork, depth, forks, shift, link, entry, lows, highs, weight, Stands, no_node, led, Walks, WalksIn, Node, LEAVES}
 use Rattle.wavelet_tree.proofs.Lists.{count_kept, count_first, count_first_sides, kept_at, kept_inside, count_none, count_all, shifted}
 
 -- the only symbol of elements, one of which is a symbol
@@ -61,7 +61,7 @@ module _ (starts : List ℕ) (nodes : List Node) (bits : List Bool) (used : ℕ)
 
   -- ---- a walk
 
-  module _ (here : Bool) (s all goal other : ℕ) (old : Reads) where
+  module _ (here : Bool) (each : Reads) (s all goal other : ℕ) (old : Reads) where
     -- what is read at a fork, and where the walk goes on
     pub record Goes (new next : Reads) (at a b : ℕ) (node : Node) (ones_a ones_b : ℕ) (high : Bool) (at' a' b' : ℕ) : Type 0 where
       pub read : node ≡ get_or nodes at node
@@ -74,10 +74,10 @@ module _ (starts : List ℕ) (nodes : List Node) (bits : List Bool) (used : ℕ)
       pub low_b : high ≡ false → b' ≡ (b - ones_b + node.low) % 2 ^ 64
       pub high_link : high ≡ true → at' ≡ node.high_link
       pub low_link : high ≡ false → at' ≡ node.low_link
-      pub adds : AddsAtMost new next fork_reads
+      pub adds : AddsAtMost new next each
 
     goes_low : (m : ℕ) (l r : Tree) {new next : Reads} {at a b : ℕ} {node : Node} {ones_a ones_b : ℕ} {high : Bool} {at' a' b' : ℕ}
-        → s < m → high ≡ false → WalksIn (fork m l r) starts nodes bits used here s all goal other old new at a b → Goes new next at a b node ones_a ones_b high at' a' b' → WalksIn l starts nodes bits used here s all goal other old next at' a' b'
+        → s < m → high ≡ false → WalksIn (fork m l r) starts nodes bits used here each s all goal other old new at a b → Goes new next at a b node ones_a ones_b high at' a' b' → WalksIn l starts nodes bits used here each s all goal other old next at' a' b'
     unfolding depth
     goes_low m l r {node = node} {ones_a = ones_a} {ones_b = ones_b} less is_low_side w step =
         let at_node : node ≡ get_or nodes (w.first + forks l + forks r) node = step.read ∙ ap (λ n. get_or nodes n node) w.link_is in
@@ -109,7 +109,7 @@ module _ (starts : List ℕ) (nodes : List Node) (bits : List Bool) (used : ℕ)
         }
 
     goes_high : (m : ℕ) (l r : Tree) {new next : Reads} {at a b : ℕ} {node : Node} {ones_a ones_b : ℕ} {high : Bool} {at' a' b' : ℕ}
-        → m ≤ s → high ≡ true → WalksIn (fork m l r) starts nodes bits used here s all goal other old new at a b → Goes new next at a b node ones_a ones_b high at' a' b' → WalksIn r starts nodes bits used here s all goal other old next at' a' b'
+        → m ≤ s → high ≡ true → WalksIn (fork m l r) starts nodes bits used here each s all goal other old new at a b → Goes new next at a b node ones_a ones_b high at' a' b' → WalksIn r starts nodes bits used here each s all goal other old next at' a' b'
     unfolding depth
     goes_high m l r {node = node} {ones_a = ones_a} {ones_b = ones_b} more is_high_side w step =
         let at_node : node ≡ get_or nodes (w.first + forks l + forks r) node = step.read ∙ ap (λ n. get_or nodes n node) w.link_is in
@@ -141,8 +141,8 @@ module _ (starts : List ℕ) (nodes : List Node) (bits : List Bool) (used : ℕ)
         }
 
     goes_in : (tree : Tree) {new next : Reads} {at a b : ℕ} {node : Node} {ones_a ones_b : ℕ} {high : Bool} {at' a' b' : ℕ}
-        → at < LEAVES → WalksIn tree starts nodes bits used here s all goal other old new at a b → Goes new next at a b node ones_a ones_b high at' a' b'
-        → Walks starts nodes bits used here s all goal other old next at' a' b' × (at' < LEAVES → at' < at)
+        → at < LEAVES → WalksIn tree starts nodes bits used here each s all goal other old new at a b → Goes new next at a b node ones_a ones_b high at' a' b'
+        → Walks starts nodes bits used here each s all goal other old next at' a' b' × (at' < LEAVES → at' < at)
     unfolding forks
     goes_in (leaf c) few w step = absurd (omega (arith, few, w.link_is))
     goes_in (fork m l r) {node = node} {at' = at'} few w step =
@@ -163,20 +163,20 @@ module _ (starts : List ℕ) (nodes : List Node) (bits : List Bool) (used : ℕ)
 
     -- a walk goes on at a fork, to a link before the fork's or to a leaf
     pub walk_on : {new next : Reads} {at a b : ℕ} {node : Node} {ones_a ones_b : ℕ} {high : Bool} {at' a' b' : ℕ}
-        → at < LEAVES → Walks starts nodes bits used here s all goal other old new at a b → Goes new next at a b node ones_a ones_b high at' a' b'
-        → Walks starts nodes bits used here s all goal other old next at' a' b' × (at' < LEAVES → at' < at)
+        → at < LEAVES → Walks starts nodes bits used here each s all goal other old new at a b → Goes new next at a b node ones_a ones_b high at' a' b'
+        → Walks starts nodes bits used here each s all goal other old next at' a' b' × (at' < LEAVES → at' < at)
     walk_on few w step = goes_in w.0 few w.1 step
 
-    inside_in : (tree : Tree) {new : Reads} {at a b : ℕ} → at < LEAVES → WalksIn tree starts nodes bits used here s all goal other old new at a b → (at < length nodes) × (a ≤ used) × (b ≤ used)
+    inside_in : (tree : Tree) {new : Reads} {at a b : ℕ} → at < LEAVES → WalksIn tree starts nodes bits used here each s all goal other old new at a b → (at < length nodes) × (a ≤ used) × (b ≤ used)
     inside_in (leaf c) few w = absurd (omega (arith, few, w.link_is))
     inside_in (fork m l r) few w = (omega (arith, w.link_is, w.stands.0.inside), omega (arith, w.a_is, w.i_within, w.stands.0.within), omega (arith, w.b_is, w.j_within, w.stands.0.within))
 
     -- there is a node, and the places are among the bits
-    pub walk_inside : {new : Reads} {at a b : ℕ} → at < LEAVES → Walks starts nodes bits used here s all goal other old new at a b → (at < length nodes) × (a ≤ used) × (b ≤ used)
+    pub walk_inside : {new : Reads} {at a b : ℕ} → at < LEAVES → Walks starts nodes bits used here each s all goal other old new at a b → (at < length nodes) × (a ≤ used) × (b ≤ used)
     walk_inside few w = inside_in w.0 few w.1
 
     -- the bit at a place tells on which side of a fork the symbol is
-    side_in : (tree : Tree) {new : Reads} {at a b : ℕ} (node : Node) → at < LEAVES → WalksIn tree starts nodes bits used here s all goal other old new at a b → here ≡ true
+    side_in : (tree : Tree) {new : Reads} {at a b : ℕ} (node : Node) → at < LEAVES → WalksIn tree starts nodes bits used here each s all goal other old new at a b → here ≡ true
         → node ≡ get_or nodes at node → get_or bits a false ≡ leb node.split s
     side_in (leaf c) node few w asked read = absurd (omega (arith, few, w.link_is))
     side_in (fork m l r) node few w asked read =
@@ -185,7 +185,7 @@ module _ (starts : List ℕ) (nodes : List Node) (bits : List Bool) (used : ℕ)
         let split_is : node.split ≡ m = ap (λ (n : Node). n.split) at_node ∙ w.stands.0.split_is node in
         ap (λ n. get_or bits n false) w.a_is ∙ w.stands.0.bit w.i found.0 ∙ ap (λ n. leb m n) found.1 ∙ ap (λ n. leb n s) (sym split_is)
 
-    pub walk_side : {new : Reads} {at a b : ℕ} (node : Node) → at < LEAVES → Walks starts nodes bits used here s all goal other old new at a b → here ≡ true
+    pub walk_side : {new : Reads} {at a b : ℕ} (node : Node) → at < LEAVES → Walks starts nodes bits used here each s all goal other old new at a b → here ≡ true
         → node ≡ get_or nodes at node → get_or bits a false ≡ leb node.split s
     walk_side node few w asked read = side_in w.0 node few w.1 asked read
 
@@ -194,9 +194,9 @@ module _ (starts : List ℕ) (nodes : List Node) (bits : List Bool) (used : ℕ)
       pub a_is : a ≡ goal
       pub b_is : b ≡ other
       pub symbol_is : at ≡ LEAVES + s
-      pub adds : AddsAtMost old new (times all fork_reads)
+      pub adds : AddsAtMost old new (times all each)
 
-    ends_in : (tree : Tree) {new : Reads} {at a b : ℕ} → LEAVES ≤ at → WalksIn tree starts nodes bits used here s all goal other old new at a b → Ends new at a b
+    ends_in : (tree : Tree) {new : Reads} {at a b : ℕ} → LEAVES ≤ at → WalksIn tree starts nodes bits used here each s all goal other old new at a b → Ends new at a b
     unfolding depth
     ends_in (leaf c) {new = new} many w =
         let same : s ≡ c = only_one c s w.xs w.stands.0 w.occurs in
@@ -207,11 +207,11 @@ module _ (starts : List ℕ) (nodes : List Node) (bits : List Bool) (used : ℕ)
           a_is = omega (arith, w.a_is, w.goal_is, counted w.i, w.i_within, first);
           b_is = omega (arith, w.b_is, w.other_is, counted w.j, w.j_within, first);
           symbol_is = omega (arith, w.link_is, same);
-          adds = let P : ℕ → Type 0 = λ n. AddsAtMost old new (times n fork_reads) in subst P steps w.adds;
+          adds = let P : ℕ → Type 0 = λ n. AddsAtMost old new (times n each) in subst P steps w.adds;
         }
     ends_in (fork m l r) many w = absurd (omega (arith, many, w.link_is, w.stands.0.few))
 
-    pub walk_ends : {new : Reads} {at a b : ℕ} → LEAVES ≤ at → Walks starts nodes bits used here s all goal other old new at a b → Ends new at a b
+    pub walk_ends : {new : Reads} {at a b : ℕ} → LEAVES ≤ at → Walks starts nodes bits used here each s all goal other old new at a b → Ends new at a b
     walk_ends many w = ends_in w.0 many w.1
 
   -- ---- the symbol at a place

@@ -15,11 +15,23 @@ occurring items place s = count_by (λ y. y == s) (take place items)
 abbrev pub sorted_place : List ℕ → ℕ → ℕ → ℕ
 sorted_place items place s = lesser items s + occurring items place s
 
--- bound on one fork of a walk: its node, and two ranks
+-- bound on one fork of a walk with one position: its node, and a rank
+abbrev pub access_fork_reads : Reads
+access_fork_reads = plus (only_nodes 1) word_rank_reads
+
+-- bound on an access: a node and a rank for each fork that leads to the symbol
+abbrev pub access_reads : Symbols → ℕ → Reads
+access_reads symbols s = times (depth (tree_of symbols) s) access_fork_reads
+
+-- bound on a rank of a symbol: two numbers of lesser elements, and a node and a rank for each fork that leads to it
+abbrev pub symbol_rank_reads : Symbols → ℕ → Reads
+symbol_rank_reads symbols s = plus (only_items 2) (access_reads symbols s)
+
+-- bound on one fork of a walk with both ends of a range: its node, and two ranks
 abbrev pub fork_reads : Reads
 fork_reads = plus (only_nodes 1) (times 2 word_rank_reads)
 
--- bound on a walk to a symbol: the forks that lead to it, and two numbers of lesser elements
+-- bound on a walk with both ends of a range to a symbol: the forks that lead to it, and two numbers of lesser elements
 abbrev pub walk_reads : Symbols → ℕ → Reads
 walk_reads symbols s = plus (only_items 2) (times (depth (tree_of symbols) s) fork_reads)
 

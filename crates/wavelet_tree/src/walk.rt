@@ -2,7 +2,7 @@
 ghost use Rattle.std.specs.Prelude.{◌≡◌, ℕ, ◌+◌, ◌-◌, ◌^◌, ◌<◌, ◌≤◌, ◌==◌, ◌↔◌, length, slice_index, count_by, IfSome, IsSome};
 ghost use Rattle.vers_tally.specs.Reads.{AddsAtMost, only_items, plus, times};
 ghost use Rattle.wavelet_tree.specs.Trees.{depth, lesser, tree_of};
-ghost use Rattle.wavelet_tree.specs.Queries.{fork_reads, occurring, sorted_place, walk_reads};
+ghost use Rattle.wavelet_tree.specs.Queries.{access_reads, fork_reads, occurring, sorted_place, symbol_rank_reads, walk_reads};
 
 use crate::node::LEAVES;
 use crate::tree::WaveletTree;
@@ -86,13 +86,13 @@ impl<A: Allocator + Copy> WaveletTree<A> {
     pub fn rank_counted(&self, place: usize, symbol: u64, tally: &mut Tally) -> usize
         requires { place ≤ length self.now.items }
         ensures value { result ≡ occurring self.now.items place symbol }
-        ensures adds { AddsAtMost tally.old tally.new (walk_reads self.now symbol) }
+        ensures adds { AddsAtMost tally.old tally.new (symbol_rank_reads self.now symbol) }
     {
         let all = self.sorted_all(symbol, tally);
         if all.start == all.end {
             return 0;
         }
-        self.descend(place, place, symbol, tally).start - all.start
+        self.descend_from(place, symbol, tally) - all.start
     }
 
     // Returns the sorted positions of all occurrences of a symbol.
@@ -128,13 +128,30 @@ impl<A: Allocator + Copy> WaveletTree<A> {
         while link < LEAVES {
             let node = self.nodes.read(link as usize, tally);
             let is_high = symbol >= u64::from(node.split);
-            let from_ones = self.bits.get_and_rank1_counted(from, tally).ones;
-            let to_ones = self.bits.get_and_rank1_counted(to, tally).ones;
-            from = node.place_below(is_high, from, from_ones);
-            to = node.place_below(is_high, to, to_ones);
+            from = node.step_below(&self.bits, is_high, from, tally);
+            to = node.step_below(&self.bits, is_high, to, tally);
             link = node.link_below(is_high);
         }
         from..to
+    }
+
+    // Returns the sorted position of the first occurrence of a symbol from `place` on. Precondition: the symbol occurs.
+    #[inline(always)]
+    fn descend_from(&self, place: usize, symbol: u64, tally: &mut Tally) -> usize
+        requires within { place ≤ length self.now.items }
+        requires occurs { 0 < count_by (λ y. y == symbol) self.now.items }
+        ensures value { result ≡ sorted_place self.now.items place symbol }
+        ensures adds { AddsAtMost tally.old tally.new (access_reads self.now symbol) }
+    {
+        let mut link = self.root;
+        let mut at = place;
+        while link < LEAVES {
+            let node = self.nodes.read(link as usize, tally);
+            let is_high = symbol >= u64::from(node.split);
+            at = node.step_below(&self.bits, is_high, at, tally);
+            link = node.link_below(is_high);
+        }
+        at
     }
 
     /// Returns the symbol at a position. Precondition: `place` is below the length.
@@ -164,8 +181,7 @@ impl<A: Allocator + Copy> WaveletTree<A> {
         requires { place < length self.now.items }
         ensures symbol { result.symbol ≡ slice_index self.now.items place }
         ensures place { result.place ≡ sorted_place self.now.items place result.symbol }
-        ensures adds { AddsAtMost tally.old tally.new
-            (times (depth (tree_of self.now) result.symbol) fork_reads) }
+        ensures adds { AddsAtMost tally.old tally.new (access_reads self.now result.symbol) }
     {
         let mut link = self.root;
         let mut at = place;

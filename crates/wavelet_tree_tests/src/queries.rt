@@ -7,6 +7,22 @@ use test_alloc::asked;
 use vers_tally::tally::Tally;
 use wavelet_tree::{RangeQuery, WaveletTree};
 
+// Returns true if a counted rank is right, and takes one rank of bits for each fork.
+fn is_counted<A: Allocator + Copy>(
+    tree: &WaveletTree<A>,
+    symbol: u64,
+    place: usize,
+    wanted: usize,
+) -> bool {
+    if place > tree.len() {
+        return false;
+    }
+    let mut tally = Tally::new();
+    tree.rank_counted(place, symbol, &mut tally) == wanted
+        && tally.nodes() == tally.data_words()
+        && tally.items() <= 2
+}
+
 // Returns true if the ranks of a symbol are right, of which two begin and end a range.
 fn is_ranked<A: Allocator + Copy>(
     tree: &WaveletTree<A>,
@@ -28,9 +44,11 @@ fn is_ranked<A: Allocator + Copy>(
     let mut tally = Tally::new();
     tree.rank(range.start, symbol) == first
         && tree.rank(range.end, symbol) == end
-        && tree.rank_counted(range.end, symbol, &mut tally) == end
+        && is_counted(tree, symbol, range.end, end)
         && tree.sorted_range(range.start..range.end, symbol) == wanted
         && tree.sorted_range_counted(range, symbol, &mut tally) == wanted
+        && tally.nodes() == tally.data_words() / 2
+        && tally.items() <= 2
 }
 
 // Returns true if the symbol at a position, and its sorted position, are right.

@@ -4,7 +4,6 @@ use Rattle.std.specs.List.{range_with_len, sum_by}
 use Rattle.vers_bits.specs.Bits.{count}
 use Rattle.vers_tally.specs.Reads.{Reads, AddsAtMost, times}
 use Rattle.vers_wavelet.specs.Symbols.{Symbols}
-use Rattle.wavelet_tree.specs.Queries.{fork_reads}
 use Rattle.wavelet_tree.specs.Trees.{Tree, starts_of, tree_of, depth, forks}
 use Rattle.wavelet_tree.specs.Trees.Tree.{leaf, fork}
 use Rattle.wavelet_tree.specs.declared.node.Node.{Node}
@@ -87,8 +86,8 @@ pub record IsTreeOf (symbols : Symbols) (starts : List ℕ) (nodes : List Node) 
   pub root_is : root ≡ link (tree_of symbols) 0
   pub stands : Stands (tree_of symbols) starts nodes bits (weight (tree_of symbols) symbols.items) 0 0 symbols.items
 
--- a walk to a symbol came to places a and b of a tree below: as many occurrences of the symbol are before them as the goals say, and its reads are within those of the forks so far; if `here`, the symbol is at place a
-pub record WalksIn (tree : Tree) (starts : List ℕ) (nodes : List Node) (bits : List Bool) (used : ℕ) (here : Bool) (s all goal other : ℕ) (old new : Reads) (at a b : ℕ) : Type 0 where
+-- a walk to a symbol came to places a and b of a tree below: as many occurrences of the symbol are before them as the goals say, and its reads are within those of each fork so far; if `here`, the symbol is at place a
+pub record WalksIn (tree : Tree) (starts : List ℕ) (nodes : List Node) (bits : List Bool) (used : ℕ) (here : Bool) (each : Reads) (s all goal other : ℕ) (old new : Reads) (at a b : ℕ) : Type 0 where
   pub first : ℕ
   pub start : ℕ
   pub xs : List ℕ
@@ -105,8 +104,8 @@ pub record WalksIn (tree : Tree) (starts : List ℕ) (nodes : List Node) (bits :
   pub goal_is : slice_index starts s + count_by (λ x. x == s) (take i xs) ≡ goal
   pub other_is : slice_index starts s + count_by (λ x. x == s) (take j xs) ≡ other
   pub steps_are : steps + depth tree s ≡ all
-  pub adds : AddsAtMost old new (times steps fork_reads)
+  pub adds : AddsAtMost old new (times steps each)
   pub at_symbol : here ≡ true → (i < length xs) × (slice_index xs i ≡ s)
 
-abbrev pub Walks : List ℕ → List Node → List Bool → ℕ → Bool → ℕ → ℕ → ℕ → ℕ → Reads → Reads → ℕ → ℕ → ℕ → Type 0
-Walks starts nodes bits used here s all goal other old new at a b = (tree : Tree) × WalksIn tree starts nodes bits used here s all goal other old new at a b
+abbrev pub Walks : List ℕ → List Node → List Bool → ℕ → Bool → Reads → ℕ → ℕ → ℕ → ℕ → Reads → Reads → ℕ → ℕ → ℕ → Type 0
+Walks starts nodes bits used here each s all goal other old new at a b = (tree : Tree) × WalksIn tree starts nodes bits used here each s all goal other old new at a b

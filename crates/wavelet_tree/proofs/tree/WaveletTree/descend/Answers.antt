@@ -1,4 +1,4 @@
-use Rattle.wavelet_tree.proofs.Names.{◌<◌, ◌^◌, true, false, leb, ap, subst, arith, rules, false≢true, count_le, weight, tree_of, depth, sorted_place, Symbols, IsTreeOf, Walks, LEAVES, adds_then, within_itself, length}
+use Rattle.wavelet_tree.proofs.Names.{◌<◌, ◌^◌, false, leb, ap, subst, arith, rules, false≢true, refl, weight, tree_of, depth, sorted_place, fork_reads, Symbols, IsTreeOf, Walks, LEAVES, adds_then, within_itself, length}
 use Rattle.wavelet_tree.proofs.Beginning.{walk_begins, bits_fit}
 use Rattle.wavelet_tree.proofs.Walking.{walk_on, walk_inside, walk_ends, smaller}
 use Rattle.wavelet_tree.proofs.tree.WaveletTree.descend.Given.{Over}
@@ -8,49 +8,43 @@ use Rattle.wavelet_tree.proofs.tree.WaveletTree.descend.Goals as goal
 pub loop-link-init : goal.loop-link-init
 loop-link-init g c =
     let is = subst (λ (s : Symbols). IsTreeOf s c.self.inside.starts c.self.inside.nodes c.self.inside.bits c.self.inside.root c.self.inside.width c.self.inside.len) c.self.view_is c.self.invariant in
-    walk_begins is false c.args.symbol c.args.start c.args.end c.args.tally.now c.requires.occurs c.requires.start c.requires.end (λ never. absurd (false≢true never))
+    walk_begins is false fork_reads c.args.symbol c.args.start c.args.end c.args.tally.now c.requires.occurs c.requires.start c.requires.end (λ never. absurd (false≢true never))
 
 -- the places are among the bits
 inside : (g : Over) (c : After-read-node g) → (c.loop-link.from < length c.self.inside.bits) × (c.loop-link.to < length c.self.inside.bits) × (weight (tree_of c.args.self.now) c.args.self.now.items < 2 ^ 64)
 inside g c =
     let is = subst (λ (s : Symbols). IsTreeOf s c.self.inside.starts c.self.inside.nodes c.self.inside.bits c.self.inside.root c.self.inside.width c.self.inside.len) c.self.view_is c.self.invariant in
     let within = walk_inside c.self.inside.starts c.self.inside.nodes c.self.inside.bits (weight (tree_of c.args.self.now) c.args.self.now.items) (omega (arith, is.bits_are, is.fits))
-    false c.args.symbol _ _ _ c.args.tally.now c.loop-link-test.true c.loop-link.invariant in
+    false fork_reads c.args.symbol _ _ _ c.args.tally.now c.loop-link-test.true c.loop-link.invariant in
     (omega (arith, within.1, is.bits_are), omega (arith, within.2, is.bits_are), omega (arith, is.bits_are, is.fits))
 
 on : (g : Over) (c : After-link_below-link g)
-    → Walks c.self.inside.starts c.self.inside.nodes c.self.inside.bits (weight (tree_of c.args.self.now) c.args.self.now.items) false c.args.symbol (depth (tree_of c.args.self.now) c.args.symbol)
-    (sorted_place c.args.self.now.items c.args.start c.args.symbol) (sorted_place c.args.self.now.items c.args.end c.args.symbol) c.args.tally.now c.get_and_rank1_counted-to_ones.new.tally
-    c.link_below-link.result c.place_below-from.result c.place_below-to.result
+    → Walks c.self.inside.starts c.self.inside.nodes c.self.inside.bits (weight (tree_of c.args.self.now) c.args.self.now.items) false fork_reads c.args.symbol (depth (tree_of c.args.self.now) c.args.symbol)
+    (sorted_place c.args.self.now.items c.args.start c.args.symbol) (sorted_place c.args.self.now.items c.args.end c.args.symbol) c.args.tally.now c.step_below-to.new.tally
+    c.link_below-link.result c.step_below-from.result c.step_below-to.result
     × (c.link_below-link.result < LEAVES → c.link_below-link.result < c.loop-link.link)
 on g c =
     let is = subst (λ (s : Symbols). IsTreeOf s c.self.inside.starts c.self.inside.nodes c.self.inside.bits c.self.inside.root c.self.inside.width c.self.inside.len) c.self.view_is c.self.invariant in
     walk_on c.self.inside.starts c.self.inside.nodes c.self.inside.bits (weight (tree_of c.args.self.now) c.args.self.now.items) (bits_fit is)
-    false c.args.symbol _ _ _ c.args.tally.now c.loop-link-test.true c.loop-link.invariant (record {
+    false fork_reads c.args.symbol _ _ _ c.args.tally.now c.loop-link-test.true c.loop-link.invariant (record {
       read = c.read-node.ensures.value;
-      ranked_a = c.get_and_rank1_counted-from_ones.ensures.ones;
-      ranked_b = c.get_and_rank1_counted-to_ones.ensures.ones;
+      ranked_a = refl;
+      ranked_b = refl;
       side = ap (λ n. leb n c.args.symbol) c.from.ensures;
-      high_a = c.place_below-from.ensures.high;
-      low_a = c.place_below-from.ensures.low;
-      high_b = c.place_below-to.ensures.high;
-      low_b = c.place_below-to.ensures.low;
+      high_a = c.step_below-from.ensures.high;
+      low_a = c.step_below-from.ensures.low;
+      high_b = c.step_below-to.ensures.high;
+      low_b = c.step_below-to.ensures.low;
       high_link = c.link_below-link.ensures.high;
       low_link = c.link_below-link.ensures.low;
-      adds = adds_then (adds_then c.read-node.ensures.adds c.get_and_rank1_counted-from_ones.ensures.adds (within_itself _)) c.get_and_rank1_counted-to_ones.ensures.adds (search rules);
+      adds = adds_then (adds_then c.read-node.ensures.adds c.step_below-from.ensures.adds (within_itself _)) c.step_below-to.ensures.adds (search rules);
     })
 
-pub get_and_rank1_counted-from_ones-requires : goal.get_and_rank1_counted-from_ones-requires
-get_and_rank1_counted-from_ones-requires g c = (inside g (goal.at.get_and_rank1_counted-from_ones-requires g c).After-read-node).0
+pub step_below-from-requires : goal.step_below-from-requires
+step_below-from-requires g c = (inside g (goal.at.step_below-from-requires g c).After-read-node).0
 
-pub get_and_rank1_counted-to_ones-requires : goal.get_and_rank1_counted-to_ones-requires
-get_and_rank1_counted-to_ones-requires g c = (inside g (goal.at.get_and_rank1_counted-to_ones-requires g c).After-read-node).1
-
-pub place_below-from-requires : goal.place_below-from-requires
-place_below-from-requires g c = omega (arith, c.get_and_rank1_counted-from_ones.ensures.ones, (count_le true c.self.inside.bits c.loop-link.from).0)
-
-pub place_below-to-requires : goal.place_below-to-requires
-place_below-to-requires g c = omega (arith, c.get_and_rank1_counted-to_ones.ensures.ones, (count_le true c.self.inside.bits c.loop-link.to).0)
+pub step_below-to-requires : goal.step_below-to-requires
+step_below-to-requires g c = (inside g (goal.at.step_below-to-requires g c).After-read-node).1
 
 pub loop-link-smaller : goal.loop-link-smaller
 loop-link-smaller g c = smaller _ _ c.loop-link-test.true (on g (goal.at.loop-link-smaller g c).After-link_below-link).1
@@ -62,16 +56,16 @@ pub returns-clause-start : goal.returns-clause-start
 returns-clause-start g c =
     let is = subst (λ (s : Symbols). IsTreeOf s c.self.inside.starts c.self.inside.nodes c.self.inside.bits c.self.inside.root c.self.inside.width c.self.inside.len) c.self.view_is c.self.invariant in
     (walk_ends c.self.inside.starts c.self.inside.nodes c.self.inside.bits (weight (tree_of c.args.self.now) c.args.self.now.items) (bits_fit is)
-    false c.args.symbol _ _ _ c.args.tally.now c.loop-link-test.false c.loop-link.invariant).a_is
+    false fork_reads c.args.symbol _ _ _ c.args.tally.now c.loop-link-test.false c.loop-link.invariant).a_is
 
 pub returns-clause-end : goal.returns-clause-end
 returns-clause-end g c =
     let is = subst (λ (s : Symbols). IsTreeOf s c.self.inside.starts c.self.inside.nodes c.self.inside.bits c.self.inside.root c.self.inside.width c.self.inside.len) c.self.view_is c.self.invariant in
     (walk_ends c.self.inside.starts c.self.inside.nodes c.self.inside.bits (weight (tree_of c.args.self.now) c.args.self.now.items) (bits_fit is)
-    false c.args.symbol _ _ _ c.args.tally.now c.loop-link-test.false c.loop-link.invariant).b_is
+    false fork_reads c.args.symbol _ _ _ c.args.tally.now c.loop-link-test.false c.loop-link.invariant).b_is
 
 pub returns-clause-adds : goal.returns-clause-adds
 returns-clause-adds g c =
     let is = subst (λ (s : Symbols). IsTreeOf s c.self.inside.starts c.self.inside.nodes c.self.inside.bits c.self.inside.root c.self.inside.width c.self.inside.len) c.self.view_is c.self.invariant in
     (walk_ends c.self.inside.starts c.self.inside.nodes c.self.inside.bits (weight (tree_of c.args.self.now) c.args.self.now.items) (bits_fit is)
-    false c.args.symbol _ _ _ c.args.tally.now c.loop-link-test.false c.loop-link.invariant).adds
+    false fork_reads c.args.symbol _ _ _ c.args.tally.now c.loop-link-test.false c.loop-link.invariant).adds

@@ -1,4 +1,4 @@
-use Rattle.wavelet_tree.proofs.Names.{◌+◌, ◌<◌, ◌∙◌, length, sym, subst, arith, rules, true, false, get_or_default, adds_then, no_reads, only_nodes, times, plus, word_rank_reads, Symbols, IsTreeOf, RangeQuery, HasRanks, IsAnswered, ltb-false}
+use Rattle.wavelet_tree.proofs.Names.{◌+◌, ◌<◌, ◌∙◌, length, sym, subst, arith, rules, get_or_default, adds_then, no_reads, only_nodes, times, plus, word_rank_reads, Symbols, IsTreeOf, RangeQuery, HasRanks, IsAnswered, ltb-false}
 use Rattle.wavelet_tree.proofs.Batches.{one_more, one_stays, all_done, all_asked, begins_asked, query_inside, gets_ranks, leaf_ranks, leaf_turns, ranks_inside, turns_below, finished, none_walks, no_fork_left, or_none, leaf_more, leaf_kept}
 use Rattle.wavelet_tree.proofs.tree.WaveletTree.sorted_range_each_counted.Goals.{then-query-lt-LEAVES, else-query-lt-LEAVES, then-query-lt-LEAVES-2, else-query-lt-LEAVES-2}
 use Rattle.wavelet_tree.proofs.tree.WaveletTree.sorted_range_each_counted.Goals as goal
