@@ -112,8 +112,43 @@ fn counts_and_places_read_within_their_bounds(rt: HostRuntime) {
     match reads_of_one_symbol(rt.alloc(), 20000) {
         Ok((count, place)) => {
             assert!(rt; count.0 == 0 && count.1 <= 5 * 2);
-            assert!(rt; place.0 <= 32 + 2 && place.1 == 0 && place.2 == 1);
+            assert!(rt; place.0 <= 32 + 1 && place.1 == 0 && place.2 == 1);
         }
         Err(_) => assert!(rt; false),
     }
+}
+
+// The step of the samples of a text whose symbols each have two forks.
+const STEP: usize = 8;
+
+// Returns true if locating each position tests a mark for each position since the last sample, and takes a node and a
+// rank of bits for each fork of an LF step.
+fn are_located_within(text: &TextIndex<Global>) -> bool {
+    let mut walk = text.places(&[]);
+    for _ in 0..text.len() {
+        let mut tally = Tally::new();
+        let Some(place) = walk.next_counted(&mut tally) else {
+            return false;
+        };
+        let steps = (place % STEP) as u64;
+        if tally.nodes() != 2 * steps
+            || tally.rank_calls() != steps + 2
+            || tally.block_entries() != 2 * steps + 1
+            || tally.items() != 0
+        {
+            return false;
+        }
+    }
+    true
+}
+
+fn four_symbols_are_located_within(alloc: Global, n: usize) -> Result<bool, TextError> {
+    let symbols = periodic(alloc, n, 4)?;
+    let made = TextIndex::with_step(alloc, symbols.as_slice(), 2, STEP);
+    asked(made, are_located_within)
+}
+
+#[test]
+fn locating_takes_one_mark_and_one_rank_a_fork_for_each_step(rt: HostRuntime) {
+    assert!(rt; four_symbols_are_located_within(rt.alloc(), 1000) == Ok(true));
 }
