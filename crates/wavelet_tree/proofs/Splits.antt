@@ -1,5 +1,5 @@
 -- Where symbols are divided, and the elements of both sides.
-use Rattle.wavelet_tree.proofs.Names.{◌≡◌, ℕ, zero, suc, ◌+◌, ◌-◌, ◌*◌, ◌<◌, ◌≤◌, ltb, leb, List, length, get_or, refl, sym, ap, ◌∙◌, arith, inl, inr, All, cases_Bool, cases_lt, lt-ltb, le-leb, le-ltb, lt-leb, ltb-true, ltb-false, leb-true, leb-false, All-filter, length-filter, sum_by-le-sum_by, lesser, lows, highs, nearer, half_from, split, CountsWithin}
+use Rattle.wavelet_tree.proofs.Names.{◌≡◌, ℕ, zero, suc, ◌+◌, ◌-◌, ◌*◌, ◌<◌, ◌≤◌, Bool, cond, ltb, leb, List, length, get_or, refl, sym, ap, ◌∙◌, arith, inl, inr, All, cases_Bool, cases_lt, lt-ltb, le-leb, le-ltb, lt-leb, ltb-true, ltb-false, leb-true, leb-false, All-filter, length-filter, sum_by-le-sum_by, lesser, lows, highs, nearer, half_from, split, CountsWithin}
 use Rattle.wavelet_tree.proofs.Lists.{one, count_none, count_all, none_counted, all_counted, count_kept, count_sides}
 
 -- ---- lesser elements
@@ -41,15 +41,32 @@ pub record IsHalf (starts : List ℕ) (elements low n s : ℕ) : Type 0 where
   pub before : (c : ℕ) → low ≤ c → c < s → 2 * get_or starts c 0 < elements
   pub at : s < low + n → elements ≤ 2 * get_or starts s 0
 
-pub half_is : (starts : List ℕ) (elements low n : ℕ) → IsHalf starts elements low n (half_from starts elements low n)
+-- of no symbols it is the next one
+half_zero : (starts : List ℕ) (elements low : ℕ) → half_from starts elements low zero ≡ low
 unfolding half_from
-half_is starts elements low zero = record { from = omega arith; within = omega arith; before = λ c from less. absurd (omega (arith, from, less)); at = λ less. absurd (omega (arith, less)) }
+half_zero starts elements low = omega arith
+
+-- of more symbols it is the first one, or that of the others
+half_suc : (starts : List ℕ) (elements low n : ℕ) → half_from starts elements low (suc n) ≡ cond (leb elements (2 * get_or starts low 0)) low (half_from starts elements (suc low) n)
+unfolding half_from
+half_suc starts elements low n =
+    let P : ℕ → Bool = λ s. leb elements (2 * get_or starts s 0) in
+    let next : low + 1 ≡ suc low = omega arith in
+    let end : low + suc n ≡ suc low + n = omega arith in
+    elim (cases_Bool (P low)) [
+      | inl enough ↦ rw enough refl
+      | inr few ↦ rw (few, next, end) refl
+    ]
+
+pub half_is : (starts : List ℕ) (elements low n : ℕ) → IsHalf starts elements low n (half_from starts elements low n)
+half_is starts elements low zero =
+    rw (half_zero starts elements low) (record { from = omega arith; within = omega arith; before = λ c from less. absurd (omega (arith, from, less)); at = λ less. absurd (omega (arith, less)) })
 half_is starts elements low (suc n) =
     elim (cases_Bool (leb elements (2 * get_or starts low 0))) [
-      | inl enough ↦ rw enough (record { from = omega arith; within = omega arith; before = λ c from less. absurd (omega (arith, from, less)); at = λ less. leb-true _ _ enough })
+      | inl enough ↦ rw (half_suc starts elements low n, enough) (record { from = omega arith; within = omega arith; before = λ c from less. absurd (omega (arith, from, less)); at = λ less. leb-true _ _ enough })
       | inr few ↦
           let deeper = half_is starts elements (suc low) n in
-          rw few (record {
+          rw (half_suc starts elements low n, few) (record {
             from = omega (arith, deeper.from);
             within = omega (arith, deeper.within);
             before = λ c from less. elim (cases_lt low c) [ inl later ↦ deeper.before c (omega (arith, later)) less | inr here ↦ let same : c ≡ low = omega (arith, from, here) in rw same (leb-false _ _ few) ];
@@ -58,21 +75,18 @@ half_is starts elements low (suc n) =
     ]
 
 pub half_here : (starts : List ℕ) (elements low n : ℕ) → elements ≤ 2 * get_or starts low 0 → half_from starts elements low n ≡ low
-unfolding half_from
-half_here starts elements low zero enough = refl
-half_here starts elements low (suc n) enough = rw (le-leb _ _ enough) refl
+half_here starts elements low zero enough = half_zero starts elements low
+half_here starts elements low (suc n) enough = half_suc starts elements low n ∙ rw (le-leb _ _ enough) refl
 
 pub half_next : (starts : List ℕ) (elements low next end : ℕ) → next ≡ low + 1 → low < end → 2 * get_or starts low 0 < elements → half_from starts elements next (end - next) ≡ half_from starts elements low (end - low)
-unfolding half_from
 half_next starts elements low next end is inside few =
     let n : ℕ = end - next in
     let one : next ≡ suc low = omega (arith, is) in
     let more : end - low ≡ suc n = omega (arith, is, inside) in
-    rw (more, lt-leb _ _ few, one) refl
+    rw (more, half_suc starts elements low n, lt-leb _ _ few, one) refl
 
 pub half_none : (starts : List ℕ) (elements low n : ℕ) → n ≡ 0 → half_from starts elements low n ≡ low
-unfolding half_from
-half_none starts elements low n none = rw none refl
+half_none starts elements low n none = rw none (half_zero starts elements low)
 
 -- a split is a symbol past the first; if nothing is at or past it, nothing is below the symbol before it
 pub record Divides (starts : List ℕ) (low end m : ℕ) : Type 0 where

@@ -1,5 +1,5 @@
 -- The weight-balanced tree over the symbols of a list. A range of symbols is divided where half of its elements are below, as nearly as symbols allow, until only one symbol of it occurs.
-use Rattle.std.specs.Prelude.{◌≡◌, ℕ, zero, suc, ◌+◌, ◌-◌, ◌*◌, ◌^◌, ◌<◌, ◌≤◌, ◌==◌, ◌++◌, max, All, Bool, List, [], filter, length, map, slice_index, count_by, nat_lt, nat_le, if◌then◌else◌}
+use Rattle.std.specs.Prelude.{◌≡◌, ℕ, zero, suc, ◌+◌, ◌-◌, ◌*◌, ◌^◌, ◌<◌, ◌≤◌, ◌==◌, ◌++◌, max, All, Bool, List, [], filter, find, length, map, slice_index, count_by, nat_lt, nat_le, unwrap_or, if◌then◌else◌}
 use Rattle.std.specs.List.{range_with_len}
 use Rattle.vers_wavelet.specs.Symbols.{Symbols}
 
@@ -18,8 +18,7 @@ starts_of symbols = map (lesser symbols.items) (range_with_len 0 (2 ^ symbols.wi
 
 -- the first of n symbols from low that has at least half of a number of elements below it, or the symbol after these
 unfoldable pub half_from : List ℕ → ℕ → ℕ → ℕ → ℕ
-half_from starts elements low zero = low
-half_from starts elements low (suc n) = if nat_le elements (2 * slice_index starts low) then low else half_from starts elements (suc low) n
+half_from starts elements low n = unwrap_or (find (λ s. nat_le elements (2 * slice_index starts s)) (range_with_len low n)) (low + n)
 
 -- of that symbol and the one before it, the one that is nearer to half
 abbrev pub nearer : List ℕ → ℕ → ℕ → ℕ
