@@ -33,7 +33,7 @@ pub use Rattle.text_index.specs.inside.Groups.{AreQueries, AsksFor, HasComeTo, H
 pub use Rattle.text_index.specs.inside.Paths.{AreLinked, HasCome, HaveCome, IsKeptPath, IsLoaded, IsNext, IsOnePath, IsWalk, NextUpTo, SteppedUpTo, led_by}
 unfoldable pub use Rattle.text_index.specs.inside.Paths.{walked, walked_on}
 pub use Rattle.text_index.specs.inside.Samples.{AreNumbers, AreSamplesOf, HoldRanks, HoldRows, IsPacked, PutRows, Walked, between, unpacked}
-pub use Rattle.text_index.specs.inside.Suffixes.{Found, IsIndexOf, StepsBack, back, column_place, is_not_after, lesser, passing, preceding, seen, text_in}
+pub use Rattle.text_index.specs.inside.Suffixes.{Found, IsIndexOf, StepsBack, back, column_place, is_not_after, lesser, passing, seen, text_in}
 unfoldable pub use Rattle.text_index.specs.inside.Suffixes.{not_above, spelled, text_of}
 pub use Rattle.vers_bits.proofs.PublicLaws.{length-packed, passes_first, select_at}
 pub use Rattle.vers_bits.specs.Bits.{is_bit, limb_count, low_bits, number, pack, part, select}
