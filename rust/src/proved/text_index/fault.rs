@@ -30,7 +30,7 @@ impl From<AllocError> for TextError {
 pub enum ColumnError {
     /// No text has this column, row of the whole text, width, step and rows of the sampled positions.
     NotAText,
-    /// The allocator refused a request.
+    /// The allocator refused a request, perhaps before it was known whether there is such a text.
     Memory,
 }
 

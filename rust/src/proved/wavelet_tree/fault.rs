@@ -7,7 +7,7 @@ use crate::rattle::AllocError;
 /// Why no tree was made from parts.
 #[derive(Clone, Copy, PartialEq, Eq, Debug)]
 pub enum PartsError {
-    /// No list of symbols of this width has these parts.
+    /// No list of fewer than 2^63 symbols of at most 16 bits has this width and these parts.
     NotAList,
     /// The allocator refused a request.
     Memory,

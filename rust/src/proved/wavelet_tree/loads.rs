@@ -18,7 +18,8 @@ impl<A: Allocator + Copy> WaveletTree<A> {
     ///
     /// # Errors
     ///
-    /// `NotAList` if no list of symbols has these parts; `Memory` if the allocator refuses a request.
+    /// `NotAList` if no list of fewer than 2^63 symbols of at most 16 bits has this width and these parts; `Memory` if
+    /// the allocator refuses a request.
     pub fn from_parts(starts: Vec<u64, A>, bits: BitVec<A>, width: u16) -> Result<Self, PartsError> {
         if !are_starts(starts.as_slice(), width) {
             return Err(PartsError::NotAList);

@@ -68,7 +68,7 @@ impl<A: Allocator + Copy> WaveletTree<A> {
         if all.start == all.end {
             return 0;
         }
-        self.descend(place, place, symbol, tally).start - all.start
+        self.descend_from(place, symbol, tally) - all.start
     }
 
     // Returns the sorted positions of all occurrences of a symbol.
@@ -92,13 +92,25 @@ impl<A: Allocator + Copy> WaveletTree<A> {
         while link < LEAVES {
             let node = self.nodes.read(link as usize, tally);
             let is_high = symbol >= u64::from(node.split);
-            let from_ones = self.bits.get_and_rank1_counted(from, tally).ones;
-            let to_ones = self.bits.get_and_rank1_counted(to, tally).ones;
-            from = node.place_below(is_high, from, from_ones);
-            to = node.place_below(is_high, to, to_ones);
+            from = node.step_below(&self.bits, is_high, from, tally);
+            to = node.step_below(&self.bits, is_high, to, tally);
             link = node.link_below(is_high);
         }
         from..to
+    }
+
+    // Returns the sorted position of the first occurrence of a symbol from `place` on. Precondition: the symbol occurs.
+    #[inline(always)]
+    fn descend_from(&self, place: usize, symbol: u64, tally: &mut Tally) -> usize {
+        let mut link = self.root;
+        let mut at = place;
+        while link < LEAVES {
+            let node = self.nodes.read(link as usize, tally);
+            let is_high = symbol >= u64::from(node.split);
+            at = node.step_below(&self.bits, is_high, at, tally);
+            link = node.link_below(is_high);
+        }
+        at
     }
 
     /// Returns the symbol at a position. Precondition: `place` is below the length.
