@@ -23,7 +23,7 @@ root_entry symbols (leaf c) nodes bits used some small stands =
     start_at symbols c (omega (arith, here, small 0 0 some)) ∙ lesser_none symbols.items c (λ k d inside. omega (arith, stands.0 k d inside))
 root_entry symbols (fork m l r) nodes bits used some small stands = refl
 
--- no fork reads nothing
+-- a walk that met no fork read nothing
 no_fork : (each old : Reads) → AddsAtMost old old (times 0 each)
 no_fork each old = search rules
 
