@@ -53,8 +53,8 @@ impl TextIndex {
         TextIndex::with_step(symbols, bits_per_symbol, DEFAULT_STEP)
     }
 
-    /// Indexes symbols, and samples every `step`-th position: finding a position takes at most `step` steps, and a smaller
-    /// `step` more memory.
+    /// Indexes symbols, and samples every `step`-th position: finding a position takes fewer than `step` steps, and a
+    /// smaller `step` more memory.
     ///
     /// # Errors
     /// `UnsupportedWidth` if `bits_per_symbol` is 0 or above 16, `SymbolTooWide` if a symbol has more bits, `ZeroStep`,
