@@ -1,12 +1,5 @@
 //! The nodes of a wavelet tree.
-ghost use Rattle.std.specs.Prelude.{◌≡◌, ◌+◌, ◌-◌, ◌^◌, ◌%◌, ◌<◌, ◌≤◌, true, false, length, IsTrue};
-ghost use Rattle.vers_bits.specs.Bits.{count};
-ghost use Rattle.vers_tally.specs.Reads.{AddsAtMost};
-ghost use Rattle.word_rank.specs.Ranks.{word_rank_reads};
-
-use std::alloc::Allocator;
-use vers_tally::tally::Tally;
-use word_rank::WordRank;
+ghost use Rattle.std.specs.Prelude.{◌≡◌, ◌+◌, ◌-◌, ◌^◌, ◌%◌, ◌≤◌, true, false, IsTrue};
 
 /// Links from this number on lead to leaves: the symbol is the rest.
 pub(crate) const LEAVES: u32 = 65_536;
@@ -36,25 +29,6 @@ impl Node {
             (place - ones, self.low)
         };
         before.wrapping_add(shift as usize)
-    }
-
-    // Returns the position of a subtree to which a position of the bits leads, by one rank. Precondition: `place` is
-    // below the length of the bits.
-    #[inline(always)]
-    pub(crate) fn step_below<A: Allocator + Copy>(
-        self,
-        bits: &WordRank<A>,
-        is_high: bool,
-        place: usize,
-        tally: &mut Tally,
-    ) -> usize
-        requires { place < length bits.now }
-        ensures high { is_high ≡ true → result ≡ (count true bits.now place + self.high) % 2 ^ 64 }
-        ensures low { is_high ≡ false → result ≡ (place - count true bits.now place + self.low) % 2 ^ 64 }
-        ensures adds { AddsAtMost tally.old tally.new word_rank_reads }
-    {
-        let ones = bits.get_and_rank1_counted(place, tally).ones;
-        self.place_below(is_high, place, ones)
     }
 
     // Returns the link to a subtree.

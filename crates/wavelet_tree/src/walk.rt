@@ -128,8 +128,10 @@ impl<A: Allocator + Copy> WaveletTree<A> {
         while link < LEAVES {
             let node = self.nodes.read(link as usize, tally);
             let is_high = symbol >= u64::from(node.split);
-            from = node.step_below(&self.bits, is_high, from, tally);
-            to = node.step_below(&self.bits, is_high, to, tally);
+            let from_ones = self.bits.get_and_rank1_counted(from, tally).ones;
+            let to_ones = self.bits.get_and_rank1_counted(to, tally).ones;
+            from = node.place_below(is_high, from, from_ones);
+            to = node.place_below(is_high, to, to_ones);
             link = node.link_below(is_high);
         }
         from..to
@@ -148,7 +150,8 @@ impl<A: Allocator + Copy> WaveletTree<A> {
         while link < LEAVES {
             let node = self.nodes.read(link as usize, tally);
             let is_high = symbol >= u64::from(node.split);
-            at = node.step_below(&self.bits, is_high, at, tally);
+            let ones = self.bits.get_and_rank1_counted(at, tally).ones;
+            at = node.place_below(is_high, at, ones);
             link = node.link_below(is_high);
         }
         at

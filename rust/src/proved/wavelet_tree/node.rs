@@ -2,10 +2,6 @@
 
 use crate::rattle::prelude::*;
 
-use crate::rattle::Allocator;
-use crate::proved::vers_tally::tally::Tally;
-use crate::proved::word_rank::WordRank;
-
 /// Links from this number on lead to leaves: the symbol is the rest.
 pub(crate) const LEAVES: u32 = 65_536;
 
@@ -30,20 +26,6 @@ impl Node {
             (place - ones, self.low)
         };
         before.wrapping_add(shift as usize)
-    }
-
-    // Returns the position of a subtree to which a position of the bits leads, by one rank. Precondition: `place` is
-    // below the length of the bits.
-    #[inline(always)]
-    pub(crate) fn step_below<A: Allocator + Copy>(
-        self,
-        bits: &WordRank<A>,
-        is_high: bool,
-        place: usize,
-        tally: &mut Tally,
-    ) -> usize {
-        let ones = bits.get_and_rank1_counted(place, tally).ones;
-        self.place_below(is_high, place, ones)
     }
 
     // Returns the link to a subtree.

@@ -1,4 +1,4 @@
-use Rattle.wavelet_tree.proofs.Names.{◌<◌, ◌^◌, false, leb, ap, subst, arith, rules, false≢true, refl, weight, tree_of, depth, sorted_place, fork_reads, Symbols, IsTreeOf, Walks, LEAVES, adds_then, within_itself, length}
+use Rattle.wavelet_tree.proofs.Names.{◌<◌, ◌^◌, true, false, leb, ap, subst, arith, rules, false≢true, count_le, weight, tree_of, depth, sorted_place, fork_reads, Symbols, IsTreeOf, Walks, LEAVES, adds_then, within_itself, length}
 use Rattle.wavelet_tree.proofs.Beginning.{walk_begins, bits_fit}
 use Rattle.wavelet_tree.proofs.Walking.{walk_on, walk_inside, walk_ends, smaller}
 use Rattle.wavelet_tree.proofs.tree.WaveletTree.descend.Given.{Over}
@@ -20,31 +20,37 @@ inside g c =
 
 on : (g : Over) (c : After-link_below-link g)
     → Walks c.self.inside.starts c.self.inside.nodes c.self.inside.bits (weight (tree_of c.args.self.now) c.args.self.now.items) false fork_reads c.args.symbol (depth (tree_of c.args.self.now) c.args.symbol)
-    (sorted_place c.args.self.now.items c.args.start c.args.symbol) (sorted_place c.args.self.now.items c.args.end c.args.symbol) c.args.tally.now c.step_below-to.new.tally
-    c.link_below-link.result c.step_below-from.result c.step_below-to.result
+    (sorted_place c.args.self.now.items c.args.start c.args.symbol) (sorted_place c.args.self.now.items c.args.end c.args.symbol) c.args.tally.now c.get_and_rank1_counted-to_ones.new.tally
+    c.link_below-link.result c.place_below-from.result c.place_below-to.result
     × (c.link_below-link.result < LEAVES → c.link_below-link.result < c.loop-link.link)
 on g c =
     let is = subst (λ (s : Symbols). IsTreeOf s c.self.inside.starts c.self.inside.nodes c.self.inside.bits c.self.inside.root c.self.inside.width c.self.inside.len) c.self.view_is c.self.invariant in
     walk_on c.self.inside.starts c.self.inside.nodes c.self.inside.bits (weight (tree_of c.args.self.now) c.args.self.now.items) (bits_fit is)
     false fork_reads c.args.symbol _ _ _ c.args.tally.now c.loop-link-test.true c.loop-link.invariant (record {
       read = c.read-node.ensures.value;
-      ranked_a = refl;
-      ranked_b = refl;
+      ranked_a = c.get_and_rank1_counted-from_ones.ensures.ones;
+      ranked_b = c.get_and_rank1_counted-to_ones.ensures.ones;
       side = ap (λ n. leb n c.args.symbol) c.from.ensures;
-      high_a = c.step_below-from.ensures.high;
-      low_a = c.step_below-from.ensures.low;
-      high_b = c.step_below-to.ensures.high;
-      low_b = c.step_below-to.ensures.low;
+      high_a = c.place_below-from.ensures.high;
+      low_a = c.place_below-from.ensures.low;
+      high_b = c.place_below-to.ensures.high;
+      low_b = c.place_below-to.ensures.low;
       high_link = c.link_below-link.ensures.high;
       low_link = c.link_below-link.ensures.low;
-      adds = adds_then (adds_then c.read-node.ensures.adds c.step_below-from.ensures.adds (within_itself _)) c.step_below-to.ensures.adds (search rules);
+      adds = adds_then (adds_then c.read-node.ensures.adds c.get_and_rank1_counted-from_ones.ensures.adds (within_itself _)) c.get_and_rank1_counted-to_ones.ensures.adds (search rules);
     })
 
-pub step_below-from-requires : goal.step_below-from-requires
-step_below-from-requires g c = (inside g (goal.at.step_below-from-requires g c).After-read-node).0
+pub get_and_rank1_counted-from_ones-requires : goal.get_and_rank1_counted-from_ones-requires
+get_and_rank1_counted-from_ones-requires g c = (inside g (goal.at.get_and_rank1_counted-from_ones-requires g c).After-read-node).0
 
-pub step_below-to-requires : goal.step_below-to-requires
-step_below-to-requires g c = (inside g (goal.at.step_below-to-requires g c).After-read-node).1
+pub get_and_rank1_counted-to_ones-requires : goal.get_and_rank1_counted-to_ones-requires
+get_and_rank1_counted-to_ones-requires g c = (inside g (goal.at.get_and_rank1_counted-to_ones-requires g c).After-read-node).1
+
+pub place_below-from-requires : goal.place_below-from-requires
+place_below-from-requires g c = omega (arith, c.get_and_rank1_counted-from_ones.ensures.ones, (count_le true c.self.inside.bits c.loop-link.from).0)
+
+pub place_below-to-requires : goal.place_below-to-requires
+place_below-to-requires g c = omega (arith, c.get_and_rank1_counted-to_ones.ensures.ones, (count_le true c.self.inside.bits c.loop-link.to).0)
 
 pub loop-link-smaller : goal.loop-link-smaller
 loop-link-smaller g c = smaller _ _ c.loop-link-test.true (on g (goal.at.loop-link-smaller g c).After-link_below-link).1
