@@ -34,7 +34,7 @@ pub(crate) trait Walk {
 }
 
 macro_rules! walks {
-    ($ends:ident, $source:path, $item:ty, |$found:ident| $told:expr) => {
+    ($ends:ident, $source:path, $item:ty, |$found:ident| $answer:expr) => {
         impl<S: $source> Walk for $ends<S> {
             type Item = $item;
 
@@ -46,25 +46,25 @@ macro_rules! walks {
             #[inline(always)]
             fn first(&mut self) -> Option<$item> {
                 let $found = self.next();
-                $told
+                $answer
             }
 
             #[inline(always)]
             fn last(&mut self) -> Option<$item> {
                 let $found = self.next_back();
-                $told
+                $answer
             }
 
             #[inline(always)]
             fn after(&mut self, n: usize) -> Option<$item> {
                 let $found = $ends::nth(self, n);
-                $told
+                $answer
             }
 
             #[inline(always)]
             fn before(&mut self, n: usize) -> Option<$item> {
                 let $found = $ends::nth_back(self, n);
-                $told
+                $answer
             }
         }
     };

@@ -37,16 +37,16 @@ const SHARED: u32 = 7;
 const CODES: u32 = 60;
 
 /// A status and a number.
-type Told = (u32, u64);
+type Expected = (u32, u64);
 
 /// What a structure answers to a query with three numbers.
-type Model = dyn Fn(u32, u64, u64, u64) -> Told;
+type Model = dyn Fn(u32, u64, u64, u64) -> Expected;
 
-fn found(number: u64) -> Told {
+fn found(number: u64) -> Expected {
     (DONE, number)
 }
 
-fn found_if(number: Option<u64>) -> Told {
+fn found_if(number: Option<u64>) -> Expected {
     number.map_or((ABSENT, 0), found)
 }
 
@@ -77,14 +77,14 @@ fn refused(status: u32, build: impl Fn(&mut VersHandle) -> u32) {
     assert!(!handle.is_built);
 }
 
-fn ask(handle: &mut VersHandle, code: u32, a: u64, b: u64, c: u64) -> Told {
+fn ask(handle: &mut VersHandle, code: u32, a: u64, b: u64, c: u64) -> Expected {
     let answer = vers_ask(Global, handle, code, a, b, c);
     (answer.status, answer.value)
 }
 
-fn number_or(told: Told, other: u64) -> u64 {
-    if told.0 == DONE {
-        told.1
+fn number_or(expected: Expected, other: u64) -> u64 {
+    if expected.0 == DONE {
+        expected.1
     } else {
         other
     }
@@ -96,11 +96,11 @@ fn compare(handle: &mut VersHandle, model: &Model, numbers: &[u64]) {
         let status = if model(code, 0, 0, 0).0 == UNKNOWN { UNKNOWN } else { DONE };
         let (mut rows, mut wanted) = (vec![], vec![]);
         for (b, c) in numbers.iter().flat_map(|b| numbers.iter().map(|c| (*b, *c))) {
-            let told: Vec<Told> = numbers.iter().map(|a| model(code, *a, b, c)).collect();
-            for (a, told) in numbers.iter().zip(&told) {
-                assert_eq!(ask(handle, code, *a, b, c), *told, "query {code} of {a} {b} {c}");
+            let expected: Vec<Expected> = numbers.iter().map(|a| model(code, *a, b, c)).collect();
+            for (a, expected) in numbers.iter().zip(&expected) {
+                assert_eq!(ask(handle, code, *a, b, c), *expected, "query {code} of {a} {b} {c}");
                 rows.push(Ask { a: *a, b, c });
-                wanted.push(if status == DONE { number_or(*told, 77) } else { *a });
+                wanted.push(if status == DONE { number_or(*expected, 77) } else { *a });
             }
             let mut each: Vec<usize> = numbers.iter().map(|it| *it as usize).collect();
             assert_eq!(vers_ask_each(Global, handle, code, &mut each, b, c, 77), status);
@@ -195,7 +195,7 @@ fn select(bits: &[bool], bit: bool, number: u64) -> u64 {
 }
 
 /// What lists of bits answer: which has selects of zeros, which parts as numbers, and whether an empty part is one.
-fn bits_model(bits: Vec<bool>, heap: u64, kind: u32) -> impl Fn(u32, u64, u64, u64) -> Told {
+fn bits_model(bits: Vec<bool>, heap: u64, kind: u32) -> impl Fn(u32, u64, u64, u64) -> Expected {
     let (is_growing, is_sparse) = (kind == 0, kind == 2);
     move |code, a, b, _| match code {
         0 => found(bits.len() as u64),
@@ -458,7 +458,7 @@ fn inverted_indexes_answer_as_their_lists() {
 }
 
 /// What plain numbers answer.
-fn numbers_model(numbers: Vec<u64>) -> impl Fn(u32, u64, u64, u64) -> Told {
+fn numbers_model(numbers: Vec<u64>) -> impl Fn(u32, u64, u64, u64) -> Expected {
     move |code, a, _, _| match code {
         0 => found(numbers.len() as u64),
         1 => found_if(item(&numbers, a)),
@@ -577,7 +577,7 @@ fn excess(bits: &[bool], at: usize) -> i128 {
 }
 
 /// What parentheses answer that need not be balanced.
-fn any_tree_told(bits: &[bool], code: u32, a: u64, b: u64) -> Told {
+fn any_tree_told(bits: &[bool], code: u32, a: u64, b: u64) -> Expected {
     let at = usize::try_from(a).ok().filter(|it| *it < bits.len());
     let after =
         |rise: i128| at.and_then(|i| (i + 1..bits.len()).find(|j| excess(bits, j + 1) == excess(bits, i + 1) + rise));
@@ -596,7 +596,7 @@ fn any_tree_told(bits: &[bool], code: u32, a: u64, b: u64) -> Told {
 }
 
 /// What a node of a forest answers.
-fn node_told(nodes: &[Node], node: Node, code: u32, b: u64) -> Told {
+fn node_told(nodes: &[Node], node: Node, code: u32, b: u64) -> Expected {
     let opens = |it: &Node| it.open as u64;
     let is_in = |it: &&Node| node.open <= it.open && it.close <= node.close;
     let is_sibling = |it: &&Node| it.parent == node.parent;
@@ -632,7 +632,7 @@ fn node_told(nodes: &[Node], node: Node, code: u32, b: u64) -> Told {
     }
 }
 
-fn tree_model(bits: Vec<bool>, heap: u64) -> impl Fn(u32, u64, u64, u64) -> Told {
+fn tree_model(bits: Vec<bool>, heap: u64) -> impl Fn(u32, u64, u64, u64) -> Expected {
     let nodes = nodes_of(&bits);
     move |code, a, b, _| {
         let at = |a: u64| nodes.as_ref().and_then(|all| all.iter().find(|it| it.open as u64 == a)).copied();

@@ -36,7 +36,7 @@ const FILES: [&str; 2] = [
 ];
 
 /// Whether a read is in such a file, in a line with a text.
-fn stands(read: &Read, file: &str, of: &str, text: &str) -> bool {
+fn is_in_line(read: &Read, file: &str, of: &str, text: &str) -> bool {
     let line = of.lines().nth(read.at.line() as usize - 1).unwrap_or_default();
     read.at.file().ends_with(file) && line.contains(text)
 }
@@ -117,13 +117,13 @@ impl Book {
         if let Some(kind) = self.lines.get(&at) {
             return *kind;
         }
-        let tally = |text| stands(read, "vers_tally/tally.rs", FILES[0], text);
+        let tally = |text| is_in_line(read, "vers_tally/tally.rs", FILES[0], text);
         let kind = match read.of {
             "u16" if tally("self.entries") => Kind::Blocks,
             "u64" if tally("self.numbers[k]") => Kind::Items,
             "u64" if tally("self.entries[k]") => Kind::Superblocks,
-            "u64" if stands(read, "vers_bits/bit_vec.rs", FILES[1], "self.data") => Kind::Words,
-            "u64" if stands(read, "vers_bits/bit_vec.rs", FILES[1], "blocks.get(k)") => Kind::Words,
+            "u64" if is_in_line(read, "vers_bits/bit_vec.rs", FILES[1], "self.data") => Kind::Words,
+            "u64" if is_in_line(read, "vers_bits/bit_vec.rs", FILES[1], "blocks.get(k)") => Kind::Words,
             it if tally("self.entries[k]") && it.contains("::Node") => Kind::Nodes,
             _ => Kind::Wrong,
         };
@@ -177,7 +177,7 @@ impl Book {
             seen[Kind::Wrong as usize] += 1;
             wrong = "all entries handed out".to_string();
         }
-        let told = [
+        let counted = [
             tally.data_words() + self.low * tally.low_parts(),
             tally.block_entries(),
             tally.superblock_entries(),
@@ -207,19 +207,19 @@ impl Book {
         for (it, n) in left_out {
             *row.left_out.entry(it).or_default() += n;
         }
-        let differences = || seen.iter().zip(told).map(|(seen, told)| *seen as i64 - told as i64);
+        let differences = || seen.iter().zip(counted).map(|(seen, counted)| *seen as i64 - counted as i64);
         row.most = row.most.max(differences().max().unwrap());
         row.least = row.least.min(differences().min().unwrap());
         row.more += u64::from(differences().any(|it| it > 0));
         row.less += u64::from(differences().any(|it| it < 0));
-        if seen != told && row.first.is_empty() {
-            row.first = format!("{}: read {seen:?}, told {told:?} {wrong}", about());
+        if seen != counted && row.first.is_empty() {
+            row.first = format!("{}: read {seen:?}, counted {counted:?} {wrong}", about());
         }
         answer
     }
 
     /// Prints the rows, and returns the names of those that differ.
-    fn told(&self) -> Plain<String> {
+    fn faults(&self) -> Plain<String> {
         for (name, it) in &self.rows {
             let (more, less) = (format!("{} (+{})", it.more, it.most), format!("{} ({})", it.less, it.least));
             println!(
@@ -410,7 +410,7 @@ fn reads_of_bits_are_counted() {
             walked!(book, "RsVec into_iter1", about.clone(), list.into_iter1());
         }
     }
-    assert_eq!(book.told(), [""; 0]);
+    assert_eq!(book.faults(), [""; 0]);
 }
 
 #[test]
@@ -428,7 +428,7 @@ fn reads_of_counted_words_are_counted() {
             }
         }
     }
-    assert_eq!(book.told(), [""; 0]);
+    assert_eq!(book.faults(), [""; 0]);
 }
 
 fn members(n: usize, step: u64, kind: usize) -> Plain<u64> {
@@ -546,7 +546,7 @@ fn reads_of_sorted_lists_are_counted() {
             walked!(book, "SparseRSVec iter1", about, sparse.iter1());
         }
     }
-    assert_eq!(book.told(), [""; 0]);
+    assert_eq!(book.faults(), [""; 0]);
 }
 
 #[test]
@@ -676,7 +676,7 @@ fn reads_of_symbols_are_counted() {
             }
         }
     }
-    assert_eq!(book.told(), [""; 0]);
+    assert_eq!(book.faults(), [""; 0]);
 }
 
 #[test]
@@ -735,7 +735,7 @@ fn reads_of_range_minima_and_documents_are_counted() {
             }
         }
     }
-    assert_eq!(book.told(), [""; 0]);
+    assert_eq!(book.faults(), [""; 0]);
 }
 
 /// A number of a text's samples is a low part of at least one bit, so it takes two words.
@@ -789,7 +789,7 @@ fn reads_of_texts_are_counted() {
             }
         }
     }
-    assert_eq!(book.told(), [""; 0]);
+    assert_eq!(book.faults(), [""; 0]);
 }
 
 /// Balanced parentheses of some shapes, or any bits.
@@ -897,5 +897,5 @@ fn reads_of_trees_are_counted() {
             ask_tree::<512>(&mut book, n, kind);
         }
     }
-    assert_eq!(book.told(), [""; 0]);
+    assert_eq!(book.faults(), [""; 0]);
 }

@@ -10,7 +10,7 @@ fn bits(random: &mut Random, length: usize, share: u64) -> Vec<u64> {
     (0..length).map(|_| (random.below(share) == 0).into()).collect()
 }
 
-/// The places where a bit stands.
+/// Returns the positions of a bit.
 fn places(bits: &[u64], bit: u64) -> Vec<usize> {
     (0..bits.len()).filter(|&place| bits[place] == bit).collect()
 }
