@@ -5,6 +5,7 @@ use Rattle.vers_c.specs.declared.change.Change.{Change}
 use Rattle.vers_c.specs.declared.change.Change.TheVariants.{Push, Append, Set, DropLast}
 use Rattle.vers_c.specs.declared.change.TheConstants.{CHANGES}
 use Rattle.catalogue.specs.Structures.{Content, GrowingBits}
+use Rattle.vers_c.specs.declared.status.TheConstants.{DONE, REFUSED, UNKNOWN, VACANT}
 
 -- the list after a change with two numbers, unless these are refused
 abbrev pub bits_changed : List Bool → Change → ℕ → ℕ → Option (List Bool)
@@ -34,13 +35,13 @@ contents_changed (Some held) code a b = option_map Some (changed_by_code held co
 
 -- the status of numbers of a change, which are refused or not
 abbrev pub numbers_status : Option (List Bool) → ℕ
-numbers_status None = 4
-numbers_status (Some bits) = 0
+numbers_status None = REFUSED
+numbers_status (Some bits) = DONE
 
 -- the status of a change, if there is one: only lists of bits that can change have some
 abbrev pub change_status : Content → Option Change → ℕ → ℕ → ℕ
 change_status (GrowingBits bits) (Some change) a b = numbers_status (bits_changed bits change a b)
-change_status held change a b = 2
+change_status held change a b = UNKNOWN
 
 -- the status of the change of a code
 abbrev pub coded_status : Content → ℕ → ℕ → ℕ → ℕ
@@ -48,10 +49,10 @@ coded_status held code a b = change_status held (slice_get CHANGES code) a b
 
 -- the same for a handle, which may be empty
 abbrev pub changed_status : Option Content → ℕ → ℕ → ℕ → ℕ
-changed_status None code a b = 3
+changed_status None code a b = VACANT
 changed_status (Some held) code a b = coded_status held code a b
 
 -- the change was made if the status is 0, otherwise nothing changed
 pub record IsChanged {X : Type 0} (wanted : Option X) (before after : X) (status : ℕ) : Type 0 where
-  pub done : status ≡ 0 → wanted ≡ Some after
-  pub left : status ≢ 0 → after ≡ before
+  pub done : status ≡ DONE → wanted ≡ Some after
+  pub left : status ≢ DONE → after ≡ before

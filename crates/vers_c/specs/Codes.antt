@@ -8,6 +8,7 @@ use Rattle.catalogue.specs.declared.query.Query.{Query}
 use Rattle.catalogue.specs.declared.query.TheConstants.{QUERIES}
 use Rattle.vers_c.specs.declared.answer.VersAnswer.{VersAnswer}
 use Rattle.vers_c.specs.Answers.{as_vers_answer, vacant}
+use Rattle.vers_c.specs.declared.status.TheConstants.{DONE, UNKNOWN, VACANT}
 
 -- the query of a code, which is its index in the table, unless there is none
 abbrev pub query_of : ℕ → Option Query
@@ -39,9 +40,9 @@ batch_answer (Some held) code a b c = coded_answer held code a b c
 
 -- the status of a batch: whether the structure has such a query
 abbrev pub batch_status : Content → ℕ → ℕ
-batch_status held code = if is_known (coded_answer held code 0 0 0) then 0 else 2
+batch_status held code = if is_known (coded_answer held code 0 0 0) then DONE else UNKNOWN
 
 -- the same for a handle, which may be empty
 abbrev pub contents_status : Option Content → ℕ → ℕ
-contents_status None code = 3
+contents_status None code = VACANT
 contents_status (Some held) code = batch_status held code

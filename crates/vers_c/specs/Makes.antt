@@ -9,6 +9,7 @@ use Rattle.vers_sorted.specs.Sorted.{each_next}
 use Rattle.vers_wavelet.specs.Makers.{low_symbols}
 use Rattle.vers_c.specs.Answers.{IsReportedAs}
 use Rattle.catalogue.specs.Structures.{Content, SparseBits, SortedMembers, SymbolList, Documents, DocumentLists}
+use Rattle.vers_c.specs.declared.status.TheConstants.{DONE, OCCUPIED, REFUSED, VACANT}
 
 -- of numbers, which have to ascend
 abbrev pub sorted_made : List ℕ → Option Content
@@ -44,24 +45,24 @@ inverted_made limit universe terms documents =
 
 -- the status of a build: for a handle that is not empty, and for what can't be made
 abbrev pub made_status : Option Content → Option Content → ℕ
-made_status (Some held) wanted = 5
-made_status None None = 4
-made_status None (Some made) = 0
+made_status (Some held) wanted = OCCUPIED
+made_status None None = REFUSED
+made_status None (Some made) = DONE
 
 -- the handle has the new structure if the status is 0, otherwise it is unchanged
 pub record IsMade (wanted before after : Option Content) (status : ℕ) : Type 0 where
-  pub made : status ≡ 0 → after ≡ wanted
-  pub left : status ≢ 0 → after ≡ before
+  pub made : status ≡ DONE → after ≡ wanted
+  pub left : status ≢ DONE → after ≡ before
   pub reported : IsReportedAs (made_status before wanted) status
 
 -- the status of sharing the structure of a handle with another handle
 abbrev pub shared_status : Option Content → Option Content → ℕ
-shared_status None before = 3
-shared_status (Some held) (Some other) = 5
-shared_status (Some held) None = 0
+shared_status None before = VACANT
+shared_status (Some held) (Some other) = OCCUPIED
+shared_status (Some held) None = DONE
 
 -- the other handle has the same structure if the status is 0, otherwise it is unchanged
 pub record IsShared (held before after : Option Content) (status : ℕ) : Type 0 where
-  pub made : status ≡ 0 → after ≡ held
-  pub left : status ≢ 0 → after ≡ before
+  pub made : status ≡ DONE → after ≡ held
+  pub left : status ≢ DONE → after ≡ before
   pub reported : IsReportedAs (shared_status held before) status

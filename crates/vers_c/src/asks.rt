@@ -95,7 +95,8 @@ pub extern "C" fn vers_ask_rows(
     status
 }
 
-/// Changes the handle's structure if it has no other owner. Returns a status.
+/// Changes the handle's structure if it has no other owner. Returns a status: `SHARED` if there is another owner. The
+/// contract doesn't count owners, so it allows `SHARED` for each handle with a structure.
 #[unsafe(no_mangle)]
 pub extern "C" fn vers_change(
     alloc: Global,

@@ -69,7 +69,8 @@ pub fn vers_ask_rows(
     status
 }
 
-/// Changes the handle's structure if it has no other owner. Returns a status.
+/// Changes the handle's structure if it has no other owner. Returns a status: `SHARED` if there is another owner. The
+/// contract doesn't count owners, so it allows `SHARED` for each handle with a structure.
 pub fn vers_change(
     alloc: Global,
     handle: &mut VersHandle,
