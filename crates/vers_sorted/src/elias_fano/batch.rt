@@ -8,6 +8,7 @@ ghost use Rattle.vers_sorted.specs.Layout.{high_place, member_reads, search_read
 ghost use Rattle.vers_sorted.specs.inside.Begun.{IsBegun, IsInside};
 
 use super::EliasFanoVec;
+use super::iter::Members;
 use std::alloc::Allocator;
 use vers_tally::tally::Tally;
 
@@ -25,6 +26,20 @@ fn ask_each(places: &[Option<u64>], from: usize, n: usize, ones: &mut [usize; GR
 {
     for j in 0..n {
         ones[j] = places[from + j].unwrap_or(u64::MAX) as usize;
+    }
+}
+
+// Returns true if the last of `n` positions is n - 1 past the first, as in a run.
+#[inline(always)]
+fn is_run(places: &[Option<u64>], from: usize, n: usize) -> bool
+    requires { from + n ≤ length places.now }
+{
+    if n < 2 {
+        return false;
+    }
+    match (places[from], places[from + n - 1]) {
+        (Some(first), Some(last)) => last.wrapping_sub(first) == (n - 1) as u64,
+        _ => false,
     }
 }
 
@@ -56,7 +71,8 @@ impl<A: Allocator + Copy> EliasFanoVec<A> {
         }
     }
 
-    // Replaces each of `n` positions by the member there: all selects first, level by level.
+    // Replaces each of `n` positions by the member there: in turn if they are a run, otherwise all selects first, level
+    // by level.
     #[inline(always)]
     fn get_group(&self, places: &mut [Option<u64>], from: usize, n: usize, tally: &mut Tally)
         requires within { from + n ≤ length places.old }
@@ -65,11 +81,28 @@ impl<A: Allocator + Copy> EliasFanoVec<A> {
             from n places.old places.new }
         ensures adds { AddsAtMost tally.old tally.new (times n (member_reads self.now)) }
     {
+        if is_run(places, from, n) {
+            self.get_in_turn(places, from, n, tally);
+            return;
+        }
         let _ = &self.len;
         let mut ones = [0; GROUP];
         ask_each(places, from, n, &mut ones);
         self.high.select1_each_counted(&mut ones[..n], tally);
         self.members_each(places, from, n, &ones, tally);
+    }
+
+    // Replaces each of `n` positions by the member there, as an iterator reads them.
+    fn get_in_turn(&self, places: &mut [Option<u64>], from: usize, n: usize, tally: &mut Tally)
+        requires { from + n ≤ length places.old }
+        ensures value { Changed None (λ place m. m ≡ option_and_then (slice_get self.now) place)
+            from n places.old places.new }
+        ensures adds { AddsAtMost tally.old tally.new (times n (member_reads self.now)) }
+    {
+        let mut members = Members::new(self);
+        for j in 0..n {
+            places[from + j] = members.get(places[from + j], tally);
+        }
     }
 
     // Replaces each of `n` positions by the member there, by the position of its one.

@@ -1,6 +1,7 @@
 //! Iterators over the members of an ascending list.
-ghost use Rattle.std.specs.Prelude.{◌≡◌, ℕ, List};
+ghost use Rattle.std.specs.Prelude.{◌≡◌, ℕ, List, option_and_then, slice_get};
 ghost use Rattle.std.specs.List.Sorted.{IsNonDecreasing};
+ghost use Rattle.vers_tally.specs.Reads.{AddsAtMost};
 ghost use Rattle.vers_sorted.specs.Layout.{member_reads};
 
 use super::EliasFanoVec;
@@ -64,7 +65,8 @@ impl<L: Sorted> Model for Members<L> {
 }
 
 impl<L: Sorted> Members<L> {
-    fn new(list: L) -> Self
+    // Returns the members of a list, of which nothing is read ahead.
+    pub(super) fn new(list: L) -> Self
         ensures { result ≡ L.members list }
     {
         Members {
@@ -72,6 +74,20 @@ impl<L: Sorted> Members<L> {
             next: 0,
             ahead: Ahead::none(),
         }
+    }
+
+    // Returns the member at a position, if there is one. It is read fastest at the position after the last one.
+    #[inline(always)]
+    pub(super) fn get(&mut self, place: Option<u64>, tally: &mut Tally) -> Option<u64>
+        ensures value { result ≡ option_and_then (slice_get self.old) place }
+        ensures same { self.new ≡ self.old }
+        ensures adds { AddsAtMost tally.old tally.new (member_reads self.old) }
+    {
+        let i = place? as usize;
+        if i >= self.count_items() {
+            return None;
+        }
+        Some(self.item_at(i, tally))
     }
 }
 

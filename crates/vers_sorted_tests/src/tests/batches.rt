@@ -71,6 +71,42 @@ fn is_right<A: Allocator + Copy>(list: &EliasFanoVec<A>, n: usize) -> bool {
     })
 }
 
+// Returns true if `n` positions from one on, with the one in the middle replaced, are answered as single calls do.
+fn is_run_right<A: Allocator + Copy>(
+    list: &EliasFanoVec<A>,
+    first: u64,
+    n: usize,
+    middle: Option<u64>,
+) -> bool {
+    let mut places = [None; MOST];
+    for (i, place) in places.iter_mut().enumerate() {
+        *place = Some(first.wrapping_add(i as u64));
+    }
+    if n > 2 && n <= MOST {
+        places[n / 2] = middle;
+    }
+    let mut members = places;
+    if n <= MOST {
+        list.get_each(&mut members[..n]);
+    }
+    members.iter().zip(&places).enumerate().all(|(i, (member, place))| match place {
+        Some(place) if i < n => *member == list.get(*place as usize),
+        _ => *member == *place,
+    })
+}
+
+// Returns true if runs of positions are answered as single calls do, from the first one, from a later one, past the
+// end and around the greatest number; with a position in the middle that is no next one.
+fn are_runs_right<A: Allocator + Copy>(list: &EliasFanoVec<A>) -> bool {
+    [0, 2, 7, u64::MAX - 5].iter().all(|first| {
+        [1, 2, 12, 64, 65, 130].iter().all(|n| {
+            is_run_right(list, *first, *n, Some(first.wrapping_add((*n / 2) as u64)))
+                && is_run_right(list, *first, *n, Some(1))
+                && is_run_right(list, *first, *n, None)
+        })
+    })
+}
+
 // Returns number `i` of a batch: below, among and above the members, in no order.
 fn number_at(i: usize) -> u64 {
     (i as u64).wrapping_mul(389) % 1000
@@ -143,5 +179,14 @@ fn batches_of_crowded_members(rt: HostRuntime) -> Result<(), Fail> {
     members[98] = 501;
     members[99] = u64::MAX;
     assert!(rt; asked(list_of(rt.alloc(), &members), |list| are_right(list))?);
+    assert!(rt; asked(list_of(rt.alloc(), &members), |list| are_runs_right(list))?);
+    Ok(())
+}
+
+#[test]
+fn runs_of_positions(rt: HostRuntime) -> Result<(), Fail> {
+    let members = [3, 3, 8, 20, 21, 22, 300, 301, 500, 900, 901, 902, 903];
+    assert!(rt; asked(list_of(rt.alloc(), &members), |list| are_runs_right(list))?);
+    assert!(rt; asked(list_of(rt.alloc(), &[]), |list| are_runs_right(list))?);
     Ok(())
 }

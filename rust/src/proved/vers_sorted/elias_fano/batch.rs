@@ -3,6 +3,7 @@
 use crate::rattle::prelude::*;
 
 use super::EliasFanoVec;
+use super::iter::Members;
 use crate::rattle::Allocator;
 use crate::proved::vers_tally::tally::Tally;
 
@@ -15,6 +16,18 @@ pub(super) const GROUP: usize = 64;
 fn ask_each(places: &[Option<u64>], from: usize, n: usize, ones: &mut [usize; GROUP]) {
     for j in 0..n {
         ones[j] = places[from + j].unwrap_or(u64::MAX) as usize;
+    }
+}
+
+// Returns true if the last of `n` positions is n - 1 past the first, as in a run.
+#[inline(always)]
+fn is_run(places: &[Option<u64>], from: usize, n: usize) -> bool {
+    if n < 2 {
+        return false;
+    }
+    match (places[from], places[from + n - 1]) {
+        (Some(first), Some(last)) => last.wrapping_sub(first) == (n - 1) as u64,
+        _ => false,
     }
 }
 
@@ -38,14 +51,27 @@ impl<A: Allocator + Copy> EliasFanoVec<A> {
         }
     }
 
-    // Replaces each of `n` positions by the member there: all selects first, level by level.
+    // Replaces each of `n` positions by the member there: in turn if they are a run, otherwise all selects first, level
+    // by level.
     #[inline(always)]
     fn get_group(&self, places: &mut [Option<u64>], from: usize, n: usize, tally: &mut Tally) {
+        if is_run(places, from, n) {
+            self.get_in_turn(places, from, n, tally);
+            return;
+        }
         let _ = &self.len;
         let mut ones = [0; GROUP];
         ask_each(places, from, n, &mut ones);
         self.high.select1_each_counted(&mut ones[..n], tally);
         self.members_each(places, from, n, &ones, tally);
+    }
+
+    // Replaces each of `n` positions by the member there, as an iterator reads them.
+    fn get_in_turn(&self, places: &mut [Option<u64>], from: usize, n: usize, tally: &mut Tally) {
+        let mut members = Members::new(self);
+        for j in 0..n {
+            places[from + j] = members.get(places[from + j], tally);
+        }
     }
 
     // Replaces each of `n` positions by the member there, by the position of its one.

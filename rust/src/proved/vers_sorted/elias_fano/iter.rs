@@ -44,12 +44,23 @@ pub struct Members<L: Sorted> {
 }
 
 impl<L: Sorted> Members<L> {
-    fn new(list: L) -> Self {
+    // Returns the members of a list, of which nothing is read ahead.
+    pub(super) fn new(list: L) -> Self {
         Members {
             list,
             next: 0,
             ahead: Ahead::none(),
         }
+    }
+
+    // Returns the member at a position, if there is one. It is read fastest at the position after the last one.
+    #[inline(always)]
+    pub(super) fn get(&mut self, place: Option<u64>, tally: &mut Tally) -> Option<u64> {
+        let i = place? as usize;
+        if i >= self.count_items() {
+            return None;
+        }
+        Some(self.item_at(i, tally))
     }
 }
 
