@@ -1,19 +1,18 @@
 -- What a search has found so far.
 use Rattle.std.proofs.Common.{◌≡◌, ℕ, ◌+◌, ◌-◌, ◌*◌, ◌<◌, ◌≤◌, Bool, true, false, List, [], ◌∷◌, ◌++◌, length, get_or, refl, sym, ap, ◌∙◌, arith, inl, inr, Some, None, Option, subst, length-append}
-use Rattle.std.specs.Prelude.{◌==◌}
 use Rattle.std.specs.List.Sorted.{IsNonDecreasing, IsStrictlyIncreasing}
 use Rattle.std.proofs.lemmas.Map.Keys.{non_decreasing_from_sorted, sorted_from_strictly_increasing}
 use Rattle.std.proofs.lemmas.Bool.{cases_lt, ne_eqb}
 use Rattle.std.proofs.lemmas.Option.{none-some}
-use Rattle.std.proofs.lemmas.List.Folds.{list_any-append}
 use Rattle.std.proofs.Math.ListN.{get_or-append}
 use Rattle.std.proofs.Math.Bool.{or-false}
 use Rattle.std.proofs.Math.Nat.{mul-le-mul_right}
 use Rattle.vers_tally.specs.Reads.{AddsAtMost, IsWithin, Reads, plus, times}
-use Rattle.vers_tally.proofs.PublicLaws.{adds_then, adds_weaker}
-use Rattle.sets.specs.Sets.{is_member, IsSetOf}
-use Rattle.sets.specs.Steps.{HasNone, HasNoMore, IsAfter, IsNext, IsPast, IsWalked, Rises}
-use Rattle.sets.proofs.Lists.{member_at, not_member}
+use Rattle.vers_tally.proofs.PublicLaws.{adds_nothing, adds_then, adds_weaker}
+use Rattle.sets.specs.Sets.{IsSetOf}
+use Rattle.vers_sorted.specs.Sorted.{is_member}
+use Rattle.sets.specs.Steps.{HasNone, HasNoMore, IsAfter, IsNext, IsPast, IsWalked, Rises, Searched, steps_taken}
+use Rattle.vers_sorted.proofs.PublicLaws.{member_at, member_more, not_member}
 
 -- the numbers below `at` of which the test holds were found
 pub record IsFoundBelow (has : ℕ → Bool) (at : ℕ) (found : List ℕ) : Type 0 where
@@ -62,11 +61,10 @@ before_last : (xs : List ℕ) (x i : ℕ) → i < length xs → get_or (xs ++ x 
 before_last xs x i inside = get_or-append xs (x ∷ []) 0 i inside
 
 member_last : (xs : List ℕ) (x : ℕ) → is_member (xs ++ x ∷ []) x ≡ true
-member_last xs x = member_at (xs ++ x ∷ []) (length xs) x (simp length-append (omega arith)) (last_of xs x)
+member_last xs x = member_at (xs ++ x ∷ []) x (length xs) (simp length-append (omega arith)) (last_of xs x)
 
 member_before : (xs : List ℕ) (x y : ℕ) → (x ≡ y → ⊥) → is_member (xs ++ x ∷ []) y ≡ is_member xs y
-unfolding is_member
-member_before xs x y apart = list_any-append (λ m. m == y) xs (x ∷ []) ∙ rw (ne_eqb x y apart) (or-false (is_member xs y))
+member_before xs x y apart = member_more xs x y ∙ rw (ne_eqb x y apart) (or-false (is_member xs y))
 
 pub found_one : (has : ℕ → Bool) (x : ℕ) (found : List ℕ) → IsFoundBelow has x found → has x ≡ true → IsFoundBelow has (x + 1) (found ++ x ∷ [])
 found_one has x found before there =
@@ -97,17 +95,33 @@ abbrev pub IsSoFar : (ℕ → Bool) → Option ℕ → List ℕ → Type 0
 IsSoFar has (Some at) found = IsFoundBelow has at found
 IsSoFar has None found = IsSetOf has found
 
--- how many steps it took at most
-abbrev pub steps_so_far : (ℕ → ℕ) → ℕ → Option ℕ → ℕ
-steps_so_far passed most (Some at) = passed at
-steps_so_far passed most None = most + 1
+-- the three answers of a step
+module _ (has : ℕ → Bool) (at : ℕ) (from : Option ℕ) (found : List ℕ) (is : from ≡ Some at) (before : IsSoFar has from found) where
+  found_before : IsFoundBelow has at found
+  found_before = subst (λ (f : Option ℕ). IsSoFar has f found) is before
+
+  pub so_far_past : (x : ℕ) → IsPast has at x → IsFoundBelow has x found
+  so_far_past x past = let from_at : at ≤ x = omega (arith, past.from) in found_past has at x found found_before from_at past.none
+
+  pub so_far_end : HasNoMore has at → IsSetOf has found
+  so_far_end none = found_all has at found found_before none
+
+  pub so_far_found : (x : ℕ) (next : Option ℕ) (more : List ℕ) → IsNext has at x → more ≡ found ++ x ∷ [] → IsAfter x next → IsSoFar has next more
+  so_far_found x next more there grown after =
+      goes_on next after (rw grown (found_one has x found (found_past has at x found found_before there.from there.none) there.there))
+    where
+      goes_on : (next : Option ℕ) → IsAfter x next → IsFoundBelow has (x + 1) more → IsSoFar has next more
+      goes_on (Some n) same now = subst (λ m. IsFoundBelow has m more) (sym same) now
+      goes_on None last now = found_all has (x + 1) more now (there.most last)
 
 -- how many numbers of 64 bits are left
 abbrev pub left_of : Option ℕ → ℕ
 left_of (Some at) = 18446744073709551616 - at
 left_of None = 0
 
-pub more_steps : (k n x : ℕ) → k + 1 ≤ n → k * x + x ≤ n * x
+-- ---- the reads
+
+more_steps : (k n x : ℕ) → k + 1 ≤ n → k * x + x ≤ n * x
 more_steps k n x more = let grown : (k + 1) * x ≤ n * x = mul-le-mul_right x more in omega (arith, grown)
 
 within_steps : (k n : ℕ) (p : Reads) → k + 1 ≤ n → IsWithin (plus (times k p) p) (times n p)
@@ -123,54 +137,48 @@ within_steps k n p more = record {
   chunks = more_steps k n p.chunks more;
 }
 
-pub fewer_steps : (k n : ℕ) (p : Reads) → k ≤ n → IsWithin (times k p) (times n p)
-fewer_steps k n p few = grind (arith, mul-le-mul_right)
-
-pub steps_add : (k n : ℕ) (p old between new : Reads) → AddsAtMost old between (times k p) → AddsAtMost between new p → k + 1 ≤ n → AddsAtMost old new (times n p)
+steps_add : (k n : ℕ) (p old between new : Reads) → AddsAtMost old between (times k p) → AddsAtMost between new p → k + 1 ≤ n → AddsAtMost old new (times n p)
 steps_add k n p a b c before step more = adds_then before step (within_steps k n p more)
 
+-- since a walk had taken `begun` steps, it has read at most what the steps since then do
+pub record HasTaken (set : Searched) (begun : ℕ) (from : Option ℕ) (old new : Reads) : Type 0 where
+  pub rises : begun ≤ steps_taken set from
+  pub adds : AddsAtMost old new (times (steps_taken set from - begun) set.step_reads)
+
+pub none_taken : (set : Searched) (from : Option ℕ) (reads : Reads) → HasTaken set (steps_taken set from) from reads reads
+none_taken set from reads = record { rises = omega arith; adds = adds_weaker (adds_nothing reads) (grind arith) }
+
+pub taken_most : (set : Searched) (from : Option ℕ) → Rises set.passed set.most_steps → steps_taken set from ≤ set.most_steps + 1
+taken_most set (Some at) rises = omega (arith, rises.bounded at)
+taken_most set None rises = omega arith
+
 -- the three answers of a step
-pub after_past : (has : ℕ → Bool) (passed : ℕ → ℕ) (most at x : ℕ) (from : Option ℕ) (found : List ℕ) (p old between new : Reads)
-    → from ≡ Some at → IsSoFar has from found → AddsAtMost old between (times (steps_so_far passed most from) p) → AddsAtMost between new p
-    → IsPast has at x → passed at + 1 ≤ passed x → IsFoundBelow has x found × AddsAtMost old new (times (passed x) p)
-after_past has passed most at x from found p a b c is before added step past pass =
-    let found_before : IsFoundBelow has at found = subst (λ (f : Option ℕ). IsSoFar has f found) is before in
-    let steps_before : AddsAtMost a b (times (passed at) p) = subst (λ (f : Option ℕ). AddsAtMost a b (times (steps_so_far passed most f) p)) is added in
-    let from_at : at ≤ x = omega (arith, past.from) in
-    (found_past has at x found found_before from_at past.none, steps_add (passed at) (passed x) p a b c steps_before step pass)
+module _ (set : Searched) (begun at : ℕ) (from : Option ℕ) (old between new : Reads) (is : from ≡ Some at) (taken : HasTaken set begun from old between) (step : AddsAtMost between new set.step_reads) where
+  taken_before : HasTaken set begun (Some at) old between
+  taken_before = subst (λ (f : Option ℕ). HasTaken set begun f old between) is taken
 
-pub after_end : (has : ℕ → Bool) (passed : ℕ → ℕ) (most at : ℕ) (from : Option ℕ) (found : List ℕ) (p old between new : Reads)
-    → from ≡ Some at → IsSoFar has from found → AddsAtMost old between (times (steps_so_far passed most from) p) → AddsAtMost between new p
-    → HasNoMore has at → Rises passed most → IsSetOf has found × AddsAtMost old new (times (most + 1) p)
-after_end has passed most at from found p a b c is before added step none rises =
-    let found_before : IsFoundBelow has at found = subst (λ (f : Option ℕ). IsSoFar has f found) is before in
-    let steps_before : AddsAtMost a b (times (passed at) p) = subst (λ (f : Option ℕ). AddsAtMost a b (times (steps_so_far passed most f) p)) is added in
-    let few : passed at + 1 ≤ most + 1 = omega (arith, rises.bounded at) in
-    (found_all has at found found_before none, steps_add (passed at) (most + 1) p a b c steps_before step few)
+  one_more : (next : Option ℕ) → set.passed at + 1 ≤ steps_taken set next → HasTaken set begun next old new
+  one_more next more = record {
+    rises = omega (arith, taken_before.rises, more);
+    adds = steps_add (set.passed at - begun) (steps_taken set next - begun) set.step_reads old between new taken_before.adds step (omega (arith, taken_before.rises, more));
+  }
 
--- a refused push after a step
-pub after_refusal : (passed : ℕ → ℕ) (most at : ℕ) (from : Option ℕ) (p old between new : Reads)
-    → from ≡ Some at → AddsAtMost old between (times (steps_so_far passed most from) p) → AddsAtMost between new p → Rises passed most → AddsAtMost old new (times (most + 1) p)
-after_refusal passed most at from p a b c is added step rises =
-    let steps_before : AddsAtMost a b (times (passed at) p) = subst (λ (f : Option ℕ). AddsAtMost a b (times (steps_so_far passed most f) p)) is added in
-    let few : passed at + 1 ≤ most + 1 = omega (arith, rises.bounded at) in
-    steps_add (passed at) (most + 1) p a b c steps_before step few
+  pub taken_past : (x : ℕ) → set.passed at + 1 ≤ set.passed x → HasTaken set begun (Some x) old new
+  taken_past x pass = one_more (Some x) pass
 
-pub after_found : (has : ℕ → Bool) (passed : ℕ → ℕ) (most at x : ℕ) (from next : Option ℕ) (found more : List ℕ) (p old between new : Reads)
-    → from ≡ Some at → IsSoFar has from found → AddsAtMost old between (times (steps_so_far passed most from) p) → AddsAtMost between new p
-    → IsNext has at x → passed at + 1 ≤ passed (x + 1) → Rises passed most → more ≡ found ++ x ∷ [] → IsAfter x next
-    → IsSoFar has next more × AddsAtMost old new (times (steps_so_far passed most next) p)
-after_found has passed most at x from next found more p a b c is before added step there pass rises grown after =
-    let found_before : IsFoundBelow has at found = subst (λ (f : Option ℕ). IsSoFar has f found) is before in
-    let steps_before : AddsAtMost a b (times (passed at) p) = subst (λ (f : Option ℕ). AddsAtMost a b (times (steps_so_far passed most f) p)) is added in
-    let now : IsFoundBelow has (x + 1) more = rw grown (found_one has x found (found_past has at x found found_before there.from there.none) there.there) in
-    goes_on next after now (steps_add (passed at) (passed (x + 1)) p a b c steps_before step pass)
+  pub taken_end : Rises set.passed set.most_steps → HasTaken set begun None old new
+  taken_end rises = one_more None (omega (arith, rises.bounded at))
+
+  pub taken_found : (x : ℕ) (next : Option ℕ) → set.passed at + 1 ≤ set.passed (x + 1) → Rises set.passed set.most_steps → IsAfter x next → HasTaken set begun next old new
+  taken_found x (Some n) pass rises same = one_more (Some n) (subst (λ m. set.passed at + 1 ≤ set.passed m) (sym same) pass)
+  taken_found x None pass rises last = taken_end rises
+
+-- all steps of a search
+pub all_taken : (set : Searched) (begun : ℕ) (old new : Reads) → HasTaken set begun None old new → AddsAtMost old new (times (set.most_steps + 1) set.step_reads)
+all_taken set begun old new taken = adds_weaker taken.adds (fewer_steps (set.most_steps + 1 - begun) (set.most_steps + 1) set.step_reads (omega arith))
   where
-    goes_on : (next : Option ℕ) → IsAfter x next → IsFoundBelow has (x + 1) more → AddsAtMost a c (times (passed (x + 1)) p)
-        → IsSoFar has next more × AddsAtMost a c (times (steps_so_far passed most next) p)
-    goes_on (Some n) same now adds = (subst (λ m. IsFoundBelow has m more) (sym same) now, subst (λ m. AddsAtMost a c (times (passed m) p)) (sym same) adds)
-    goes_on None last now adds =
-        (found_all has (x + 1) more now (there.most last), adds_weaker adds (fewer_steps (passed (x + 1)) (most + 1) p (omega (arith, rises.bounded (x + 1)))))
+    fewer_steps : (k n : ℕ) (p : Reads) → k ≤ n → IsWithin (times k p) (times n p)
+    fewer_steps k n p few = grind (arith, mul-le-mul_right)
 
 -- ---- a walk
 
@@ -216,13 +224,6 @@ walk_ends has (Some start) from at is on none =
 pub walk_ended : (has : ℕ → Bool) (start from : Option ℕ) → from ≡ None → IsOn has start from → IsWalked has start None None
 walk_ended has None from is on = (refl, refl)
 walk_ended has (Some start) from is on = (subst (λ (f : Option ℕ). IsOn has (Some start) f) is on, refl)
-
--- a step past some numbers
-pub passed_adds : (passed : ℕ → ℕ) (most at x : ℕ) (from : Option ℕ) (p old between new : Reads)
-    → from ≡ Some at → AddsAtMost old between (times (steps_so_far passed most from) p) → AddsAtMost between new p → passed at + 1 ≤ passed x → AddsAtMost old new (times (passed x) p)
-passed_adds passed most at x from p a b c is added step pass =
-    let steps_before : AddsAtMost a b (times (passed at) p) = subst (λ (f : Option ℕ). AddsAtMost a b (times (steps_so_far passed most f) p)) is added in
-    steps_add (passed at) (passed x) p a b c steps_before step pass
 
 -- ---- the list of a set
 

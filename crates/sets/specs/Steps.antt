@@ -1,6 +1,6 @@
 -- Sets that are searched step by step.
-use Rattle.std.specs.Prelude.{◌≡◌, ℕ, ◌+◌, ◌<◌, ◌≤◌, Bool, true, false, Option, Some, None}
-use Rattle.vers_tally.specs.Reads.{Reads}
+use Rattle.std.specs.Prelude.{◌≡◌, ℕ, ◌+◌, ◌-◌, ◌<◌, ◌≤◌, Bool, true, false, Option, Some, None}
+use Rattle.vers_tally.specs.Reads.{Reads, times}
 use Rattle.sets.specs.declared.step.Step.{Step}
 use Rattle.sets.specs.declared.step.Step.TheVariants.{Ended, Past, Found}
 
@@ -54,6 +54,15 @@ pub record Rises (passed : ℕ → ℕ) (most : ℕ) : Type 0 where
 abbrev pub IsAfter : ℕ → Option ℕ → Type 0
 IsAfter x (Some next) = next ≡ x + 1
 IsAfter x None = x ≡ 18446744073709551615
+
+-- how many steps a walk has taken at most that continues from a number, or has ended
+abbrev pub steps_taken : Searched → Option ℕ → ℕ
+steps_taken set (Some at) = set.passed at
+steps_taken set None = set.most_steps + 1
+
+-- bound on the reads of a walk from one number to a later one, or to the end
+abbrev pub walked_reads : Searched → Option ℕ → Option ℕ → Reads
+walked_reads set from to = times (steps_taken set to - steps_taken set from) set.step_reads
 
 -- a walk took the next number of the set and continues after it, or the set had no number left
 abbrev pub IsWalked : (ℕ → Bool) → Option ℕ → Option ℕ → Option ℕ → Type 0

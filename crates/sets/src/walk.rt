@@ -1,7 +1,7 @@
 //! A walk along the numbers of a set.
-ghost use Rattle.std.specs.Prelude.{◌≡◌, ◌+◌, Option, Some};
-ghost use Rattle.vers_tally.specs.Reads.{AddsAtMost, times};
-ghost use Rattle.sets.specs.Steps.{IsWalked};
+ghost use Rattle.std.specs.Prelude.{◌≡◌, ◌+◌, ◌≤◌, Option, Some};
+ghost use Rattle.vers_tally.specs.Reads.{AddsAtMost};
+ghost use Rattle.sets.specs.Steps.{IsWalked, steps_taken, walked_reads};
 
 use crate::gather::after;
 use crate::seek::Seek;
@@ -37,12 +37,16 @@ impl<S: Seek> Walk<S> {
         self.next_counted(&mut tally)
     }
 
-    /// Does what `next` does. Takes at most one step more than the most steps of the set.
+    /// Does what `next` does. All calls of a walk together take at most one step more than the most steps of the set.
     pub fn next_counted(&mut self, tally: &mut Tally) -> Option<u64>
         ensures taken { IsWalked (S.set self.old.source).has self.old.from result self.new.from }
         ensures same_set { S.set self.new.source ≡ S.set self.old.source }
+        ensures rises { steps_taken (S.set self.old.source) self.old.from
+            ≤ steps_taken (S.set self.old.source) self.new.from }
+        ensures most { steps_taken (S.set self.old.source) self.new.from
+            ≤ (S.set self.old.source).most_steps + 1 }
         ensures adds { AddsAtMost tally.old tally.new
-            (times ((S.set self.old.source).most_steps + 1) (S.set self.old.source).step_reads) }
+            (walked_reads (S.set self.old.source) self.old.from self.new.from) }
     {
         let taken = next_from(&mut self.source, self.from, tally);
         self.from = taken.from;
@@ -61,8 +65,9 @@ struct Taken {
 fn next_from<S: Seek>(source: &mut S, start: Option<u64>, tally: &mut Tally) -> Taken
     ensures taken { IsWalked (S.set source.old).has start result.number result.from }
     ensures same_set { S.set source.new ≡ S.set source.old }
-    ensures adds { AddsAtMost tally.old tally.new
-        (times ((S.set source.old).most_steps + 1) (S.set source.old).step_reads) }
+    ensures rises { steps_taken (S.set source.old) start ≤ steps_taken (S.set source.old) result.from }
+    ensures most { steps_taken (S.set source.old) result.from ≤ (S.set source.old).most_steps + 1 }
+    ensures adds { AddsAtMost tally.old tally.new (walked_reads (S.set source.old) start result.from) }
 {
     let mut from = start;
     while let Some(at) = from {

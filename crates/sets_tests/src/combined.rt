@@ -19,6 +19,33 @@ fn walks<S: Seek>(source: S, wanted: &[u64]) -> bool {
     walk.next().is_none() && walk.next().is_none()
 }
 
+// A source that counts the steps in another one.
+#[derive(Drop)]
+struct Counted<S: Seek> {
+    source: S,
+    steps: usize,
+}
+
+impl<S: Seek> Seek for Counted<S> {
+    ghost set = { λ counted. S.set counted.source };
+
+    fn seek_counted(&mut self, at: u64, tally: &mut Tally) -> Step {
+        self.steps = self.steps.saturating_add(1);
+        self.source.seek_counted(at, tally)
+    }
+}
+
+// Returns how many steps a walk takes to the end of a set of fewer than 100 numbers.
+fn steps_of<S: Seek>(source: S) -> usize {
+    let mut walk = Walk::new(Counted { source, steps: 0 });
+    for _ in 0..100 {
+        if walk.next().is_none() {
+            break;
+        }
+    }
+    walk.source.steps
+}
+
 // Returns true if the list of a set has these members.
 fn collects<S: Seek>(alloc: Global, source: S, wanted: &[u64]) -> bool {
     let is_wanted = asked(
@@ -145,4 +172,13 @@ fn finds_in_any_order(list: &List) -> bool {
 #[test]
 fn searches_back_and_forth(rt: HostRuntime) {
     assert!(rt; with_lists(rt.alloc(), |one: &List, _: &List| finds_in_any_order(one)));
+}
+
+#[test]
+fn a_walk_takes_a_step_for_each_number_and_one_more(rt: HostRuntime) {
+    let is_right = asked(
+        listed(rt.alloc(), &[1, 3, 5, 5, 7]),
+        |list: &List| steps_of(Cursor::new(list)) == 5,
+    );
+    assert!(rt; is_right == Ok(true));
 }

@@ -30,7 +30,7 @@ impl<S: Seek> Walk<S> {
         self.next_counted(&mut tally)
     }
 
-    /// Does what `next` does. Takes at most one step more than the most steps of the set.
+    /// Does what `next` does. All calls of a walk together take at most one step more than the most steps of the set.
     pub fn next_counted(&mut self, tally: &mut Tally) -> Option<u64> {
         let taken = next_from(&mut self.source, self.from, tally);
         self.from = taken.from;

@@ -1,13 +1,12 @@
 use Rattle.std.proofs.Common.{◌≡◌}
-use Rattle.vers_tally.specs.Reads.{AddsAtMost, times}
-use Rattle.sets.proofs.Gathered.{IsSoFar, left_of, steps_so_far}
+use Rattle.sets.proofs.Gathered.{HasTaken, IsSoFar, left_of}
 use Rattle.sets.proofs.gather.numbers_of_counted.Given as goal
 
 abbrev pub invariant-loop-from : goal.invariant-loop-from
 invariant-loop-from g l = record {
   same : g.S.Seek.set l.source ≡ g.S.Seek.set l.fn.source;
   found : IsSoFar (g.S.Seek.set l.fn.source).has l.from l.found.items;
-  adds : AddsAtMost l.fn.tally l.tally (times (steps_so_far (g.S.Seek.set l.fn.source).passed (g.S.Seek.set l.fn.source).most_steps l.from) (g.S.Seek.set l.fn.source).step_reads);
+  taken : HasTaken (g.S.Seek.set l.fn.source) ((g.S.Seek.set l.fn.source).passed 0) l.from l.fn.tally l.tally;
 }
 
 abbrev pub decreases-loop-from : goal.decreases-loop-from
