@@ -1,8 +1,7 @@
 -- The queries of an inverted index.
 use Rattle.std.specs.Prelude.{ℕ, length, slice_get}
 use Rattle.vers_sorted.specs.Layout.{heap_size_of}
-use Rattle.vers_sorted.specs.Sorted.{below, least_not_below}
-use Rattle.sets.specs.Sets.{is_member}
+use Rattle.vers_sorted.specs.Sorted.{is_member, below, least_not_below}
 use Rattle.inverted.specs.Lists.{Lists, list_of}
 use Rattle.catalogue.specs.declared.answer.Answer.{Answer}
 use Rattle.catalogue.specs.declared.query.Query.{Query}

@@ -1,7 +1,7 @@
 -- The queries of documents with costs.
 use Rattle.std.specs.Prelude.{ℕ, length, slice_get}
-use Rattle.vers_sorted.specs.Sorted.{below, least_not_below}
-use Rattle.postings.specs.Posted.{Posted, is_among, cheapest}
+use Rattle.vers_sorted.specs.Sorted.{is_member, below, least_not_below}
+use Rattle.postings.specs.Posted.{Posted, cheapest}
 use Rattle.catalogue.specs.declared.answer.Answer.{Answer}
 use Rattle.catalogue.specs.declared.query.Query.{Query}
 use Rattle.catalogue.specs.declared.query.Query.TheVariants.{Len, Get, Rank, Has, Successor, Cheapest, Cost}
@@ -14,7 +14,7 @@ posted_answer posted Len a b c = Found (length posted.documents)
 posted_answer posted Get a b c = found_or_absent (slice_get posted.documents a)
 posted_answer posted Cost a b c = found_or_absent (slice_get posted.costs a)
 posted_answer posted Rank a b c = Found (below posted.documents a)
-posted_answer posted Has a b c = decided (is_among posted.documents a)
+posted_answer posted Has a b c = decided (is_member posted.documents a)
 posted_answer posted Successor a b c = found_or_absent (least_not_below posted.documents a)
 posted_answer posted Cheapest a b c = found_or_absent (cheapest posted a b)
 posted_answer posted _ a b c = Unknown

@@ -6,7 +6,8 @@ use Rattle.std.specs.List.Sorted.{IsNonDecreasing}
 use Rattle.std.proofs.lemmas.Map.Keys.{non_decreasing_from_sorted, sorted_from_strictly_increasing}
 use Rattle.std.proofs.lemmas.Result.{IfOk-weaker}
 use Rattle.std.proofs.lemmas.Bool.{and_parts, or_cases}
-use Rattle.sets.specs.Sets.{IsSetOf, in_both, in_either, in_first_alone, is_member}
+use Rattle.sets.specs.Sets.{IsSetOf, in_both, in_either, in_difference}
+use Rattle.vers_sorted.specs.Sorted.{is_member}
 use Rattle.sets.proofs.PublicLaws.{set_below_is_filter}
 use Rattle.inverted.specs.Lists.{Lists, documents_with, list_of, searched_term, term_of}
 
@@ -51,7 +52,7 @@ module _ (index : Lists) (one other : ℕ) (first : IsBelow index (is_member (li
     | inr has ↦ second x has
   ]
 
-  pub first_below : IsBelow index (in_first_alone (list_of index one) (list_of index other))
+  pub first_below : IsBelow index (in_difference (list_of index one) (list_of index other))
   first_below x h = first x (and_parts _ _ h).0
 
 -- the same of two terms in any order

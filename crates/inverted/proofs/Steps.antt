@@ -1,15 +1,14 @@
 -- Steps among the numbers of all terms as steps among the documents of one.
 use Rattle.std.proofs.Common.{◌≡◌, ℕ, ◌+◌, ◌-◌, ◌*◌, ◌<◌, ◌≤◌, Bool, List, [], length, sym, ap, ◌∙◌, inl, inr, arith}
 use Rattle.std.proofs.lemmas.Bool.{cases_lt, le-ltb, lt-ltb}
-use Rattle.vers_sorted.specs.Sorted.{below}
-use Rattle.vers_sorted.proofs.PublicLaws.{below_le, below_up}
+use Rattle.vers_sorted.specs.Sorted.{is_member, below}
+use Rattle.vers_sorted.proofs.PublicLaws.{below_le, below_up, member_none}
 use Rattle.sets.specs.declared.step.Step.{Step}
 use Rattle.sets.specs.declared.step.Step.TheVariants.{Ended, Past, Found}
-use Rattle.sets.specs.Sets.{is_member}
 use Rattle.sets.specs.Steps.{HasNone, HasNoMore, IsStep, PassesOne, Rises}
 use Rattle.inverted.specs.inside.Steps.{IsCursorOf, step_in}
 use Rattle.inverted.specs.inside.Windows.{documents_of}
-use Rattle.inverted.proofs.Windows.{member_is, member_none, member_past, rank_is}
+use Rattle.inverted.proofs.Windows.{member_is, member_past, rank_is}
 
 -- ---- cursors
 

@@ -4,7 +4,7 @@ use Rattle.std.specs.Prelude.{min, nat_le, nat_lt, slice_get, slice_index_or}
 use Rattle.std.specs.List.{range_with_len}
 use Rattle.std.specs.List.Sorted.{IsNonDecreasing, IsStrictlyIncreasing}
 use Rattle.std.proofs.Math.ListN.{get_or-eq_default}
-use Rattle.std.proofs.lemmas.Bool.{cases_lt, eq-eqb, le-leb, le-ltb, lt-leb, lt-ltb, ne_eqb}
+use Rattle.std.proofs.lemmas.Bool.{cases_lt, le-leb, le-ltb, lt-leb, lt-ltb}
 use Rattle.std.proofs.lemmas.List.Sums.{sum_by-cons}
 use Rattle.std.proofs.lemmas.List.Elements.{All-from_get_or, All-map}
 use Rattle.std.proofs.lemmas.List.Kept.{AllPairs-from_increasing}
@@ -12,8 +12,8 @@ use Rattle.std.proofs.lemmas.List.FromFn.{get_or-map-range_with_len, length-map-
 use Rattle.std.proofs.lemmas.Option.{slice_get-get_or, slice_get_past}
 use Rattle.std.proofs.Math.Bool.{and-false}
 use Rattle.std.proofs.Math.Nat.{mul-le-mul_right}
-use Rattle.vers_sorted.specs.Sorted.{below, least_not_below}
-use Rattle.sets.specs.Sets.{is_member}
+use Rattle.vers_sorted.specs.Sorted.{is_member, below, least_not_below}
+use Rattle.vers_sorted.proofs.PublicLaws.{member_head, member_none, member_tail}
 use Rattle.vers_bits.specs.Walk.{TakesFirst}
 use Rattle.inverted.specs.inside.Windows.{IsWithin, documents_of, clip, lists_of}
 
@@ -118,32 +118,20 @@ all_below (n ∷ ns) universe t d more =
 
 -- ---- membership
 
-member_yes : (n : ℕ) (ns : List ℕ) (x : ℕ) → n ≡ x → is_member (n ∷ ns) x ≡ true
-unfolding is_member
-member_yes n ns x same = rw (eq-eqb n x same) refl
-
-member_no : (n : ℕ) (ns : List ℕ) (x : ℕ) → (n ≡ x → ⊥) → is_member (n ∷ ns) x ≡ is_member ns x
-unfolding is_member
-member_no n ns x apart = rw (ne_eqb n x apart) refl
-
-pub member_none : (x : ℕ) → is_member [] x ≡ false
-unfolding is_member
-member_none x = refl
-
 pub member_is : (ns : List ℕ) (universe t d : ℕ) → d < universe → is_member ns (t * universe + d) ≡ is_member (documents_of ns universe t) d
 member_is [] universe t d few = rw (no_documents universe t, member_none d, member_none (t * universe + d)) refl
 member_is (n ∷ ns) universe t d few =
     let rest = member_is ns universe t d few in
     let s = t * universe in
     elim (cases_lt n s) [
-      | inl less ↦ rw (before_window universe t n ns less, member_no n ns (s + d) (λ same. omega (arith, same, less))) rest
+      | inl less ↦ rw (before_window universe t n ns less, member_tail n ns (s + d) (λ same. omega (arith, same, less))) rest
       | inr from ↦ elim (cases_lt n (s + universe)) [
-        | inr past ↦ rw (after_window universe t n ns past, member_no n ns (s + d) (λ same. omega (arith, same, past, few))) rest
+        | inr past ↦ rw (after_window universe t n ns past, member_tail n ns (s + d) (λ same. omega (arith, same, past, few))) rest
         | inl within ↦ rw (in_window universe t n ns from within) (elim (cases_lt n (s + d)) [
-          | inl less ↦ member_no n ns (s + d) (λ same. omega (arith, same, less)) ∙ rest ∙ sym (member_no (n - s) (documents_of ns universe t) d (λ same. omega (arith, same, less, from)))
+          | inl less ↦ member_tail n ns (s + d) (λ same. omega (arith, same, less)) ∙ rest ∙ sym (member_tail (n - s) (documents_of ns universe t) d (λ same. omega (arith, same, less, from)))
           | inr more ↦ elim (cases_lt (s + d) n) [
-            | inl above ↦ member_no n ns (s + d) (λ same. omega (arith, same, above)) ∙ rest ∙ sym (member_no (n - s) (documents_of ns universe t) d (λ same. omega (arith, same, above, from)))
-            | inr upto ↦ member_yes n ns (s + d) (omega (arith, more, upto)) ∙ sym (member_yes (n - s) (documents_of ns universe t) d (omega (arith, more, upto)))
+            | inl above ↦ member_tail n ns (s + d) (λ same. omega (arith, same, above)) ∙ rest ∙ sym (member_tail (n - s) (documents_of ns universe t) d (λ same. omega (arith, same, above, from)))
+            | inr upto ↦ member_head n ns (s + d) (omega (arith, more, upto)) ∙ sym (member_head (n - s) (documents_of ns universe t) d (omega (arith, more, upto)))
           ]
         ])
       ]
@@ -159,7 +147,7 @@ member_past (n ∷ ns) universe t d more =
       | inl less ↦ rw (before_window universe t n ns less) rest
       | inr from ↦ elim (cases_lt n (s + universe)) [
         | inr past ↦ rw (after_window universe t n ns past) rest
-        | inl within ↦ rw (in_window universe t n ns from within) (member_no (n - s) (documents_of ns universe t) d (λ same. omega (arith, same, within, more, from)) ∙ rest)
+        | inl within ↦ rw (in_window universe t n ns from within) (member_tail (n - s) (documents_of ns universe t) d (λ same. omega (arith, same, within, more, from)) ∙ rest)
       ]
     ]
 

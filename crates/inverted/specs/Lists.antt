@@ -1,8 +1,7 @@
 -- Lists of documents, one for each term.
 use Rattle.std.specs.Prelude.{ℕ, Bool, List, [], filter, length, slice_index_or}
 use Rattle.std.specs.List.{range_with_len}
-use Rattle.vers_sorted.specs.Sorted.{below}
-use Rattle.sets.specs.Sets.{is_member}
+use Rattle.vers_sorted.specs.Sorted.{is_member, below}
 use Rattle.sets.specs.Sources.{seek_reads}
 use Rattle.sets.specs.Steps.{Searched}
 

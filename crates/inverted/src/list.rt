@@ -1,8 +1,7 @@
 //! The list of a term as a source.
 ghost use Rattle.std.specs.Prelude.{◌≡◌, ◌+◌, ◌^◌, ◌<◌, ℕ, true, length};
 ghost use Rattle.vers_tally.specs.Reads.{AddsAtMost};
-ghost use Rattle.vers_sorted.specs.Sorted.{below};
-ghost use Rattle.sets.specs.Sets.{is_member};
+ghost use Rattle.vers_sorted.specs.Sorted.{is_member, below};
 ghost use Rattle.sets.specs.Sources.{seek_reads};
 ghost use Rattle.sets.specs.Steps.{IsStep, PassesOne, Rises};
 ghost use Rattle.inverted.specs.Lists.{list_of, searched_term, term_of};

@@ -1,6 +1,6 @@
 //! Intersections, unions and differences of the lists of terms.
 ghost use Rattle.std.specs.Prelude.{◌≡◌, ◌∷◌, IfOk, if◌then◌else◌, length, map, nat_le};
-ghost use Rattle.sets.specs.Sets.{IsSetOf, in_all, in_any, in_both, in_either, in_first_alone, in_first_only};
+ghost use Rattle.sets.specs.Sets.{IsSetOf, in_all, in_any, in_both, in_either, in_difference, in_difference_of};
 ghost use Rattle.inverted.specs.Lists.{documents_with, list_of, term_of};
 
 use crate::inverted_index::InvertedIndex;
@@ -71,7 +71,7 @@ impl<A: Allocator + Copy> InvertedIndex<A> {
     /// allocator refuses a request.
     pub fn difference(&self, alloc: A, one: u64, other: u64) -> Result<EliasFanoVec<A>, AllocError>
         ensures { IfOk result
-            (IsSetOf (in_first_alone (list_of self.now one) (list_of self.now other))) }
+            (IsSetOf (in_difference (list_of self.now one) (list_of self.now other))) }
     {
         let found = self.difference_numbers(alloc, one, other)?;
         EliasFanoVec::from_slice(alloc, found.as_slice())
@@ -86,9 +86,9 @@ impl<A: Allocator + Copy> InvertedIndex<A> {
         other: u64,
     ) -> Result<Vec<u64, A>, AllocError>
         ensures value { IfOk result (λ found. found.items
-            ≡ documents_with self.now (in_first_alone (list_of self.now one) (list_of self.now other))) }
+            ≡ documents_with self.now (in_difference (list_of self.now one) (list_of self.now other))) }
         ensures set { IfOk result (λ found.
-            IsSetOf (in_first_alone (list_of self.now one) (list_of self.now other)) found.items) }
+            IsSetOf (in_difference (list_of self.now one) (list_of self.now other)) found.items) }
     {
         let without = Without {
             one: ListOf::new(self, one),
@@ -144,7 +144,7 @@ impl<A: Allocator + Copy> InvertedIndex<A> {
         others: &[u64],
     ) -> Result<EliasFanoVec<A>, AllocError>
         ensures { IfOk result
-            (IsSetOf (in_first_only (list_of self.now first) (map (list_of self.now) others.now))) }
+            (IsSetOf (in_difference_of (list_of self.now first) (map (list_of self.now) others.now))) }
     {
         let Some((second, rest)) = others.split_first() else {
             return collect(alloc, ListOf::new(self, first));

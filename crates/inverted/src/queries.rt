@@ -2,9 +2,8 @@
 ghost use Rattle.std.specs.Prelude.{◌≡◌, ◌+◌, ◌^◌, ◌<◌, length, slice_get, IfSome};
 ghost use Rattle.std.specs.List.Sorted.{IsStrictlyIncreasing};
 ghost use Rattle.vers_tally.specs.Reads.{AddsAtMost, plus, times};
-ghost use Rattle.vers_sorted.specs.Sorted.{below, least_not_below};
+ghost use Rattle.vers_sorted.specs.Sorted.{is_member, below, least_not_below};
 ghost use Rattle.vers_sorted.specs.Layout.{member_reads, search_reads};
-ghost use Rattle.sets.specs.Sets.{is_member};
 ghost use Rattle.inverted.specs.Lists.{list_of};
 ghost use Rattle.inverted.specs.inside.Windows.{clip};
 

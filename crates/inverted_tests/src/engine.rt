@@ -1,6 +1,7 @@
 //! A search engine over documents whose words are numbers, as docs/USING.md shows it.
 ghost use Rattle.std.specs.Prelude.{◌&&◌, not, IfOk};
-ghost use Rattle.sets.specs.Sets.{IsSetOf, is_member};
+ghost use Rattle.sets.specs.Sets.{IsSetOf};
+ghost use Rattle.vers_sorted.specs.Sorted.{is_member};
 ghost use Rattle.inverted.specs.Lists.{list_of};
 
 use crate::shared::is_list;

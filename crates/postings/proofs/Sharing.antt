@@ -1,5 +1,6 @@
 -- The shorter list looked through from its start.
-use Rattle.postings.proofs.Names.{◌≡◌, ℕ, zero, suc, ◌+◌, ◌*◌, ◌<◌, ◌≤◌, Bool, true, false, cond, List, [], ◌∷◌, ◌++◌, length, take, drop, get_or, Some, None, refl, sym, ap, subst, ◌∙◌, arith, rules, slice_get, if◌then◌else◌, get_or-drop, length-drop, slice_get-get_or, get_or_from_slice_get, none-some, Reads, AddsAtMost, IsWithin, plus, times, is_among, common, lookups}
+use Rattle.vers_sorted.specs.Sorted.{is_member}
+use Rattle.postings.proofs.Names.{◌≡◌, ℕ, zero, suc, ◌+◌, ◌*◌, ◌<◌, ◌≤◌, Bool, true, false, cond, List, [], ◌∷◌, ◌++◌, length, take, drop, get_or, Some, None, refl, sym, ap, subst, ◌∙◌, arith, rules, slice_get, if◌then◌else◌, get_or-drop, length-drop, slice_get-get_or, get_or_from_slice_get, none-some, Reads, AddsAtMost, IsWithin, plus, times, common, lookups}
 use Rattle.vers_bits.specs.Walk.{TakesFirst}
 use Rattle.std.proofs.Math.Nat.{mul-le-mul_right}
 use Rattle.std.proofs.lemmas.List.Elements.{filter_more}
@@ -15,11 +16,11 @@ pub record SharedUpTo (shorter longer found : List ℕ) (walk : Walking ℕ) (ol
   pub adds : AddsAtMost old new (times k (plus (member_reads shorter) (search_reads longer)))
 
 -- one more document was looked for
-pub common_more : (shorter longer : List ℕ) (k d : ℕ) (shares : Bool) → slice_get shorter k ≡ Some d → k < length shorter → shares ≡ is_among longer d
+pub common_more : (shorter longer : List ℕ) (k d : ℕ) (shares : Bool) → slice_get shorter k ≡ Some d → k < length shorter → shares ≡ is_member longer d
     → common (take (k + 1) shorter) longer ≡ common (take k shorter) longer ++ cond shares (d ∷ []) []
 unfolding common
 common_more shorter longer k d shares at inside answer =
-    rw (filter_more (is_among longer) shorter k 0 inside, get_or_from_slice_get shorter k d 0 at, answer) refl
+    rw (filter_more (is_member longer) shorter k 0 inside, get_or_from_slice_get shorter k d 0 at, answer) refl
 
 common_start : (shorter longer : List ℕ) → common (take 0 shorter) longer ≡ []
 unfolding common
@@ -60,7 +61,7 @@ shared_start shorter longer found walk reads none start =
 -- after one more
 pub shared_more : (shorter longer found more : List ℕ) (walk walked : Walking ℕ) (old between next new : Reads) (k d : ℕ) (shares : Bool)
     → SharedUpTo shorter longer found walk old between k → k < length shorter → TakesFirst walk.left (Some d) walked.left → walked.step ≡ walk.step
-    → AddsAtMost between next walk.step → shares ≡ is_among longer d → AddsAtMost next new (search_reads longer) → more ≡ found ++ cond shares (d ∷ []) []
+    → AddsAtMost between next walk.step → shares ≡ is_member longer d → AddsAtMost next new (search_reads longer) → more ≡ found ++ cond shares (d ∷ []) []
     → SharedUpTo shorter longer more walked old new (k + 1)
 shared_more shorter longer found more walk walked a b c e k d shares before inside taken same read answer look grown =
     let next : suc k ≡ k + 1 = omega arith in record {

@@ -1,8 +1,9 @@
 -- Documents in ascending order, each with a cost, and their queries.
-use Rattle.std.specs.Prelude.{◌≡◌, ℕ, ◌+◌, ◌*◌, ◌==◌, ◌&&◌, ◌≤◌, All, Bool, List, length, slice_index, filter, nat_le, Option, option_map, if◌then◌else◌}
-use Rattle.std.specs.List.{list_any, range_with_len}
+use Rattle.std.specs.Prelude.{◌≡◌, ℕ, ◌+◌, ◌*◌, ◌&&◌, ◌≤◌, All, Bool, List, length, slice_index, filter, nat_le, Option, option_map, if◌then◌else◌}
+use Rattle.std.specs.List.{range_with_len}
 use Rattle.std.specs.List.Sorted.{IsStrictlyIncreasing}
 use Rattle.vers_rmq.specs.Minima.{first_least_of}
+use Rattle.vers_sorted.specs.Sorted.{is_member}
 use Rattle.vers_sorted.specs.Layout.{select_calls, member_reads, search_reads}
 use Rattle.vers_tally.specs.Reads.{Reads, digits, plus, times}
 
@@ -17,10 +18,6 @@ pub record ArePaired (posted : Posted) : Type 0 where
   pub paired : length posted.costs ≡ length posted.documents
   pub numbers : All (λ d. d ≤ 18446744073709551615) posted.documents
 
--- whether d is one of the documents
-unfoldable pub is_among : List ℕ → ℕ → Bool
-is_among documents d = list_any (λ m. m == d) documents
-
 -- the positions of the documents from one number to another, both included
 unfoldable pub places_between : List ℕ → ℕ → ℕ → List ℕ
 places_between documents from to =
@@ -33,7 +30,7 @@ cheapest posted from to =
 
 -- the documents that are also in the other list, ascending
 unfoldable pub common : List ℕ → List ℕ → List ℕ
-common documents others = filter (is_among others) documents
+common documents others = filter (is_member others) documents
 
 -- bound on the reads of `cheapest`: two searches, one document and 18 costs
 abbrev pub cheapest_reads : List ℕ → Reads

@@ -1,19 +1,12 @@
 -- Worked rows of the definitions, which compute.
 use Rattle.std.specs.Prelude.{◌≡◌, [], ◌∷◌, true, false, Some, None, refl}
 use Rattle.vers_rmq.specs.Minima.{is_least, first_least_of}
-use Rattle.postings.specs.Posted.{Posted, is_among, places_between, cheapest, common}
+use Rattle.vers_sorted.specs.Sorted.{is_member}
+use Rattle.postings.specs.Posted.{Posted, places_between, cheapest, common}
 
 -- four documents, of which two have the least cost
 abbrev four : Posted
 four = record { documents = 2 ∷ 5 ∷ 9 ∷ 12 ∷ []; costs = 7 ∷ 3 ∷ 3 ∷ 8 ∷ [] }
-
-pub is_among-6 : is_among four.documents 6 ≡ false
-unfolding is_among
-is_among-6 = refl
-
-pub is_among-9 : is_among four.documents 9 ≡ true
-unfolding is_among
-is_among-9 = refl
 
 pub cheapest-all : cheapest four 0 18446744073709551615 ≡ Some 5
 unfolding cheapest places_between first_least_of is_least
@@ -32,5 +25,5 @@ unfolding cheapest places_between first_least_of is_least
 cheapest-9-2 = refl
 
 pub common-5-12 : common four.documents (5 ∷ 6 ∷ 12 ∷ 40 ∷ []) ≡ 5 ∷ 12 ∷ []
-unfolding common is_among
+unfolding common is_member
 common-5-12 = refl

@@ -4,33 +4,12 @@ use Rattle.std.specs.Prelude.{◌==◌, ◌||◌, slice_get, Some, None}
 use Rattle.std.specs.List.Sorted.{IsNonDecreasing}
 use Rattle.std.proofs.lemmas.Bool.{cases_lt, eq-eqb, ne_eqb}
 use Rattle.std.proofs.lemmas.Option.{get_or_from_slice_get, none-some, slice_get-get_or, slice_get_within}
-use Rattle.vers_sorted.specs.Sorted.{below, least_not_below}
-use Rattle.vers_sorted.proofs.PublicLaws.{below_le, below_up, below_before, below_after, least_not_below_is}
-use Rattle.sets.specs.Sets.{is_member}
+use Rattle.vers_sorted.specs.Sorted.{is_member, below, least_not_below}
+use Rattle.vers_sorted.proofs.PublicLaws.{below_le, below_up, below_before, below_after, least_not_below_is, member_at, not_member}
 use Rattle.sets.specs.Steps.{Rises, HasNone, HasNoMore, IsNext}
 
 pub below_rises : (members : List ℕ) → Rises (below members) (length members)
 below_rises members = record { rises = below_up members; bounded = below_le members }
-
--- ---- membership by places
-
--- what stands at no place isn't a member
-pub not_member : (xs : List ℕ) (x : ℕ) → ((i : ℕ) → i < length xs → get_or xs i 0 ≡ x → ⊥) → is_member xs x ≡ false
-unfolding is_member
-not_member [] x apart = refl
-not_member (y ∷ ys) x apart =
-    rw (ne_eqb y x (apart 0 (omega arith))) (not_member ys x (λ i inside. apart (suc i) (omega (arith, inside))))
-
--- what stands at a place is one
-pub member_at : (xs : List ℕ) (i x : ℕ) → i < length xs → get_or xs i 0 ≡ x → is_member xs x ≡ true
-unfolding is_member
-member_at [] i x inside same = absurd (omega (arith, inside))
-member_at (y ∷ ys) zero x inside same = rw (eq-eqb y x same) refl
-member_at (y ∷ ys) (suc i) x inside same = rw (member_at ys i x (omega (arith, inside)) same) (or_true (y == x))
-  where
-    or_true : (b : Bool) → b || true ≡ true
-    or_true true = refl
-    or_true false = refl
 
 -- ---- the next member
 
@@ -66,7 +45,7 @@ next_member xs v x up next fits last =
       from = omega (arith, here, there);
       fits = fits;
       none = next_none_before xs v x up (λ _. omega (arith, here));
-      there = member_at xs (below xs v) x inside here;
+      there = member_at xs x (below xs v) inside here;
       most = λ is_most y after. not_member xs y (λ i within same. omega (arith, same, up i (length xs - 1) 0 (omega (arith, within)) (omega (arith, within)), last is_most, is_most, after));
     }
 

@@ -9,7 +9,8 @@ use Rattle.std.specs.List.{list_all, list_any, sum_by}
 use Rattle.std.proofs.lemmas.List.Folds.{list_all-map}
 use Rattle.std.proofs.lemmas.List.Sums.{sum_by-cons}
 use Rattle.std.proofs.lemmas.Result.{IfOk-weaker}
-use Rattle.sets.specs.Sets.{IsSetOf, in_both, is_member}
+use Rattle.sets.specs.Sets.{IsSetOf, in_both}
+use Rattle.vers_sorted.specs.Sorted.{is_member}
 use Rattle.sets.specs.Sources.{searched_list, seek_reads, seek_reads_of, step_reads_of}
 
 -- numbers that are the set of a test are the set of an equal test

@@ -1,8 +1,7 @@
 -- The laws that proofs of other crates may cite. A crate above imports this file and no other of this folder.
 use Rattle.std.proofs.Common.{◌≡◌, ℕ, ◌+◌, ◌-◌, ◌≤◌, List, length, get_or, Some, None}
 use Rattle.std.specs.List.Sorted.{IsNonDecreasing}
-use Rattle.vers_sorted.specs.Sorted.{below, least_not_below}
-use Rattle.sets.specs.Sets.{is_member}
+use Rattle.vers_sorted.specs.Sorted.{is_member, below, least_not_below}
 use Rattle.sets.specs.Steps.{HasNoMore, IsNext}
 use Rattle.sets.specs.Laws.{SetIsOneList, IntersectionIsFilter, DifferenceIsFilter, SetBelowIsFilter}
 use Rattle.sets.proofs.Lists as Lists

@@ -2,14 +2,15 @@
 use Rattle.std.proofs.Common.{◌≡◌, ℕ, suc, ◌+◌, ◌<◌, ◌≤◌, Bool, true, false, List, [], ◌∷◌, length, refl, sym, ap, ◌∙◌, inl, inr, arith}
 use Rattle.std.specs.Prelude.{◌&&◌, not, filter}
 use Rattle.std.specs.List.Sorted.{IsStrictlyIncreasing}
-use Rattle.std.proofs.lemmas.Bool.{cases_lt, eq-eqb, ne_eqb}
+use Rattle.std.proofs.lemmas.Bool.{cases_lt}
 use Rattle.std.proofs.Math.Bool.{and-false}
 use Rattle.std.proofs.lemmas.List.Kept.{AllPairs-from_increasing, IsStrictlyIncreasing-filter}
 use Rattle.std.proofs.lemmas.List.FromFn.{get_or-range_with_len, length-range_with_len}
 use Rattle.std.specs.List.{AllPairs, range_with_len}
-use Rattle.sets.specs.Sets.{is_member, IsSetOf, in_both, in_first_alone}
+use Rattle.sets.specs.Sets.{IsSetOf, in_both, in_difference}
+use Rattle.vers_sorted.specs.Sorted.{is_member}
 use Rattle.sets.specs.Laws.{SetIsOneList, IntersectionIsFilter, DifferenceIsFilter, SetBelowIsFilter}
-use Rattle.sets.proofs.Lists.{member_at, not_member}
+use Rattle.vers_sorted.proofs.PublicLaws.{member_at, member_head, member_none, member_tail, not_member}
 
 -- each number is below all later ones
 abbrev Rising : List ℕ → Type 0
@@ -17,14 +18,6 @@ Rising xs = AllPairs (λ x y. x < y) xs
 
 rising_tail : (x : ℕ) (xs : List ℕ) → Rising (x ∷ xs) → Rising xs
 rising_tail x xs up i j d before inside = up (suc i) (suc j) d (omega arith) (omega arith)
-
-member_head : (y : ℕ) (ys : List ℕ) (x : ℕ) → y ≡ x → is_member (y ∷ ys) x ≡ true
-unfolding is_member
-member_head y ys x same = rw (eq-eqb y x same) refl
-
-member_tail : (y : ℕ) (ys : List ℕ) (x : ℕ) → (y ≡ x → ⊥) → is_member (y ∷ ys) x ≡ is_member ys x
-unfolding is_member
-member_tail y ys x apart = rw (ne_eqb y x apart) refl
 
 -- what is not above the first of a rising list isn't among the others
 not_later : (x : ℕ) (xs : List ℕ) (z : ℕ) → Rising (x ∷ xs) → z ≤ x → is_member xs z ≡ false
@@ -34,17 +27,13 @@ not_later x xs z up upto = not_member xs z (λ j inside same. omega (arith, same
 not_before : (x : ℕ) (xs : List ℕ) (z : ℕ) → Rising (x ∷ xs) → z < x → is_member (x ∷ xs) z ≡ false
 not_before x xs z up less = member_tail x xs z (λ same. omega (arith, same, less)) ∙ not_later x xs z up (omega (arith, less))
 
-no_member : (z : ℕ) → is_member [] z ≡ false
-unfolding is_member
-no_member z = refl
-
 true-false : {A : Type 0} → true ≡ false → A
 true-false e = cc
 
 one_list : (xs ys : List ℕ) → Rising xs → Rising ys → ((z : ℕ) → is_member xs z ≡ is_member ys z) → xs ≡ ys
 one_list [] [] up upper same = refl
-one_list [] (y ∷ ys) up upper same = true-false (sym (member_head y ys y refl) ∙ sym (same y) ∙ no_member y)
-one_list (x ∷ xs) [] up upper same = true-false (sym (member_head x xs x refl) ∙ same x ∙ no_member x)
+one_list [] (y ∷ ys) up upper same = true-false (sym (member_head y ys y refl) ∙ sym (same y) ∙ member_none y)
+one_list (x ∷ xs) [] up upper same = true-false (sym (member_head x xs x refl) ∙ same x ∙ member_none x)
 one_list (x ∷ xs) (y ∷ ys) up upper same =
     elim (cases_lt x y) [
       | inl less ↦ true-false (sym (member_head x xs x refl) ∙ same x ∙ not_before y ys x upper less)
@@ -69,7 +58,7 @@ set_is_one_list has xs ys a b = one_list xs ys (AllPairs-from_increasing xs a.as
 -- ---- the members that pass a test
 
 member_filter : (p : ℕ → Bool) (xs : List ℕ) (z : ℕ) → is_member (filter p xs) z ≡ is_member xs z && p z
-member_filter p [] z = no_member z ∙ rw (no_member z) refl
+member_filter p [] z = member_none z ∙ rw (member_none z) refl
 member_filter p (x ∷ xs) z = elim (cases_lt x z) [
   | inl less ↦ apart x xs (λ e. omega (arith, e, less)) (member_filter p xs z)
   | inr from ↦ elim (cases_lt z x) [
@@ -100,7 +89,7 @@ pub intersection_is_filter : IntersectionIsFilter
 intersection_is_filter one other found up set = set_is_one_list (in_both one other) found (filter (is_member other) one) set (filter_is_set (is_member other) one up)
 
 pub difference_is_filter : DifferenceIsFilter
-difference_is_filter one other found up set = set_is_one_list (in_first_alone one other) found (filter (λ x. not (is_member other x)) one) set (filter_is_set (λ x. not (is_member other x)) one up)
+difference_is_filter one other found up set = set_is_one_list (in_difference one other) found (filter (λ x. not (is_member other x)) one) set (filter_is_set (λ x. not (is_member other x)) one up)
 
 -- ---- a set of numbers below a limit
 

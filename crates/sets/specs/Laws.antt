@@ -2,7 +2,8 @@
 use Rattle.std.specs.Prelude.{◌≡◌, ◌<◌, ℕ, not, Bool, true, List, filter}
 use Rattle.std.specs.List.{range_with_len}
 use Rattle.std.specs.List.Sorted.{IsStrictlyIncreasing}
-use Rattle.sets.specs.Sets.{is_member, IsSetOf, in_both, in_first_alone}
+use Rattle.sets.specs.Sets.{IsSetOf, in_both, in_difference}
+use Rattle.vers_sorted.specs.Sorted.{is_member}
 
 -- a set is one list
 abbrev pub SetIsOneList : Type 0
@@ -15,7 +16,7 @@ IntersectionIsFilter = (one other found : List ℕ) → IsStrictlyIncreasing one
 
 -- the difference of a strictly ascending list and another is a filter of this list
 abbrev pub DifferenceIsFilter : Type 0
-DifferenceIsFilter = (one other found : List ℕ) → IsStrictlyIncreasing one → IsSetOf (in_first_alone one other) found
+DifferenceIsFilter = (one other found : List ℕ) → IsStrictlyIncreasing one → IsSetOf (in_difference one other) found
     → found ≡ filter (λ x. not (is_member other x)) one
 
 -- a set of numbers below a limit is a filter of the numbers below it

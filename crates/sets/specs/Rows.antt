@@ -1,6 +1,7 @@
 -- Worked rows of the definitions, which compute.
 use Rattle.std.specs.Prelude.{◌≡◌, ℕ, false, true, List, [], ◌∷◌, refl}
-use Rattle.sets.specs.Sets.{is_member, in_all, in_any, in_both, in_either, in_first_alone}
+use Rattle.sets.specs.Sets.{in_all, in_any, in_both, in_either, in_difference}
+use Rattle.vers_sorted.specs.Sorted.{is_member}
 
 -- an ascending list with equal members, and one without
 abbrev members_2449 : List ℕ
@@ -8,14 +9,6 @@ members_2449 = 2 ∷ 4 ∷ 4 ∷ 9 ∷ []
 
 abbrev members_459 : List ℕ
 members_459 = 4 ∷ 5 ∷ 9 ∷ []
-
-pub is_member-4 : is_member members_2449 4 ≡ true
-unfolding is_member
-is_member-4 = refl
-
-pub is_member-5 : is_member members_2449 5 ≡ false
-unfolding is_member
-is_member-5 = refl
 
 pub in_both-2 : in_both members_2449 members_459 2 ≡ false
 unfolding is_member
@@ -29,13 +22,13 @@ pub in_either-5 : in_either members_2449 members_459 5 ≡ true
 unfolding is_member
 in_either-5 = refl
 
-pub in_first_alone-2 : in_first_alone members_2449 members_459 2 ≡ true
+pub in_difference-2 : in_difference members_2449 members_459 2 ≡ true
 unfolding is_member
-in_first_alone-2 = refl
+in_difference-2 = refl
 
-pub in_first_alone-4 : in_first_alone members_2449 members_459 4 ≡ false
+pub in_difference-4 : in_difference members_2449 members_459 4 ≡ false
 unfolding is_member
-in_first_alone-4 = refl
+in_difference-4 = refl
 
 pub in_all-9 : in_all members_2449 (members_459 ∷ members_2449 ∷ []) 9 ≡ true
 unfolding is_member

@@ -1,11 +1,8 @@
 -- Ascending lists read as sets: equal elements count once.
-use Rattle.std.specs.Prelude.{◌≡◌, ℕ, ◌==◌, ◌&&◌, ◌||◌, not, Bool, List}
+use Rattle.std.specs.Prelude.{◌≡◌, ℕ, ◌&&◌, ◌||◌, not, Bool, List}
 use Rattle.std.specs.List.{list_all, list_any}
 use Rattle.std.specs.List.Sorted.{IsStrictlyIncreasing}
-
--- whether x is an element of a list
-unfoldable pub is_member : List ℕ → ℕ → Bool
-is_member members x = list_any (λ m. m == x) members
+use Rattle.vers_sorted.specs.Sorted.{is_member}
 
 -- the list ascends strictly, and its elements are exactly the numbers for which `has` is true
 pub record IsSetOf (has : ℕ → Bool) (members : List ℕ) : Type 0 where
@@ -21,12 +18,12 @@ abbrev pub in_either : List ℕ → List ℕ → ℕ → Bool
 in_either one other x = is_member one x || is_member other x
 
 -- whether x is in the first list and not in the other
-abbrev pub in_first_alone : List ℕ → List ℕ → ℕ → Bool
-in_first_alone one other x = is_member one x && not (is_member other x)
+abbrev pub in_difference : List ℕ → List ℕ → ℕ → Bool
+in_difference one other x = is_member one x && not (is_member other x)
 
 -- whether x is in the first list and in none of the others
-abbrev pub in_first_only : List ℕ → List (List ℕ) → ℕ → Bool
-in_first_only first others x = is_member first x && not (list_any (λ other. is_member other x) others)
+abbrev pub in_difference_of : List ℕ → List (List ℕ) → ℕ → Bool
+in_difference_of first others x = is_member first x && not (list_any (λ other. is_member other x) others)
 
 -- whether x is in the first list and in each of the others
 abbrev pub in_all : List ℕ → List (List ℕ) → ℕ → Bool

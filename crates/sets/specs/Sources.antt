@@ -2,9 +2,8 @@
 use Rattle.std.specs.Prelude.{ℕ, List, [], ◌∷◌, length}
 use Rattle.std.specs.List.{list_any, sum_by}
 use Rattle.vers_sorted.specs.Layout.{member_reads, search_reads}
-use Rattle.vers_sorted.specs.Sorted.{below}
+use Rattle.vers_sorted.specs.Sorted.{is_member, below}
 use Rattle.vers_tally.specs.Reads.{Reads, no_reads, plus, times}
-use Rattle.sets.specs.Sets.{is_member}
 use Rattle.sets.specs.Steps.{Searched}
 
 -- bound on a step of a search through an ascending list: one search, and 10 elements

@@ -3,8 +3,7 @@ ghost use Rattle.std.specs.Prelude.{◌≡◌, ℕ, length};
 ghost use Rattle.std.specs.List.Sorted.{IsNonDecreasing};
 ghost use Rattle.vers_tally.specs.Reads.{AddsAtMost};
 ghost use Rattle.vers_sorted.specs.Layout.{member_reads};
-ghost use Rattle.vers_sorted.specs.Sorted.{below, least_not_below};
-ghost use Rattle.sets.specs.Sets.{is_member};
+ghost use Rattle.vers_sorted.specs.Sorted.{is_member, below, least_not_below};
 ghost use Rattle.sets.specs.Steps.{IsStep, PassesOne, Rises};
 ghost use Rattle.sets.specs.Sources.{searched_list};
 

@@ -2,7 +2,7 @@
 ghost use Rattle.std.specs.Prelude.{◌≡◌, ◌+◌, ◌∷◌, IfOk, length, map, min};
 ghost use Rattle.std.specs.List.{sum_by};
 ghost use Rattle.vers_tally.specs.Reads.{AddsAtMost, plus, times};
-ghost use Rattle.sets.specs.Sets.{IsSetOf, in_all, in_any, in_both, in_either, in_first_alone, in_first_only};
+ghost use Rattle.sets.specs.Sets.{IsSetOf, in_all, in_any, in_both, in_either, in_difference, in_difference_of};
 ghost use Rattle.sets.specs.Sources.{seek_reads, seek_reads_of};
 
 use crate::cursor::Cursor;
@@ -88,7 +88,7 @@ pub fn difference<A: Allocator + Copy>(
     one: &EliasFanoVec<A>,
     other: &EliasFanoVec<A>,
 ) -> Result<EliasFanoVec<A>, AllocError>
-    ensures { IfOk result (IsSetOf (in_first_alone one.now other.now)) }
+    ensures { IfOk result (IsSetOf (in_difference one.now other.now)) }
 {
     let mut tally = Tally::new();
     let found = difference_numbers_counted(alloc, one, other, &mut tally)?;
@@ -103,7 +103,7 @@ pub fn difference_numbers_counted<A: Allocator + Copy>(
     other: &EliasFanoVec<A>,
     tally: &mut Tally,
 ) -> Result<Vec<u64, A>, AllocError>
-    ensures value { IfOk result (λ found. IsSetOf (in_first_alone one.now other.now) found.items) }
+    ensures value { IfOk result (λ found. IsSetOf (in_difference one.now other.now) found.items) }
     ensures adds { AddsAtMost tally.old tally.new
         (times (length one.now + 1) (plus (seek_reads one.now) (seek_reads other.now))) }
 {
@@ -193,7 +193,7 @@ pub fn difference_of<'a, A: Allocator + Copy>(
     first: &'a EliasFanoVec<A>,
     others: &[&'a EliasFanoVec<A>],
 ) -> Result<EliasFanoVec<A>, AllocError>
-    ensures { IfOk result (IsSetOf (in_first_only first.now (map (λ list. list.now) others.now))) }
+    ensures { IfOk result (IsSetOf (in_difference_of first.now (map (λ list. list.now) others.now))) }
 {
     let mut tally = Tally::new();
     let found = difference_of_numbers_counted(alloc, first, others, &mut tally)?;
@@ -209,7 +209,7 @@ pub fn difference_of_numbers_counted<'a, A: Allocator + Copy>(
     tally: &mut Tally,
 ) -> Result<Vec<u64, A>, AllocError>
     ensures value { IfOk result (λ found.
-        IsSetOf (in_first_only first.now (map (λ list. list.now) others.now)) found.items) }
+        IsSetOf (in_difference_of first.now (map (λ list. list.now) others.now)) found.items) }
     ensures adds { AddsAtMost tally.old tally.new
         (times (length first.now + 1)
         (plus (seek_reads first.now) (seek_reads_of (map (λ list. list.now) others.now)))) }

@@ -2,7 +2,7 @@
 use Rattle.std.specs.Prelude.{◌≡◌, ℕ, ◌++◌, true, false, List, [], ◌∷◌, codes, Some, None, refl}
 use Rattle.std.specs.Fmt.{digits}
 use Rattle.vers_bits.specs.Bits.{count, places, select}
-use Rattle.vers_sorted.specs.Sorted.{below, least_not_below}
+use Rattle.vers_sorted.specs.Sorted.{is_member, below, least_not_below}
 use Rattle.vers_sorted.specs.Ones.{ones_at}
 use Rattle.vers_wavelet.specs.Symbols.{occurrences, range_members, kth_by_size, greatest_up_to, least_from, as_word}
 use Rattle.vers_wavelet.specs.Makers.{low_symbols}
@@ -11,14 +11,13 @@ use Rattle.vers_trees.specs.Forest.{forest_of}
 use Rattle.vers_trees.specs.Nodes.{closing, is_ancestor, is_proper_ancestor, depth, parent, nodes_under, level, level_ancestor, subtree, node_index}
 use Rattle.vers_trees.specs.Traversals.{subtree_post}
 use Rattle.vers_rmq.specs.Minima.{is_least as costs_least, first_least, first_least_of, least_place}
-use Rattle.postings.specs.Posted.{is_among, places_between as places_of_range, cheapest, common}
+use Rattle.postings.specs.Posted.{places_between as places_of_range, cheapest, common}
 use Rattle.vers_trees.specs.declared.trees.bp.relatives.LevelEnd.TheVariants.{Rightmost}
 use Rattle.vers_words.specs.Text.{number_of, signed_number_of}
 use Rattle.vers_engine.specs.Lines.{lines_of}
 use Rattle.vers_engine.specs.Replies.{answer_to_parts, holding_after_parts}
 use Rattle.catalogue.specs.Structures.{IndexedBits, SparseBits, SortedMembers, SymbolList, Parentheses, BlockValues, Documents, DocumentLists}
 use Rattle.inverted.specs.Makers.{lists_from}
-use Rattle.sets.specs.Sets.{is_member}
 use Rattle.vers_cli.specs.Holding.{Holding}
 use Rattle.vers_cli.specs.Loads.{pairs_of, posted_of}
 use Rattle.vers_cli.specs.Answers.{answer_to, holding_after, answers_to}
@@ -110,7 +109,7 @@ unfolding answer_to_parts
 answer-rank1_of_sorted = refl
 
 pub held-sparse_5_13 : holding_after None (codes "sparse 5 1 3") ≡ Some (SparseBits (false ∷ true ∷ false ∷ true ∷ false ∷ []))
-unfolding holding_after_parts number_of ones_at
+unfolding holding_after_parts number_of ones_at is_member
 held-sparse_5_13 = refl
 
 -- a place that is not below the length, and a line without a length
@@ -312,7 +311,7 @@ unfolding holding_after_parts number_of
 held-postings = refl
 
 pub answer-contains_6 : answer_to held_postings (codes "contains 6") ≡ ended (codes "0")
-unfolding answer_to_parts number_of is_among digits
+unfolding answer_to_parts number_of is_member digits
 answer-contains_6 = refl
 
 pub answer-next_6 : answer_to held_postings (codes "next 6") ≡ ended (codes "9")
@@ -324,7 +323,7 @@ unfolding answer_to_parts number_of cheapest places_of_range first_least_of cost
 answer-cheapest_6_12 = refl
 
 pub answer-intersect : answer_to held_postings (codes "intersect 5 6 12 40") ≡ ended (codes "5 12")
-unfolding answer_to_parts number_of common is_among digits
+unfolding answer_to_parts number_of common is_member digits
 answer-intersect = refl
 
 -- documents that don't ascend strictly are refused, and a document without a cost is malformed

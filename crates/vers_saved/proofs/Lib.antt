@@ -11,7 +11,7 @@ pub mod LimbLists
 pub mod RoundTrips
 pub mod Versions
 pub mod SortedParts
-pub mod SumTells
+pub mod SumDetects
 pub mod WordLists
 pub mod Parentheses
 pub mod SparseLists

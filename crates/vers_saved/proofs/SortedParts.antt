@@ -4,7 +4,7 @@ use Rattle.std.specs.Prelude.{nat_eq}
 use Rattle.std.proofs.lemmas.Bool.Decides.{Decides-eqb}
 use Rattle.std.proofs.lemmas.Slice.Eq.{slice_eq-Decides}
 use Rattle.std.specs.Cmp.Lexicographic.{pointwise}
-use Rattle.vers_sorted.proofs.PublicLaws.{in_order_up, parts_say}
+use Rattle.vers_sorted.proofs.PublicLaws.{in_order_up, parts_decode}
 use Rattle.vers_sorted.specs.Layout.{ArePartsOf, first_of, last_of, low_count, high_count, low_parts, high_parts, low_width}
 use Rattle.vers_sorted.specs.Sorted.{order_of}
 use Rattle.vers_saved.proofs.WordBytes.{AreWords}
@@ -118,7 +118,7 @@ module _ (m : List ℕ) where
 
   pub own_decoded : IsNonDecreasing m → decoded_members (sorted_words m) ≡ m
   unfolding decoded_members low_width
-  own_decoded up = rw (own_low, own_high) (parts_say m up)
+  own_decoded up = rw (own_low, own_high) (parts_decode m up)
 
   pub length-sorted : length (sorted_words m) ≡ 3 + (limb_count (length (low_parts m)) + limb_count (length (high_parts m)))
   length-sorted = omega (arith, length-append (limbs (low_parts m)) (limbs (high_parts m)), length-limbs (low_parts m), length-limbs (high_parts m))

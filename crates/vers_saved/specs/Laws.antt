@@ -13,8 +13,8 @@ use Rattle.vers_saved.specs.Faults.{fault_of, packed_kind}
 use Rattle.vers_saved.specs.Kinds.{AreWords, tree_kind}
 
 -- lists of words that differ in exactly one word have different sums
-abbrev pub SumTellsOneWord : Type 0
-SumTellsOneWord = (us vs : List ℕ) (x y : ℕ) → x < 2 ^ 64 → y < 2 ^ 64 → AreWords vs
+abbrev pub SumDetectsOneWord : Type 0
+SumDetectsOneWord = (us vs : List ℕ) (x y : ℕ) → x < 2 ^ 64 → y < 2 ^ 64 → AreWords vs
     → check_sum (us ++ x ∷ vs) ≡ check_sum (us ++ y ∷ vs) → x ≡ y
 
 -- the saved form of each list that may have one has no fault, and is that of no other list
@@ -29,7 +29,7 @@ BitsGoRound = GoesRound BIT_LISTS (λ bits. length bits ≤ BIT_LISTS.greatest_c
 abbrev pub SortedGoRound : Type 0
 SortedGoRound = GoesRound SORTED_LISTS (λ members. (length (sorted_words members) ≤ GREATEST_WORDS) × AreWords members × IsNonDecreasing members) saved_sorted
 
--- and so does one that was saved in the first version
+-- an ascending list of 64-bit numbers that was saved in the first version loads as the same list
 abbrev pub ListedSortedGoRound : Type 0
 ListedSortedGoRound = GoesRound (packed_kind SORTED_LISTS) (λ members. (length members ≤ GREATEST_WORDS) × AreWords members × IsNonDecreasing members) listed_form
 
@@ -39,7 +39,7 @@ SymbolsGoRound =
     (width : ℕ) → 1 ≤ width → width ≤ 64
     → GoesRound SYMBOL_LISTS (λ items. (width * limb_count (length items) ≤ GREATEST_WORDS) × All (λ y. y < 2 ^ width) items) (saved_symbols width)
 
--- and so does one that was saved in the first version
+-- a list of symbols of 1 to 64 bits that was saved in the first version loads as the same list
 abbrev pub PackedSymbolsGoRound : Type 0
 PackedSymbolsGoRound =
     (width : ℕ) → 1 ≤ width → width ≤ 64
@@ -49,7 +49,7 @@ PackedSymbolsGoRound =
 abbrev pub SparseGoRound : Type 0
 SparseGoRound = GoesRound SPARSE_LISTS (λ bits. (length bits < 2 ^ 64) × (length (sparse_words bits) ≤ GREATEST_WORDS)) saved_sparse
 
--- and so does one that was saved in the first version
+-- a sparse list of bits that was saved in the first version loads as the same list
 abbrev pub ListedSparseGoRound : Type 0
 ListedSparseGoRound = GoesRound (packed_kind SPARSE_LISTS) (λ bits. (length bits < 2 ^ 64) × (count true bits (length bits) < GREATEST_WORDS)) places_form
 

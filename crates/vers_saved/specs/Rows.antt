@@ -50,7 +50,7 @@ fault_of-more = refl
 
 -- the members 0, 1, 4 and 7: their number, their ends, the low parts 0101 and the high parts 011001010
 pub sorted_words-0147 : sorted_words (0 ∷ 1 ∷ 4 ∷ 7 ∷ []) ≡ 4 ∷ 0 ∷ 7 ∷ 10 ∷ 166 ∷ []
-unfolding high_parts high_length high_of ones_at low_parts low_width width digits low_bits limb limbs
+unfolding high_parts high_length high_of ones_at is_member low_parts low_width width digits low_bits limb limbs
 sorted_words-0147 = refl
 
 pub decoded_members-0147 : decoded_members (4 ∷ 0 ∷ 7 ∷ 10 ∷ 166 ∷ []) ≡ 0 ∷ 1 ∷ 4 ∷ 7 ∷ []
@@ -61,7 +61,7 @@ decoded_members-0147 = refl
 pub sparse_words-1-3 :
     sparse_words (false ∷ true ∷ false ∷ true ∷ false ∷ false ∷ false ∷ false ∷ false ∷ false ∷ false ∷ false ∷ [])
     ≡ 12 ∷ 2 ∷ 1 ∷ 3 ∷ 0 ∷ 10 ∷ []
-unfolding places high_parts high_length high_of ones_at low_parts low_width width digits low_bits limb limbs
+unfolding places high_parts high_length high_of ones_at is_member low_parts low_width width digits low_bits limb limbs
 sparse_words-1-3 = refl
 
 -- in the first version, the members and then the number of bits
@@ -75,12 +75,12 @@ place_words-1-3 = refl
 pub inverted_words-three :
     inverted_words (record { lists = (3 ∷ 7 ∷ []) ∷ [] ∷ (1 ∷ []) ∷ []; universe = 10; numbers = 3 ∷ 7 ∷ 21 ∷ [] })
     ≡ 3 ∷ 10 ∷ 3 ∷ 3 ∷ 21 ∷ 160 ∷ 38 ∷ []
-unfolding high_parts high_length high_of ones_at low_parts low_width width digits low_bits limb limbs
+unfolding high_parts high_length high_of ones_at is_member low_parts low_width width digits low_bits limb limbs
 inverted_words-three = refl
 
 -- with 2 terms, the last number is past their documents
 pub in_order-inverted : in_order InvertedParts (2 ∷ 10 ∷ 3 ∷ 3 ∷ 21 ∷ 160 ∷ 38 ∷ []) ≡ false
-unfolding are_of_list decoded_members members select places width digits low_bits limbs low_parts low_width limb high_parts ones_at high_length high_of
+unfolding are_of_list decoded_members members select places width digits low_bits limbs low_parts low_width limb high_parts ones_at is_member high_length high_of
 in_order-inverted = refl
 
 -- two documents and their costs, which need not ascend

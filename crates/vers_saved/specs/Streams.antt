@@ -14,6 +14,6 @@ Writes result old new bytes = (text : List ℕ) × (rest : List ℕ) × Appends 
 abbrev pub IsRefusedAs : Kind → Option (List ℕ) → LoadError → Type 0
 IsRefusedAs kind left fault = (fault ≡ Read) ⊎ ((fault ≡ Memory) ⊎ IfSome left (λ bytes. version_fault kind bytes ≡ Some fault))
 
--- the same as a form of the version that they name
+-- the reader failed, memory ran out, or the bytes left in the reader have the error, if it is known, as a form of the version that they name
 abbrev pub IsRefused : Kind → Option (List ℕ) → LoadError → Type 0
 IsRefused kind left fault = (fault ≡ Read) ⊎ ((fault ≡ Memory) ⊎ IfSome left (λ bytes. fault_of kind bytes ≡ Some fault))

@@ -3,6 +3,7 @@ pub mod Split
 pub mod Orders
 pub mod Below
 pub mod Neighbours
+pub mod Membership
 pub mod Ones
 pub mod Holds
 pub mod Packed

@@ -1,6 +1,7 @@
 -- How high and low parts are made.
 use Rattle.vers_sorted.proofs.Names.{◌≡◌, ◌==◌, ℕ, ◌+◌, ◌-◌, ◌*◌, ◌/◌, ◌^◌, ◌<◌, ◌≤◌, true, false, Bool, List, [], suc, ◌∷◌, ◌++◌, length, drop, Option, Some, None, unwrap_or, refl, sym, ap, ◌∙◌, arith, set, replicate, mul-le-mul_left, mul_comm, zero-div, slice_index, slice_get, map, if◌then◌else◌, range_with_len, IsNonDecreasing, get_or_past, append-nil, map-append, take_all, take_more, length-map, length-take, length-drop, drop-drop, get_or-drop, slice_get-get_or, slice_get_within, get_or_from_slice_get, map-range_with_len_more, flat_map-append, low_bits, pack, first_of, last_of, width, high_place, get_or-replicate, length-replicate, same_lists, TakesFirst, low_width, high_of, high_length, high_parts, low_parts, first_high_parts, first_low_parts}
 use Rattle.std.proofs.lemmas.Option.{same_Some}
+use Rattle.vers_sorted.proofs.Membership.{member_none}
 use Rattle.vers_sorted.proofs.Ones.{length-ones_at, ones_at_more, get_or-ones_at}
 use Rattle.vers_sorted.proofs.Split.{high_zeros, member_from}
 use Rattle.vers_sorted.proofs.Holds.{place_within, length-pack}
@@ -30,7 +31,7 @@ high_part_is s v first width f w = rw (f, w) refl
 
 pub high_start : (s : List ℕ) (n : ℕ) → n ≡ high_length s → replicate n false ≡ first_high_parts s 0
 unfolding first_high_parts
-high_start s n e = grind (arith, same_lists, length-ones_at, length-replicate, get_or-ones_at, get_or-replicate)
+high_start s n e = grind (arith, same_lists, length-ones_at, length-replicate, get_or-ones_at, get_or-replicate, member_none)
 
 pub high_next : (s : List ℕ) (i : ℕ) → IsNonDecreasing s → i < length s → set (first_high_parts s i) (high_place s i) true ≡ first_high_parts s (i + 1)
 unfolding first_high_parts

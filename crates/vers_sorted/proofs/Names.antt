@@ -14,7 +14,7 @@ pub use Rattle.std.proofs.lemmas.Nat.Bits.{bit_at-trailing_ones, bit_at-trailing
 pub use Rattle.std.proofs.lemmas.Option.{cond_some, get_or_from_slice_get, slice_get-get_or, slice_get_past, slice_get_within}
 pub use Rattle.std.specs.Int.{bit_at, bit_not, trailing_ones, trailing_zeros}
 pub use Rattle.std.specs.Int.Count.{count_leading_zeros, trailing_of_zero}
-pub use Rattle.std.specs.List.{IsAllAdjacentAnswer, list_all, list_any, range_with_len}
+pub use Rattle.std.specs.List.{IsAllAdjacentAnswer, list_all, range_with_len}
 pub use Rattle.std.specs.List.Sorted.{IsNonDecreasing, IsStrictlyIncreasing}
 pub use Rattle.std.specs.Prelude.{All, IsTrue, bit_and, bit_or, if◌then◌else◌, map, option_and_then, slice_index, slice_index_or, ◌↔◌}
 pub use Rattle.vers_bits.proofs.PublicLaws.{IsPlace, bit_at-number, count_at_select, count_both, count_le, count_more_no, count_more_yes, count_none, count_past, count_up, element, find_is, highest_bit, last_passing_is, length-low_bits, length-packed, length-places, limb_bit, low_bits-add, low_bits_of_rest, none_passing, number-drop, number-low_bits, number-lt, part_bit, passes_first, select_at, select_below, select_is_place, select_not_below, select_past, select_up, value_none, value_one}
@@ -31,7 +31,7 @@ unfoldable pub use Rattle.vers_sorted.specs.Layout.{high_length, high_of, high_p
 pub use Rattle.vers_sorted.specs.Ones.{AreMarked, AreSparse}
 unfoldable pub use Rattle.vers_sorted.specs.Ones.{ones_at}
 pub use Rattle.vers_sorted.specs.Sorted.{each_next, order_of}
-unfoldable pub use Rattle.vers_sorted.specs.Sorted.{below, delta, greatest_not_above, least_not_below}
+unfoldable pub use Rattle.vers_sorted.specs.Sorted.{below, delta, greatest_not_above, is_member, least_not_below}
 pub use Rattle.vers_sorted.specs.declared.elias_fano.search.Bucket.{Bucket}
 pub use Rattle.vers_sorted.specs.inside.Begun.{IsBegun, IsInside}
 pub use Rattle.vers_sorted.specs.inside.Buckets.{IsBetween, IsBucket}

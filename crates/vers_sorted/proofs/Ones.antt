@@ -1,28 +1,16 @@
 -- The bits whose ones stand at given places: their counts, their places, and how they come about.
-use Rattle.vers_sorted.proofs.Names.{◌≡◌, ℕ, zero, suc, ◌+◌, ◌-◌, ◌<◌, ◌≤◌, Bool, true, false, ◌⊎◌, List, [], ◌∷◌, ◌++◌, length, get_or, refl, sym, ap, ◌∙◌, arith, inl, inr, eqb, set, slice_index, map, list_any, IsNonDecreasing, IsStrictlyIncreasing, cases_lt, cases_Bool, ne_eqb, eq-eqb, eqb-true, same_number_lists, same_lists, get_or-set_same, get_or-set_other, length-set, get_or-map, length-map, length-map-range_with_len, map-id, get_or-map-range_with_len, get_or_default, is_bit, count, places, count_none, count_up, count_more_yes, count_more_no, select_at, length-places, select_is_place, select_up, IsPlace, below, rules, nat_tests, select, ones_at}
-use Rattle.std.proofs.lemmas.List.Folds.{list_any-from_Any, Any-from_list_any, list_any_none, list_any-append}
+use Rattle.vers_sorted.proofs.Names.{◌≡◌, ℕ, zero, suc, ◌+◌, ◌-◌, ◌<◌, ◌≤◌, Bool, true, false, ◌⊎◌, List, [], ◌∷◌, ◌++◌, length, get_or, refl, sym, ap, ◌∙◌, arith, inl, inr, eqb, set, slice_index, map, IsNonDecreasing, IsStrictlyIncreasing, cases_lt, cases_Bool, ne_eqb, eq-eqb, eqb-true, same_number_lists, same_lists, get_or-set_same, get_or-set_other, length-set, get_or-map, length-map, length-map-range_with_len, map-id, get_or-map-range_with_len, get_or_default, is_bit, count, places, count_none, count_up, count_more_yes, count_more_no, select_at, length-places, select_is_place, select_up, IsPlace, below, is_member, rules, nat_tests, select, ones_at}
 use Rattle.std.proofs.lemmas.List.Kept.{AllPairs-from_increasing}
 use Rattle.vers_sorted.proofs.Below.{below_le, below_at, below_before, below_after, none_below, all_below}
+use Rattle.vers_sorted.proofs.Membership.{member_at, member_more, member_place, not_member}
 
 pub length-ones_at : (s : List ℕ) (n : ℕ) → length (ones_at s n) ≡ n
 unfolding ones_at
-length-ones_at s n = length-map-range_with_len (λ p. list_any (λ q. eqb q p) s) 0 n
+length-ones_at s n = length-map-range_with_len (is_member s) 0 n
 
-pub get_or-ones_at : (s : List ℕ) (n i : ℕ) (d : Bool) → i < n → get_or (ones_at s n) i d ≡ list_any (λ q. eqb q i) s
+pub get_or-ones_at : (s : List ℕ) (n i : ℕ) (d : Bool) → i < n → get_or (ones_at s n) i d ≡ is_member s i
 unfolding ones_at
-get_or-ones_at s n i d h = get_or-map-range_with_len (λ p. list_any (λ q. eqb q p) s) 0 n i i d h (omega arith)
-
--- ---- whether a number is a member
-
-pub any_member : (s : List ℕ) (v k : ℕ) → k < length s → get_or s k 0 ≡ v → list_any (λ q. eqb q v) s ≡ true
-any_member s v k h e = search (rules, list_any-from_Any, get_or_default, eq-eqb)
-
-pub no_member : (s : List ℕ) (v : ℕ) → ((k : ℕ) → k < length s → get_or s k 0 ≡ v → ⊥) → list_any (λ q. eqb q v) s ≡ false
-no_member s v none =
-    list_any_none (λ q. eqb q v) s (λ k d h. grind (arith, ne_eqb, get_or_default))
-
-pub member_place : (s : List ℕ) (v : ℕ) → list_any (λ q. eqb q v) s ≡ true → (k : ℕ) × (k < length s) × (get_or s k 0 ≡ v)
-member_place s v on = grind (arith, Any-from_list_any, get_or_default, eqb-true)
+get_or-ones_at s n i d h = get_or-map-range_with_len (is_member s) 0 n i i d h (omega arith)
 
 -- ---- numbers that rise
 
@@ -45,9 +33,9 @@ module _ (s : List ℕ) (up : IsStrictlyIncreasing s) where
       (λ h. omega (arith, none h, below_after s v (below s v) ascends (omega arith) h))
 
   -- whether v is a member, by the member that `below` names
-  pub member_test : (v : ℕ) → ((list_any (λ q. eqb q v) s ≡ true) × (below s (v + 1) ≡ below s v + 1))
-      ⊎ ((list_any (λ q. eqb q v) s ≡ false) × (below s (v + 1) ≡ below s v))
-  member_test v = grind (arith, member_place, below_member, below_held, below_free, any_member)
+  pub member_test : (v : ℕ) → ((is_member s v ≡ true) × (below s (v + 1) ≡ below s v + 1))
+      ⊎ ((is_member s v ≡ false) × (below s (v + 1) ≡ below s v))
+  member_test v = grind (arith, member_place, below_member, below_held, below_free, member_at)
 
   pub count-ones_at : (n i : ℕ) → i ≤ n → count true (ones_at s n) i ≡ below s i
   count-ones_at n zero h = grind (arith, count_none, none_below, ascends)
@@ -55,14 +43,14 @@ module _ (s : List ℕ) (up : IsStrictlyIncreasing s) where
       let e : suc i ≡ i + 1 = omega arith in
       let before : count true (ones_at s n) i ≡ below s i = count-ones_at n i (omega arith) in
       let within : i < length (ones_at s n) = omega (arith, length-ones_at s n) in
-      let here : get_or (ones_at s n) i false ≡ list_any (λ q. eqb q i) s = get_or-ones_at s n i false (omega arith) in
+      let here : get_or (ones_at s n) i false ≡ is_member s i = get_or-ones_at s n i false (omega arith) in
       ap (count true (ones_at s n)) e ∙ grind (arith, member_test, count_more_yes, count_more_no)
 
   pub select-ones_at : (n r : ℕ) → r < length s → slice_index s r < n → select true (ones_at s n) r ≡ slice_index s r
   select-ones_at n r h within =
       let p : ℕ = slice_index s r in
       select_at true (ones_at s n) r p (omega (arith, length-ones_at s n))
-      (grind (arith, get_or-ones_at, any_member))
+      (grind (arith, get_or-ones_at, member_at))
       (count-ones_at n p (omega arith) ∙ below_member r h)
 
   -- all are below n
@@ -76,7 +64,7 @@ module _ (s : List ℕ) (up : IsStrictlyIncreasing s) where
 -- ---- how such bits come about
 
 pub ones_at_more : (s : List ℕ) (n p : ℕ) → p < n → ones_at (s ++ p ∷ []) n ≡ set (ones_at s n) p true
-ones_at_more s n p within = grind (arith, nat_tests, same_lists, length-ones_at, length-set, get_or-ones_at, list_any-append, get_or-set_same, get_or-set_other)
+ones_at_more s n p within = grind (arith, nat_tests, same_lists, length-ones_at, length-set, get_or-ones_at, member_more, get_or-set_same, get_or-set_other)
 
 -- ---- the places of a list's own ones or zeros
 
@@ -101,8 +89,8 @@ ones_at-places b l =
       | inl on ↦
           let more : count b l (k + 1) ≡ count b l k + 1 = count_more_yes b l k short on in
           let few : count b l k < length (places b l) = omega (arith, more, length-places b l, count_up b l (k + 1) (length l) (omega arith)) in
-          rw on (any_member (places b l) k _ few (get_or_default (places b l) (count b l k) 0 (length l) few ∙ select_at b l (count b l k) k short on refl))
-      | inr off ↦ rw off (no_member (places b l) k (λ r few e.
+          rw on (member_at (places b l) k _ few (get_or_default (places b l) (count b l k) 0 (length l) few ∙ select_at b l (count b l k) k short on refl))
+      | inr off ↦ rw off (not_member (places b l) k (λ r few e.
           let at : IsPlace b l r (select b l r) = select_is_place b l r (omega (arith, length-places b l)) in
           let same : select b l r ≡ k = get_or_default (places b l) r (length l) 0 few ∙ e in
           absurd (cc (rw same at at.holds, off))))

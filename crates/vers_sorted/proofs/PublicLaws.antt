@@ -1,6 +1,8 @@
 -- The laws that proofs of other crates may cite. A crate above imports this file and no other of this folder.
-use Rattle.vers_sorted.proofs.Names.{◌≡◌, ℕ, ◌+◌, ◌-◌, ◌<◌, ◌≤◌, Bool, true, List, length, slice_get, None, refl, ◌↔◌, IsTrue, slice_index, map, nat_le, nat_lt, IsNonDecreasing, IsStrictlyIncreasing, ArePartsOf, first_of, high_count, high_parts, low_count, low_parts, low_width, members, order_of, is_bit, places, ones_at, each_next, below, greatest_not_above, least_not_below}
+use Rattle.vers_sorted.proofs.Names.{◌≡◌, ℕ, ◌+◌, ◌-◌, ◌<◌, ◌≤◌, Bool, true, false, List, [], ◌∷◌, ◌++◌, length, slice_get, None, refl, ◌↔◌, IsTrue, slice_index, map, nat_le, nat_lt, IsNonDecreasing, IsStrictlyIncreasing, ArePartsOf, first_of, high_count, high_parts, low_count, low_parts, low_width, members, order_of, is_bit, places, ones_at, each_next, below, eqb, greatest_not_above, is_member, least_not_below}
+use Rattle.std.specs.Prelude.{◌||◌}
 use Rattle.vers_sorted.proofs.Below as Below
+use Rattle.vers_sorted.proofs.Membership as Membership
 use Rattle.vers_sorted.proofs.Neighbours as Neighbours
 use Rattle.vers_sorted.proofs.Ones as Ones
 use Rattle.vers_sorted.proofs.Holds as Holds
@@ -16,6 +18,28 @@ each_next-rising numbers = Orders.rising_is numbers (each_next nat_lt numbers) r
 -- each number is not above the next just where the list ascends
 pub each_next-ascending : (numbers : List ℕ) → IsTrue (each_next nat_le numbers) ↔ IsNonDecreasing numbers
 each_next-ascending numbers = Orders.ascending_is numbers (each_next nat_le numbers) refl
+
+-- ---- members
+
+-- a list has the member at each place, and no other
+pub member_at : (members : List ℕ) (v i : ℕ) → i < length members → slice_index members i ≡ v → is_member members v ≡ true
+member_at = Membership.member_at
+
+pub not_member : (members : List ℕ) (v : ℕ) → ((i : ℕ) → i < length members → slice_index members i ≡ v → ⊥) → is_member members v ≡ false
+not_member = Membership.not_member
+
+-- by the first member, and by the last
+pub member_none : (v : ℕ) → is_member [] v ≡ false
+member_none = Membership.member_none
+
+pub member_head : (first : ℕ) (members : List ℕ) (v : ℕ) → first ≡ v → is_member (first ∷ members) v ≡ true
+member_head = Membership.member_head
+
+pub member_tail : (first : ℕ) (members : List ℕ) (v : ℕ) → (first ≡ v → ⊥) → is_member (first ∷ members) v ≡ is_member members v
+member_tail = Membership.member_tail
+
+pub member_more : (members : List ℕ) (last v : ℕ) → is_member (members ++ last ∷ []) v ≡ is_member members v || eqb last v
+member_more = Membership.member_more
 
 -- ---- members below a number
 
@@ -63,8 +87,8 @@ pub in_order_up : (rising : Bool) (s : List ℕ) → each_next (order_of rising)
 in_order_up = Parted.in_order_up
 
 -- the parts of an ascending list say its members
-pub parts_say : (s : List ℕ) → IsNonDecreasing s → members (high_parts s) (low_parts s) (first_of s) (low_width s) (length s) ≡ s
-parts_say = Holds.packs
+pub parts_decode : (s : List ℕ) → IsNonDecreasing s → members (high_parts s) (low_parts s) (first_of s) (low_width s) (length s) ≡ s
+parts_decode = Holds.packs
 
 -- how many bits they have
 pub counted_parts : (s : List ℕ) (n first last : ℕ) (low high : List Bool) → ArePartsOf s n first last low high → (length low ≡ low_count n (last - first)) × (length high ≡ high_count n (last - first))

@@ -65,9 +65,9 @@ abbrev pub HighPartsAreFew : Type 0
 HighPartsAreFew = (members : List ℕ)
     → length (high_parts members) ≤ 2 + length members + 2 ^ clog (max (length members) 2)
 
--- the parts of an ascending list say its elements
-abbrev pub PartsSayMembers : Type 0
-PartsSayMembers = (s : List ℕ) → IsNonDecreasing s → members (high_parts s) (low_parts s) (first_of s) (low_width s) (length s) ≡ s
+-- the parts of an ascending list decode to its elements
+abbrev pub PartsDecodeToList : Type 0
+PartsDecodeToList = (s : List ℕ) → IsNonDecreasing s → members (high_parts s) (low_parts s) (first_of s) (low_width s) (length s) ≡ s
 
 -- two ascending lists with the same ends and parts are equal
 abbrev pub PartsDetermineList : Type 0

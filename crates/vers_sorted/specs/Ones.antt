@@ -1,13 +1,14 @@
 -- Lists of bits given by the positions of their ones.
-use Rattle.std.specs.Prelude.{◌≡◌, ℕ, ◌+◌, ◌<◌, ◌==◌, All, Bool, false, List, map, slice_index_or}
+use Rattle.std.specs.Prelude.{◌≡◌, ℕ, ◌+◌, ◌<◌, All, Bool, false, List, map, slice_index_or}
 use Rattle.std.specs.Int.{bit_at}
 use Rattle.vers_bits.specs.Bits.{bit_value, is_bit}
-use Rattle.std.specs.List.{list_any, range_with_len}
+use Rattle.std.specs.List.{range_with_len}
 use Rattle.std.specs.List.Sorted.{IsStrictlyIncreasing}
+use Rattle.vers_sorted.specs.Sorted.{is_member}
 
 -- the list of n bits whose ones are at the given positions
 unfoldable pub ones_at : List ℕ → ℕ → List Bool
-ones_at numbers n = map (λ p. list_any (λ q. q == p) numbers) (range_with_len 0 n)
+ones_at numbers n = map (is_member numbers) (range_with_len 0 n)
 
 -- strictly ascending numbers below n
 pub record AreSparse (numbers : List ℕ) (n : ℕ) : Type 0 where

@@ -2,13 +2,21 @@
 use Rattle.std.specs.Prelude.{◌≡◌, ℕ, false, true, List, [], ◌∷◌, Some, None, nat_le, nat_lt, refl}
 use Rattle.vers_bits.specs.Bits.{count, low_bits, places, select}
 use Rattle.vers_tally.specs.Reads.{digits}
-use Rattle.vers_sorted.specs.Sorted.{each_next, below, greatest_not_above, least_not_below, delta}
+use Rattle.vers_sorted.specs.Sorted.{each_next, is_member, below, greatest_not_above, least_not_below, delta}
 use Rattle.vers_sorted.specs.Ones.{ones_at}
 use Rattle.vers_sorted.specs.Layout.{width, low_width, high_of, high_length, high_parts, low_parts, heap_size_of, members, low_count, high_count}
 
 -- an ascending list with equal members
 abbrev members_2449 : List ℕ
 members_2449 = 2 ∷ 4 ∷ 4 ∷ 9 ∷ []
+
+pub is_member-4 : is_member members_2449 4 ≡ true
+unfolding is_member
+is_member-4 = refl
+
+pub is_member-5 : is_member members_2449 5 ≡ false
+unfolding is_member
+is_member-5 = refl
 
 pub below-4 : below members_2449 4 ≡ 1
 unfolding below
@@ -70,7 +78,7 @@ low_width-0147 = refl
 
 -- nine bits with ones at the places 1, 2, 5 and 7
 pub high_parts-0147 : high_parts members_0147 ≡ false ∷ true ∷ true ∷ false ∷ false ∷ true ∷ false ∷ true ∷ false ∷ []
-unfolding high_parts high_length high_of ones_at low_width width digits
+unfolding high_parts high_length high_of ones_at is_member low_width width digits
 high_parts-0147 = refl
 
 pub low_parts-0147 : low_parts members_0147 ≡ false ∷ true ∷ false ∷ true ∷ []
@@ -78,7 +86,7 @@ unfolding low_parts low_width width digits low_bits
 low_parts-0147 = refl
 
 pub heap_size-0147 : heap_size_of members_0147 ≡ 58
-unfolding high_parts high_length high_of ones_at low_parts low_width width digits low_bits count
+unfolding high_parts high_length high_of ones_at is_member low_parts low_width width digits low_bits count
 heap_size-0147 = refl
 
 -- which say the members
@@ -96,7 +104,7 @@ high_count-0147 = refl
 
 -- no members have no bits
 pub high_parts-nothing : high_parts [] ≡ []
-unfolding high_parts high_length ones_at
+unfolding high_parts high_length ones_at is_member
 high_parts-nothing = refl
 
 pub low_parts-nothing : low_parts [] ≡ []

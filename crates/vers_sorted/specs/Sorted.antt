@@ -1,6 +1,6 @@
 -- Ascending lists of numbers, and their queries.
 use Rattle.std.specs.Prelude.{ℕ, ◌-◌, ◌==◌, ◌&&◌, Bool, true, List, [], ◌∷◌, count_by, filter, find, slice_get, slice_index, nat_lt, nat_le, Option, None, option_map, if◌then◌else◌}
-use Rattle.std.specs.List.{last_or}
+use Rattle.std.specs.List.{last_or, list_any}
 
 -- whether each number is in this order with the next one
 abbrev pub each_next : (ℕ → ℕ → Bool) → List ℕ → Bool
@@ -11,6 +11,10 @@ each_next order (n ∷ next ∷ more) = order n next && each_next order (next �
 -- `at most`, or `less than` if strictly
 abbrev pub order_of : Bool → (ℕ → ℕ → Bool)
 order_of strictly = if strictly then nat_lt else nat_le
+
+-- whether v is an element
+unfoldable pub is_member : List ℕ → ℕ → Bool
+is_member members v = list_any (λ m. m == v) members
 
 -- how many elements are less than v
 unfoldable pub below : List ℕ → ℕ → ℕ

@@ -1,8 +1,7 @@
 //! Ascending lists of numbers.
 ghost use Rattle.std.specs.Prelude.{◌≡◌, ◌<◌, ◌≤◌, ◌==◌, ◌↔◌, [], length, slice_index, slice_get, nat_le, if◌then◌else◌, IsTrue, IsSome, Some};
-ghost use Rattle.std.specs.List.{list_any};
 ghost use Rattle.std.specs.List.Sorted.{IsNonDecreasing};
-ghost use Rattle.vers_sorted.specs.Sorted.{below, greatest_not_above, least_not_below, delta};
+ghost use Rattle.vers_sorted.specs.Sorted.{is_member, below, greatest_not_above, least_not_below, delta};
 ghost use Rattle.vers_sorted.specs.Layout.{heap_size_of, first_of, last_of};
 
 mod ahead;
@@ -175,7 +174,7 @@ impl<A: Allocator + Copy> EliasFanoVec<A> {
     /// Returns true if `v` is a member.
     #[inline]
     pub fn has(&self, v: u64) -> bool
-        ensures value { result ≡ list_any (λ m. m == v) self.now }
+        ensures value { result ≡ is_member self.now v }
         ensures ascending { IsNonDecreasing self.now }
     {
         let mut tally = Tally::new();

@@ -1,6 +1,6 @@
 //! Laws of ascending lists. Each function does nothing: its contract is the law, and its proof is
 //! checked with the crate.
-ghost use Rattle.vers_sorted.specs.Laws.{BelowIsAtMostAll, BelowRises, FirstMembersAreBelow, OtherMembersAreNotBelow, LeastNotBelowIsNext, GreatestNotAboveIsLast, GreatestNotAboveIsGreatest, LeastNotBelowIsLeast, NoneBelowNoneNotAbove, ClogIsLeast, HighPartsAreFew, PartsDetermineList, PartsSayMembers};
+ghost use Rattle.vers_sorted.specs.Laws.{BelowIsAtMostAll, BelowRises, FirstMembersAreBelow, OtherMembersAreNotBelow, LeastNotBelowIsNext, GreatestNotAboveIsLast, GreatestNotAboveIsGreatest, LeastNotBelowIsLeast, NoneBelowNoneNotAbove, ClogIsLeast, HighPartsAreFew, PartsDetermineList, PartsDecodeToList};
 
 /// At most all members are below a number.
 #[tactic(auto, using(crate::proofs::Neighbours::laws))]
@@ -72,8 +72,8 @@ pub fn high_parts_are_few()
 
 /// The parts of an ascending list say its members.
 #[tactic(auto, using(crate::proofs::Parted::laws))]
-pub fn parts_say_members()
-    ensures { PartsSayMembers }
+pub fn parts_decode_to_list()
+    ensures { PartsDecodeToList }
 {}
 
 /// Two ascending lists with the same ends and parts are equal.

@@ -1,9 +1,8 @@
 -- Steps among the numbers of all terms as steps among the documents of one.
 use Rattle.std.specs.Prelude.{◌≡◌, ℕ, ◌+◌, ◌-◌, List, nat_lt, if◌then◌else◌}
-use Rattle.vers_sorted.specs.Sorted.{below}
+use Rattle.vers_sorted.specs.Sorted.{is_member, below}
 use Rattle.sets.specs.declared.step.Step.{Step}
 use Rattle.sets.specs.declared.step.Step.TheVariants.{Ended, Past, Found}
-use Rattle.sets.specs.Sets.{is_member}
 use Rattle.sets.specs.Sources.{seek_reads}
 
 -- the step to a number from `start` on as one to its document, which ends the search past the term

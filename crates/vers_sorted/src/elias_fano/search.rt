@@ -1,10 +1,9 @@
 //! Queries of an ascending list.
 ghost use Rattle.std.specs.Prelude.{◌≡◌, ℕ, ◌+◌, ◌-◌, ◌*◌, ◌<◌, ◌≤◌, ◌==◌, List, false, length, slice_index, slice_get, IsTrue, IsFalse};
 ghost use Rattle.vers_bits.specs.Bits.{select};
-ghost use Rattle.std.specs.List.{list_any};
 ghost use Rattle.std.specs.List.Sorted.{IsNonDecreasing};
 ghost use Rattle.vers_tally.specs.Reads.{only_low_parts, digits, AddsAtMost};
-ghost use Rattle.vers_sorted.specs.Sorted.{below, greatest_not_above, least_not_below, delta};
+ghost use Rattle.vers_sorted.specs.Sorted.{is_member, below, greatest_not_above, least_not_below, delta};
 ghost use Rattle.vers_sorted.specs.Layout.{first_of, last_of, high_of, low_of, high_length, high_parts, member_reads, search_reads};
 ghost use Rattle.vers_sorted.specs.inside.Parts.{reads};
 ghost use Rattle.vers_sorted.specs.inside.Buckets.{IsBucket};
@@ -187,7 +186,7 @@ impl<A: Allocator + Copy> EliasFanoVec<A> {
     #[tactic(auto, using(crate::proofs::Buckets::members))]
     fn is_amid(&self, bucket: Bucket, other: u64, v: u64, tally: &mut Tally) -> bool
         requires { IsBucket self.now other bucket }
-        ensures member { IsTrue result → IsTrue (list_any (λ m. m == v) self.now) }
+        ensures member { IsTrue result → IsTrue (is_member self.now v) }
         ensures adds { AddsAtMost tally.old tally.new (only_low_parts 1) }
     {
         let _ = self.len();
@@ -239,7 +238,7 @@ impl<A: Allocator + Copy> EliasFanoVec<A> {
     #[inline(always)]
     #[tactic(auto, using(crate::proofs::Members::members, crate::proofs::Bounds::bounds))]
     pub fn has_counted(&self, v: u64, tally: &mut Tally) -> bool
-        ensures value { result ≡ list_any (λ m. m == v) self.now }
+        ensures value { result ≡ is_member self.now v }
         ensures ascending { IsNonDecreasing self.now }
         ensures adds { AddsAtMost tally.old tally.new (search_reads self.now) }
     {

@@ -11,4 +11,4 @@ pub fn suffixes_have_one_order() {}
 pub fn patterns_are_found_backwards() {}
 
 /// Two texts with the same column, and the same row of the whole text, are the same.
-pub fn columns_tell_texts() {}
+pub fn columns_determine_texts() {}

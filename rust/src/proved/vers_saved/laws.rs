@@ -4,7 +4,7 @@
 use crate::rattle::prelude::*;
 
 /// If two lists of words differ in exactly one word, their sums differ.
-pub fn sum_tells_one_word() {}
+pub fn sum_detects_one_word() {}
 
 /// The form of each list that may be saved has no error, and no other list has that form.
 pub fn forms_go_round() {}

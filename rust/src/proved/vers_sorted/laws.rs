@@ -39,7 +39,7 @@ pub fn clog_is_least() {}
 pub fn high_parts_are_few() {}
 
 /// The parts of an ascending list say its members.
-pub fn parts_say_members() {}
+pub fn parts_decode_to_list() {}
 
 /// Two ascending lists with the same ends and parts are equal.
 pub fn parts_determine_list() {}

@@ -1,5 +1,6 @@
 use Rattle.std.specs.Prelude.{◌&&◌, IfOk, not}
-use Rattle.sets.specs.Sets.{IsSetOf, is_member}
+use Rattle.sets.specs.Sets.{IsSetOf}
+use Rattle.vers_sorted.specs.Sorted.{is_member}
 use Rattle.inverted.specs.Lists.{list_of}
 use Rattle.inverted_tests.proofs.engine.found.Goals as goal
 

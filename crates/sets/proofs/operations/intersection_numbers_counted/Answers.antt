@@ -1,6 +1,7 @@
 use Rattle.std.proofs.Common.{length, nat_le}
 use Rattle.std.specs.Prelude.{◌&&◌}
-use Rattle.sets.specs.Sets.{in_both, is_member}
+use Rattle.sets.specs.Sets.{in_both}
+use Rattle.vers_sorted.specs.Sorted.{is_member}
 use Rattle.sets.proofs.ManyLists.{both_in_turn, least_steps, ok_numbers_same}
 use Rattle.sets.proofs.operations.intersection_numbers_counted.Goals as goal
 

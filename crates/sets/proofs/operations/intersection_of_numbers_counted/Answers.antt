@@ -1,7 +1,8 @@
 use Rattle.std.proofs.Common.{map, refl}
 use Rattle.std.specs.Prelude.{◌&&◌}
 use Rattle.std.specs.List.{list_all}
-use Rattle.sets.specs.Sets.{in_all, is_member}
+use Rattle.sets.specs.Sets.{in_all}
+use Rattle.vers_sorted.specs.Sorted.{is_member}
 use Rattle.sets.specs.Sources.{searched_list}
 use Rattle.sets.proofs.ManyLists.{all_has, all_reads, ok_numbers_same}
 use Rattle.sets.proofs.operations.intersection_of_numbers_counted.Goals as goal

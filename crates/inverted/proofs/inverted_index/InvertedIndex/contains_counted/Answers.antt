@@ -1,6 +1,6 @@
 use Rattle.std.proofs.Common.{sym, ◌∙◌}
-use Rattle.sets.specs.Sets.{is_member}
-use Rattle.inverted.proofs.Windows.{list_is, member_is, member_none, member_past, no_list}
+use Rattle.vers_sorted.proofs.PublicLaws.{member_none}
+use Rattle.inverted.proofs.Windows.{list_is, member_is, member_past, no_list}
 use Rattle.inverted.proofs.inverted_index.InvertedIndex.contains_counted.Goals as goal
 
 pub returns-then-t-self-clause-value : goal.returns-then-t-self-clause-value
@@ -10,5 +10,4 @@ pub returns-then-d-self-clause-value : goal.returns-then-d-self-clause-value
 returns-then-d-self-clause-value g c = rw (← c.self.view_is, list_is c.self.inside.numbers c.self.inside.universe c.self.inside.terms c.args.t c.if-t-self.false) (sym (member_past c.self.inside.numbers c.self.inside.universe c.args.t c.args.d c.if-d-self.true))
 
 pub returns-clause-value : goal.returns-clause-value
-unfolding is_member
 returns-clause-value g c = rw (← c.self.view_is, list_is c.self.inside.numbers c.self.inside.universe c.self.inside.terms c.args.t c.if-t-self.false) (c.has_counted.ensures.value ∙ member_is c.self.inside.numbers c.self.inside.universe c.args.t c.args.d c.if-d-self.false)

@@ -1,7 +1,8 @@
 use Rattle.std.proofs.Common.{ap, map}
 use Rattle.std.specs.Prelude.{◌&&◌}
 use Rattle.std.specs.List.{list_all}
-use Rattle.sets.specs.Sets.{in_all, is_member}
+use Rattle.sets.specs.Sets.{in_all}
+use Rattle.vers_sorted.specs.Sorted.{is_member}
 use Rattle.inverted.specs.Lists.{list_of, searched_term}
 use Rattle.inverted.proofs.Sets.{all_have, ok_same}
 use Rattle.inverted.proofs.inverted_index.InvertedIndex.intersection_of.Goals as goal

@@ -1,7 +1,8 @@
 use Rattle.std.proofs.Common.{◌∷◌, ap, map}
 use Rattle.std.specs.Prelude.{◌||◌}
 use Rattle.std.specs.List.{list_any}
-use Rattle.sets.specs.Sets.{in_any, is_member}
+use Rattle.sets.specs.Sets.{in_any}
+use Rattle.vers_sorted.specs.Sorted.{is_member}
 use Rattle.inverted.specs.Lists.{list_of, searched_term}
 use Rattle.inverted.proofs.Sets.{any_has, ok_same}
 use Rattle.inverted.proofs.inverted_index.InvertedIndex.union_of.Goals as goal
