@@ -101,7 +101,7 @@ impl<A: Allocator + Copy> EliasFanoVec<A> {
     {
         let mut members = Members::new(self);
         for j in 0..n {
-            places[from + j] = members.get(places[from + j], tally);
+            places[from + j] = members.member_of(places[from + j], tally);
         }
     }
 

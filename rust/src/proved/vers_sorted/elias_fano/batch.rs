@@ -70,7 +70,7 @@ impl<A: Allocator + Copy> EliasFanoVec<A> {
     fn get_in_turn(&self, places: &mut [Option<u64>], from: usize, n: usize, tally: &mut Tally) {
         let mut members = Members::new(self);
         for j in 0..n {
-            places[from + j] = members.get(places[from + j], tally);
+            places[from + j] = members.member_of(places[from + j], tally);
         }
     }
 

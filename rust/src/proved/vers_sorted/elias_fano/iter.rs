@@ -55,7 +55,7 @@ impl<L: Sorted> Members<L> {
 
     // Returns the member at a position, if there is one. It is read fastest at the position after the last one.
     #[inline(always)]
-    pub(super) fn get(&mut self, place: Option<u64>, tally: &mut Tally) -> Option<u64> {
+    pub(super) fn member_of(&mut self, place: Option<u64>, tally: &mut Tally) -> Option<u64> {
         let i = place? as usize;
         if i >= self.count_items() {
             return None;
