@@ -1,6 +1,10 @@
 -- Lists that are written item by item, and group by group.
 use Rattle.vers_c.proofs.Names.{◌+◌, ◌-◌, ◌<◌, ◌≤◌, length, map, take, get_or, set, arith, take-add, append_assoc, drop-drop, drop_at, drop_more, get_or-map, get_or_at, length-map, length-take-le, map-append, map_more, map_push, take_at, take_more_set, map_over_more, put_mid}
-use Rattle.std.proofs.Common.{◌≡◌, ℕ, ◌++◌, ◌∙◌, List, [], ◌∷◌, drop, ap, refl, sym}
+use Rattle.std.proofs.Common.{◌≡◌, ℕ, ◌++◌, ◌∙◌, Bool, List, [], ◌∷◌, Option, drop, ap, refl, sym, unwrap_or, get_or-drop}
+use Rattle.std.proofs.lemmas.List.{get_or_default}
+use Rattle.std.proofs.lemmas.Option.{unwrap_or-slice_get}
+use Rattle.vers_bits.specs.Bits.{places, select}
+use Rattle.vers_bits.specs.Walk.{TakesNth}
 
 -- an item that is still as it was, where those before it were written
 still : {X : Type 0} (f : X → X) (xs ys : List X) (i : ℕ) (d : X) → i < length xs → ys ≡ map f (take i xs) ++ drop i xs → get_or ys i d ≡ get_or xs i d
@@ -29,6 +33,28 @@ stored_more {Q} {R} {A} says answer store qs xs ys i q r in_qs in_xs read_q read
     let write : R → R = λ x. store x (answer x) in
     let said : says q ≡ answer r = same_at says answer qs xs i q r in_qs in_xs read_q (read_r ∙ still write xs ys i r in_xs is) same in
     ap (λ a. set ys i (store r a)) said ∙ map_over_more write xs ys i r in_xs is read_r
+
+-- one item more that is written, by the item there before
+pub written_more : {X : Type 0} (f : X → X) (xs ys : List X) (i : ℕ) (v d : X) → i < length xs → v ≡ f (get_or xs i d) → ys ≡ map f (take i xs) ++ drop i xs
+    → set ys i v ≡ map f (take (i + 1) xs) ++ drop (i + 1) xs
+written_more {X} f xs ys i v d inside value is =
+    let x : X = get_or xs i d in
+    ap (λ y. set ys i y) value ∙ map_over_more f xs ys i x inside is (get_or_default xs i d x inside ∙ sym (still f xs ys i x inside is))
+
+-- one position more of a run
+module _ (bit : Bool) (bits : List Bool) (left new : List ℕ) (skip n : ℕ) (taken : Option ℕ) (before : drop skip left ≡ drop n (places bit bits)) (steps : TakesNth skip left taken new) where
+  pub run_goes_on : new ≡ drop (n + 1) (places bit bits)
+  run_goes_on = steps.left ∙ sym (drop-drop 1 skip left) ∙ ap (drop 1) before ∙ drop-drop 1 n (places bit bits)
+
+  pub run_taken : unwrap_or taken (length bits) ≡ select bit bits n
+  unfolding select
+  run_taken =
+      let d : ℕ = length bits in
+      let same : get_or left (skip + 0) d ≡ get_or (places bit bits) (n + 0) d = sym (get_or-drop skip left 0 d) ∙ ap (λ l. get_or l 0 d) before ∙ get_or-drop n (places bit bits) 0 d in
+      let left_at : skip ≡ skip + 0 = omega arith in
+      let place_at : n + 0 ≡ n = omega arith in
+      ap (λ o. unwrap_or o d) steps.given ∙ unwrap_or-slice_get left skip d
+      ∙ ap (λ i. get_or left i d) left_at ∙ same ∙ ap (λ i. get_or (places bit bits) i d) place_at
 
 -- a group more
 pub group_more : {X : Type 0} (f : X → X) (xs ys zs : List X) (i n : ℕ) → i + n ≤ length xs → ys ≡ map f (take i xs) ++ drop i xs → zs ≡ map f (take n (drop i ys))

@@ -1,5 +1,5 @@
-//! Compares each export for C with a plain model of its structure: a list, and what is found in it by scans. Codes and statuses are those of
-//! `vers.h`. Only the build of wrong bodies has the exports in plain Rust.
+//! Compares each export for C with a plain model of its structure: a list, and what is found in it by scans. Codes and
+//! statuses are those of `vers.h`. Only the build of wrong bodies has the exports in plain Rust.
 
 use crate::programs::vers_c::asked::Ask;
 use crate::programs::vers_c::asks::{vers_ask, vers_ask_each, vers_ask_rows, vers_change, vers_value};
@@ -114,7 +114,19 @@ fn compare(handle: &mut VersHandle, model: &Model, numbers: &[u64]) {
             assert_eq!(vers_value(Global, handle, code, *a), number_or(model(code, *a, 0, 0), u64::MAX), "{code} {a}");
         }
     }
+    compare_runs(handle, model);
     compare_quick(handle, model, numbers);
+}
+
+/// Asks each query with runs of numbers, which some structures read as iterators do.
+fn compare_runs(handle: &mut VersHandle, model: &Model) {
+    for (code, first) in (0..=CODES).flat_map(|code| [(code, 0), (code, 29)]) {
+        let status = if model(code, 0, 0, 0).0 == UNKNOWN { UNKNOWN } else { DONE };
+        let answer = |a| if status == DONE { number_or(model(code, a, 0, 0), 77) } else { a };
+        let mut each: Vec<usize> = (first..first + 130).collect();
+        assert_eq!(vers_ask_each(Global, handle, code, &mut each, 0, 0, 77), status);
+        assert!(each.iter().zip(first..).all(|(it, a)| *it as u64 == answer(a as u64)), "query {code} from {first} on");
+    }
 }
 
 /// Asks the exports of one query each, which answer for any structure.

@@ -1,5 +1,5 @@
 //! Batches of queries of bits with rank and select.
-ghost use Rattle.std.specs.Prelude.{◌≡◌, map};
+ghost use Rattle.std.specs.Prelude.{◌≡◌, ℕ, ◌+◌, ◌<◌, length, map, not, slice_index, true};
 ghost use Rattle.vers_bits.specs.Bits.{select};
 ghost use Rattle.catalogue.specs.declared.answer.Answer.TheVariants as answer;
 ghost use Rattle.vers_c.specs.Batches.{answered_row};
@@ -33,16 +33,46 @@ impl Batch<RsVec<Global>, usize> for Selects {
 
     #[inline(always)]
     fn ask_all(self, bits: &RsVec<Global>, numbers: &mut [usize]) {
-        if self.bit {
-            bits.select1_each(numbers)
-        } else {
-            bits.select0_each(numbers)
+        match (is_run(numbers), self.bit) {
+            (true, true) => select_run::<false>(bits, numbers),
+            (true, false) => select_run::<true>(bits, numbers),
+            (false, true) => bits.select1_each(numbers),
+            (false, false) => bits.select0_each(numbers),
         }
     }
 
     #[inline(always)]
     fn answer(self, place: usize) -> Answer {
         Answer::place(place)
+    }
+}
+
+// Returns true if each number is one more than the one before.
+fn is_run(numbers: &[usize]) -> bool
+    ensures { result ≡ true → (k : ℕ) → k < length numbers.now
+        → slice_index numbers.now k ≡ slice_index numbers.now 0 + k }
+{
+    for k in 1..numbers.len() {
+        if numbers[k - 1].checked_add(1) != Some(numbers[k]) {
+            return false;
+        }
+    }
+    true
+}
+
+// Replaces each number of a run by the position of the zero or the one, as an iterator reads them.
+fn select_run<const ZERO: bool>(bits: &RsVec<Global>, numbers: &mut [usize])
+    requires { (k : ℕ) → k < length numbers.old → slice_index numbers.old k ≡ slice_index numbers.old 0 + k }
+    ensures { numbers.new ≡ map (select (not ZERO) bits.now) numbers.old }
+{
+    let Some(first) = numbers.first() else {
+        return;
+    };
+    let mut skip = *first;
+    let mut places = bits.select_iter::<ZERO>();
+    for k in 0..numbers.len() {
+        numbers[k] = places.nth(skip).unwrap_or(bits.len());
+        skip = 0;
     }
 }
 
