@@ -1,21 +1,22 @@
 #!/usr/bin/env python3
 """Runs the benchmark of this library and that of the crate vers-vecs, and prints their times and ratios as a table.
 
-`--plain` adds three columns: the crate of plain Rust as it is and with the feature `unchecked`, under the driver of the original, and the C
-library that cargo builds, under the driver in `from_c/`. A table gives the geometric means over the queries of each structure.
+`--plain` adds three columns: the crate of plain Rust as it is and with the feature `unchecked`, under the driver of the
+original, and the C library that cargo builds, under the driver in `from_c/`. A table gives the geometric means over the
+queries of each structure.
 
-The original's driver is built by cargo. This library's is `crates/vers_bench`, which `tools/proofs.py vers_bench` proves
-and builds. The runs are interleaved: in each pass each structure is run by the one and by the other, and the least
-time of each series counts. Exit status 1 where a checksum differs: the answers differ then.
+The original's driver is built by cargo. This library's is `crates/vers_bench`, which `tools/proofs.py vers_bench`
+proves and builds. The runs are interleaved: in each pass each structure is run by the one and by the other, and the
+least time of each series counts. Exit status 1 if a checksum differs, so the answers differ.
 
-`--checksums` builds the original's driver alone, runs its small workload, and compares its checksums with the stored run
-of `crates/vers_bench`, so it needs no Rattle toolchain. Series that only one of the two has are listed: the original has no
-`postings`, `saved` and `texts`, whose rows have no ratio, and whose checksums `plain.py` computes. Nor has it batches (`_each_` and
-a size): their rows are compared with its single calls.
+`--checksums` builds the original's driver alone, runs its small workload, and compares its checksums with the stored
+run of `crates/vers_bench`, so it needs no Rattle toolchain. Series that only one of the two has are listed: the
+original has no `postings`, `saved` and `texts`, whose rows have no ratio, and whose checksums `plain.py` computes. Nor
+has it batches (`_each_` and a size): their rows are compared with its single calls.
 
-`--instructions` counts, under valgrind's callgrind and with a sixteenth of the sizes, the instructions of one pass over the queries of
-each series, with its loop and its checksum. In both drivers such a pass is a function of its own, whose name ends in `_pass`. With
-`--times`, the run first takes the times over the same sizes.
+`--instructions` counts, under valgrind's callgrind and with a sixteenth of the sizes, the instructions of one pass over
+the queries of each series, with its loop and its checksum. In both drivers such a pass is a function of its own, whose
+name ends in `_pass`. With `--times`, the run first takes the times over the same sizes.
 
 `--level` builds the original for newer processors. This library's driver is built for the same by `rt run --cpu=LEVEL`.
 """
@@ -40,23 +41,27 @@ LEVELS = ("x86-64-v2", "x86-64-v3", "x86-64-v4", "native")
 
 
 def built_original(folder, level, target="target", features=()):
-    """Builds the original's driver for a level of processors, with the crate's sources in `folder` if one is given, and returns its path."""
-    command = ["cargo", "build", "--release", "--quiet", "--target-dir", target, *(f"--features={it}" for it in features)]
+    """Builds the original's driver for a level of processors, with the crate's sources in `folder` if one is given, and
+    returns its path."""
+    command = ["cargo", "build", "--release", "--quiet", "--target-dir", target]
+    command += [f"--features={it}" for it in features]
     if folder:
         command += ["--offline", "--config", f'patch.crates-io.vers-vecs.path="{os.path.abspath(folder)}"']
     flags = {"RUSTFLAGS": f"-C target-cpu={level} --cap-lints allow"}
     built = subprocess.run(command, cwd=PROJECT, env={**os.environ, **flags}, check=False)
     if built.returncode:
-        hint = "" if folder else "; without a network, name a folder with the sources of vers-vecs 1.10.2 by --original FOLDER"
+        hint = "" if folder else "; without a network, name a folder with vers-vecs 1.10.2 by --original FOLDER"
         sys.exit(f"cargo could not build the original's driver{hint}")
     return os.path.join(PROJECT, target, "release/bench_original")
 
 
 def built_from_c(level):
-    """Builds the C library by cargo and the driver over it, both for a level of processors, and returns the driver's path."""
+    """Builds the C library by cargo and the driver over it, both for a level of processors, and returns the driver's
+    path."""
     library, program = os.path.join(TOP, "bindings/c"), os.path.join(PROJECT, "target/from_c")
     flags = {"RUSTFLAGS": f"-C target-cpu={level}"}
-    subprocess.run(["cargo", "build", "--release", "--quiet", "--offline", "--target-dir", program], cwd=library, env={**os.environ, **flags}, check=True)
+    subprocess.run(["cargo", "build", "--release", "--quiet", "--offline", "--target-dir", program], cwd=library,
+                   env={**os.environ, **flags}, check=True)
     sources = [os.path.join(HERE, "from_c/queries.cpp"), os.path.join(program, "release/libvers.a")]
     command = ["g++", "-std=c++17", "-O3", f"-march={level}", f"-I{library}", *sources, "-lpthread", "-ldl", "-lm"]
     subprocess.run([*command, "-o", os.path.join(program, "queries")], check=True)
@@ -123,14 +128,16 @@ def means(found, ratios):
     for structure in dict.fromkeys(name[0] for name in found):
         cells = []
         for pair in ratios:
-            known = [it.ratio(*pair) for name, it in found.items() if name[0] == structure and not name[1].startswith(NO_QUERIES)]
+            known = [it.ratio(*pair) for name, it in found.items()
+                     if name[0] == structure and not name[1].startswith(NO_QUERIES)]
             known = [it for it in known if it]
             cells.append(f"{math.exp(sum(map(math.log, known)) / len(known)):.2f} ({max(known):.2f})" if known else "")
         yield f"| {structure} | " + " | ".join(cells) + " |"
 
 
 def measured(drivers, structures, passes, options):
-    """Runs all passes and returns the series by (structure, operation, data), each with its values by the names that its lines begin with."""
+    """Runs all passes and returns the series by (structure, operation, data), each with its values by the names that
+    its lines begin with."""
     found = {}
     for number in range(1, passes + 1):
         for structure in structures:
@@ -152,7 +159,8 @@ def beside_singles(found):
 
 
 def counts_of(path):
-    """Yields the instructions of each profile of a pass, in the order in which they were written: PATH.1, PATH.2 and so on.
+    """Yields the instructions of each profile of a pass, in the order in which they were written: PATH.1, PATH.2 and so
+    on.
 
     A function whose name only looks like that of a pass leaves a profile with no instructions.
     """
@@ -166,7 +174,8 @@ def counts_of(path):
 
 
 def instructions_of(program, driver, structure):
-    """Yields (what the line begins with, series, instructions, checksum) for each pass of a structure, in the order of the lines."""
+    """Yields (what the line begins with, series, instructions, checksum) for each pass of a structure, in the order of
+    the lines."""
     with tempfile.TemporaryDirectory() as folder:
         path = os.path.join(folder, "profile")
         command = [
@@ -194,7 +203,8 @@ def counted(drivers, structures):
 
 
 def print_tables(found, drivers, ratios, what):
-    """Prints a row for each series, the means of each structure, and what the values are, and returns how many checksums differ."""
+    """Prints a row for each series, the means of each structure, and what the values are, and returns how many
+    checksums differ."""
     heads = [*drivers, *("/".join(it) for it in ratios)]
     print(f"| structure | operation | data | {' | '.join(heads)} |\n|---|---|---|{'---:|' * len(heads)}")
     print("\n".join(series.row(name, drivers, ratios) for name, series in found.items()))
@@ -207,18 +217,24 @@ def print_tables(found, drivers, ratios, what):
 
 def main():
     parser = argparse.ArgumentParser(description=__doc__, formatter_class=argparse.RawDescriptionHelpFormatter)
-    parser.add_argument("structures", nargs="*", metavar="STRUCTURE", help=f"of {', '.join(STRUCTURES)}; all where none is named")
+    parser.add_argument("structures", nargs="*", metavar="STRUCTURE",
+                        help=f"of {', '.join(STRUCTURES)}; all if none is named")
     parser.add_argument("--checksums", action="store_true", help="compare checksums with the stored run, and no times")
-    parser.add_argument("--instructions", action="store_true", help="count instructions under valgrind instead of times")
+    parser.add_argument("--instructions", action="store_true",
+                        help="count instructions under valgrind instead of times")
     parser.add_argument("--times", action="store_true", help="with --instructions: take times too, over the same sizes")
-    parser.add_argument("--program", help="a driver of the original that is built, as for another processor, instead of building one")
+    parser.add_argument("--program",
+                        help="a built driver of the original, such as one for another processor")
     parser.add_argument("--under", default="", metavar="COMMAND", help="the command that runs it, as an emulator")
-    parser.add_argument("--plain", action="store_true", help="run the crate of plain Rust too, as it is, unchecked, and from C")
+    parser.add_argument("--plain", action="store_true",
+                        help="run the crate of plain Rust too, as it is, unchecked, and from C")
     parser.add_argument("--passes", type=int, default=3, help="how often each structure is run by each (3)")
     parser.add_argument("--reps", type=int, default=5, help="how often a run repeats a series, for the median (5)")
     parser.add_argument("--small", action="store_true", help="a sixteenth of the sizes")
-    parser.add_argument("--original", metavar="FOLDER", help="the sources of vers-vecs 1.10.2, instead of those of crates.io")
-    parser.add_argument("--level", choices=LEVELS, default=LEVELS[0], help="what processors the original is built for (%(default)s)")
+    parser.add_argument("--original", metavar="FOLDER",
+                        help="the sources of vers-vecs 1.10.2, instead of those of crates.io")
+    parser.add_argument("--level", choices=LEVELS, default=LEVELS[0],
+                        help="what processors the original is built for (%(default)s)")
     asked = parser.parse_args()
     unknown = set(asked.structures) - set(STRUCTURES)
     if unknown:
@@ -237,13 +253,15 @@ def main():
         for name, features in (("plain", ()), ("unchecked", ("vers-vecs/unchecked",))):
             drivers[name] = built_original(PLAIN, asked.level, f"target/{name}", features)
         drivers["from C"] = built_from_c(asked.level)
-        ratios += [("plain", "here"), ("unchecked", "here"), ("plain", "original"), ("unchecked", "original"), ("from C", "original")]
+        ratios += [("plain", "here"), ("unchecked", "here")]
+        ratios += [(it, "original") for it in ("plain", "unchecked", "from C")]
     ratios = [it for it in ratios if set(it) <= set(drivers)]
     options = ["--reps", str(asked.reps), *(["--small"] if asked.small or asked.instructions else [])]
     differing = 0
     if asked.times or not asked.instructions:
         found = measured(drivers, structures, max(asked.passes, 1), options)
-        differing += print_tables(found, drivers, ratios, "Nanoseconds an operation, builds an item; rows `heap_` are sizes")
+        what = "Nanoseconds an operation, builds an item; rows `heap_` are sizes"
+        differing += print_tables(found, drivers, ratios, what)
     if asked.instructions:
         differing += print_tables(counted(drivers, structures), drivers, ratios, "Instructions of a pass")
     sys.exit(differing > 0)

@@ -1,8 +1,8 @@
 #!/usr/bin/env python3
 """Prints the functions of a program whose machine code keeps a counter: counters.py PROGRAM
 
-A counter stays at the greatest number once it has come to it, so its machine code is a sum, a choice (`cmov`) and a store of what was chosen.
-A line tells how many such stores a function has. It needs objdump.
+A counter stays at the greatest number once it has come to it, so its machine code is a sum, a choice (`cmov`) and a
+store of what was chosen. A line tells how many such stores a function has. It needs objdump.
 """
 import re
 import subprocess

@@ -1,10 +1,11 @@
 #!/usr/bin/env python3
-"""Compares this library with vers-vecs and sdsl-lite, and prints a table for each structure: the values of each library, the best in bold.
+"""Compares this library with vers-vecs and sdsl-lite, and prints a table for each structure: the values of each
+library, the best in bold.
 
-The columns are this library in Rattle and in plain Rust, as it is and with the feature `unchecked`, vers-vecs, `WordRank` and `WaveletTree`
-in plain Rust, and the types of sdsl-lite, under the drivers of `compare.py` and `sdsl/structures.cpp`. They run in turns, each structure in
-a process of its own, and the least value of each series counts. Rows are the series that sdsl-lite answers. Exit status 1 where a checksum
-differs: the answers differ then.
+The columns are this library in Rattle and in plain Rust, as it is and with the feature `unchecked`, vers-vecs,
+`WordRank` and `WaveletTree` in plain Rust, and the types of sdsl-lite, under the drivers of `compare.py` and
+`sdsl/structures.cpp`. They run in turns, each structure in a process of its own, and the least value of each series
+counts. Rows are the series that sdsl-lite answers. Exit status 1 if a checksum differs, so the answers differ.
 """
 import argparse
 import os
@@ -25,7 +26,8 @@ TABLES = {
     "rmq": [Table("rmq_fast", "FastRmq", "an item"), Table("rmq_binary", "BinaryRmq", "an item")],
     "tree": [Table("tree", "BpTree", "a bit")],
 }
-# The columns of a table's type. The others, of structures that vers-vecs lacks and of sdsl-lite, have the name of theirs.
+# The columns of a table's type. The others, of structures that vers-vecs lacks and of sdsl-lite, have the name of
+# theirs.
 COLUMNS = ("Rattle", "plain Rust", "unchecked", "vers-vecs")
 
 
@@ -61,7 +63,8 @@ def head_of(column):
 
 def label_of(operation, item):
     """Returns the label of a row."""
-    labels = {"build": f"build, {item}", "heap_bits_per_item": f"size, bits {item}", "heap_overhead_percent": "index, % of the bits"}
+    labels = {"build": f"build, {item}", "heap_bits_per_item": f"size, bits {item}",
+              "heap_overhead_percent": "index, % of the bits"}
     return labels.get(operation, f"`{operation}`")
 
 
@@ -70,7 +73,8 @@ def row_of(names, series, columns):
     values = {column: compare.short(value) for column, value in series.values.items()}
     best = compare.short(min(series.values.values()))
     cells = (values.get(column, "") for column in columns)
-    return "|".join(["", *names, *(f"**{it}**" if it == best else it for it in cells), " differs" if series.differs() else ""])
+    marked = (f"**{it}**" if it == best else it for it in cells)
+    return "|".join(["", *names, *marked, " differs" if series.differs() else ""])
 
 
 def print_table(table, found):
@@ -80,30 +84,40 @@ def print_table(table, found):
     types = dict.fromkeys(column for it in rows.values() for column in it.values if column not in COLUMNS)
     columns = [it for it in COLUMNS if any(it in series.values for series in rows.values())] + list(types)
     data = list(dict.fromkeys(name[1] for name in rows))
-    print(f"### `{table.type}`\n\n|data|operation|{'|'.join(map(head_of, columns))}|\n|---|---|{'---:|' * len(columns)}")
-    for operation, given in sorted(rows, key=lambda it: (data.index(it[1]), it[0].startswith(compare.NO_QUERIES), it[0] == "build")):
+    print(f"### `{table.type}`\n\n|data|operation|{'|'.join(map(head_of, columns))}|")
+    print(f"|---|---|{'---:|' * len(columns)}")
+    order = lambda it: (data.index(it[1]), it[0].startswith(compare.NO_QUERIES), it[0] == "build")
+    for operation, given in sorted(rows, key=order):
         print(row_of((given, label_of(operation, table.item)), rows[operation, given], columns))
     print(flush=True)
 
 
 def main():
     parser = argparse.ArgumentParser(description=__doc__, formatter_class=argparse.RawDescriptionHelpFormatter)
-    parser.add_argument("structures", nargs="*", metavar="STRUCTURE", help=f"of {', '.join(TABLES)}; all where none is named")
-    parser.add_argument("--instructions", action="store_true", help="count the instructions of a pass under valgrind, with a sixteenth of the sizes")
+    parser.add_argument("structures", nargs="*", metavar="STRUCTURE",
+                        help=f"of {', '.join(TABLES)}; all if none is named")
+    parser.add_argument("--instructions", action="store_true",
+                        help="count the instructions of a pass under valgrind, with a sixteenth of the sizes")
     parser.add_argument("--passes", type=int, default=3, help="how often each structure is run by each (3)")
     parser.add_argument("--reps", type=int, default=5, help="how often a run repeats a series, for the median (5)")
     parser.add_argument("--small", action="store_true", help="a sixteenth of the sizes")
     parser.add_argument("--size", type=int, help="one size of structures, as bits, elements, symbols, items or nodes")
-    parser.add_argument("--original", metavar="FOLDER", help="the sources of vers-vecs 1.10.2, instead of those of crates.io")
-    parser.add_argument("--level", choices=compare.LEVELS, default=compare.LEVELS[0], help="what processors all but Rattle are built for (%(default)s)")
+    parser.add_argument("--original", metavar="FOLDER",
+                        help="the sources of vers-vecs 1.10.2, instead of those of crates.io")
+    parser.add_argument("--level", choices=compare.LEVELS, default=compare.LEVELS[0],
+                        help="what processors all but Rattle are built for (%(default)s)")
     asked = parser.parse_args()
     unknown = set(asked.structures) - set(TABLES)
     if unknown:
         parser.error(f"no structure {', '.join(sorted(unknown))}")
-    options = ["--reps", str(asked.reps), *(["--small"] if asked.small else []), *(["--size", str(asked.size)] if asked.size else [])]
+    options = ["--reps", str(asked.reps), *(["--small"] if asked.small else [])]
+    options += ["--size", str(asked.size)] if asked.size else []
     structures = asked.structures or list(TABLES)
     drivers = drivers_of(asked.original, asked.level)
-    found = compare.counted(drivers, structures) if asked.instructions else compare.measured(drivers, structures, asked.passes, options)
+    if asked.instructions:
+        found = compare.counted(drivers, structures)
+    else:
+        found = compare.measured(drivers, structures, asked.passes, options)
     for structure in structures:
         for table in TABLES[structure]:
             print_table(table, found)

@@ -1,8 +1,8 @@
 #!/usr/bin/env python3
 """Draws the tables of docs/PERFORMANCE.md by matplotlib (Debian's package `python3-matplotlib`), and measures nothing.
 
-docs/speed.svg has a bar for each figure that `tools/pages.py` reads there, and docs/growth.svg a line for each operation
-of the tables that `growth.py` printed.
+docs/speed.svg has a bar for each figure that `tools/pages.py` reads there, and docs/growth.svg a line for each
+operation of the tables that `growth.py` printed.
 """
 import os
 import sys
@@ -30,7 +30,9 @@ def draw_speed():
     """Draws the ratio of each time to the original's, by structure and data."""
     groups = [(name, list(group)) for name, group in groupby(pages.figures(), lambda it: f"{it.holder}, {it.data}")]
     sizes = [len(group) for _, group in groups]
-    figure, panels = pyplot.subplots(len(groups), sharex=True, figsize=(7, 0.3 * sum(sizes) + 0.5 * len(groups)), height_ratios=sizes, layout="constrained")
+    height = 0.3 * sum(sizes) + 0.5 * len(groups)
+    figure, panels = pyplot.subplots(len(groups), sharex=True, figsize=(7, height), height_ratios=sizes,
+                                     layout="constrained")
     for panel, (name, group) in zip(panels, groups):
         ratios = [float(it.ratio) for it in group]
         bars = panel.barh([it.call for it in group], ratios, color=[LESS if it <= 1 else MORE for it in ratios])

@@ -34,7 +34,7 @@ GAP = r"(?:\s|//[/!]?|#|--|\*)+"
 # the files without these phrases: all but the old entries of the changes, the rules of language with their examples,
 # and what only proofs need; and those whose lines have at most 120 columns
 PLAIN = r"(?!CHANGELOG\.md|CONTRIBUTING\.md|tools/text_rules\.py|crates/\w+/proofs/).*"
-WRAPPED = r"(?:tools|bindings)/\w+\.py|test|package|(?!CHANGELOG|rust/src/definitions|docs/LAYOUTS).*\.md"
+WRAPPED = r"(?:tools|bindings|bench)/\w+\.py|test|package|(?!CHANGELOG|rust/src/definitions|docs/LAYOUTS).*\.md"
 # a phrase that isn't plain English, and what to write instead
 PHRASES = (
     ("want of memory", "out of memory"),

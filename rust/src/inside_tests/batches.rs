@@ -64,7 +64,8 @@ fn counts_in_groups_are_those_of_a_scan() {
     }
 }
 
-/// Four symbols in turn have depth 2 each, so a symbol of a pattern takes at most two nodes, four ranks and two numbers.
+/// Four symbols in turn have depth 2 each, so a symbol of a pattern takes at most two nodes, four ranks and two
+/// numbers.
 #[test]
 fn counts_in_groups_read_within_their_bounds() {
     let symbols: Plain<u64> = (0..400).map(|it| it % 4).collect();

@@ -1,5 +1,5 @@
-//! Tests of lists of the greatest length and of counters at their greatest, which only the build of wrong bodies has: there a test lowers a
-//! greatest length (`crate::rattle::mutants`), and the sources compare with that one.
+//! Tests of lists of the greatest length and of counters at their greatest, which only the build of wrong bodies has:
+//! there a test lowers a greatest length (`crate::rattle::mutants`), and the sources compare with that one.
 
 use crate::programs::vers_cli::{documents, values};
 use crate::proved::postings::{Postings, PostingsError};

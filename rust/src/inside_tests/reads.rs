@@ -1,8 +1,10 @@
-//! Compares what counted calls read with what their counter says, over lists whose lengths lie around limbs, blocks and superblocks.
+//! Compares what counted calls read with what their counter says, over lists whose lengths lie around limbs, blocks and
+//! superblocks.
 //!
-//! A read is sorted by the type of the entry and by the line that reads: the counted vectors read in a few lines of `vers_tally` and
-//! `vers_bits`, and all that is read elsewhere, or handed out as a whole slice, is wrong in a counted call. The counter leaves out range-minimum
-//! tables and masks, places in bytes, and the list of levels; a low part counts one and takes two words, or none where its width is 0.
+//! A read is sorted by the type of the entry and by the line that reads: the counted vectors read in a few lines of
+//! `vers_tally` and `vers_bits`, and all that is read elsewhere, or handed out as a whole slice, is wrong in a counted
+//! call. The counter leaves out range-minimum tables and masks, places in bytes, and the list of levels; a low part
+//! counts one and takes two words, or none where its width is 0.
 
 use crate::proved::postings::Postings;
 use crate::proved::text_index::TextIndex;
@@ -166,7 +168,8 @@ impl Book {
                 }
             }
         }
-        // Each slice of all words was split into blocks of 8, of which one is read at most; one of all block entries was loaded by lanes once.
+        // Each slice of all words was split into blocks of 8, of which one is read at most; one of all block entries
+        // was loaded by lanes once.
         let count = |of, way, file: &str, size: Option<usize>| {
             let is_one = |it: &&Read| it.way == way && it.of == of && it.at.file().ends_with(file);
             reads.iter().filter(is_one).filter(|it| size.map_or(true, |size| it.count == size)).count()
@@ -302,9 +305,13 @@ impl Shown for &Postings<Global> {
 
 macro_rules! asked {
     ($book:ident, $of:literal, $it:expr, $about:expr, $($name:ident($($argument:expr),*)),* $(,)?) => {
-        $($book.call(concat!($of, "::", stringify!($name)), || format!("{}, {}", $about, [$(Shown::shown(&$argument),)* String::new()].join(" ")), |tally| {
-            let _ = $it.$name($($argument.clone(),)* tally);
-        });)*
+        $($book.call(
+            concat!($of, "::", stringify!($name)),
+            || format!("{}, {}", $about, [$(Shown::shown(&$argument),)* String::new()].join(" ")),
+            |tally| {
+                let _ = $it.$name($($argument.clone(),)* tally);
+            },
+        );)*
     };
 }
 

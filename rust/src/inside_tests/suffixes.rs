@@ -1,4 +1,5 @@
-//! The test of a suffix array, asked for lists that the sort never makes. Only the build of wrong bodies shows this function.
+//! The test of a suffix array, asked for lists that the sort never makes. Only the build of wrong bodies shows this
+//! function.
 
 use crate::proved::text_index::checked::is_suffix_order;
 

@@ -41,8 +41,8 @@ fn shuffled(width: u16) -> Vec<u64> {
     symbols
 }
 
-/// Lists of symbols of a width: none, each once, equal ones of the least and the greatest, a few far apart, random ones,
-/// and ones of which half are equal, a quarter, and so on.
+/// Lists of symbols of a width: none, each once, equal ones of the least and the greatest, a few far apart, random
+/// ones, and ones of which half are equal, a quarter, and so on.
 fn lists(width: u16) -> Vec<Vec<u64>> {
     let mut random = Random::new(u64::from(width) + 9);
     let greatest = (1 << width) - 1;
