@@ -99,6 +99,41 @@ fn most_of(name: &str, digits: u64, chunks: u64) -> [u64; 9] {
     }
 }
 
+/// The counters of a call, in the order of the specification's table.
+fn counters_of(tally: &Tally) -> [u64; 9] {
+    [
+        tally.data_words(),
+        tally.block_entries(),
+        tally.superblock_entries(),
+        tally.low_parts(),
+        tally.rank_calls(),
+        tally.items(),
+        tally.blocks(),
+        tally.nodes(),
+        tally.chunks(),
+    ]
+}
+
+/// What a call read: how much of each kind, the last read that is wrong, and what the counter leaves out.
+#[derive(Default)]
+struct Seen {
+    of: [u64; 7],
+    wrong: String,
+    left_out: BTreeMap<&'static str, u64>,
+}
+
+/// Returns whether each slice of all words was split into blocks of 8, of which one is read at most, and each one of all
+/// block entries was loaded by lanes once.
+fn are_used_whole(reads: &[Read]) -> bool {
+    let count = |of, way, file: &str, size: Option<usize>| {
+        let is_one = |it: &&Read| it.way == way && it.of == of && it.at.file().ends_with(file);
+        reads.iter().filter(is_one).filter(|it| size.map_or(true, |size| it.count == size)).count()
+    };
+    let words = |way, size| count("u64", way, "vers_bits/bit_vec.rs", size);
+    let entries = |way| count("u16", way, "tally.rs", None);
+    words(Way::Handed, None) == words(Way::Split, Some(8)) && entries(Way::Handed) == entries(Way::Lanes)
+}
+
 /// All calls by their names.
 #[derive(Default)]
 struct Book {
@@ -137,7 +172,14 @@ impl Book {
     fn call<R>(&mut self, name: &str, about: impl Fn() -> String, call: impl FnOnce(&mut Tally) -> R) -> R {
         let mut tally = Tally::new();
         let (answer, reads) = during(|| call(&mut tally));
-        let (mut seen, mut wrong, mut left_out) = ([0u64; 7], String::new(), BTreeMap::new());
+        let seen = self.seen_in(&reads);
+        self.note(name, about, &tally, seen);
+        answer
+    }
+
+    /// Sorts the reads of a call.
+    fn seen_in(&mut self, reads: &[Read]) -> Seen {
+        let mut seen = Seen::default();
         // Lists that the call makes itself are no part of what is asked.
         let made: BTreeSet<usize> = reads.iter().filter(|it| it.way == Way::Made).map(|it| it.list).collect();
         let handed: BTreeSet<_> = reads
@@ -145,41 +187,37 @@ impl Book {
             .filter(|it| it.way == Way::Handed && it.of == "u16")
             .map(|it| (it.list, it.list + 2 * it.count))
             .collect();
-        for read in &reads {
+        for read in reads {
             if read.way == Way::Made || made.contains(&read.list) || self.arguments.contains(&read.list) {
                 continue;
             }
             let kind = self.kind(read);
-            let size = if read.way == Way::Lanes { 0 } else { read.count as u64 };
             match (read.way, kind) {
-                (_, Kind::LeftOut) => *left_out.entry(read.of.rsplit("::").next().unwrap()).or_insert(0) += 1,
+                (_, Kind::LeftOut) => *seen.left_out.entry(read.of.rsplit("::").next().unwrap()).or_insert(0) += 1,
                 // A load of lanes from a table of the program is no read of a list.
                 (Way::Lanes, _) => {
                     if read.of == "u16" && handed.iter().any(|(from, to)| (*from..*to).contains(&read.first)) {
-                        seen[Kind::Blocks as usize] += read.count as u64;
+                        seen.of[Kind::Blocks as usize] += read.count as u64;
                     }
                 }
                 (Way::Split, _) => {}
                 (Way::Handed, Kind::Blocks | Kind::Words) => {}
-                (Way::Index | Way::Array, it) if it != Kind::Wrong => seen[it as usize] += size,
+                (Way::Index | Way::Array, it) if it != Kind::Wrong => seen.of[it as usize] += read.count as u64,
                 _ => {
-                    seen[Kind::Wrong as usize] += size;
-                    wrong = format!("{:?} of {} {} at {}", read.way, read.count, read.of, read.at);
+                    seen.of[Kind::Wrong as usize] += read.count as u64;
+                    seen.wrong = format!("{:?} of {} {} at {}", read.way, read.count, read.of, read.at);
                 }
             }
         }
-        // Each slice of all words was split into blocks of 8, of which one is read at most; one of all block entries
-        // was loaded by lanes once.
-        let count = |of, way, file: &str, size: Option<usize>| {
-            let is_one = |it: &&Read| it.way == way && it.of == of && it.at.file().ends_with(file);
-            reads.iter().filter(is_one).filter(|it| size.map_or(true, |size| it.count == size)).count()
-        };
-        let words = |way, size| count("u64", way, "vers_bits/bit_vec.rs", size);
-        let entries = |way| count("u16", way, "tally.rs", None);
-        if words(Way::Handed, None) != words(Way::Split, Some(8)) || entries(Way::Handed) != entries(Way::Lanes) {
-            seen[Kind::Wrong as usize] += 1;
-            wrong = "all entries handed out".to_string();
+        if !are_used_whole(reads) {
+            seen.of[Kind::Wrong as usize] += 1;
+            seen.wrong = "all entries handed out".to_string();
         }
+        seen
+    }
+
+    /// Adds a call to the row of its name.
+    fn note(&mut self, name: &str, about: impl Fn() -> String, tally: &Tally, seen: Seen) {
         let counted = [
             tally.data_words() + self.low * tally.low_parts(),
             tally.block_entries(),
@@ -189,36 +227,25 @@ impl Book {
             0,
             0,
         ];
-        let counters = [
-            tally.data_words(),
-            tally.block_entries(),
-            tally.superblock_entries(),
-            tally.low_parts(),
-            tally.rank_calls(),
-            tally.items(),
-            tally.blocks(),
-            tally.nodes(),
-            tally.chunks(),
-        ];
+        let counters = counters_of(tally);
         let row = self.rows.entry(name.to_string()).or_default();
         row.calls += 1;
         let most = most_of(name, self.digits, tally.chunks());
         if counters.iter().zip(most).any(|(it, most)| *it > most) && row.beyond.is_empty() {
-            row.beyond = format!("{}: counts {counters:?} where at most {most:?}", about());
+            row.beyond = format!("{}: counts {counters:?}, at most {most:?} allowed", about());
         }
-        row.read += seen.iter().sum::<u64>();
-        for (it, n) in left_out {
+        row.read += seen.of.iter().sum::<u64>();
+        for (it, n) in seen.left_out {
             *row.left_out.entry(it).or_default() += n;
         }
-        let differences = || seen.iter().zip(counted).map(|(seen, counted)| *seen as i64 - counted as i64);
+        let differences = || seen.of.iter().zip(counted).map(|(seen, counted)| *seen as i64 - counted as i64);
         row.most = row.most.max(differences().max().unwrap());
         row.least = row.least.min(differences().min().unwrap());
         row.more += u64::from(differences().any(|it| it > 0));
         row.less += u64::from(differences().any(|it| it < 0));
-        if seen != counted && row.first.is_empty() {
-            row.first = format!("{}: read {seen:?}, counted {counted:?} {wrong}", about());
+        if seen.of != counted && row.first.is_empty() {
+            row.first = format!("{}: read {:?}, counted {counted:?} {}", about(), seen.of, seen.wrong);
         }
-        answer
     }
 
     /// Prints the rows, and returns the names of those that differ.
@@ -379,6 +406,12 @@ fn ask_bits(book: &mut Book, list: &RsVec<Global>, about: &str) {
             asked!(book, "RsVec", list, about, is_one_counted(place));
         }
     }
+    ask_bits_at_once(book, list, about);
+}
+
+/// Calls that answer many queries, or go along chunks of bits.
+fn ask_bits_at_once(book: &mut Book, list: &RsVec<Global>, about: &str) {
+    let n = list.len();
     for bit in [false, true] {
         let mut numbers: Plain<usize> = places(n).into_iter().chain(places(n / 2)).collect();
         book.call(
@@ -456,104 +489,207 @@ fn words_of_low_part(numbers: &[u64]) -> u64 {
     2 * u64::from(clog(u.max(2)).max(clog(n + 2)) > clog(n.max(2)))
 }
 
+/// Numbers around each of the members at some places, and around these places.
+fn numbers_near(numbers: &[u64], place: usize) -> impl Iterator<Item = u64> {
+    [numbers.get(place).copied().unwrap_or(u64::MAX), place as u64]
+        .into_iter()
+        .flat_map(|it| [it.saturating_sub(1), it, it.saturating_add(1)])
+}
+
+fn ask_members(book: &mut Book, list: &EliasFanoVec<Global>, numbers: &[u64], about: &str) {
+    for place in places(numbers.len()) {
+        asked!(book, "EliasFanoVec", list, about, get_counted(place), select_counted(place), delta_counted(place));
+        for v in numbers_near(numbers, place) {
+            asked!(
+                book,
+                "EliasFanoVec",
+                list,
+                about,
+                has_counted(v),
+                rank_counted(v),
+                predecessor_counted(v),
+                successor_counted(v)
+            );
+        }
+    }
+}
+
+/// Calls that answer many queries: at places, and at all of them in turn.
+fn ask_members_at_once(book: &mut Book, list: &EliasFanoVec<Global>, numbers: &[u64], about: &str) {
+    let n = numbers.len();
+    let values: Plain<u64> =
+        places(n).into_iter().map(|it| numbers.get(it).copied().unwrap_or(it as u64).saturating_add(1)).collect();
+    let some: Plain<Option<u64>> = values.iter().copied().map(Some).collect();
+    let about = || about.to_string();
+    book.call("EliasFanoVec::predecessor_each_counted", about, |tally| {
+        list.predecessor_each_counted(&mut some.clone(), tally)
+    });
+    book.call("EliasFanoVec::successor_each_counted", about, |tally| {
+        list.successor_each_counted(&mut some.clone(), tally)
+    });
+    book.call("EliasFanoVec::rank_each_counted", about, |tally| list.rank_each_counted(&mut values.clone(), tally));
+    for places in [places(n), (0..n).collect()] {
+        let mut some: Plain<Option<u64>> = places.into_iter().map(|it| Some(it as u64)).collect();
+        book.call("EliasFanoVec::get_each_counted", about, |tally| list.get_each_counted(&mut some, tally));
+    }
+}
+
+fn ask_sparse(book: &mut Book, list: &SparseRSVec<Global>, ones: &[u64], about: &str) {
+    for place in places(ones.len()) {
+        asked!(book, "SparseRSVec", list, about, select1_counted(place));
+        for v in numbers_near(ones, place) {
+            asked!(
+                book,
+                "SparseRSVec",
+                list,
+                about,
+                rank0_counted(v),
+                rank1_counted(v),
+                is_set_counted(v),
+                get_counted(v)
+            );
+        }
+    }
+}
+
 #[test]
 fn reads_of_sorted_lists_are_counted() {
     let mut book = Book::default();
     for n in LENGTHS {
         for (step, kind) in [(1, 0), (5, 0), (1 << 40, 0), (3, 1), (1000, 1), (0, 2)] {
-            let numbers = members(n, step, kind);
-            let numbers: Plain<u64> = if numbers.is_sorted() {
-                numbers
-            } else {
-                let mut it = numbers;
-                it.sort();
-                it
-            };
+            let mut numbers = members(n, step, kind);
+            numbers.sort();
             book.low = words_of_low_part(&numbers);
             book.digits = u64::from(64 - (n as u64).leading_zeros());
             let list = EliasFanoVec::from_slice(Global, &numbers).ok().unwrap();
             let about = format!("{n} members, step {step}, kind {kind}");
-            for place in places(n) {
-                asked!(
-                    book,
-                    "EliasFanoVec",
-                    list,
-                    about,
-                    get_counted(place),
-                    select_counted(place),
-                    delta_counted(place)
-                );
-                for v in [numbers.get(place).copied().unwrap_or(u64::MAX), place as u64]
-                    .into_iter()
-                    .flat_map(|it| [it.saturating_sub(1), it, it.saturating_add(1)])
-                {
-                    asked!(
-                        book,
-                        "EliasFanoVec",
-                        list,
-                        about,
-                        has_counted(v),
-                        rank_counted(v),
-                        predecessor_counted(v),
-                        successor_counted(v)
-                    );
-                }
-            }
-            let values: Plain<u64> = places(n)
-                .into_iter()
-                .map(|it| numbers.get(it).copied().unwrap_or(it as u64).saturating_add(1))
-                .collect();
-            let mut some: Plain<Option<u64>> = values.iter().copied().map(Some).collect();
-            book.call(
-                "EliasFanoVec::predecessor_each_counted",
-                || about.clone(),
-                |tally| list.predecessor_each_counted(&mut some.clone(), tally),
-            );
-            book.call(
-                "EliasFanoVec::successor_each_counted",
-                || about.clone(),
-                |tally| list.successor_each_counted(&mut some.clone(), tally),
-            );
-            book.call(
-                "EliasFanoVec::rank_each_counted",
-                || about.clone(),
-                |tally| list.rank_each_counted(&mut values.clone(), tally),
-            );
-            some = places(n).into_iter().map(|it| Some(it as u64)).collect();
-            book.call(
-                "EliasFanoVec::get_each_counted",
-                || about.clone(),
-                |tally| list.get_each_counted(&mut some, tally),
-            );
+            ask_members(&mut book, &list, &numbers, &about);
+            ask_members_at_once(&mut book, &list, &numbers, &about);
             walked!(book, "EliasFanoVec iter", about.clone(), list.iter());
             walked!(book, "EliasFanoVec into_iter", about.clone(), list.into_iter());
-            let mut ones = numbers.clone();
+            let mut ones = numbers;
             ones.dedup();
             let len = ones.last().map_or(n as u64, |it| it + 70);
             book.low = words_of_low_part(&ones);
             let sparse = SparseRSVec::new(Global, &ones, len).ok().unwrap();
-            for place in places(ones.len()) {
-                asked!(book, "SparseRSVec", sparse, about, select1_counted(place));
-                for v in [ones.get(place).copied().unwrap_or(u64::MAX), place as u64]
-                    .into_iter()
-                    .flat_map(|it| [it.saturating_sub(1), it, it.saturating_add(1)])
-                {
-                    asked!(
-                        book,
-                        "SparseRSVec",
-                        sparse,
-                        about,
-                        rank0_counted(v),
-                        rank1_counted(v),
-                        is_set_counted(v),
-                        get_counted(v)
-                    );
-                }
-            }
+            ask_sparse(&mut book, &sparse, &ones, &about);
             walked!(book, "SparseRSVec iter1", about, sparse.iter1());
         }
     }
     assert_eq!(book.faults(), [""; 0]);
+}
+
+/// Symbol `k` of a list, or what is asked of it, of any width.
+fn word(k: usize) -> u64 {
+    (k as u64).wrapping_mul(0x9e37_79b9_7f4a_7c15) >> (k % 60)
+}
+
+/// Appends the bits of a symbol.
+fn append_symbol(bits: &mut BitVec<Global>, symbol: u64, width: u16) {
+    for at in 0..width {
+        bits.append(symbol >> (at % 64) & 1 == 1).ok().unwrap();
+    }
+}
+
+fn symbols_of(n: usize, width: u16) -> WaveletMatrix<Global> {
+    let mut bits = BitVec::new(Global);
+    for k in 0..n {
+        append_symbol(&mut bits, word(k), width);
+    }
+    let list = if width == 0 {
+        WaveletMatrix::from_slice(Global, &vec![0; n], 0)
+    } else {
+        WaveletMatrix::from_bit_vec(&bits, width)
+    };
+    list.ok().unwrap()
+}
+
+fn ask_symbols(book: &mut Book, list: &WaveletMatrix<Global>, k: usize, place: usize, about: &str) {
+    let s = word(k);
+    let mut symbol = BitVec::new(Global);
+    append_symbol(&mut symbol, s, list.bit_len());
+    if list.bit_len() > 0 {
+        book.arguments = during(|| symbol.get(0)).1.iter().map(|it| it.list).collect();
+    }
+    asked!(
+        book,
+        "WaveletMatrix",
+        list,
+        about,
+        get_u64_counted(place),
+        get_value_counted(place),
+        get_sorted_counted(place),
+        get_sorted_u64_counted(place),
+        rank_counted(place, &symbol),
+        rank_u64_counted(place, s),
+        rank_offset_counted(place / 5, place, &symbol),
+        rank_offset_u64_counted(place / 5, place, s),
+        select_counted(k, &symbol),
+        select_u64_counted(k, s),
+        select_offset_counted(place / 4, k, &symbol),
+        select_offset_u64_counted(place / 4, k, s),
+        get_gathered_u64_counted(place),
+        gathered_u64_counted(place, s)
+    );
+    ask_range(book, list, (place / 3)..place, k, &symbol, about);
+    let one = place..place.saturating_add(1);
+    asked!(book, "WaveletMatrix", list, about, rank_range_u64_counted(one, s));
+    book.arguments.clear();
+}
+
+fn ask_range(
+    book: &mut Book,
+    list: &WaveletMatrix<Global>,
+    range: std::ops::Range<usize>,
+    k: usize,
+    symbol: &BitVec<Global>,
+    about: &str,
+) {
+    let s = word(k);
+    asked!(
+        book,
+        "WaveletMatrix",
+        list,
+        about,
+        rank_range_counted(range, symbol),
+        rank_range_u64_counted(range, s),
+        quantile_counted(range, k),
+        quantile_u64_counted(range, k),
+        range_min_counted(range),
+        range_max_counted(range),
+        range_median_counted(range),
+        range_min_u64_counted(range),
+        range_max_u64_counted(range),
+        range_median_u64_counted(range),
+        predecessor_counted(range, symbol),
+        successor_counted(range, symbol),
+        predecessor_u64_counted(range, s),
+        successor_u64_counted(range, s),
+        gathered_range_u64_counted(range, s)
+    );
+}
+
+/// Calls that answer many queries.
+fn ask_symbols_at_once(book: &mut Book, list: &WaveletMatrix<Global>, about: &str) {
+    let about = || about.to_string();
+    let places = places(list.len());
+    let at = || places.iter().copied().enumerate();
+    let mut gets: Plain<_> = at().map(|it| GetQuery::new(it.1)).collect();
+    book.call("WaveletMatrix::get_u64_each_counted", about, |tally| list.get_u64_each_counted(&mut gets, tally));
+    let mut ranks: Plain<_> = at().map(|it| RankQuery::new(it.1, word(it.0))).collect();
+    book.call("WaveletMatrix::rank_u64_each_counted", about, |tally| list.rank_u64_each_counted(&mut ranks, tally));
+    let mut selects: Plain<_> = at().map(|it| SelectQuery::new(it.0, word(it.0))).collect();
+    book.call("WaveletMatrix::select_u64_each_counted", about, |tally| {
+        list.select_u64_each_counted(&mut selects, tally)
+    });
+    let mut quantiles: Plain<_> = at().map(|it| QuantileQuery::new(it.1 / 3, it.1, it.0)).collect();
+    book.call("WaveletMatrix::quantile_u64_each_counted", about, |tally| {
+        list.quantile_u64_each_counted(&mut quantiles, tally)
+    });
+    let mut gathered: Plain<_> = at().map(|it| GatheredQuery::new(it.1, word(it.0))).collect();
+    book.call("WaveletMatrix::gathered_u64_each_counted", about, |tally| {
+        list.gathered_u64_each_counted(&mut gathered, tally)
+    });
 }
 
 #[test]
@@ -562,116 +698,11 @@ fn reads_of_symbols_are_counted() {
     for n in [0, 1, 63, 64, 65, 512, 513, 8192, 8193, 9000] {
         for width in [0u16, 1, 3, 8, 64, 65] {
             let about = format!("{n} symbols of {width} bits");
-            let word = |k: usize| (k as u64).wrapping_mul(0x9e37_79b9_7f4a_7c15) >> (k % 60);
-            let mut bits = BitVec::new(Global);
-            for k in 0..n {
-                for at in 0..width {
-                    bits.append(word(k) >> (at % 64) & 1 == 1).ok().unwrap();
-                }
-            }
-            let list = if width == 0 {
-                WaveletMatrix::from_slice(Global, &vec![0; n], 0)
-            } else {
-                WaveletMatrix::from_bit_vec(&bits, width)
-            };
-            let list = list.ok().unwrap();
+            let list = symbols_of(n, width);
             for (k, place) in places(n).into_iter().enumerate() {
-                let s = word(k);
-                let mut symbol = BitVec::new(Global);
-                for at in 0..width {
-                    symbol.append(s >> (at % 64) & 1 == 1).ok().unwrap();
-                }
-                book.arguments = if width > 0 {
-                    during(|| symbol.get(0)).1.iter().map(|it| it.list).collect()
-                } else {
-                    Plain::new()
-                };
-                let range = (place / 3)..place;
-                let one = place..place.saturating_add(1);
-                asked!(
-                    book,
-                    "WaveletMatrix",
-                    list,
-                    about,
-                    get_u64_counted(place),
-                    get_value_counted(place),
-                    get_sorted_counted(place),
-                    get_sorted_u64_counted(place),
-                    rank_counted(place, &symbol),
-                    rank_u64_counted(place, s),
-                    rank_range_counted(range, &symbol),
-                    rank_range_u64_counted(range, s),
-                    rank_range_u64_counted(one, s),
-                    rank_offset_counted(place / 5, place, &symbol),
-                    rank_offset_u64_counted(place / 5, place, s),
-                    select_counted(k, &symbol),
-                    select_u64_counted(k, s),
-                    select_offset_counted(place / 4, k, &symbol),
-                    select_offset_u64_counted(place / 4, k, s),
-                    quantile_counted(range, k),
-                    quantile_u64_counted(range, k),
-                    range_min_counted(range),
-                    range_max_counted(range),
-                    range_median_counted(range),
-                    range_min_u64_counted(range),
-                    range_max_u64_counted(range),
-                    range_median_u64_counted(range),
-                    predecessor_counted(range, &symbol),
-                    successor_counted(range, &symbol),
-                    predecessor_u64_counted(range, s),
-                    successor_u64_counted(range, s),
-                    get_gathered_u64_counted(place),
-                    gathered_u64_counted(place, s),
-                    gathered_range_u64_counted(range, s)
-                );
-                book.arguments.clear();
+                ask_symbols(&mut book, &list, k, place, &about);
             }
-            let at = || places(n).into_iter().enumerate();
-            book.call(
-                "WaveletMatrix::get_u64_each_counted",
-                || about.clone(),
-                |tally| list.get_u64_each_counted(&mut at().map(|it| GetQuery::new(it.1)).collect::<Plain<_>>(), tally),
-            );
-            book.call(
-                "WaveletMatrix::rank_u64_each_counted",
-                || about.clone(),
-                |tally| {
-                    list.rank_u64_each_counted(
-                        &mut at().map(|it| RankQuery::new(it.1, word(it.0))).collect::<Plain<_>>(),
-                        tally,
-                    )
-                },
-            );
-            book.call(
-                "WaveletMatrix::select_u64_each_counted",
-                || about.clone(),
-                |tally| {
-                    list.select_u64_each_counted(
-                        &mut at().map(|it| SelectQuery::new(it.0, word(it.0))).collect::<Plain<_>>(),
-                        tally,
-                    )
-                },
-            );
-            book.call(
-                "WaveletMatrix::quantile_u64_each_counted",
-                || about.clone(),
-                |tally| {
-                    list.quantile_u64_each_counted(
-                        &mut at().map(|it| QuantileQuery::new(it.1 / 3, it.1, it.0)).collect::<Plain<_>>(),
-                        tally,
-                    )
-                },
-            );
-            book.call(
-                "WaveletMatrix::gathered_u64_each_counted",
-                || about.clone(),
-                |tally| {
-                    list.gathered_u64_each_counted(
-                        &mut at().map(|it| GatheredQuery::new(it.1, word(it.0))).collect::<Plain<_>>(),
-                        tally,
-                    )
-                },
-            );
+            ask_symbols_at_once(&mut book, &list, &about);
             if n > 600 && width > 8 {
                 continue;
             }
@@ -686,6 +717,68 @@ fn reads_of_symbols_are_counted() {
     assert_eq!(book.faults(), [""; 0]);
 }
 
+/// Asks for minima from each of some places to each later one.
+fn ask_minima(book: &mut Book, items: &[u64], about: &str) {
+    let binary = BinaryRmq::from_vec(Vec::from_slice(Global, items).ok().unwrap()).ok().unwrap();
+    let fast = FastRmq::from_vec(Vec::from_slice(Global, items).ok().unwrap()).ok().unwrap();
+    let places: Plain<usize> = places(items.len()).into_iter().filter(|it| *it < items.len()).collect();
+    for i in places.iter().copied() {
+        for j in places.iter().copied().filter(|it| i <= *it) {
+            asked!(
+                book,
+                "BinaryRmq",
+                binary,
+                about,
+                range_min_counted(i, j),
+                range_min_item_counted(i, j),
+                range_min_with_range_counted(Bound::Included(i), Bound::Included(j))
+            );
+            asked!(
+                book,
+                "FastRmq",
+                fast,
+                about,
+                range_min_counted(i, j),
+                range_min_with_range_counted(Bound::Included(i), Bound::Included(j))
+            );
+        }
+        asked!(book, "BinaryRmq", binary, about, item_counted(i));
+    }
+}
+
+fn documents_of(documents: &[u64], items: &[u64]) -> Postings<Global> {
+    let costs = Vec::from_slice(Global, &items[..documents.len()]).ok().unwrap();
+    Postings::from_sorted(documents, costs).ok().unwrap()
+}
+
+/// Asks for documents from each of some places to each later one, and for those of two lists with low parts of as many
+/// bits.
+fn ask_documents(book: &mut Book, items: &[u64], about: &str) {
+    let n = items.len();
+    let (documents, others) = (members(n, 7, 0), members(n / 2 + 1, 13, 0));
+    let (list, other) = (documents_of(&documents, items), documents_of(&others, items));
+    book.low = words_of_low_part(&documents);
+    for i in places(n).into_iter().filter(|it| *it < n) {
+        for j in places(n).into_iter().filter(|it| i <= *it && *it < n) {
+            let (from, to) = (7 * i as u64, 7 * j as u64 + 1);
+            asked!(
+                book,
+                "Postings",
+                list,
+                about,
+                cheapest_counted(from, to),
+                contains_counted(from),
+                rank_counted(from),
+                next_at_least_counted(to)
+            );
+        }
+    }
+    if book.low == words_of_low_part(&others) {
+        asked!(book, "Postings", list, about, intersect_counted(&other));
+        asked!(book, "Postings", other, about, intersect_counted(&list));
+    }
+}
+
 #[test]
 fn reads_of_range_minima_and_documents_are_counted() {
     let mut book = Book::default();
@@ -693,53 +786,9 @@ fn reads_of_range_minima_and_documents_are_counted() {
         for kind in 0..3 {
             let items: Plain<u64> =
                 (0..n as u64).map(|k| [k, n as u64 - k, k.wrapping_mul(0x9e37_79b9_7f4a_7c15) >> 50][kind]).collect();
-            let binary = BinaryRmq::from_vec(Vec::from_slice(Global, &items).ok().unwrap()).ok().unwrap();
-            let fast = FastRmq::from_vec(Vec::from_slice(Global, &items).ok().unwrap()).ok().unwrap();
-            let documents = members(n, 7, 0);
-            let low = words_of_low_part(&documents);
-            let lists = [documents, members(n / 2 + 1, 13, 0)].map(|it| {
-                let costs = Vec::from_slice(Global, &items[..it.len()]).ok().unwrap();
-                Postings::from_sorted(&it, costs).ok().unwrap()
-            });
             let about = format!("{n} items of kind {kind}");
-            for i in places(n).into_iter().filter(|it| *it < n) {
-                for j in places(n).into_iter().filter(|it| i <= *it && *it < n) {
-                    asked!(
-                        book,
-                        "BinaryRmq",
-                        binary,
-                        about,
-                        range_min_counted(i, j),
-                        range_min_item_counted(i, j),
-                        range_min_with_range_counted(Bound::Included(i), Bound::Included(j))
-                    );
-                    asked!(
-                        book,
-                        "FastRmq",
-                        fast,
-                        about,
-                        range_min_counted(i, j),
-                        range_min_with_range_counted(Bound::Included(i), Bound::Included(j))
-                    );
-                    let (from, to) = (7 * i as u64, 7 * j as u64 + 1);
-                    book.low = low;
-                    asked!(
-                        book,
-                        "Postings",
-                        lists[0],
-                        about,
-                        cheapest_counted(from, to),
-                        contains_counted(from),
-                        rank_counted(from),
-                        next_at_least_counted(to)
-                    );
-                }
-                asked!(book, "BinaryRmq", binary, about, item_counted(i));
-            }
-            if low == words_of_low_part(&members(n / 2 + 1, 13, 0)) {
-                asked!(book, "Postings", lists[0], about, intersect_counted(&lists[1]));
-                asked!(book, "Postings", lists[1], about, intersect_counted(&lists[0]));
-            }
+            ask_minima(&mut book, &items, &about);
+            ask_documents(&mut book, &items, &about);
         }
     }
     assert_eq!(book.faults(), [""; 0]);
@@ -853,38 +902,7 @@ fn ask_tree<const SIZE: usize>(mut book: &mut Book, n: usize, kind: usize) {
                 level_rightmost_counted(i as u64)
             );
             if tree.has_node(i) {
-                asked!(
-                    book,
-                    "BpTree",
-                    tree,
-                    about,
-                    parent_counted(i),
-                    first_child_counted(i),
-                    last_child_counted(i),
-                    next_sibling_counted(i),
-                    previous_sibling_counted(i),
-                    is_leaf_counted(i),
-                    node_index_counted(i),
-                    depth_counted(i),
-                    subtree_size_counted(i),
-                    is_ancestor_counted(0usize, i),
-                    level_ancestor_counted(i, 1u64),
-                    level_next_counted(i),
-                    level_prev_counted(i)
-                );
-                walk(book, "BpTree children next", 100, about.clone(), &mut tree.children(i), |it, _, tally| {
-                    it.next_counted(tally).is_some()
-                });
-                walk(
-                    book,
-                    "BpTree rev_children next",
-                    100,
-                    about.clone(),
-                    &mut tree.rev_children(i),
-                    |it, _, tally| it.next_counted(tally).is_some(),
-                );
-                walked!(book, "BpTree subtree_iter", about.clone(), tree.subtree_iter(i));
-                walked!(book, "BpTree subtree_post_iter", about.clone(), tree.subtree_post_iter(i));
+                ask_node(book, &tree, i, &about);
             }
         }
     }
@@ -892,6 +910,37 @@ fn ask_tree<const SIZE: usize>(mut book: &mut Book, n: usize, kind: usize) {
     if tree.is_balanced() {
         walked!(book, "BpTree dfs_post_iter", about, tree.dfs_post_iter());
     }
+}
+
+/// The calls that ask for a node.
+fn ask_node<const SIZE: usize>(mut book: &mut Book, tree: &BpTree<SIZE, Global>, i: usize, about: &str) {
+    asked!(
+        book,
+        "BpTree",
+        tree,
+        about,
+        parent_counted(i),
+        first_child_counted(i),
+        last_child_counted(i),
+        next_sibling_counted(i),
+        previous_sibling_counted(i),
+        is_leaf_counted(i),
+        node_index_counted(i),
+        depth_counted(i),
+        subtree_size_counted(i),
+        is_ancestor_counted(0usize, i),
+        level_ancestor_counted(i, 1u64),
+        level_next_counted(i),
+        level_prev_counted(i)
+    );
+    walk(book, "BpTree children next", 100, about.to_string(), &mut tree.children(i), |it, _, tally| {
+        it.next_counted(tally).is_some()
+    });
+    walk(book, "BpTree rev_children next", 100, about.to_string(), &mut tree.rev_children(i), |it, _, tally| {
+        it.next_counted(tally).is_some()
+    });
+    walked!(book, "BpTree subtree_iter", about.to_string(), tree.subtree_iter(i));
+    walked!(book, "BpTree subtree_post_iter", about.to_string(), tree.subtree_post_iter(i));
 }
 
 #[test]
