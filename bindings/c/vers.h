@@ -1431,6 +1431,11 @@ static inline vers_answer vers_postings_len(const vers_postings *list) {
     return vers_asked(&list->handle, VERS_LEN, 0, 0, 0);
 }
 
+/** How many bytes of the heap the list takes. */
+static inline vers_answer vers_postings_heap_size(const vers_postings *list) {
+    return vers_asked(&list->handle, VERS_HEAP_SIZE, 0, 0, 0);
+}
+
 /** The document at a position. VERS_ABSENT past the end. */
 static inline vers_answer vers_postings_get(const vers_postings *list, uint64_t place) {
     return vers_asked(&list->handle, VERS_GET, place, 0, 0);

@@ -280,7 +280,7 @@ public:
     std::uint64_t operator[](std::uint64_t place) const noexcept {
         return static_cast<const List &>(*this).get(place).value_or(0);
     }
-    /** How many bytes of the heap the list takes. 0 for Postings and Numbers, which have no such query. */
+    /** How many bytes of the heap the list takes. 0 for Numbers, which have no such query. */
     std::uint64_t heap_size() const noexcept { return ask(VERS_HEAP_SIZE).value; }
 
     /** Replaces each number by the answer of a query of one number to it, and `other` where there is no answer.

@@ -64,6 +64,13 @@ impl Postings {
         self.list.is_empty()
     }
 
+    /// Returns the number of bytes on the heap.
+    #[doc = contract!(Postings::heap_size)]
+    #[must_use]
+    pub fn heap_size(&self) -> usize {
+        self.list.heap_size()
+    }
+
     /// Returns the document at an index, or `None` past the end.
     #[doc = contract!(EliasFanoVec::get)]
     #[must_use]

@@ -606,9 +606,8 @@ class Texts(unittest.TestCase):
 
     def test_bytes_that_are_not_counted(self):
         documents = vers.Postings([1, 2])
-        for made in documents, documents.intersect(documents):
-            with self.assertRaisesRegex(vers.Unknown, f"^the library doesn't count the bytes of {type(made).__name__}$"):
-                made.heap_size()
+        with self.assertRaisesRegex(vers.Unknown, "^the library doesn't count the bytes of PlainNumbers$"):
+            documents.intersect(documents).heap_size()
 
 
 class Imports(unittest.TestCase):

@@ -179,7 +179,7 @@ class List(Generic[Q]):
         return type(self).from_bytes, (self.to_bytes(),)
 
     def heap_size(self) -> int:
-        """Returns the number of bytes of the heap that the list takes. Raises Unknown for Postings and PlainNumbers,
+        """Returns the number of bytes of the heap that the list takes. Raises Unknown for PlainNumbers,
         whose bytes the library doesn't count."""
         try:
             return self._number(codes.HEAP_SIZE)

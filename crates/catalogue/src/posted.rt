@@ -17,6 +17,7 @@ impl<A: Allocator + Copy> Queryable for Postings<A> {
             Query::Len => Answer::place(self.len()),
             Query::Get => Answer::number_or_absent(self.documents().get(a as usize)),
             Query::Cost => Answer::number_or_absent(self.costs().get(a as usize).copied()),
+            Query::HeapSize => Answer::place(self.heap_size()),
             Query::Rank => Answer::Found(self.rank(a)),
             Query::Has => Answer::truth(self.contains(a)),
             Query::Successor => Answer::number_or_absent(self.next_at_least(a)),

@@ -2,9 +2,10 @@
 use Rattle.std.specs.Prelude.{◌≡◌, ℕ, ◌+◌, ◌*◌, ◌&&◌, ◌≤◌, All, Bool, List, length, slice_index, filter, nat_le, Option, option_map, if◌then◌else◌}
 use Rattle.std.specs.List.{range_with_len}
 use Rattle.std.specs.List.Sorted.{IsStrictlyIncreasing}
+use Rattle.vers_rmq.specs.Layout.{fast_heap_size}
 use Rattle.vers_rmq.specs.Minima.{first_least_of}
 use Rattle.vers_sorted.specs.Sorted.{is_member}
-use Rattle.vers_sorted.specs.Layout.{select_calls, member_reads, search_reads}
+use Rattle.vers_sorted.specs.Layout.{heap_size_of, select_calls, member_reads, search_reads}
 use Rattle.vers_tally.specs.Reads.{Reads, digits, plus, times}
 
 -- documents, and the cost of each at the same position
@@ -17,6 +18,10 @@ pub record ArePaired (posted : Posted) : Type 0 where
   pub ascending : IsStrictlyIncreasing posted.documents
   pub paired : length posted.costs ≡ length posted.documents
   pub numbers : All (λ d. d ≤ 18446744073709551615) posted.documents
+
+-- the bytes of the documents, and of the costs with their index
+abbrev pub postings_size : Posted → ℕ
+postings_size posted = heap_size_of posted.documents + fast_heap_size (length posted.costs)
 
 -- the positions of the documents from one number to another, both included
 unfoldable pub places_between : List ℕ → ℕ → ℕ → List ℕ

@@ -1,7 +1,7 @@
 //! The list of documents and its constructor.
-ghost use Rattle.std.specs.Prelude.{◌≡◌, ◌≤◌, ◌↔◌, [], length, OnOk, IfOk, IfErr, IsTrue};
+ghost use Rattle.std.specs.Prelude.{◌≡◌, ◌≤◌, ◌↔◌, [], length, min, OnOk, IfOk, IfErr, IsTrue};
 ghost use Rattle.std.specs.List.Sorted.{IsStrictlyIncreasing};
-ghost use Rattle.postings.specs.Posted.{ArePaired};
+ghost use Rattle.postings.specs.Posted.{ArePaired, postings_size};
 ghost use Rattle.postings.specs.Makers.{IsRefusedFor};
 
 use crate::fault::PostingsError;
@@ -75,6 +75,15 @@ impl<A: Allocator + Copy> Postings<A> {
         ensures { result.now ≡ self.now.costs }
     {
         self.costs.as_slice()
+    }
+
+    /// Returns the number of bytes of the heap that the list takes; the greatest `usize` if they are more.
+    pub fn heap_size(&self) -> usize
+        ensures { result ≡ min (postings_size self.now) 18446744073709551615 }
+    {
+        self.documents
+            .heap_size()
+            .saturating_add(self.costs.heap_size())
     }
 
     /// Returns the number of documents.

@@ -73,6 +73,25 @@ fn documents_and_costs(rt: HostRuntime) {
     assert!(rt; told == Ok(true));
 }
 
+// Returns true if a list reports the bytes of its documents and these of its costs.
+fn reports(list: &Postings<Global>, costs: usize) -> bool {
+    list.heap_size() == list.documents().heap_size().wrapping_add(costs)
+}
+
+// Four costs take 32 bytes, their block 65, and the table of the least costs of blocks 12.
+#[test]
+fn bytes(rt: HostRuntime) {
+    let four = asked(
+        posted(rt.alloc(), &[2, 5, 9, 12], &[7, 3, 3, 8]),
+        |list: &Postings<Global>| reports(list, 109),
+    );
+    let none = asked(
+        posted(rt.alloc(), &[], &[]),
+        |list: &Postings<Global>| reports(list, 0),
+    );
+    assert!(rt; four == Ok(true) && none == Ok(true));
+}
+
 // Documents, costs, and the error of the constructor.
 type Fault<'a> = (&'a [u64], &'a [u64], Option<PostingsError>);
 

@@ -9,7 +9,7 @@ use inverted::InvertedIndex;
 use postings::{Postings, PostingsError};
 use std::alloc::{AllocError, Allocator, Global};
 use std::mem::size_of;
-use test_alloc::{Refusing, SIZES, Size, Sizing, Spare, asked, first_wrong_size, spare_of};
+use test_alloc::{Refusing, SIZES, Size, Sizing, Spare, first_wrong_size, spare_of};
 use vers_bits::bit_vec::{BitVec, GrowError};
 use vers_rank::fast_rs_vec::RsVec;
 use vers_rmq::rmq::binary_rmq::{self, BinaryRmq};
@@ -94,11 +94,9 @@ impl<A: Allocator + Copy> Size<InvertedIndex<A>> for HeapSize {
     }
 }
 
-/// The index of the costs is left out: postings do not report it.
 impl<A: Allocator + Copy> Size<Postings<A>> for HeapSize {
     fn bytes(&self, documents: &Postings<A>) -> usize {
-        let costs = size_of::<u64>().wrapping_mul(documents.len());
-        documents.documents().heap_size().wrapping_add(costs)
+        documents.heap_size()
     }
 }
 
@@ -214,32 +212,6 @@ pub fn posted<A: Allocator + Copy>(
     Postings::from_sorted(numbers, Vec::from_slice(alloc, numbers)?)
 }
 
-// Returns the size that the two lists of documents and of costs report.
-fn told_of_parts(inner: Global, numbers: &[u64]) -> Result<usize, AllocError> {
-    let documents = asked(
-        ascending(inner, numbers),
-        |list: &EliasFanoVec<Global>| list.heap_size(),
-    )?;
-    let costs = asked(
-        fast(inner, numbers),
-        |list: &FastRmq<Global>| list.heap_size(),
-    )?;
-    Ok(documents.wrapping_add(costs))
-}
-
-fn spare_of_posted(inner: Global, heap: &Heap, numbers: &[u64]) -> Option<Spare> {
-    let told = told_of_parts(inner, numbers).ok()?;
-    let held = asked(
-        posted(heap, numbers),
-        |_: &Postings<&Heap>| heap.held_bytes(),
-    )
-    .ok()?;
-    Some(Spare {
-        made: held.checked_sub(told)?,
-        cloned: 0,
-    })
-}
-
 fn spare_of_tree(made: Made, heap: &Heap, numbers: &[u64]) -> Option<Spare> {
     match made {
         Made::SmallBlocks => spare_of(heap, tree::<8, &Heap>(heap, numbers), &HeapSize),
@@ -277,14 +249,14 @@ fn spare_of_minima(made: Made, heap: &Heap, numbers: &[u64]) -> Option<Spare> {
     }
 }
 
-fn spare_of_made(made: Made, inner: Global, heap: &Heap, numbers: &[u64]) -> Option<Spare> {
+fn spare_of_made(made: Made, heap: &Heap, numbers: &[u64]) -> Option<Spare> {
     match made {
         Made::Ascending => spare_of(heap, ascending(heap, numbers), &HeapSize),
         Made::Symbols | Made::SymbolsCounted => spare_of_symbols(made, heap, numbers),
         Made::Binary | Made::BinaryIter | Made::Fast | Made::FastIter => {
             spare_of_minima(made, heap, numbers)
         }
-        Made::Posted => spare_of_posted(inner, heap, numbers),
+        Made::Posted => spare_of(heap, posted(heap, numbers), &HeapSize),
         _ => spare_of_bits(made, heap, numbers),
     }
 }
@@ -311,7 +283,7 @@ fn rounded(made: Made) -> usize {
 impl Sizing<Global> for Made {
     fn spare(self, inner: Global, heap: &Heap, len: usize) -> Option<Spare> {
         match numbers_of(inner, len) {
-            Ok(numbers) => spare_of_made(self, inner, heap, numbers.as_slice()),
+            Ok(numbers) => spare_of_made(self, heap, numbers.as_slice()),
             Err(_) => None,
         }
     }
@@ -324,6 +296,6 @@ impl Sizing<Global> for Made {
 }
 
 #[test]
-fn sizes_told_are_held(rt: HostRuntime) {
+fn reported_sizes_are_allocated(rt: HostRuntime) {
     assert!(rt; first_wrong_size(rt.alloc(), &SIZES, &ALL).is_none());
 }

@@ -375,9 +375,11 @@ fn documents_answer_as_their_list() {
     let documents = [3, 5, 8, 30, 64, 99, 100];
     let costs = [7, 2, 9, 2, 1, 5, 1];
     let mut handle = made(|it| vers_postings_build(Global, &documents, &costs, it));
+    let heap = heap_of(&mut handle);
     let model = move |code, a: u64, b: u64, _| match code {
         0 => found(7),
         1 => found_if(item(&documents, a)),
+        3 => found(heap),
         8 => found(documents.iter().filter(|it| **it < a).count() as u64),
         9 => found(u64::from(documents.contains(&a))),
         11 => found_if(documents.iter().find(|it| **it >= a).copied()),

@@ -50,6 +50,13 @@ impl<A: Allocator + Copy> Postings<A> {
         self.costs.as_slice()
     }
 
+    /// Returns the number of bytes of the heap that the list takes; the greatest `usize` if they are more.
+    pub fn heap_size(&self) -> usize {
+        self.documents
+            .heap_size()
+            .saturating_add(self.costs.heap_size())
+    }
+
     /// Returns the number of documents.
     #[inline]
     pub fn len(&self) -> usize {

@@ -214,7 +214,7 @@ impl Query {
         match self {
             Query::Len => true,
             Query::Get => !matches!(kind, Some(Kind::Text)),
-            Query::HeapSize => !matches!(kind, Some(Kind::Postings) | None),
+            Query::HeapSize => kind.is_some(),
             Query::GetBits => matches!(kind, Some(Kind::Growing | Kind::Bits)),
             Query::Rank0 | Query::Rank1 | Query::Select1 => {
                 matches!(kind, Some(Kind::Bits | Kind::Sparse))
