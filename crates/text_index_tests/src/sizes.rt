@@ -47,7 +47,7 @@ impl Sizing<Global> for Kept {
 }
 
 #[test]
-fn sizes_told_are_held(rt: HostRuntime) {
+fn reported_sizes_are_allocated(rt: HostRuntime) {
     let steps = [Kept { step: 1 }, Kept { step: 32 }];
     assert!(rt; first_wrong_size(rt.alloc(), &LENGTHS, &steps).is_none());
 }

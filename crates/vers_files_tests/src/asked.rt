@@ -54,7 +54,7 @@ fn assert_answered(rt: &impl Abort, alloc: Global, file: &[u8], rows: &str) -> R
 }
 
 #[test]
-fn a_list_is_held_before_the_first_line(rt: HostRuntime) -> Result<(), Fail> {
+fn a_run_begins_with_a_list(rt: HostRuntime) -> Result<(), Fail> {
     let cases: [(&[u8], &str); 9] = [
         (&BITS, "len -> 4; rank1 3 -> 2; select1 1 -> 2"),
         (&SORTED, "iter -> 4 4 9; rank 5 -> 2; get 9 -> none"),
@@ -90,7 +90,7 @@ fn is_fault(alloc: Global, file: &[u8], fault: LoadError) -> bool {
 }
 
 // Returns true if a file with one flipped bit is refused.
-fn is_told(alloc: Global, file: &[u8], place: usize, bit: u32) -> bool {
+fn is_reported(alloc: Global, file: &[u8], place: usize, bit: u32) -> bool {
     let Ok(mut other) = Vec::from_slice(alloc, file) else {
         return false;
     };
@@ -101,10 +101,10 @@ fn is_told(alloc: Global, file: &[u8], place: usize, bit: u32) -> bool {
     ended.result.is_err() && ended.written.is_empty()
 }
 
-fn flips_and_cuts_are_told(alloc: Global, file: &[u8]) -> bool {
+fn flips_and_cuts_are_reported(alloc: Global, file: &[u8]) -> bool {
     for place in 0..file.len() {
         for bit in 0..8 {
-            if !is_told(alloc, file, place, bit) {
+            if !is_reported(alloc, file, place, bit) {
                 return false;
             }
         }
@@ -116,7 +116,7 @@ fn flips_and_cuts_are_told(alloc: Global, file: &[u8]) -> bool {
 }
 
 #[test]
-fn each_flip_and_each_cut_is_told(rt: HostRuntime) {
+fn each_flip_and_each_cut_is_reported(rt: HostRuntime) {
     let files: [&[u8]; 9] = [
         &BITS,
         &SORTED,
@@ -129,12 +129,12 @@ fn each_flip_and_each_cut_is_told(rt: HostRuntime) {
         &INVERTED,
     ];
     for file in files {
-        assert!(rt; flips_and_cuts_are_told(rt.alloc(), file));
+        assert!(rt; flips_and_cuts_are_reported(rt.alloc(), file));
     }
 }
 
 #[test]
-fn other_kinds_are_told(rt: HostRuntime) {
+fn other_kinds_are_reported(rt: HostRuntime) {
     assert!(rt; is_fault(rt.alloc(), &OTHER_KIND, LoadError::OtherKind));
     assert!(rt; is_fault(rt.alloc(), &OTHER_BLOCKS, LoadError::OtherKind));
     assert!(rt; is_fault(rt.alloc(), b"", LoadError::TooShort));

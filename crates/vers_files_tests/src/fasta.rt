@@ -88,7 +88,7 @@ fn is_wrong(alloc: Global, bytes: &[u8], number: usize) -> bool {
 }
 
 #[test]
-fn wrong_lines_are_told(rt: HostRuntime) {
+fn wrong_lines_are_reported(rt: HostRuntime) {
     let alloc = rt.alloc();
     assert!(rt; is_wrong(alloc, b"AC\n", 1));
     assert!(rt; is_wrong(alloc, b">d\nAC\nA C\nA\n", 3));

@@ -132,7 +132,7 @@ fn zeros_saved(alloc: Global, words: usize) -> Result<Vec<u8>, SaveError> {
 }
 
 // Returns true if a file of that many words is loaded with at most twice its bytes and a block in use at once.
-fn is_held_twice_at_most(alloc: Global, words: usize) -> bool {
+fn is_allocated_twice_at_most(alloc: Global, words: usize) -> bool {
     let Ok(bytes) = zeros_saved(alloc, words) else {
         return false;
     };
@@ -150,6 +150,6 @@ fn is_held_twice_at_most(alloc: Global, words: usize) -> bool {
 #[test]
 fn a_file_is_loaded_with_no_copy_of_its_bytes(rt: HostRuntime) {
     for words in [0, 1, 8_186, 300_000] {
-        assert!(rt; is_held_twice_at_most(rt.alloc(), words));
+        assert!(rt; is_allocated_twice_at_most(rt.alloc(), words));
     }
 }

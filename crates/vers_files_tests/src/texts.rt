@@ -58,7 +58,7 @@ fn assert_answered(rt: &impl Abort, alloc: Global, file: &[u8], rows: &str) -> R
 }
 
 #[test]
-fn a_text_is_held_before_the_first_line(rt: HostRuntime) -> Result<(), Fail> {
+fn a_run_begins_with_a_text(rt: HostRuntime) -> Result<(), Fail> {
     let cases: [(&[u8], &str); 3] = [
         (
             &COLUMN_INDEX,
@@ -94,7 +94,7 @@ fn is_fault(alloc: Global, file: &[u8], fault: TextFault) -> bool {
 }
 
 #[test]
-fn files_without_a_text_are_told(rt: HostRuntime) {
+fn files_without_a_text_are_reported(rt: HostRuntime) {
     let alloc = rt.alloc();
     assert!(rt; is_fault(alloc, &BITS, TextFault::NoSymbols));
     assert!(rt; is_fault(alloc, &SORTED, TextFault::NoSymbols));

@@ -116,7 +116,7 @@ fn fault_without_memory<'a>(heap: &'a Heap, bytes: &[u8]) -> Option<LoadError> {
 }
 
 #[test]
-fn faults_are_told_where_no_memory_is(rt: HostRuntime) {
+fn faults_are_reported_without_memory(rt: HostRuntime) {
     let mut other = BITS;
     other[40] ^= 1;
     for (bytes, fault) in [
@@ -174,7 +174,7 @@ fn hostile(alloc: Global, len: usize) -> Result<Vec<u8>, AllocError> {
 
 // Returns true if a reader of that many bytes, whose head says more, is too short, and at most three times
 // these bytes and a block were in use at once to find that out.
-fn is_told_by_what_came(alloc: Global, len: usize) -> bool {
+fn is_reported_by_what_came(alloc: Global, len: usize) -> bool {
     let Ok(bytes) = hostile(alloc, len) else {
         return false;
     };
@@ -188,13 +188,13 @@ fn is_told_by_what_came(alloc: Global, len: usize) -> bool {
 #[test]
 fn a_hostile_length_takes_no_more_memory_than_comes(rt: HostRuntime) {
     for len in [56, 1000, 65_584, 300_000, 1_000_000] {
-        assert!(rt; is_told_by_what_came(rt.alloc(), len));
+        assert!(rt; is_reported_by_what_came(rt.alloc(), len));
     }
 }
 
 // Returns true if a list of zeros, of that many words, is read with at most twice its form and a block in use
 // at once.
-fn is_held_twice_at_most(alloc: Global, words: usize) -> bool {
+fn is_allocated_twice_at_most(alloc: Global, words: usize) -> bool {
     let Ok(bytes) = zeros_saved(alloc, words) else {
         return false;
     };
@@ -218,6 +218,6 @@ fn zeros_saved(alloc: Global, words: usize) -> Result<Vec<u8>, SaveError> {
 #[test]
 fn a_list_is_read_with_no_second_copy_of_its_bytes(rt: HostRuntime) {
     for words in [0, 1, 8_185, 8_186, 8_187, 20_000, 100_000] {
-        assert!(rt; is_held_twice_at_most(rt.alloc(), words));
+        assert!(rt; is_allocated_twice_at_most(rt.alloc(), words));
     }
 }

@@ -110,7 +110,7 @@ fn push_long_line(text: &mut Vec<u8>) -> Result<(), AllocError> {
 }
 
 // Returns the most bytes that a run uses over a long line that is repeated that many times.
-fn most_held(alloc: Global, times: usize) -> Result<usize, RunError> {
+fn most_allocated(alloc: Global, times: usize) -> Result<usize, RunError> {
     let mut text = Vec::new(alloc);
     for _ in 0..times {
         push_long_line(&mut text)?;
@@ -126,8 +126,8 @@ fn most_held(alloc: Global, times: usize) -> Result<usize, RunError> {
 // suffix array 40,000.
 #[test]
 fn a_text_is_loaded_where_another_was(rt: HostRuntime) -> Result<(), Fail> {
-    let once = most_held(rt.alloc(), 1)?;
-    let twice = most_held(rt.alloc(), 2)?;
+    let once = most_allocated(rt.alloc(), 1)?;
+    let twice = most_allocated(rt.alloc(), 2)?;
     assert!(rt; once > 120000 && twice <= once.saturating_add(64));
     Ok(())
 }

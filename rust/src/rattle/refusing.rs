@@ -13,7 +13,7 @@ pub struct Plan {
     refused: Cell<u64>,
     freed: Cell<u64>,
     held: Cell<usize>,
-    most_held: Cell<usize>,
+    most_allocated: Cell<usize>,
 }
 
 /// Forwards each request to `inner`, except those that its plan refuses. A test owns it and uses references,
@@ -37,7 +37,7 @@ impl<B: Allocator> Refusing<B> {
                 refused: Cell::new(0),
                 freed: Cell::new(0),
                 held: Cell::new(0),
-                most_held: Cell::new(0),
+                most_allocated: Cell::new(0),
             },
         }
     }
@@ -120,12 +120,12 @@ impl<B: Allocator> Refusing<B> {
 
     /// Returns the greatest number of bytes in use at once, since the start or the last `measure_anew`.
     pub fn most_held_bytes(&self) -> usize {
-        self.plan.most_held.get()
+        self.plan.most_allocated.get()
     }
 
     /// Restarts the measurement of `most_held_bytes` from the bytes now in use.
     pub fn measure_anew(&self) {
-        self.plan.most_held.set(self.plan.held.get());
+        self.plan.most_allocated.set(self.plan.held.get());
     }
 }
 
@@ -139,7 +139,7 @@ fn is_refused(plan: &Plan, size: usize) -> bool {
     } else {
         let held = plan.held.get().wrapping_add(size);
         plan.held.set(held);
-        plan.most_held.set(plan.most_held.get().max(held));
+        plan.most_allocated.set(plan.most_allocated.get().max(held));
     }
     is_refused
 }

@@ -79,7 +79,7 @@ fn each_kind_is_loaded_as_itself() {
 }
 
 #[test]
-fn the_first_fault_is_told() {
+fn the_first_fault_is_reported() {
     let bytes = RsVec::from_bit_vec(BitVec::from_bits(&[0, 1, 1, 0])).save().unwrap();
     let fault = |place: usize| {
         let mut bytes = bytes.clone();

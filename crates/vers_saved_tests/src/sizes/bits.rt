@@ -165,7 +165,7 @@ impl Sizing<Global> for Way {
 }
 
 #[test]
-fn lists_of_bits_hold_what_they_tell(rt: HostRuntime) {
+fn lists_of_bits_allocate_what_they_report(rt: HostRuntime) {
     let wrong = first_wrong_size(rt.alloc(), &SIZES, &WAYS);
     assert_eq!(rt; wrong, None, "a length and a way");
 }

@@ -52,7 +52,7 @@ fn after_a_refusal_nodes_are_entered(rt: HostRuntime) {
 
 // Returns true if a builder that has left a node too many returns that error, with every request refused, and
 // makes none.
-fn tells_excess(heap: &Heap, made: Result<BpBuilder<8, &Heap>, GrowError>) -> bool {
+fn reports_excess(heap: &Heap, made: Result<BpBuilder<8, &Heap>, GrowError>) -> bool {
     let Ok(builder) = stepped(made, &[0]) else {
         return false;
     };
@@ -62,7 +62,7 @@ fn tells_excess(heap: &Heap, made: Result<BpBuilder<8, &Heap>, GrowError>) -> bo
 }
 
 #[test]
-fn the_excess_is_told_before_memory(rt: HostRuntime) {
+fn the_excess_is_reported_before_memory(rt: HostRuntime) {
     let heap = Refusing::none(rt.alloc());
-    assert!(rt; tells_excess(&heap, builder_of_64_bits(&heap)));
+    assert!(rt; reports_excess(&heap, builder_of_64_bits(&heap)));
 }
