@@ -3,6 +3,7 @@ use Rattle.std.specs.Prelude.{◌≡◌, ℕ, List, [], ◌∷◌, ◌++◌, tru
 use Rattle.vers_bits.specs.Bits.{limbs, limb, low_bits, places, select}
 use Rattle.vers_tally.specs.Reads.{digits}
 use Rattle.vers_sorted.specs.Ones.{ones_at}
+use Rattle.vers_sorted.specs.Sorted.{is_member}
 use Rattle.vers_sorted.specs.Layout.{high_length, high_of, high_parts, low_parts, low_width, members, width}
 use Rattle.vers_saved.specs.declared.kind.Order.TheVariants.{Ascending, Rising, HalfRising, InvertedParts}
 use Rattle.vers_saved.specs.declared.kind.TheConstants.{BIT_LISTS, SORTED_LISTS}
