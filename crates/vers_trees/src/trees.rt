@@ -24,51 +24,51 @@ pub trait Tree {
 
     /// Returns the first root, or `None` if there are no nodes.
     fn root(&self) -> Option<Self::NodeHandle>
-        requires stands { is_forest self.now }
+        requires balanced { is_forest self.now }
         ensures { option_map (place self.now) result ≡ first_of (nodes (forest self.now)) };
 
     /// Returns the parent of a node, or `None` for a root.
     fn parent(&self, node: Self::NodeHandle) -> Option<Self::NodeHandle>
-        requires stands { is_forest self.now }
+        requires balanced { is_forest self.now }
         requires node { IsNode (forest self.now) (place self.now node) }
         ensures { option_map (place self.now) result ≡ parent (forest self.now) (place self.now node) };
 
     /// Returns the first child of a node, or `None` for a leaf.
     fn first_child(&self, node: Self::NodeHandle) -> Option<Self::NodeHandle>
-        requires stands { is_forest self.now }
+        requires balanced { is_forest self.now }
         requires node { IsNode (forest self.now) (place self.now node) }
         ensures { option_map (place self.now) result ≡ first_of (children (forest self.now) (place self.now node)) };
 
     /// Returns the next node with the same parent; roots are siblings. `None` for the last of them.
     fn next_sibling(&self, node: Self::NodeHandle) -> Option<Self::NodeHandle>
-        requires stands { is_forest self.now }
+        requires balanced { is_forest self.now }
         requires node { IsNode (forest self.now) (place self.now node) }
         ensures { option_map (place self.now) result ≡ next_of
             (siblings (forest self.now) (place self.now node)) (place self.now node) };
 
     /// Returns the previous node with the same parent; roots are siblings. `None` for the first of them.
     fn previous_sibling(&self, node: Self::NodeHandle) -> Option<Self::NodeHandle>
-        requires stands { is_forest self.now }
+        requires balanced { is_forest self.now }
         requires node { IsNode (forest self.now) (place self.now node) }
         ensures { option_map (place self.now) result ≡ previous_of
             (siblings (forest self.now) (place self.now node)) (place self.now node) };
 
     /// Returns the last child of a node, or `None` for a leaf.
     fn last_child(&self, node: Self::NodeHandle) -> Option<Self::NodeHandle>
-        requires stands { is_forest self.now }
+        requires balanced { is_forest self.now }
         requires node { IsNode (forest self.now) (place self.now node) }
         ensures { option_map (place self.now) result ≡ last_of (children (forest self.now) (place self.now node)) };
 
     /// Returns the number of a node in preorder (from 0).
     fn node_index(&self, node: Self::NodeHandle) -> usize
-        requires stands { is_forest self.now }
+        requires balanced { is_forest self.now }
         requires node { IsNode (forest self.now) (place self.now node) }
         ensures { result ≡ node_index (forest self.now) (place self.now node) };
 
     /// Returns the node with this number in preorder (from 0). If there is none, the handle's position is the
     /// end of the forest's parentheses, where no node opens.
     fn node_handle(&self, index: usize) -> Self::NodeHandle
-        requires stands { is_forest self.now }
+        requires balanced { is_forest self.now }
         ensures node { index < length (nodes (forest self.now))
             → slice_get (nodes (forest self.now)) index ≡ Some (place self.now result) }
         ensures past { length (nodes (forest self.now)) ≤ index
@@ -76,24 +76,24 @@ pub trait Tree {
 
     /// Returns true if a node has no children.
     fn is_leaf(&self, node: Self::NodeHandle) -> bool
-        requires stands { is_forest self.now }
+        requires balanced { is_forest self.now }
         requires node { IsNode (forest self.now) (place self.now node) }
         ensures { IsTrue result ↔ (children (forest self.now) (place self.now node) ≡ []) };
 
     /// Returns the depth of a node, the number of its proper ancestors: 0 for a root.
     fn depth(&self, node: Self::NodeHandle) -> u64
-        requires stands { is_forest self.now }
+        requires balanced { is_forest self.now }
         requires node { IsNode (forest self.now) (place self.now node) }
         ensures { result ≡ depth (forest self.now) (place self.now node) };
 
     /// Returns the number of nodes.
     fn size(&self) -> usize
-        requires stands { is_forest self.now }
+        requires balanced { is_forest self.now }
         ensures { result ≡ length (nodes (forest self.now)) };
 
     /// Returns true if there are no nodes.
     fn is_empty(&self) -> bool
-        requires stands { is_forest self.now }
+        requires balanced { is_forest self.now }
         ensures { result ≡ (length (nodes (forest self.now)) == 0) }
     {
         self.size() == 0
@@ -104,7 +104,7 @@ pub trait Tree {
 pub trait SubtreeSize: Tree {
     /// Returns the number of nodes in the subtree of a node, including itself. Never `None`.
     fn subtree_size(&self, node: Self::NodeHandle) -> Option<usize>
-        requires stands { Self.is_forest self.now }
+        requires balanced { Self.is_forest self.now }
         requires node { IsNode (Self.forest self.now) (Self.place self.now node) }
         ensures { result ≡ Some (length (subtree (Self.forest self.now) (Self.place self.now node))) };
 }
@@ -113,7 +113,7 @@ pub trait SubtreeSize: Tree {
 pub trait IsAncestor: Tree {
     /// Returns true if the first node is an ancestor of the second; each node is its own. Never `None`.
     fn is_ancestor(&self, ancestor: Self::NodeHandle, descendant: Self::NodeHandle) -> Option<bool>
-        requires stands { Self.is_forest self.now }
+        requires balanced { Self.is_forest self.now }
         requires ancestor { IsNode (Self.forest self.now) (Self.place self.now ancestor) }
         requires descendant { IsNode (Self.forest self.now) (Self.place self.now descendant) }
         ensures { result ≡ Some (is_ancestor (Self.forest self.now)
@@ -124,14 +124,14 @@ pub trait IsAncestor: Tree {
 pub trait LevelTree: Tree {
     /// Returns the ancestor of a node `levels` levels up, itself at 0. `None` if there is none.
     fn level_ancestor(&self, node: Self::NodeHandle, levels: u64) -> Option<Self::NodeHandle>
-        requires stands { Self.is_forest self.now }
+        requires balanced { Self.is_forest self.now }
         requires node { IsNode (Self.forest self.now) (Self.place self.now node) }
         ensures { option_map (Self.place self.now) result
             ≡ level_ancestor (Self.forest self.now) (Self.place self.now node) levels };
 
     /// Returns the next node of the same depth, or `None` if there is none.
     fn level_next(&self, node: Self::NodeHandle) -> Option<Self::NodeHandle>
-        requires stands { Self.is_forest self.now }
+        requires balanced { Self.is_forest self.now }
         requires node { IsNode (Self.forest self.now) (Self.place self.now node) }
         ensures { option_map (Self.place self.now) result ≡ next_of
             (level (Self.forest self.now) (depth (Self.forest self.now) (Self.place self.now node)))
@@ -139,7 +139,7 @@ pub trait LevelTree: Tree {
 
     /// Returns the previous node of the same depth, or `None` if there is none.
     fn level_prev(&self, node: Self::NodeHandle) -> Option<Self::NodeHandle>
-        requires stands { Self.is_forest self.now }
+        requires balanced { Self.is_forest self.now }
         requires node { IsNode (Self.forest self.now) (Self.place self.now node) }
         ensures { option_map (Self.place self.now) result ≡ previous_of
             (level (Self.forest self.now) (depth (Self.forest self.now) (Self.place self.now node)))
@@ -147,12 +147,12 @@ pub trait LevelTree: Tree {
 
     /// Returns the first node of a depth, or `None` if no node has that depth.
     fn level_leftmost(&self, depth: u64) -> Option<Self::NodeHandle>
-        requires stands { Self.is_forest self.now }
+        requires balanced { Self.is_forest self.now }
         ensures { option_map (Self.place self.now) result ≡ first_of (level (Self.forest self.now) depth) };
 
     /// Returns the last node of a depth, or `None` if no node has that depth.
     fn level_rightmost(&self, depth: u64) -> Option<Self::NodeHandle>
-        requires stands { Self.is_forest self.now }
+        requires balanced { Self.is_forest self.now }
         ensures { option_map (Self.place self.now) result ≡ last_of (level (Self.forest self.now) depth) };
 }
 

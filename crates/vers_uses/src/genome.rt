@@ -72,7 +72,7 @@ impl<A: Allocator + Copy> Genome<A> {
     /// Returns the position of G or C number `number` (from 0), or `None` if there are fewer.
     pub fn nth_gc(&self, number: usize) -> Option<usize>
         ensures some { IsSome result ↔ (number < count true self.now (length self.now)) }
-        ensures stands { IfSome result (λ place. slice_get self.now place ≡ Some true) }
+        ensures one { IfSome result (λ place. slice_get self.now place ≡ Some true) }
         ensures before { IfSome result (λ place. count true self.now place ≡ number) }
     {
         select_finds_number();

@@ -33,7 +33,7 @@ pub fn nodes_on_level<T: LevelTree, A: Allocator>(
 ) -> Result<Vec<T::NodeHandle, A>, AllocError>
 where
     T::NodeHandle: Copy,
-    requires stands { T.is_forest tree.now }
+    requires balanced { T.is_forest tree.now }
     ensures { IfOk result
         (λ nodes. map (T.place tree.now) nodes.items ≡ level (T.forest tree.now) depth) }
 {
