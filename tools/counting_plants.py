@@ -43,8 +43,8 @@ IN_BODIES = (
     ("may be RsVec::rank1,", RANK, "let _ones = self.high.rank1(0);"),
     ("may be RsVec::rank1,", RANK, "let _ones = RsVec::rank1(&self.high, 0);"),
     ("may be RsVec::rank1,", RANK, "let ask = RsVec::rank1;"),
-    ("may be RsVec::rank0,", RANK0, "let span = self; let _zeros = span.rank0(place);"),
-    ("may be SparseRSVec::is_set_unchecked,", "SparseRSVec::get_counted", "let _one = self.is_set_unchecked(place);"),
+    ("may be RsVec::rank0,", RANK0, "let span = self; let _zeros = span.rank0(position);"),
+    ("may be SparseRSVec::is_set_unchecked,", "SparseRSVec::get_counted", "let _one = self.is_set_unchecked(position);"),
     ("may be BothEnds::next,", RANK0, "while let Some(_bit) = self.iter().next() {}"),
     ("may be BothEnds::min,", SPARSE, "let _least = self.iter1().min();"),
     ("calls `sum`, of which nothing is known", SHARED, f"{WALK} let _sum = walk.sum();"),
@@ -62,12 +62,12 @@ IN_BODIES = (
 # names of one's own instead of known ones, errors that are turned, and ranges and numbers that are none
 IN_BODIES += (
     ("gives the counter's name to another variable", RANK0, "let tally = &self.bits;"),
-    ("gives the counter's name to another variable", RANK0, "let (place, tally) = (0, &self.bits);"),
+    ("gives the counter's name to another variable", RANK0, "let (position, tally) = (0, &self.bits);"),
     ("gives the counter's name to another variable", RANK0, "self.each(|tally| tally.limb(0));"),
-    ("is no range", RANK0, "for _bit in self.part(0..place) {}"),
-    ("is no range", RANK0, "for _bit in self.bits[..place] {}"),
-    ("neither side is seen to be a number", RANK0, "let _same = self.part(place + 1) == self.part(place - 1);"),
-    ("neither side is seen to be a number", RANK0, "let _same = self.part(self.len()) == self.part(place * 2);"),
+    ("is no range", RANK0, "for _bit in self.part(0..position) {}"),
+    ("is no range", RANK0, "for _bit in self.bits[..position] {}"),
+    ("neither side is seen to be a number", RANK0, "let _same = self.part(position + 1) == self.part(position - 1);"),
+    ("neither side is seen to be a number", RANK0, "let _same = self.part(self.len()) == self.part(position * 2);"),
     ("far_below has a loop", "far_below", "for _lane in 0..16 {}"),
     ("last_up_to has a loop", "last_up_to", "while false {}"),
 )
@@ -81,7 +81,7 @@ BESIDE = (
     ("may be Listed::first,", RANK0, "self.first();",
      method("first(&self) -> u64", "as_bit_vec(Uncounted)", "trait Listed<A>")),
     ("may be RsVec::word_at,", RANK0, "self.word_at::<3>();", method("word_at<const K: usize>(&self) -> u64", WHOLE)),
-    ("may be usize::peek,", RANK0, "place.peek(self);",
+    ("may be usize::peek,", RANK0, "position.peek(self);",
      method("peek(self)", "whole(Uncounted)", "impl Peek for usize")),
     ("may be RsVec::any,", RANK0, "self.any();", method("any(&self) -> bool", "for _bit in self {}")),
     ("RsVec::word_at reads a whole list", RANK0, "", method("word_at(&self) -> u64", f"{WHOLE}.limb(0)")),
@@ -89,7 +89,7 @@ BESIDE = (
     ("a type that is not of these crates", RANK0, "",
      method("peek(&self) -> u64", "self[0]", "impl Peek for Vec<u64>")),
     ("a type that is not of these crates", RANK0, "", method("list(&self) -> u64", "0", "impl<T: Send> Indexed for T")),
-    ("may be RsVec::max,", RANK0, "self.max(place);", method("max(&self, n: usize) -> u64", WHOLE)),
+    ("may be RsVec::max,", RANK0, "self.max(position);", method("max(&self, n: usize) -> u64", WHOLE)),
     ("mentions `?`, which may be AllocError::from,", SHARED, "Err(self)?;",
      method("from(list: &RsVec<A>) -> AllocError", WHOLE, "impl<A> From<&RsVec<A>> for AllocError")),
     ("`const TOKEN: Uncounted` is not allowed here", RANK0, "", "const TOKEN: Uncounted = Uncounted;"),
@@ -111,9 +111,9 @@ INSTEAD = (
      "let _below = differences(zeros, bit, r); let below = zeros;"),
     ("ignores what `far_below` returns", "last_up_to", "let block = 15 - far_below(below);",
      "far_below(below); let block = 0;"),
-    ("doesn't return the place that `place_met` gives", "bytes_forward", "return Ok(start + within + place);",
+    ("doesn't return the position that `position_met` gives", "bytes_forward", "return Ok(start + within + position);",
      "return Ok(start + within);"),
-    ("doesn't return the place that `place_met` gives", "bytes_backward", "return Ok(start + within + place);",
+    ("doesn't return the position that `position_met` gives", "bytes_backward", "return Ok(start + within + position);",
      "return Ok(start + within);"),
     ("BinaryRmq.table contains `Vec<u64, A>`", "BinaryRmq", "table: Vec<u32, A>", "table: Vec<u64, A>"),
     ("raises the counter 0 times for 1 reads", READ, RAISE, ""),
@@ -125,10 +125,10 @@ INSTEAD = (
 )
 # plain queries, their text, and what is not their counted form
 PLAIN = {
-    ("RsVec::rank1", "self.rank1_counted(place, &mut tally)"): (
-        "self.scan(place, &mut tally)", "self.rank1_counted(place, &mut tally) + self.len()",
-        "self.rank1_counted(place, &mut spare)", "self.rank1_counted(self.len(), &mut tally)",
-        f"{WHOLE}; self.rank1_counted(place, &mut tally)",
+    ("RsVec::rank1", "self.rank1_counted(position, &mut tally)"): (
+        "self.scan(position, &mut tally)", "self.rank1_counted(position, &mut tally) + self.len()",
+        "self.rank1_counted(position, &mut spare)", "self.rank1_counted(self.len(), &mut tally)",
+        f"{WHOLE}; self.rank1_counted(position, &mut tally)",
     ),
     ("Postings::rank", "self.documents.rank(document)"): (
         "self.costs.rank(document)", "self.documents.below(document)", "self.documents.rank(0)",

@@ -38,16 +38,16 @@ WHOLE = {
 }
 # Functions that make a counter, besides the calls whose names end in `_unchecked`: those without a counted form, and
 # lists that are made of counted numbers.
-FRESH = {"RsVec::has_places_of", "WaveletMatrix::place_from", "BothEnds::last",
+FRESH = {"RsVec::has_positions_of", "WaveletMatrix::position_from", "BothEnds::last",
          "intersection", "union", "difference", "intersection_of", "union_of", "difference_of"}
 # Plain lists that types may contain: tables of numbers that are stored for queries, what is at work while something is
 # made, and iterators over counted lists.
 TABLES = {
-    "BpBuilder.bits": "BitVec<A>", "BinaryRmq.table": "Vec<u32, A>", "FastRmq.places": "Vec<u8, A>",
-    "Met.places": "[u64; 17]",
+    "BpBuilder.bits": "BitVec<A>", "BinaryRmq.table": "Vec<u32, A>", "FastRmq.positions": "Vec<u8, A>",
+    "Met.positions": "[u64; 17]",
     "FastRmq.masks": "Vec<BlockMasks, A>", "WaveletMatrix.levels": "Vec<RsVec<A>, A>", "Words.numbers": "&'a [N]",
-    "Packed.bits": "&'a BitVec<A>", "Places.bits": "&'a BitVec<A>", "Way.nodes": "[Node; 64]",
-    "Blocks.minima": "Vec<u64, A>", "Blocks.places": "Vec<u8, A>",
+    "Packed.bits": "&'a BitVec<A>", "Positions.bits": "&'a BitVec<A>", "Way.nodes": "[Node; 64]",
+    "Blocks.minima": "Vec<u64, A>", "Blocks.positions": "Vec<u8, A>",
     "Blocks.masks": "Vec<BlockMasks, A>", "ByteTables.forward": "[u64; 256]", "ByteTables.backward": "[u64; 256]",
     "ChunkWalk.offsets": "[u8; CHUNK]", "SliceNumbers.rest": "&'a [u64]", "SlicePairs.rest": "&'a [(u64, u64)]",
     "Parts.high": "BitVec<A>",
@@ -67,9 +67,9 @@ CALLS = {
     "ChunkWalk::load": "put_offsets put_offsets_plainly", "put_offsets": "offsets_in_byte splat put_lanes",
     "offsets_in_byte": "lanes_from", "lanes_from": "from_slice", "put_lanes": "copy_to_slice",
     "Searched::forward": "scan_forward forward_past", "Searched::forward_past": "scan_forward",
-    "scan_forward": "bytes_forward", "bytes_forward": "met_forward place_met",
+    "scan_forward": "bytes_forward", "bytes_forward": "met_forward position_met",
     "Searched::backward": "scan_backward backward_past", "Searched::backward_past": "scan_backward",
-    "scan_backward": "bytes_backward", "bytes_backward": "met_backward place_met",
+    "scan_backward": "bytes_backward", "bytes_backward": "met_backward position_met",
     "WaveletMatrix::from_slice_pc": "counted", "WaveletMatrix::from_bit_vec_pc": "counted",
     "WaveletMatrix::counted": "counted_levels", "counted_levels": "table levels_by_counting",
     "levels_by_counting": "placed_digits start_next", "placed_digits": "copy_first prefix", "start_next": "rank0 zeros",
@@ -80,12 +80,12 @@ BARRED = {
     "WaveletMatrix::counted counted_levels levels_by_counting placed_digits start_next":
         "sort sort_by sort_by_digit sort_by_key sort_unstable sort_unstable_by_key sorted sorted_levels levels_by_sorting split",
 }
-# Kernels of lanes, in which nothing goes on in turns; and searches of whole bytes, which return the place that a byte's
-# table gives.
+# Kernels of lanes, in which nothing goes on in turns; and searches of whole bytes, which return the position that a
+# byte's table gives.
 WITHOUT_LOOPS = {"agree", "RsVec::block_among", "last_up_to", "differences", "far_below", "offsets_in_byte",
                  "lanes_from", "put_lanes"}
 BYTES = {"bytes_forward", "bytes_backward"}
-RETURNED = re.compile(r"\bif let Some\((\w+)\) = place_met\([^;{]*\{\s*return Ok\([^;]*\b\1\b[^;]*\);")
+RETURNED = re.compile(r"\bif let Some\((\w+)\) = position_met\([^;{]*\{\s*return Ok\([^;]*\b\1\b[^;]*\);")
 BRACKETS = r"\([^()]*\)|\[[^\[\]]*\]"
 NUMBER = r"(?:[ui](?:8|16|32|64|128|size)|bool)"
 # What shows that an expression is a number: how it begins or ends, a constant, or an operator between two.
@@ -321,7 +321,7 @@ def named_faults(library):
             if name in WITHOUT_LOOPS and re.search(r"\b(?:for|while|loop)\b", body):
                 yield f"{name} has a loop"
             if name in BYTES and not RETURNED.search(body):
-                yield f"{name} doesn't return the place that `place_met` gives"
+                yield f"{name} doesn't return the position that `position_met` gives"
 
 
 def is_ignored(library, name, body):

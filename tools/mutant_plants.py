@@ -9,7 +9,7 @@ RIGHT = (
      "if least > after.value {"),
     ("vers_trees", "stays_above--a-word-is-passed-over-that-falls-to-the-target", "target < rise - falls",
      "rise - falls > target"),
-    ("vers_wavelet", "begin--a-batch-of-ranks-refuses-all-places", "let is_known = levels <= 64 && self.end <= len;",
+    ("vers_wavelet", "begin--a-batch-of-ranks-refuses-all-positions", "let is_known = levels <= 64 && self.end <= len;",
      "let is_known = self.end <= len && levels <= 64;"),
     ("vers_saved", "row_is_padded--a-one-past-the-end-is-taken",
      "words.word(k * limbs + limbs + FRAME - 2) < 1 << (bits % 64)",
@@ -20,7 +20,7 @@ RIGHT = (
     ("vers_c", "vers_sorted_build--numbers-need-not-ascend", "if !is_ascending(numbers) {",
      "if is_ascending(numbers) == false {"),
     ("vers_bits", "extend_by--a-refused-extension-keeps-half-of-a-list", "self.truncate(len);", "let _ = len;"),
-    ("vers_sorted", "place_read--a-walk-skips-what-it-read", "ahead.len = len;", "ahead.len = 64;"),
+    ("vers_sorted", "position_read--a-walk-skips-what-it-read", "ahead.len = len;", "ahead.len = 64;"),
     ("text_index", "shrink_keys--keys-are-said-to-differ", "passes += 1;", "passes += 2;"),
 )
 

@@ -24,7 +24,7 @@ from sources import TOP, read, write_files
 
 PARTS = ("src", "specs", "proofs")
 TARGET = "x86_64-unknown-linux-gnu"
-# What a check says of a fault or of a goal that isn't proved: its place, its function, and what is to be shown there.
+# What a check says of a fault or an unproved goal: its position, its function, and what is to be shown there.
 REASON = re.compile(
     r"^((note: )?(\./)?(src|specs|proofs)/\S+:\d+:\d+: (?!note: ).*|fn (?!.*: (proved|no proof: it calls)).*|note: `.* must prove: .*)", re.M)
 

@@ -173,8 +173,8 @@ def guard_faults(folder, crates):
 # Faults that are planted: the file of the crate, what is written for what, and what has to be reported.
 PLANTS = (
     ("guards.txt", "bit_vec/mod.rs | BitVec::flip_bit |", "# ", "no row for flip_bit of bit_vec/mod.rs"),
-    ("guards.txt", "| BitVec::flip_bit | requires { place < length self.old }",
-     "| BitVec::flip_bit | requires { place ≤ length self.old }", "flip_bit, which"),
+    ("guards.txt", "| BitVec::flip_bit | requires { position < length self.old }",
+     "| BitVec::flip_bit | requires { position ≤ length self.old }", "flip_bit, which"),
     ("src/bit_vec/mod.rs", "assert!(len <= WORD_SIZE,", "assert!(true,",
      "append_bits of bit_vec/mod.rs has no `assert!(len <= WORD_SIZE,`"),
     ("src/bit_vec/mod.rs", "    pub fn count_ones(&self)",
@@ -182,7 +182,7 @@ PLANTS = (
      "no row for word of bit_vec/mod.rs, which calls limb"),
     ("src/trees/bp.rs", "    depth_counted, depth(node", "    relative, depth(node",
      "no row for relative of trees/bp.rs"),
-    ("src/bit_vec/fast_rs_vec.rs", "fn rank1(&self, place: usize)", "fn rank1(&self, pos: usize)",
+    ("src/bit_vec/fast_rs_vec.rs", "fn rank1(&self, position: usize)", "fn rank1(&self, pos: usize)",
      "RsVec::rank1, which the facade shows, has no parameter `pos`"),
     ("src/bit_vec/fast_rs_vec.rs", "contract!(RsVec::rank1)", "contract!(RsVec::rank2)",
      "the contract of RsVec::rank2, which is no public function"),

@@ -71,8 +71,8 @@ static void run_index(const Settings& settings, const Series& series, const Text
     if (other.bytes.empty()) return;
     series.line("heap_bits_per_item", sdsl::size_in_bytes(*index) * 8.0 / double(n), 0);
     auto counts = [&](const char* operation, const Text& from, std::size_t len, u64 number) {
-        series.queries(operation, drawn(settings.scaled(100000), 102, number, from.bytes.size() - 32), [&](u64 place) -> u64 {
-            auto begin = from.bytes.begin() + place;
+        series.queries(operation, drawn(settings.scaled(100000), 102, number, from.bytes.size() - 32), [&](u64 position) -> u64 {
+            auto begin = from.bytes.begin() + position;
             return sdsl::count(*index, begin, begin + len);
         });
     };
@@ -81,28 +81,28 @@ static void run_index(const Settings& settings, const Series& series, const Text
     counts("count_32", text, 32, 2);
     counts("count_absent_32", other, 32, 3);
     std::size_t listed = settings.scaled(20000);
-    series.queries("first_places_10", drawn(listed, 103, 0, n - 64), [&](u64 place) {
+    series.queries("first_places_10", drawn(listed, 103, 0, n - 64), [&](u64 position) {
         u64 sum = 0, first = 0, last = 0;
-        auto begin = text.bytes.begin() + place;
+        auto begin = text.bytes.begin() + position;
         u64 found = sdsl::backward_search(*index, 0, index->size() - 1, begin, begin + 8, first, last);
         for (u64 row = first; row < first + std::min<u64>(found, 10); ++row) sum = sum * 31 + (*index)[row];
         return sum;
     });
-    series.queries("extract_64", drawn(listed, 103, 1, n - 64), [&](u64 place) {
+    series.queries("extract_64", drawn(listed, 103, 1, n - 64), [&](u64 position) {
         u64 sum = 0;
-        for (unsigned char it : sdsl::extract(*index, place, place + 63)) sum = sum * 31 + (it - text.shift);
+        for (unsigned char it : sdsl::extract(*index, position, position + 63)) sum = sum * 31 + (it - text.shift);
         return sum;
     });
     Numbers asked = drawn(settings.scaled(100000), 102, 1, n - 32);
     asked.resize(100);
-    series.queries("scan_16", asked, [&](u64 place) { return scanned(text.bytes, text.bytes.data() + place, 16); });
-    for (u64 place : asked) {
-        auto begin = text.bytes.begin() + place;
-        if (sdsl::count(*index, begin, begin + 16) != scanned(text.bytes, text.bytes.data() + place, 16)) std::abort();
+    series.queries("scan_16", asked, [&](u64 position) { return scanned(text.bytes, text.bytes.data() + position, 16); });
+    for (u64 position : asked) {
+        auto begin = text.bytes.begin() + position;
+        if (sdsl::count(*index, begin, begin + 16) != scanned(text.bytes, text.bytes.data() + position, 16)) std::abort();
     }
 }
 
-// Indexes with one place kept for each 32 rows and one row for each 32 places: by the shape of the tree and its bits.
+// Indexes with one position sampled for each 32 rows and one row for each 32 positions: by the shape of the tree and its bits.
 template <class Tree>
 using Csa = sdsl::csa_wt<Tree, 32, 32>;
 

@@ -2,7 +2,7 @@
  * one call. Prints the sum of the answers.
  *
  * Under `valgrind --tool=callgrind` the instructions of a query are those of a run with many places less those of a run with none, over the
- * count; `none` asks nothing, and its instructions for a place are the loop's. */
+ * count; `none` asks nothing, and its instructions for a position are the loop's. */
 #include "random.h"
 #include "vers.h"
 
@@ -65,7 +65,7 @@ static void ask_symbols(const char *name, size_t count, bool is_each) {
     if (vers_symbols_of(&list, numbers, ITEMS, 8)) abort();
     if (!strcmp(name, "symbol")) SUM(list, VERS_GET, ITEMS, vers_symbols_get(&list, at).value, 0, 0);
     if (!strcmp(name, "count")) SUM(list, VERS_RANK_OF, ITEMS, vers_symbols_rank(&list, at, 7).value, 7, 0);
-    if (!strcmp(name, "place")) SUM(list, VERS_SELECT_OF, 3000, vers_symbols_select(&list, at, 7).value, 7, 0);
+    if (!strcmp(name, "position")) SUM(list, VERS_SELECT_OF, 3000, vers_symbols_select(&list, at, 7).value, 7, 0);
     if (!strcmp(name, "quantile"))
         SUM(list, VERS_QUANTILE, ITEMS / 2, vers_symbols_quantile(&list, at, end, tenth).value, end, tenth);
     vers_symbols_free(&list);
@@ -86,7 +86,7 @@ int main(int argc, char **argv) {
     size_t count = argc > 2 ? strtoul(argv[2], NULL, 10) : 0;
     bool is_each = argc > 3;
     if (strstr("member rank predecessor successor", name)) ask_sorted(name, count, is_each);
-    else if (strstr("symbol count place quantile", name)) ask_symbols(name, count, is_each);
+    else if (strstr("symbol count position quantile", name)) ask_symbols(name, count, is_each);
     else if (strstr("least", name)) ask_values(name, count, is_each);
     else ask_bits(name, count, is_each);
     printf("%llu\n", (unsigned long long)sum);

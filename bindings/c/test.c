@@ -39,7 +39,7 @@ static void *room(size_t count, size_t size) {
 }
 
 /* Which of `from` to `to` of the values is the given one for time number `number`; `none` where there is none. */
-static size_t place_of(const uint64_t *values, size_t from, size_t to, uint64_t value, uint64_t number, size_t none) {
+static size_t position_of(const uint64_t *values, size_t from, size_t to, uint64_t value, uint64_t number, size_t none) {
     for (size_t i = from; i < to; i++)
         if (values[i] == value && number-- == 0) return i;
     return none;
@@ -83,17 +83,17 @@ static void test_many(vers_handle *handle, uint32_t query, uint64_t most) {
     }
 }
 
-/* The next and the previous one, and zero, of each place and of places past the end. */
+/* The next and the previous one, and zero, of each position and of places past the end. */
 static void test_neighbours(const vers_bits *list, const uint64_t *bits, size_t n) {
     for (size_t k = 0; k < 600; k++) {
-        size_t place = next() % (n + 3), after[2] = {n, n}, before[2] = {n, n};
+        size_t position = next() % (n + 3), after[2] = {n, n}, before[2] = {n, n};
         for (size_t i = n; i-- > 0;)
-            if (i > place) after[bits[i]] = i;
-        for (size_t i = 0; i < n && i < place; i++) before[bits[i]] = i;
-        found_if("successor1", place, vers_bits_successor1(list, place), after[1] < n, after[1]);
-        found_if("successor0", place, vers_bits_successor0(list, place), after[0] < n, after[0]);
-        found_if("predecessor1", place, vers_bits_predecessor1(list, place), before[1] < n, before[1]);
-        found_if("predecessor0", place, vers_bits_predecessor0(list, place), before[0] < n, before[0]);
+            if (i > position) after[bits[i]] = i;
+        for (size_t i = 0; i < n && i < position; i++) before[bits[i]] = i;
+        found_if("successor1", position, vers_bits_successor1(list, position), after[1] < n, after[1]);
+        found_if("successor0", position, vers_bits_successor0(list, position), after[0] < n, after[0]);
+        found_if("predecessor1", position, vers_bits_predecessor1(list, position), before[1] < n, before[1]);
+        found_if("predecessor0", position, vers_bits_predecessor0(list, position), before[0] < n, before[0]);
     }
     found_if("successor1 past", 0, vers_bits_successor1(list, UINT64_MAX), false, 0);
     uint64_t ones = vers_bits_ones(list).value, last = ones ? vers_bits_select1(list, ones - 1).value : 0;
@@ -121,10 +121,10 @@ static void test_bits(size_t n) {
     found("zeros", 0, vers_bits_zeros(&list), counts[0]);
     test_neighbours(&list, bits, n);
     for (int k = 0; k < 200; k++) {
-        uint64_t place = next() % (n + 2), count = next() % 67, number = 0;
-        bool has = count <= 64 && place + count <= n;
-        for (uint64_t i = 0; has && i < count; i++) number |= bits[place + i] << i;
-        found_if("get_bits", place, vers_bits_get_bits(&list, place, count), has, number);
+        uint64_t position = next() % (n + 2), count = next() % 67, number = 0;
+        bool has = count <= 64 && position + count <= n;
+        for (uint64_t i = 0; has && i < count; i++) number |= bits[position + i] << i;
+        found_if("get_bits", position, vers_bits_get_bits(&list, position, count), has, number);
     }
     is("heap_size", vers_bits_heap_size(&list).value >= n / 8, 1);
     for (uint32_t query = VERS_GET; query <= VERS_SELECT1; query++) test_many(&list.handle, query, n + 70);
@@ -198,9 +198,9 @@ static void test_growing(void) {
     }
     is("append_bits of 65", vers_growing_append_bits(&list, 0, 65), VERS_REFUSED);
     for (int i = 0; i < 500; i++) {
-        size_t place = next() % n;
-        bits[place] = next() % 2;
-        is("set", vers_growing_set(&list, place, bits[place] == 1), VERS_DONE);
+        size_t position = next() % n;
+        bits[position] = next() % 2;
+        is("set", vers_growing_set(&list, position, bits[position] == 1), VERS_DONE);
     }
     is("set past", vers_growing_set(&list, n, true), VERS_REFUSED);
     is("drop_last", vers_growing_drop_last(&list, 13), VERS_DONE);
@@ -239,11 +239,11 @@ static void test_sparse(size_t n, uint64_t step) {
     vers_sparse list = {0};
     is("sparse of", vers_sparse_of(&list, ones, n, length), VERS_DONE);
     found("len", 0, vers_sparse_len(&list), length);
-    for (uint64_t place = 0; place <= length; place++) {
-        bool is_one = k < n && ones[k] == place;
-        found_if("get", place, vers_sparse_get(&list, place), place < length, is_one);
-        found("rank1", place, vers_sparse_rank1(&list, place), k);
-        found("rank0", place, vers_sparse_rank0(&list, place), place - k);
+    for (uint64_t position = 0; position <= length; position++) {
+        bool is_one = k < n && ones[k] == position;
+        found_if("get", position, vers_sparse_get(&list, position), position < length, is_one);
+        found("rank1", position, vers_sparse_rank1(&list, position), k);
+        found("rank0", position, vers_sparse_rank0(&list, position), position - k);
         k += is_one;
     }
     for (size_t i = 0; i <= n; i++) found("select1", i, vers_sparse_select1(&list, i), i < n ? ones[i] : length);
@@ -323,7 +323,7 @@ static void test_symbols(size_t n, uint32_t width) {
         test_range(&list, v, n, a, b, c);
         for (size_t i = 0; i < a && i < n; i++) before += v[i] == c;
         found_if("rank", a, vers_symbols_rank(&list, a, c), a <= n, before);
-        size_t at = place_of(v, 0, n, c, t, n), on = place_of(v, a, n, c, t, n);
+        size_t at = position_of(v, 0, n, c, t, n), on = position_of(v, a, n, c, t, n);
         found_if("select", t, vers_symbols_select(&list, t, c), at < n, at);
         found_if("select_offset", a, vers_symbols_select_offset(&list, a, t, c), on < n, on);
     }
@@ -341,7 +341,7 @@ static void test_symbols(size_t n, uint32_t width) {
 struct forest {
     size_t nodes;
     uint64_t *words;
-    size_t *place, *close, *parent, *depth;
+    size_t *position, *close, *parent, *depth;
 };
 
 static struct forest random_forest(size_t m) {
@@ -354,7 +354,7 @@ static struct forest random_forest(size_t m) {
             continue;
         }
         f.words[k / 64] |= (uint64_t)1 << (k % 64);
-        f.place[opened] = k;
+        f.position[opened] = k;
         f.parent[opened] = depth ? stack[depth - 1] : m;
         f.depth[opened] = depth;
         stack[depth++] = opened++;
@@ -364,12 +364,12 @@ static struct forest random_forest(size_t m) {
 }
 
 static void found_node(const char *what, const struct forest *f, size_t i, vers_answer got, size_t j) {
-    found_if(what, f->place[i], got, j < f->nodes, f->place[j]);
+    found_if(what, f->position[i], got, j < f->nodes, f->position[j]);
 }
 
 /* The nodes round node i, against all others. */
 static void test_kin(const vers_tree *tree, const struct forest *f, size_t i) {
-    size_t m = f->nodes, v = f->place[i], first = m, last = m, after = m, before = m, ahead = m, behind = m, under = 0;
+    size_t m = f->nodes, v = f->position[i], first = m, last = m, after = m, before = m, ahead = m, behind = m, under = 0;
     for (size_t j = 0; j < m; j++) {
         if (f->parent[j] == i) last = j;
         if (f->parent[j] == i && first == m) first = j;
@@ -377,7 +377,7 @@ static void test_kin(const vers_tree *tree, const struct forest *f, size_t i) {
         if (j < i && f->parent[j] == f->parent[i]) before = j;
         if (j > i && f->depth[j] == f->depth[i] && ahead == m) ahead = j;
         if (j < i && f->depth[j] == f->depth[i]) behind = j;
-        under += f->place[j] >= v && f->place[j] < f->close[i];
+        under += f->position[j] >= v && f->position[j] < f->close[i];
     }
     found_node("parent", f, i, vers_tree_parent(tree, v), f->parent[i]);
     found_node("first_child", f, i, vers_tree_first_child(tree, v), first);
@@ -406,7 +406,7 @@ static void test_tree(size_t m) {
     found_if("root", 0, vers_tree_root(&tree), m > 0, 0);
     found("is_balanced", 0, vers_tree_is_balanced(&tree), 1);
     for (size_t i = 0; i < m; i++) {
-        size_t v = f.place[i], j = next() % m;
+        size_t v = f.position[i], j = next() % m;
         test_kin(&tree, &f, i);
         found("node_index", v, vers_tree_node_index(&tree, v), i);
         found("node_handle", v, vers_tree_node_handle(&tree, i), v);
@@ -416,8 +416,8 @@ static void test_tree(size_t m) {
         found("excess", v, vers_tree_excess(&tree, v), f.depth[i] + 1);
         found("fwd_search", v, vers_tree_fwd_search(&tree, v, -1), f.close[i]);
         found("bwd_search", v, vers_tree_bwd_search(&tree, f.close[i], -1), v);
-        bool is_above = f.place[j] >= v && f.place[j] < f.close[i];
-        found("is_ancestor", v, vers_tree_is_ancestor(&tree, v, f.place[j]), is_above);
+        bool is_above = f.position[j] >= v && f.position[j] < f.close[i];
+        found("is_ancestor", v, vers_tree_is_ancestor(&tree, v, f.position[j]), is_above);
         compare("no node", v, vers_tree_depth(&tree, f.close[i]), VERS_REFUSED, 0);
     }
     for (size_t k = 0; k <= 2 * m; k++)
@@ -430,12 +430,12 @@ static void test_tree(size_t m) {
             if (f.depth[i] == depth) first = i;
         for (size_t i = 0; i < m; i++)
             if (f.depth[i] == depth) last = i;
-        found_if("level_leftmost", depth, vers_tree_level_leftmost(&tree, depth), first < m, f.place[first]);
-        found_if("level_rightmost", depth, vers_tree_level_rightmost(&tree, depth), last < m, f.place[last]);
+        found_if("level_leftmost", depth, vers_tree_level_leftmost(&tree, depth), first < m, f.position[first]);
+        found_if("level_rightmost", depth, vers_tree_level_rightmost(&tree, depth), last < m, f.position[last]);
     }
     vers_tree_free(&tree);
     free(f.words);
-    free(f.place);
+    free(f.position);
     free(f.close);
     free(f.parent);
     free(f.depth);
@@ -661,16 +661,16 @@ static void test_no_index(void) {
     vers_inverted_free(NULL);
 }
 
-/* Whether a text goes on with a pattern from a place on. */
-static bool stands_at(const uint64_t *text, size_t n, const uint64_t *pattern, size_t m, size_t place) {
-    if (place + m > n) return false;
+/* Whether a text goes on with a pattern from a position on. */
+static bool stands_at(const uint64_t *text, size_t n, const uint64_t *pattern, size_t m, size_t position) {
+    if (position + m > n) return false;
     for (size_t k = 0; k < m; k++)
-        if (text[place + k] != pattern[k]) return false;
+        if (text[position + k] != pattern[k]) return false;
     return true;
 }
 
 /* A pattern has the places of a plain loop. */
-/* Whether the suffix of one place comes before that of another. */
+/* Whether the suffix of one position comes before that of another. */
 static bool is_suffix_below(const uint64_t *text, size_t n, size_t one, size_t other) {
     while (one < n && other < n && text[one] == text[other]) one++, other++;
     return one == n ? other < n : other < n && text[one] < text[other];
@@ -683,9 +683,9 @@ static void test_first_places(const vers_text *text, const uint64_t *symbols, si
     is("first places", vers_text_first_places(text, pattern, m, limit, &first), VERS_DONE);
     found("first places len", limit, vers_numbers_len(&first), limit < all ? limit : all);
     for (size_t k = 0; k < limit && k < all; k++) {
-        uint64_t place = vers_numbers_get(&first, k).value;
-        is("first place", stands_at(symbols, n, pattern, m, place), true);
-        if (k > 0) is("order", is_suffix_below(symbols, n, vers_numbers_get(&first, k - 1).value, place), true);
+        uint64_t position = vers_numbers_get(&first, k).value;
+        is("first position", stands_at(symbols, n, pattern, m, position), true);
+        if (k > 0) is("order", is_suffix_below(symbols, n, vers_numbers_get(&first, k - 1).value, position), true);
     }
     is("first places into a full one", vers_text_first_places(text, pattern, m, limit, &first), VERS_OCCUPIED);
     vers_numbers_free(&first);
@@ -696,7 +696,7 @@ static void test_pattern(const vers_text *text, const uint64_t *symbols, size_t 
     is("places", vers_text_places(text, pattern, m, &places), VERS_DONE);
     uint64_t k = 0;
     for (size_t i = 0; i <= n; i++)
-        if (stands_at(symbols, n, pattern, m, i)) found("place", k, vers_numbers_get(&places, k), i), k++;
+        if (stands_at(symbols, n, pattern, m, i)) found("position", k, vers_numbers_get(&places, k), i), k++;
     found("places len", m, vers_numbers_len(&places), k);
     found("count", m, vers_text_count(text, pattern, m), k);
     found("contains", m, vers_text_contains(text, pattern, m), k > 0);
@@ -860,11 +860,11 @@ static void test_listed(size_t n) {
             uint64_t ones = vers_bits_rank1(&bits, end).value - vers_bits_rank1(&bits, start).value, k = 0;
             found("places1", start, vers_bits_places1(&bits, start, end, listed, 10), ones);
             for (uint64_t i = start; i < end && k < 10; i++)
-                if (vers_bits_get(&bits, i).value) is("place1", listed[k++], i);
+                if (vers_bits_get(&bits, i).value) is("position1", listed[k++], i);
             is("places1", k, ones < 10 ? ones : 10);
             uint64_t zeros = vers_bits_rank0(&bits, end).value - vers_bits_rank0(&bits, start).value;
             found("places0", start, vers_bits_places0(&bits, start, end, listed, 10), zeros);
-            if (zeros > 0) is("place0", vers_bits_get(&bits, listed[0]).value, 0);
+            if (zeros > 0) is("position0", vers_bits_get(&bits, listed[0]).value, 0);
             uint64_t count = 0;
             for (size_t i = 0; i < n; i++) count += start <= numbers[i] && numbers[i] < end;
             found("sparse", start, vers_sparse_places1(&sparse, start, end, listed, 10), count);

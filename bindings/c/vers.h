@@ -198,7 +198,7 @@ uint64_t vers_value(vers_handle *handle, uint32_t query, uint64_t a);
 uint32_t vers_ask_each(vers_handle *handle, uint32_t query, uint64_t *numbers, size_t count, uint64_t b, uint64_t c,
                        uint64_t other);
 
-/** The same with an a, b and c for each: the answer takes the place of a. One handle; writes `rows`. */
+/** The same with an a, b and c for each: the answer takes the position of a. One handle; writes `rows`. */
 uint32_t vers_ask_rows(vers_handle *handle, uint32_t query, vers_row *rows, size_t count, uint64_t other);
 
 /** Changes a vers_growing. VERS_UNKNOWN, VERS_VACANT, VERS_REFUSED, VERS_NO_MEMORY, and VERS_SHARED while the list has
@@ -255,25 +255,25 @@ void vers_free(vers_handle *handle);
 
 /* Queries that are asked often, each by a call of its own: the answers of vers_ask, in fewer instructions if the
  * list is of that kind. Values are those of a vers_fast_rmq. One handle, no array. */
-vers_answer vers_quick_bits_get(vers_handle *handle, uint64_t place);
-vers_answer vers_quick_bits_rank0(vers_handle *handle, uint64_t place);
-vers_answer vers_quick_bits_rank1(vers_handle *handle, uint64_t place);
+vers_answer vers_quick_bits_get(vers_handle *handle, uint64_t position);
+vers_answer vers_quick_bits_rank0(vers_handle *handle, uint64_t position);
+vers_answer vers_quick_bits_rank1(vers_handle *handle, uint64_t position);
 vers_answer vers_quick_bits_select0(vers_handle *handle, uint64_t number);
 vers_answer vers_quick_bits_select1(vers_handle *handle, uint64_t number);
-vers_answer vers_quick_sorted_get(vers_handle *handle, uint64_t place);
+vers_answer vers_quick_sorted_get(vers_handle *handle, uint64_t position);
 vers_answer vers_quick_sorted_rank(vers_handle *handle, uint64_t number);
 vers_answer vers_quick_sorted_predecessor(vers_handle *handle, uint64_t number);
 vers_answer vers_quick_sorted_successor(vers_handle *handle, uint64_t number);
-vers_answer vers_quick_symbols_get(vers_handle *handle, uint64_t place);
+vers_answer vers_quick_symbols_get(vers_handle *handle, uint64_t position);
 vers_answer vers_quick_symbols_rank(vers_handle *handle, uint64_t end, uint64_t symbol);
 vers_answer vers_quick_symbols_quantile(vers_handle *handle, uint64_t start, uint64_t end, uint64_t number);
-vers_answer vers_quick_tree_get(vers_handle *handle, uint64_t place);
-vers_answer vers_quick_tree_close(vers_handle *handle, uint64_t place);
+vers_answer vers_quick_tree_get(vers_handle *handle, uint64_t position);
+vers_answer vers_quick_tree_close(vers_handle *handle, uint64_t position);
 vers_answer vers_quick_tree_parent(vers_handle *handle, uint64_t node);
 vers_answer vers_quick_tree_first_child(vers_handle *handle, uint64_t node);
 vers_answer vers_quick_tree_next_sibling(vers_handle *handle, uint64_t node);
 vers_answer vers_quick_tree_depth(vers_handle *handle, uint64_t node);
-vers_answer vers_quick_values_get(vers_handle *handle, uint64_t place);
+vers_answer vers_quick_values_get(vers_handle *handle, uint64_t position);
 vers_answer vers_quick_values_range_min(vers_handle *handle, uint64_t first, uint64_t last);
 
 /** How many bytes the saved form of a list has. VERS_VACANT, VERS_ABSENT if there is none. One handle, no array. */
@@ -375,16 +375,16 @@ static inline vers_answer vers_asked(const vers_handle *handle, enum vers_query 
 
 /** The least position above another one with a bit of a kind, which `rank` counts and `select` finds. */
 static inline vers_answer vers_next_bit(const vers_handle *handle, enum vers_query rank, enum vers_query select,
-                                        uint64_t place) {
-    vers_answer before = vers_asked(handle, rank, place < UINT64_MAX ? place + 1 : place, 0, 0);
+                                        uint64_t position) {
+    vers_answer before = vers_asked(handle, rank, position < UINT64_MAX ? position + 1 : position, 0, 0);
     vers_answer found = vers_asked(handle, select, before.value, 0, 0), none = {VERS_ABSENT, 0};
     return found.status == VERS_DONE && found.value == vers_asked(handle, VERS_LEN, 0, 0, 0).value ? none : found;
 }
 
 /** The greatest position below another one with a bit of a kind, which `rank` counts and `select` finds. */
 static inline vers_answer vers_previous_bit(const vers_handle *handle, enum vers_query rank, enum vers_query select,
-                                            uint64_t place) {
-    vers_answer before = vers_asked(handle, rank, place, 0, 0), none = {VERS_ABSENT, 0};
+                                            uint64_t position) {
+    vers_answer before = vers_asked(handle, rank, position, 0, 0), none = {VERS_ABSENT, 0};
     if (before.status != VERS_DONE) return before;
     return before.value == 0 ? none : vers_asked(handle, select, before.value - 1, 0, 0);
 }
@@ -499,14 +499,14 @@ static inline vers_answer vers_growing_heap_size(const vers_growing *list) {
 }
 
 /** The bit at a position, 1 or 0. VERS_ABSENT past the end. */
-static inline vers_answer vers_growing_get(const vers_growing *list, uint64_t place) {
-    return vers_asked(&list->handle, VERS_GET, place, 0, 0);
+static inline vers_answer vers_growing_get(const vers_growing *list, uint64_t position) {
+    return vers_asked(&list->handle, VERS_GET, position, 0, 0);
 }
 
 /** The number of the `count` bits from a position on, the lowest first. VERS_ABSENT if there are fewer, or they
  * are none or more than 64. */
-static inline vers_answer vers_growing_get_bits(const vers_growing *list, uint64_t place, uint64_t count) {
-    return vers_asked(&list->handle, VERS_GET_BITS, place, count, 0);
+static inline vers_answer vers_growing_get_bits(const vers_growing *list, uint64_t position, uint64_t count) {
+    return vers_asked(&list->handle, VERS_GET_BITS, position, count, 0);
 }
 
 /** Appends a bit. */
@@ -520,8 +520,8 @@ static inline uint32_t vers_growing_append_bits(vers_growing *list, uint64_t bit
 }
 
 /** Makes the bit at a position this one. VERS_REFUSED past the end. */
-static inline uint32_t vers_growing_set(vers_growing *list, uint64_t place, bool bit) {
-    return vers_change(&list->handle, VERS_SET, place, bit);
+static inline uint32_t vers_growing_set(vers_growing *list, uint64_t position, bool bit) {
+    return vers_change(&list->handle, VERS_SET, position, bit);
 }
 
 /** Drops the last `count` bits, or all. */
@@ -536,7 +536,7 @@ static inline uint32_t vers_growing_each(const vers_growing *list, enum vers_que
     return vers_asked_each(&list->handle, query, numbers, count, 0, 0, other);
 }
 
-/** The same for queries of up to three numbers, a, b and c: the answer takes the place of a. */
+/** The same for queries of up to three numbers, a, b and c: the answer takes the position of a. */
 static inline uint32_t vers_growing_rows(const vers_growing *list, enum vers_query query, vers_row *rows,
                                          size_t count, uint64_t other) {
     return vers_asked_rows(&list->handle, query, rows, count, other);
@@ -595,24 +595,24 @@ static inline vers_answer vers_bits_heap_size(const vers_bits *list) {
 }
 
 /** The bit at a position, 1 or 0. VERS_ABSENT past the end. */
-static inline vers_answer vers_bits_get(const vers_bits *list, uint64_t place) {
-    return vers_quick_bits_get(vers_held(&list->handle), place);
+static inline vers_answer vers_bits_get(const vers_bits *list, uint64_t position) {
+    return vers_quick_bits_get(vers_held(&list->handle), position);
 }
 
 /** The number of the `count` bits from a position on, the lowest first; 0 for none. VERS_ABSENT if there are
  * fewer, or they are more than 64. */
-static inline vers_answer vers_bits_get_bits(const vers_bits *list, uint64_t place, uint64_t count) {
-    return vers_asked(&list->handle, VERS_GET_BITS, place, count, 0);
+static inline vers_answer vers_bits_get_bits(const vers_bits *list, uint64_t position, uint64_t count) {
+    return vers_asked(&list->handle, VERS_GET_BITS, position, count, 0);
 }
 
 /** The number of ones before a position; of all past the end. */
-static inline vers_answer vers_bits_rank1(const vers_bits *list, uint64_t place) {
-    return vers_quick_bits_rank1(vers_held(&list->handle), place);
+static inline vers_answer vers_bits_rank1(const vers_bits *list, uint64_t position) {
+    return vers_quick_bits_rank1(vers_held(&list->handle), position);
 }
 
 /** The number of zeros before a position; of all past the end. */
-static inline vers_answer vers_bits_rank0(const vers_bits *list, uint64_t place) {
-    return vers_quick_bits_rank0(vers_held(&list->handle), place);
+static inline vers_answer vers_bits_rank0(const vers_bits *list, uint64_t position) {
+    return vers_quick_bits_rank0(vers_held(&list->handle), position);
 }
 
 /** The position of one number `number`, counted from 0; the length if there are no more, while vers_symbols_select
@@ -653,25 +653,25 @@ static inline vers_answer vers_bits_zeros(const vers_bits *list) {
 
 /** The least position of a one strictly above a position, while vers_sorted_successor is at or above. VERS_ABSENT if
  * there is none. Takes a rank and a select. */
-static inline vers_answer vers_bits_successor1(const vers_bits *list, uint64_t place) {
-    return vers_next_bit(&list->handle, VERS_RANK1, VERS_SELECT1, place);
+static inline vers_answer vers_bits_successor1(const vers_bits *list, uint64_t position) {
+    return vers_next_bit(&list->handle, VERS_RANK1, VERS_SELECT1, position);
 }
 
 /** The greatest position of a one strictly below a position, which may be past the end, while vers_sorted_predecessor
  * is at or below. VERS_ABSENT if there is none. Takes a rank and a select. */
-static inline vers_answer vers_bits_predecessor1(const vers_bits *list, uint64_t place) {
-    return vers_previous_bit(&list->handle, VERS_RANK1, VERS_SELECT1, place);
+static inline vers_answer vers_bits_predecessor1(const vers_bits *list, uint64_t position) {
+    return vers_previous_bit(&list->handle, VERS_RANK1, VERS_SELECT1, position);
 }
 
 /** The least position of a zero above a position. VERS_ABSENT if there is none. Takes a rank and a select. */
-static inline vers_answer vers_bits_successor0(const vers_bits *list, uint64_t place) {
-    return vers_next_bit(&list->handle, VERS_RANK0, VERS_SELECT0, place);
+static inline vers_answer vers_bits_successor0(const vers_bits *list, uint64_t position) {
+    return vers_next_bit(&list->handle, VERS_RANK0, VERS_SELECT0, position);
 }
 
 /** The greatest position of a zero below a position, which may lie past the end. VERS_ABSENT if there is none. Takes a
  * rank and a select. */
-static inline vers_answer vers_bits_predecessor0(const vers_bits *list, uint64_t place) {
-    return vers_previous_bit(&list->handle, VERS_RANK0, VERS_SELECT0, place);
+static inline vers_answer vers_bits_predecessor0(const vers_bits *list, uint64_t position) {
+    return vers_previous_bit(&list->handle, VERS_RANK0, VERS_SELECT0, position);
 }
 
 /** Replaces each number by the answer of a query of one number to it, `other` if there is no answer.
@@ -681,7 +681,7 @@ static inline uint32_t vers_bits_each(const vers_bits *list, enum vers_query que
     return vers_asked_each(&list->handle, query, numbers, count, 0, 0, other);
 }
 
-/** The same for queries of up to three numbers, a, b and c: the answer takes the place of a. */
+/** The same for queries of up to three numbers, a, b and c: the answer takes the position of a. */
 static inline uint32_t vers_bits_rows(const vers_bits *list, enum vers_query query, vers_row *rows, size_t count,
                                       uint64_t other) {
     return vers_asked_rows(&list->handle, query, rows, count, other);
@@ -740,8 +740,8 @@ static inline vers_answer vers_sorted_heap_size(const vers_sorted *list) {
 }
 
 /** The member at a position. VERS_ABSENT past the end. */
-static inline vers_answer vers_sorted_get(const vers_sorted *list, uint64_t place) {
-    return vers_quick_sorted_get(vers_held(&list->handle), place);
+static inline vers_answer vers_sorted_get(const vers_sorted *list, uint64_t position) {
+    return vers_quick_sorted_get(vers_held(&list->handle), position);
 }
 
 /** How many members are below a number. */
@@ -774,8 +774,8 @@ static inline vers_answer vers_sorted_successor(const vers_sorted *list, uint64_
 }
 
 /** The member at a position less the one before it, the first member itself. VERS_ABSENT past the end. */
-static inline vers_answer vers_sorted_delta(const vers_sorted *list, uint64_t place) {
-    return vers_asked(&list->handle, VERS_DELTA, place, 0, 0);
+static inline vers_answer vers_sorted_delta(const vers_sorted *list, uint64_t position) {
+    return vers_asked(&list->handle, VERS_DELTA, position, 0, 0);
 }
 
 /** Replaces each number by the answer of a query of one number to it, `other` if there is no answer.
@@ -838,18 +838,18 @@ static inline vers_answer vers_sparse_heap_size(const vers_sparse *list) {
 }
 
 /** The bit at a position, 1 or 0. VERS_ABSENT past the end. */
-static inline vers_answer vers_sparse_get(const vers_sparse *list, uint64_t place) {
-    return vers_asked(&list->handle, VERS_GET, place, 0, 0);
+static inline vers_answer vers_sparse_get(const vers_sparse *list, uint64_t position) {
+    return vers_asked(&list->handle, VERS_GET, position, 0, 0);
 }
 
 /** The number of ones before a position; of all past the end. */
-static inline vers_answer vers_sparse_rank1(const vers_sparse *list, uint64_t place) {
-    return vers_asked(&list->handle, VERS_RANK1, place, 0, 0);
+static inline vers_answer vers_sparse_rank1(const vers_sparse *list, uint64_t position) {
+    return vers_asked(&list->handle, VERS_RANK1, position, 0, 0);
 }
 
 /** The number of zeros before a position; of all past the end. */
-static inline vers_answer vers_sparse_rank0(const vers_sparse *list, uint64_t place) {
-    return vers_asked(&list->handle, VERS_RANK0, place, 0, 0);
+static inline vers_answer vers_sparse_rank0(const vers_sparse *list, uint64_t position) {
+    return vers_asked(&list->handle, VERS_RANK0, position, 0, 0);
 }
 
 /** The position of one number `number`, counted from 0; the length if there are no more, while vers_symbols_select
@@ -952,8 +952,8 @@ static inline vers_answer vers_symbols_heap_size(const vers_symbols *list) {
 }
 
 /** The symbol at a position. VERS_ABSENT past the end. */
-static inline vers_answer vers_symbols_get(const vers_symbols *list, uint64_t place) {
-    return vers_quick_symbols_get(vers_held(&list->handle), place);
+static inline vers_answer vers_symbols_get(const vers_symbols *list, uint64_t position) {
+    return vers_quick_symbols_get(vers_held(&list->handle), position);
 }
 
 /** How often a symbol occurs before the position `end`. VERS_ABSENT past the end. */
@@ -1022,7 +1022,7 @@ static inline uint32_t vers_symbols_each(const vers_symbols *list, enum vers_que
     return vers_asked_each(&list->handle, query, numbers, count, 0, 0, other);
 }
 
-/** The same for queries of up to three numbers, a, b and c: the answer takes the place of a. */
+/** The same for queries of up to three numbers, a, b and c: the answer takes the position of a. */
 static inline uint32_t vers_symbols_rows(const vers_symbols *list, enum vers_query query, vers_row *rows,
                                          size_t count, uint64_t other) {
     return vers_asked_rows(&list->handle, query, rows, count, other);
@@ -1080,8 +1080,8 @@ static inline vers_answer vers_fast_rmq_heap_size(const vers_fast_rmq *list) {
 }
 
 /** The value at a position. VERS_ABSENT past the end. */
-static inline vers_answer vers_fast_rmq_get(const vers_fast_rmq *list, uint64_t place) {
-    return vers_quick_values_get(vers_held(&list->handle), place);
+static inline vers_answer vers_fast_rmq_get(const vers_fast_rmq *list, uint64_t position) {
+    return vers_quick_values_get(vers_held(&list->handle), position);
 }
 
 /** The first position of a least value from `first` to `last`, both included, while vers_symbols_range_min excludes the
@@ -1097,7 +1097,7 @@ static inline uint32_t vers_fast_rmq_each(const vers_fast_rmq *list, enum vers_q
     return vers_asked_each(&list->handle, query, numbers, count, 0, 0, other);
 }
 
-/** The same for queries of up to three numbers, a, b and c: the answer takes the place of a. */
+/** The same for queries of up to three numbers, a, b and c: the answer takes the position of a. */
 static inline uint32_t vers_fast_rmq_rows(const vers_fast_rmq *list, enum vers_query query, vers_row *rows,
                                           size_t count, uint64_t other) {
     return vers_asked_rows(&list->handle, query, rows, count, other);
@@ -1155,8 +1155,8 @@ static inline vers_answer vers_binary_rmq_heap_size(const vers_binary_rmq *list)
 }
 
 /** The value at a position. VERS_ABSENT past the end. */
-static inline vers_answer vers_binary_rmq_get(const vers_binary_rmq *list, uint64_t place) {
-    return vers_asked(&list->handle, VERS_GET, place, 0, 0);
+static inline vers_answer vers_binary_rmq_get(const vers_binary_rmq *list, uint64_t position) {
+    return vers_asked(&list->handle, VERS_GET, position, 0, 0);
 }
 
 /** The first position of a least value from `first` to `last`, both included, while vers_symbols_range_min excludes the
@@ -1172,7 +1172,7 @@ static inline uint32_t vers_binary_rmq_each(const vers_binary_rmq *list, enum ve
     return vers_asked_each(&list->handle, query, numbers, count, 0, 0, other);
 }
 
-/** The same for queries of up to three numbers, a, b and c: the answer takes the place of a. */
+/** The same for queries of up to three numbers, a, b and c: the answer takes the position of a. */
 static inline uint32_t vers_binary_rmq_rows(const vers_binary_rmq *list, enum vers_query query, vers_row *rows,
                                             size_t count, uint64_t other) {
     return vers_asked_rows(&list->handle, query, rows, count, other);
@@ -1228,8 +1228,8 @@ static inline vers_answer vers_tree_len(const vers_tree *list) {
 }
 
 /** Whether the parenthesis at a position opens, 1 or 0. VERS_ABSENT past the end. */
-static inline vers_answer vers_tree_is_open(const vers_tree *list, uint64_t place) {
-    return vers_quick_tree_get(vers_held(&list->handle), place);
+static inline vers_answer vers_tree_is_open(const vers_tree *list, uint64_t position) {
+    return vers_quick_tree_get(vers_held(&list->handle), position);
 }
 
 /** How many bytes of the heap the list takes. */
@@ -1248,23 +1248,23 @@ static inline vers_answer vers_tree_is_balanced(const vers_tree *list) {
 }
 
 /** The ones less the zeros up to a position and at it: read `value` by vers_signed. VERS_REFUSED past the end. */
-static inline vers_answer vers_tree_excess(const vers_tree *list, uint64_t place) {
-    return vers_asked(&list->handle, VERS_EXCESS, place, 0, 0);
+static inline vers_answer vers_tree_excess(const vers_tree *list, uint64_t position) {
+    return vers_asked(&list->handle, VERS_EXCESS, position, 0, 0);
 }
 
 /** The position that closes what opens at a position. VERS_ABSENT if there is none. */
-static inline vers_answer vers_tree_close(const vers_tree *list, uint64_t place) {
-    return vers_quick_tree_close(vers_held(&list->handle), place);
+static inline vers_answer vers_tree_close(const vers_tree *list, uint64_t position) {
+    return vers_quick_tree_close(vers_held(&list->handle), position);
 }
 
 /** The position that opens what closes at a position. VERS_ABSENT if there is none. */
-static inline vers_answer vers_tree_open(const vers_tree *list, uint64_t place) {
-    return vers_asked(&list->handle, VERS_OPEN, place, 0, 0);
+static inline vers_answer vers_tree_open(const vers_tree *list, uint64_t position) {
+    return vers_asked(&list->handle, VERS_OPEN, position, 0, 0);
 }
 
 /** Where the nearest pair round a position opens. VERS_ABSENT if there is none. */
-static inline vers_answer vers_tree_enclose(const vers_tree *list, uint64_t place) {
-    return vers_asked(&list->handle, VERS_ENCLOSE, place, 0, 0);
+static inline vers_answer vers_tree_enclose(const vers_tree *list, uint64_t position) {
+    return vers_asked(&list->handle, VERS_ENCLOSE, position, 0, 0);
 }
 
 /** The position of one number `number`: of balanced parentheses, that node in preorder. The length if there are no
@@ -1273,14 +1273,14 @@ static inline vers_answer vers_tree_node_handle(const vers_tree *list, uint64_t 
     return vers_asked(&list->handle, VERS_NODE_HANDLE, number, 0, 0);
 }
 
-/** The first position past `place` where the excess has risen by `rise`. VERS_ABSENT if there is none. */
-static inline vers_answer vers_tree_fwd_search(const vers_tree *list, uint64_t place, int64_t rise) {
-    return vers_asked(&list->handle, VERS_FWD_SEARCH, place, (uint64_t)rise, 0);
+/** The first position past `position` where the excess has risen by `rise`. VERS_ABSENT if there is none. */
+static inline vers_answer vers_tree_fwd_search(const vers_tree *list, uint64_t position, int64_t rise) {
+    return vers_asked(&list->handle, VERS_FWD_SEARCH, position, (uint64_t)rise, 0);
 }
 
-/** The last position before `place` before which the excess is `rise` more. VERS_ABSENT if there is none. */
-static inline vers_answer vers_tree_bwd_search(const vers_tree *list, uint64_t place, int64_t rise) {
-    return vers_asked(&list->handle, VERS_BWD_SEARCH, place, (uint64_t)rise, 0);
+/** The last position before `position` before which the excess is `rise` more. VERS_ABSENT if there is none. */
+static inline vers_answer vers_tree_bwd_search(const vers_tree *list, uint64_t position, int64_t rise) {
+    return vers_asked(&list->handle, VERS_BWD_SEARCH, position, (uint64_t)rise, 0);
 }
 
 /** The parent of a node. VERS_ABSENT for a root. */
@@ -1329,8 +1329,8 @@ static inline vers_answer vers_tree_node_index(const vers_tree *list, uint64_t n
 }
 
 /** Whether the parentheses are balanced and a node opens at a position, 1 or 0. */
-static inline vers_answer vers_tree_has_node(const vers_tree *list, uint64_t place) {
-    return vers_asked(&list->handle, VERS_HAS_NODE, place, 0, 0);
+static inline vers_answer vers_tree_has_node(const vers_tree *list, uint64_t position) {
+    return vers_asked(&list->handle, VERS_HAS_NODE, position, 0, 0);
 }
 
 /** Whether a node has no children, 1 or 0. */
@@ -1377,7 +1377,7 @@ static inline uint32_t vers_tree_each(const vers_tree *list, enum vers_query que
     return vers_asked_each(&list->handle, query, numbers, count, 0, 0, other);
 }
 
-/** The same for queries of up to three numbers, a, b and c: the answer takes the place of a. */
+/** The same for queries of up to three numbers, a, b and c: the answer takes the position of a. */
 static inline uint32_t vers_tree_rows(const vers_tree *list, enum vers_query query, vers_row *rows, size_t count,
                                       uint64_t other) {
     return vers_asked_rows(&list->handle, query, rows, count, other);
@@ -1437,13 +1437,13 @@ static inline vers_answer vers_postings_heap_size(const vers_postings *list) {
 }
 
 /** The document at a position. VERS_ABSENT past the end. */
-static inline vers_answer vers_postings_get(const vers_postings *list, uint64_t place) {
-    return vers_asked(&list->handle, VERS_GET, place, 0, 0);
+static inline vers_answer vers_postings_get(const vers_postings *list, uint64_t position) {
+    return vers_asked(&list->handle, VERS_GET, position, 0, 0);
 }
 
 /** The cost of the document at a position. VERS_ABSENT past the end. */
-static inline vers_answer vers_postings_cost(const vers_postings *list, uint64_t place) {
-    return vers_asked(&list->handle, VERS_COST, place, 0, 0);
+static inline vers_answer vers_postings_cost(const vers_postings *list, uint64_t position) {
+    return vers_asked(&list->handle, VERS_COST, position, 0, 0);
 }
 
 /** Writes the documents from `least` on that are below `bound` over an array of `count`, ascending, as many as it has
@@ -1480,7 +1480,7 @@ static inline uint32_t vers_postings_each(const vers_postings *list, enum vers_q
     return vers_asked_each(&list->handle, query, numbers, count, 0, 0, other);
 }
 
-/** The same for queries of up to three numbers, a, b and c: the answer takes the place of a. */
+/** The same for queries of up to three numbers, a, b and c: the answer takes the position of a. */
 static inline uint32_t vers_postings_rows(const vers_postings *list, enum vers_query query, vers_row *rows,
                                           size_t count, uint64_t other) {
     return vers_asked_rows(&list->handle, query, rows, count, other);
@@ -1510,8 +1510,8 @@ static inline vers_answer vers_numbers_len(const vers_numbers *list) {
 }
 
 /** The number at a position. VERS_ABSENT past the end. */
-static inline vers_answer vers_numbers_get(const vers_numbers *list, uint64_t place) {
-    return vers_asked(&list->handle, VERS_GET, place, 0, 0);
+static inline vers_answer vers_numbers_get(const vers_numbers *list, uint64_t position) {
+    return vers_asked(&list->handle, VERS_GET, position, 0, 0);
 }
 
 /** Writes the numbers over an array of `count`, as many as there is room for. VERS_VACANT leaves it as it was. */
@@ -1607,8 +1607,8 @@ static inline vers_answer vers_inverted_heap_size(const vers_inverted *index) {
 
 /** The pair at a position of all pairs as one number: the term times the universe, plus the document. VERS_ABSENT past
  * the end. */
-static inline vers_answer vers_inverted_pair_number(const vers_inverted *index, uint64_t place) {
-    return vers_asked(&index->handle, VERS_GET, place, 0, 0);
+static inline vers_answer vers_inverted_pair_number(const vers_inverted *index, uint64_t position) {
+    return vers_asked(&index->handle, VERS_GET, position, 0, 0);
 }
 
 /** The number of documents of a term. */
@@ -1617,8 +1617,8 @@ static inline vers_answer vers_inverted_count(const vers_inverted *index, uint64
 }
 
 /** The document of a term at a position. VERS_ABSENT past the end. */
-static inline vers_answer vers_inverted_get(const vers_inverted *index, uint64_t term, uint64_t place) {
-    return vers_asked(&index->handle, VERS_TERM_GET, term, place, 0);
+static inline vers_answer vers_inverted_get(const vers_inverted *index, uint64_t term, uint64_t position) {
+    return vers_asked(&index->handle, VERS_TERM_GET, term, position, 0);
 }
 
 /** The number of documents of a term that are below a number. */
@@ -1670,7 +1670,7 @@ static inline uint32_t vers_inverted_each(const vers_inverted *index, enum vers_
     return vers_asked_each(&index->handle, query, numbers, count, 0, 0, other);
 }
 
-/** The same for queries of up to three numbers, a, b and c: the answer takes the place of a. */
+/** The same for queries of up to three numbers, a, b and c: the answer takes the position of a. */
 static inline uint32_t vers_inverted_rows(const vers_inverted *index, enum vers_query query, vers_row *rows,
                                           size_t count, uint64_t other) {
     return vers_asked_rows(&index->handle, query, rows, count, other);

@@ -39,8 +39,8 @@ static Numbers random_numbers(std::size_t count, std::uint64_t most) {
     return numbers;
 }
 
-static Found at(const Numbers &numbers, std::size_t place) {
-    return place < numbers.size() ? Found(numbers[place]) : std::nullopt;
+static Found at(const Numbers &numbers, std::size_t position) {
+    return position < numbers.size() ? Found(numbers[position]) : std::nullopt;
 }
 
 template <class List>
@@ -149,9 +149,9 @@ template <class List, class Make>
 static void test_differences(const Numbers &items, Make make) {
     const List list = make(items);
     check("equal", list == make(items) && make({}) == make({}));
-    for (std::size_t place : {std::size_t{0}, std::size_t{63}, std::size_t{64}, items.size() / 2, items.size() - 1}) {
+    for (std::size_t position : {std::size_t{0}, std::size_t{63}, std::size_t{64}, items.size() / 2, items.size() - 1}) {
         Numbers others = items;
-        others[place] ^= 1;
+        others[position] ^= 1;
         check("another item", list != make(others) && !(make(others) == list));
     }
     Numbers shorter = items;
@@ -213,16 +213,16 @@ static void test_bit_vec() {
 
 static void test_sparse() {
     Numbers ones;
-    for (std::uint64_t place = 0; place < 3000; place += 1 + next() % 20) ones.push_back(place);
+    for (std::uint64_t position = 0; position < 3000; position += 1 + next() % 20) ones.push_back(position);
     const auto list = vers::SparseRSVec::from(ones.begin(), ones.end(), 3000);
     check("made", list && list->len() == 3000);
     check("refused", !vers::SparseRSVec::from(ones.data(), ones.size(), ones.back()));
     std::uint64_t count = 0;
-    for (std::uint64_t place = 0; place < 3000; place++) {
-        const bool is_one = count < ones.size() && ones[count] == place;
-        check("get", list->get(place) == Found(is_one));
-        check("ranks", list->rank1(place) == count && list->rank0(place) == place - count);
-        if (is_one) check("select1", list->select1(count++) == place);
+    for (std::uint64_t position = 0; position < 3000; position++) {
+        const bool is_one = count < ones.size() && ones[count] == position;
+        check("get", list->get(position) == Found(is_one));
+        check("ranks", list->rank1(position) == count && list->rank0(position) == position - count);
+        if (is_one) check("select1", list->select1(count++) == position);
     }
     check("past", !list->get(3000) && list->select1(ones.size()) == 3000);
     test_form(*list);
@@ -605,7 +605,7 @@ static void test_characters() {
     check("views", text->count(std::string_view(bytes).substr(0, 1)) == 5);
     const auto places = text->places("abra");
     check("places", places.len() == 2 && places[0] == 0 && places[1] == 7);
-    check("the first place", text->first_places("a", 1).len() == 1);
+    check("the first position", text->first_places("a", 1).len() == 1);
     const std::vector<std::string> patterns = {"br", "a", "", "x"};
     check("many", text->count_each(patterns) == std::vector<std::uint64_t>({2, 5, 12, 0}));
     const auto symbols = vers::WaveletMatrix::from(bytes, 8);

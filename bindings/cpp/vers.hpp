@@ -215,35 +215,35 @@ public:
     using reference = std::uint64_t;
 
     Items() noexcept = default;
-    Items(const List *list, std::uint64_t place) noexcept : list_(list), place_(place) {}
-    std::uint64_t operator*() const noexcept { return list_->get(place_).value_or(0); }
+    Items(const List *list, std::uint64_t position) noexcept : list_(list), position_(position) {}
+    std::uint64_t operator*() const noexcept { return list_->get(position_).value_or(0); }
     std::uint64_t operator[](difference_type count) const noexcept { return *(*this + count); }
-    Items &operator++() noexcept { return ++place_, *this; }
-    Items &operator--() noexcept { return --place_, *this; }
-    Items operator++(int) noexcept { return Items(list_, place_++); }
-    Items operator--(int) noexcept { return Items(list_, place_--); }
+    Items &operator++() noexcept { return ++position_, *this; }
+    Items &operator--() noexcept { return --position_, *this; }
+    Items operator++(int) noexcept { return Items(list_, position_++); }
+    Items operator--(int) noexcept { return Items(list_, position_--); }
     Items &operator+=(difference_type count) noexcept {
-        return place_ += static_cast<std::uint64_t>(count), *this;
+        return position_ += static_cast<std::uint64_t>(count), *this;
     }
     Items &operator-=(difference_type count) noexcept {
-        return place_ -= static_cast<std::uint64_t>(count), *this;
+        return position_ -= static_cast<std::uint64_t>(count), *this;
     }
     friend Items operator+(Items item, difference_type count) noexcept { return item += count; }
     friend Items operator+(difference_type count, Items item) noexcept { return item += count; }
     friend Items operator-(Items item, difference_type count) noexcept { return item -= count; }
     friend difference_type operator-(const Items &one, const Items &other) noexcept {
-        return static_cast<difference_type>(one.place_ - other.place_);
+        return static_cast<difference_type>(one.position_ - other.position_);
     }
-    friend bool operator==(const Items &one, const Items &other) noexcept { return one.place_ == other.place_; }
-    friend bool operator!=(const Items &one, const Items &other) noexcept { return one.place_ != other.place_; }
-    friend bool operator<(const Items &one, const Items &other) noexcept { return one.place_ < other.place_; }
-    friend bool operator>(const Items &one, const Items &other) noexcept { return one.place_ > other.place_; }
-    friend bool operator<=(const Items &one, const Items &other) noexcept { return one.place_ <= other.place_; }
-    friend bool operator>=(const Items &one, const Items &other) noexcept { return one.place_ >= other.place_; }
+    friend bool operator==(const Items &one, const Items &other) noexcept { return one.position_ == other.position_; }
+    friend bool operator!=(const Items &one, const Items &other) noexcept { return one.position_ != other.position_; }
+    friend bool operator<(const Items &one, const Items &other) noexcept { return one.position_ < other.position_; }
+    friend bool operator>(const Items &one, const Items &other) noexcept { return one.position_ > other.position_; }
+    friend bool operator<=(const Items &one, const Items &other) noexcept { return one.position_ <= other.position_; }
+    friend bool operator>=(const Items &one, const Items &other) noexcept { return one.position_ >= other.position_; }
 
 private:
     const List *list_ = nullptr;
-    std::uint64_t place_ = 0;
+    std::uint64_t position_ = 0;
 };
 
 /** What all lists have: their owner, queries by code, and a saved form, if there is a kind of it. */
@@ -277,8 +277,8 @@ public:
     std::uint64_t size() const noexcept { return len(); }
     bool is_empty() const noexcept { return len() == 0; }
     /** The item at a position; 0 past the end, for which `get` answers nullopt. */
-    std::uint64_t operator[](std::uint64_t place) const noexcept {
-        return static_cast<const List &>(*this).get(place).value_or(0);
+    std::uint64_t operator[](std::uint64_t position) const noexcept {
+        return static_cast<const List &>(*this).get(position).value_or(0);
     }
     /** How many bytes of the heap the list takes. 0 for Numbers, which have no such query. */
     std::uint64_t heap_size() const noexcept { return ask(VERS_HEAP_SIZE).value; }
@@ -290,7 +290,7 @@ public:
         return static_cast<Status>(vers_asked_each(&raw_.handle, query, numbers, count, 0, 0, other));
     }
 
-    /** The same for queries of up to three numbers, a, b and c: the answer takes the place of a. */
+    /** The same for queries of up to three numbers, a, b and c: the answer takes the position of a. */
     Status rows(vers_query query, Row *rows, std::size_t count, std::uint64_t other = none) const noexcept {
         return static_cast<Status>(vers_asked_rows(&raw_.handle, query, rows, count, other));
     }
@@ -571,18 +571,18 @@ public:
     BitVec() : BitVec(from_words(nullptr, 0, 0)) {}
 
     /** The bit at a position, 1 or 0. */
-    std::optional<std::uint64_t> get(std::uint64_t place) const noexcept { return find(VERS_GET, place); }
+    std::optional<std::uint64_t> get(std::uint64_t position) const noexcept { return find(VERS_GET, position); }
     /** The number of the `count` bits from a position on, the lowest first. nullopt if there are fewer, or they
      *  are none or more than 64. */
-    std::optional<std::uint64_t> get_bits(std::uint64_t place, std::uint64_t count) const noexcept {
-        return find(VERS_GET_BITS, place, count);
+    std::optional<std::uint64_t> get_bits(std::uint64_t position, std::uint64_t count) const noexcept {
+        return find(VERS_GET_BITS, position, count);
     }
 
     Status append(bool bit) { return change(VERS_PUSH, bit); }
     /** Appends the low bits of a number, the lowest first. Status::refused if they are more than 64. */
     Status append_bits(std::uint64_t bits, std::uint64_t count) { return change(VERS_APPEND, bits, count); }
     /** Status::refused for a position past the end. */
-    Status set(std::uint64_t place, bool bit) { return change(VERS_SET, place, bit); }
+    Status set(std::uint64_t position, bool bit) { return change(VERS_SET, position, bit); }
     /** Drops the last `count` bits, or all. */
     Status drop_last(std::uint64_t count) { return change(VERS_DROP_LAST, count); }
 
@@ -603,17 +603,17 @@ public:
     RsVec() noexcept = default;
 
     /** The bit at a position, 1 or 0. */
-    std::optional<std::uint64_t> get(std::uint64_t place) const noexcept {
-        return detail::found(vers_bits_get(&raw_, place));
+    std::optional<std::uint64_t> get(std::uint64_t position) const noexcept {
+        return detail::found(vers_bits_get(&raw_, position));
     }
     /** The number of the `count` bits from a position on, the lowest first; 0 for none. nullopt if there are
      *  fewer, or they are more than 64. */
-    std::optional<std::uint64_t> get_bits(std::uint64_t place, std::uint64_t count) const noexcept {
-        return find(VERS_GET_BITS, place, count);
+    std::optional<std::uint64_t> get_bits(std::uint64_t position, std::uint64_t count) const noexcept {
+        return find(VERS_GET_BITS, position, count);
     }
     /** The number of ones, or zeros, before a position; of all past the end. */
-    std::uint64_t rank1(std::uint64_t place) const noexcept { return vers_bits_rank1(&raw_, place).value; }
-    std::uint64_t rank0(std::uint64_t place) const noexcept { return vers_bits_rank0(&raw_, place).value; }
+    std::uint64_t rank1(std::uint64_t position) const noexcept { return vers_bits_rank1(&raw_, position).value; }
+    std::uint64_t rank0(std::uint64_t position) const noexcept { return vers_bits_rank0(&raw_, position).value; }
     /** The position of a one, or zero, by its number from 0 on; the length if there are no more, while that of symbols
      *  is nullopt. */
     std::uint64_t select1(std::uint64_t number) const noexcept { return vers_bits_select1(&raw_, number).value; }
@@ -623,19 +623,19 @@ public:
     std::uint64_t ones() const noexcept { return vers_bits_ones(&raw_).value; }
     std::uint64_t zeros() const noexcept { return vers_bits_zeros(&raw_).value; }
     /** The least position of a one, or zero, strictly above a position; that of an ascending list is at or above. */
-    std::optional<std::uint64_t> successor1(std::uint64_t place) const noexcept {
-        return detail::found(vers_bits_successor1(&raw_, place));
+    std::optional<std::uint64_t> successor1(std::uint64_t position) const noexcept {
+        return detail::found(vers_bits_successor1(&raw_, position));
     }
-    std::optional<std::uint64_t> successor0(std::uint64_t place) const noexcept {
-        return detail::found(vers_bits_successor0(&raw_, place));
+    std::optional<std::uint64_t> successor0(std::uint64_t position) const noexcept {
+        return detail::found(vers_bits_successor0(&raw_, position));
     }
     /** The greatest position of a one, or zero, strictly below a position, which may be past the end; that of an
      *  ascending list is at or below. */
-    std::optional<std::uint64_t> predecessor1(std::uint64_t place) const noexcept {
-        return detail::found(vers_bits_predecessor1(&raw_, place));
+    std::optional<std::uint64_t> predecessor1(std::uint64_t position) const noexcept {
+        return detail::found(vers_bits_predecessor1(&raw_, position));
     }
-    std::optional<std::uint64_t> predecessor0(std::uint64_t place) const noexcept {
-        return detail::found(vers_bits_predecessor0(&raw_, place));
+    std::optional<std::uint64_t> predecessor0(std::uint64_t position) const noexcept {
+        return detail::found(vers_bits_predecessor0(&raw_, position));
     }
 
     detail::Items<RsVec> begin() const noexcept { return {this, 0}; }
@@ -657,10 +657,10 @@ public:
     SparseRSVec() noexcept = default;
 
     /** The bit at a position, 1 or 0. */
-    std::optional<std::uint64_t> get(std::uint64_t place) const noexcept { return find(VERS_GET, place); }
+    std::optional<std::uint64_t> get(std::uint64_t position) const noexcept { return find(VERS_GET, position); }
     /** The number of ones, or zeros, before a position; of all past the end. */
-    std::uint64_t rank1(std::uint64_t place) const noexcept { return ask(VERS_RANK1, place).value; }
-    std::uint64_t rank0(std::uint64_t place) const noexcept { return ask(VERS_RANK0, place).value; }
+    std::uint64_t rank1(std::uint64_t position) const noexcept { return ask(VERS_RANK1, position).value; }
+    std::uint64_t rank0(std::uint64_t position) const noexcept { return ask(VERS_RANK0, position).value; }
     /** The position of a one by its number from 0 on; the length if there are no more, while that of symbols is
      *  nullopt. */
     std::uint64_t select1(std::uint64_t number) const noexcept { return ask(VERS_SELECT1, number).value; }
@@ -684,8 +684,8 @@ public:
     /** Owns nothing, until a list is moved to it. */
     EliasFanoVec() noexcept = default;
 
-    std::optional<std::uint64_t> get(std::uint64_t place) const noexcept {
-        return detail::found(vers_sorted_get(&raw_, place));
+    std::optional<std::uint64_t> get(std::uint64_t position) const noexcept {
+        return detail::found(vers_sorted_get(&raw_, position));
     }
     /** How many members are below a number. */
     std::uint64_t rank(std::uint64_t number) const noexcept { return vers_sorted_rank(&raw_, number).value; }
@@ -700,7 +700,7 @@ public:
         return detail::found(vers_sorted_successor(&raw_, number));
     }
     /** The member at a position less the one before it; the first member itself. */
-    std::optional<std::uint64_t> delta(std::uint64_t place) const noexcept { return find(VERS_DELTA, place); }
+    std::optional<std::uint64_t> delta(std::uint64_t position) const noexcept { return find(VERS_DELTA, position); }
 
     detail::Items<EliasFanoVec> begin() const noexcept { return {this, 0}; }
     detail::Items<EliasFanoVec> end() const noexcept { return {this, len()}; }
@@ -721,7 +721,7 @@ public:
 
     using Found = std::optional<std::uint64_t>;
 
-    Found get(std::uint64_t place) const noexcept { return detail::found(vers_symbols_get(&raw_, place)); }
+    Found get(std::uint64_t position) const noexcept { return detail::found(vers_symbols_get(&raw_, position)); }
     /** How many bits a symbol has. */
     std::uint64_t bits_per_element() const noexcept { return ask(VERS_WIDTH).value; }
     /** How often a symbol occurs before the position `end`. nullopt past the end. */
@@ -780,8 +780,8 @@ public:
     /** Owns nothing, until a list is moved to it. */
     FastRmq() noexcept = default;
 
-    std::optional<std::uint64_t> get(std::uint64_t place) const noexcept {
-        return detail::found(vers_fast_rmq_get(&raw_, place));
+    std::optional<std::uint64_t> get(std::uint64_t position) const noexcept {
+        return detail::found(vers_fast_rmq_get(&raw_, position));
     }
     /** The first position of a least value from one position to another, both included, while that of symbols excludes
      *  the end and is a symbol. nullopt for no such range. */
@@ -805,7 +805,7 @@ public:
     /** Owns nothing, until a list is moved to it. */
     BinaryRmq() noexcept = default;
 
-    std::optional<std::uint64_t> get(std::uint64_t place) const noexcept { return find(VERS_GET, place); }
+    std::optional<std::uint64_t> get(std::uint64_t position) const noexcept { return find(VERS_GET, position); }
     /** The first position of a least value from one position to another, both included, while that of symbols excludes
      *  the end and is a symbol. nullopt for no such range. */
     std::optional<std::uint64_t> range_min(std::uint64_t first, std::uint64_t last) const noexcept {
@@ -831,34 +831,34 @@ public:
     using Found = std::optional<std::uint64_t>;
 
     /** The parenthesis at a position, 1 if it opens and 0 if it closes. */
-    Found get(std::uint64_t place) const noexcept { return detail::found(vers_tree_is_open(&raw_, place)); }
+    Found get(std::uint64_t position) const noexcept { return detail::found(vers_tree_is_open(&raw_, position)); }
     /** Whether the parenthesis at a position opens. nullopt past the end. */
-    std::optional<bool> is_open(std::uint64_t place) const noexcept { return truth(get(place)); }
+    std::optional<bool> is_open(std::uint64_t position) const noexcept { return truth(get(position)); }
     /** The first root. nullopt if there are no parentheses. */
     Found root() const noexcept { return detail::found(vers_tree_root(&raw_)); }
     /** How many ones: of balanced parentheses, how many nodes. */
     std::uint64_t size() const noexcept { return ask(VERS_SIZE).value; }
     bool is_balanced() const noexcept { return ask(VERS_IS_BALANCED).value == 1; }
     /** The ones less the zeros up to a position and at it. nullopt past the end. */
-    std::optional<std::int64_t> excess(std::uint64_t place) const noexcept {
-        Found value = find(VERS_EXCESS, place);
+    std::optional<std::int64_t> excess(std::uint64_t position) const noexcept {
+        Found value = find(VERS_EXCESS, position);
         if (!value) return std::nullopt;
         return vers_signed(*value);
     }
     /** The position that closes what opens at a position, or opens what closes there. */
-    Found close(std::uint64_t place) const noexcept { return detail::found(vers_tree_close(&raw_, place)); }
-    Found open(std::uint64_t place) const noexcept { return find(VERS_OPEN, place); }
+    Found close(std::uint64_t position) const noexcept { return detail::found(vers_tree_close(&raw_, position)); }
+    Found open(std::uint64_t position) const noexcept { return find(VERS_OPEN, position); }
     /** Where the nearest pair round a position opens. */
-    Found enclose(std::uint64_t place) const noexcept { return find(VERS_ENCLOSE, place); }
+    Found enclose(std::uint64_t position) const noexcept { return find(VERS_ENCLOSE, position); }
     /** Node `number` in preorder: the position of that one; the length if there are no more. */
     std::uint64_t node_handle(std::uint64_t number) const noexcept { return ask(VERS_NODE_HANDLE, number).value; }
-    /** The first position past `place` where the excess has risen by `rise`. */
-    Found fwd_search(std::uint64_t place, std::int64_t rise) const noexcept {
-        return find(VERS_FWD_SEARCH, place, static_cast<std::uint64_t>(rise));
+    /** The first position past `position` where the excess has risen by `rise`. */
+    Found fwd_search(std::uint64_t position, std::int64_t rise) const noexcept {
+        return find(VERS_FWD_SEARCH, position, static_cast<std::uint64_t>(rise));
     }
-    /** The last position before `place` before which the excess is `rise` more. */
-    Found bwd_search(std::uint64_t place, std::int64_t rise) const noexcept {
-        return find(VERS_BWD_SEARCH, place, static_cast<std::uint64_t>(rise));
+    /** The last position before `position` before which the excess is `rise` more. */
+    Found bwd_search(std::uint64_t position, std::int64_t rise) const noexcept {
+        return find(VERS_BWD_SEARCH, position, static_cast<std::uint64_t>(rise));
     }
     Found parent(std::uint64_t node) const noexcept { return detail::found(vers_tree_parent(&raw_, node)); }
     Found first_child(std::uint64_t node) const noexcept { return detail::found(vers_tree_first_child(&raw_, node)); }
@@ -883,7 +883,7 @@ public:
     /** How many nodes a node and those below it are. */
     Found subtree_size(std::uint64_t node) const noexcept { return find(VERS_SUBTREE_SIZE, node); }
     /** Whether the parentheses are balanced and a node opens at a position. */
-    bool has_node(std::uint64_t place) const noexcept { return ask(VERS_HAS_NODE, place).value == 1; }
+    bool has_node(std::uint64_t position) const noexcept { return ask(VERS_HAS_NODE, position).value == 1; }
     std::optional<bool> is_leaf(std::uint64_t node) const noexcept { return truth(find(VERS_IS_LEAF, node)); }
     /** Whether one node is above another, or is that node. */
     std::optional<bool> is_ancestor(std::uint64_t ancestor, std::uint64_t node) const noexcept {
@@ -909,7 +909,7 @@ public:
     /** Owns nothing, until a list is moved to it. */
     Numbers() noexcept = default;
 
-    std::optional<std::uint64_t> get(std::uint64_t place) const noexcept { return find(VERS_GET, place); }
+    std::optional<std::uint64_t> get(std::uint64_t position) const noexcept { return find(VERS_GET, position); }
     detail::Items<Numbers> begin() const noexcept { return {this, 0}; }
     detail::Items<Numbers> end() const noexcept { return {this, len()}; }
 
@@ -974,8 +974,8 @@ public:
     }
 
     /** The document at a position, and its cost. */
-    std::optional<std::uint64_t> get(std::uint64_t place) const noexcept { return find(VERS_GET, place); }
-    std::optional<std::uint64_t> cost(std::uint64_t place) const noexcept { return find(VERS_COST, place); }
+    std::optional<std::uint64_t> get(std::uint64_t position) const noexcept { return find(VERS_GET, position); }
+    std::optional<std::uint64_t> cost(std::uint64_t position) const noexcept { return find(VERS_COST, position); }
     detail::Items<Postings> begin() const noexcept { return {this, 0}; }
     detail::Items<Postings> end() const noexcept { return {this, len()}; }
     /** How many documents are below a number. */
@@ -1053,18 +1053,18 @@ public:
     }
 
     /** `get` answers documents of a term, and `pair_number` pairs. */
-    std::uint64_t operator[](std::uint64_t place) const = delete;
+    std::uint64_t operator[](std::uint64_t position) const = delete;
     /** The number of terms. */
     std::uint64_t terms() const noexcept { return ask(VERS_TERMS).value; }
     /** The number that all documents are below. */
     std::uint64_t universe() const noexcept { return ask(VERS_UNIVERSE).value; }
     /** The pair at a position of all pairs as one number: the term times the universe, plus the document. */
-    std::optional<std::uint64_t> pair_number(std::uint64_t place) const noexcept { return find(VERS_GET, place); }
+    std::optional<std::uint64_t> pair_number(std::uint64_t position) const noexcept { return find(VERS_GET, position); }
     /** The number of documents of a term. */
     std::uint64_t count(std::uint64_t term) const noexcept { return ask(VERS_COUNT, term).value; }
     /** The document of a term at a position. */
-    std::optional<std::uint64_t> get(std::uint64_t term, std::uint64_t place) const noexcept {
-        return find(VERS_TERM_GET, term, place);
+    std::optional<std::uint64_t> get(std::uint64_t term, std::uint64_t position) const noexcept {
+        return find(VERS_TERM_GET, term, position);
     }
     /** The number of documents of a term that are below a number. */
     std::uint64_t rank(std::uint64_t term, std::uint64_t number) const noexcept {
@@ -1136,7 +1136,7 @@ public:
     using detail::FromTextByStep::from;
 
     /** `extract` answers symbols, and `places` positions. */
-    std::uint64_t operator[](std::uint64_t place) const = delete;
+    std::uint64_t operator[](std::uint64_t position) const = delete;
     /** How many bits a symbol has. */
     std::uint64_t width() const noexcept { return ask(VERS_WIDTH).value; }
     /** The distance of two sampled positions. */

@@ -1,7 +1,7 @@
-//! Asks one query of places that look random: the query's name, and how many places. Prints the sum of the answers.
+//! Asks one query of positions that look random: the query's name, and how many positions. Prints the sum of the answers.
 //!
-//! Under `valgrind --tool=callgrind` the instructions of a query are those of a run with many places less those of a
-//! run with none, over the count; `none` asks nothing, and its instructions for a place are the loop's.
+//! Under `valgrind --tool=callgrind` the instructions of a query are those of a run with many positions less those of a
+//! run with none, over the count; `none` asks nothing, and its instructions for a position are the loop's.
 
 use vers_vecs::{BitVec, EliasFanoVec, FastRmq, RsVec, WaveletMatrix};
 
@@ -26,8 +26,8 @@ fn main() {
     let words: Vec<u64> = (0..ITEMS / 64 + 1).map(|_| random.next()).collect();
     let numbers: Vec<u64> = (0..ITEMS).map(|_| random.next()).collect();
     let mut asked = |most: u64, query: &dyn Fn(&[u64]) -> u64| {
-        let places: Vec<u64> = (0..count).map(|_| random.next() % most).collect();
-        println!("{}", query(hidden(&places)));
+        let positions: Vec<u64> = (0..count).map(|_| random.next() % most).collect();
+        println!("{}", query(hidden(&positions)));
     };
     // Each loop is one function, so that no call of a query goes by a table.
     match name.as_str() {
@@ -37,35 +37,37 @@ fn main() {
             let bits = RsVec::from_bit_vec(bits);
             let ones = (ITEMS / 2 - 2000) as u64;
             match name.as_str() {
-                "get" => asked(ITEMS as u64, &|places| sum(places, |place| bits.get(place).unwrap_or(0))),
-                "rank1" => asked(ITEMS as u64, &|places| sum(places, |place| bits.rank1(place) as u64)),
-                _ => asked(ones, &|places| sum(places, |place| bits.select1(place) as u64)),
+                "get" => asked(ITEMS as u64, &|positions| sum(positions, |position| bits.get(position).unwrap_or(0))),
+                "rank1" => asked(ITEMS as u64, &|positions| sum(positions, |position| bits.rank1(position) as u64)),
+                _ => asked(ones, &|positions| sum(positions, |position| bits.select1(position) as u64)),
             }
         }
         "predecessor" => {
             let members: Vec<u64> = numbers.iter().scan(0, |last, number| Some(add(last, number % 100))).collect();
             let list = EliasFanoVec::from_slice(&members);
-            asked(members[ITEMS - 1], &|places| sum(places, |n| list.predecessor(n as u64).unwrap_or(0)));
+            asked(members[ITEMS - 1], &|positions| sum(positions, |n| list.predecessor(n as u64).unwrap_or(0)));
         }
         "symbol" | "quantile" => {
             let symbols = WaveletMatrix::from_slice(&numbers, 8);
             match name.as_str() {
-                "symbol" => asked(ITEMS as u64, &|places| sum(places, |place| symbols.get_u64(place).unwrap_or(0))),
-                _ => asked(ITEMS as u64 / 2, &|places| {
-                    sum(places, |place| symbols.quantile_u64(place..ITEMS, 100_000).unwrap_or(0))
+                "symbol" => {
+                    asked(ITEMS as u64, &|positions| sum(positions, |position| symbols.get_u64(position).unwrap_or(0)))
+                }
+                _ => asked(ITEMS as u64 / 2, &|positions| {
+                    sum(positions, |position| symbols.quantile_u64(position..ITEMS, 100_000).unwrap_or(0))
                 }),
             }
         }
         "least" => {
             let values = FastRmq::from_vec(numbers);
-            asked(ITEMS as u64, &|places| sum(places, |place| values.range_min(place, ITEMS - 1) as u64));
+            asked(ITEMS as u64, &|positions| sum(positions, |position| values.range_min(position, ITEMS - 1) as u64));
         }
-        _ => asked(ITEMS as u64, &|places| sum(places, |place| place as u64)),
+        _ => asked(ITEMS as u64, &|positions| sum(positions, |position| position as u64)),
     }
 }
 
-fn sum(places: &[u64], query: impl Fn(usize) -> u64) -> u64 {
-    places.iter().fold(0, |sum, &place| sum.wrapping_add(query(place as usize)))
+fn sum(positions: &[u64], query: impl Fn(usize) -> u64) -> u64 {
+    positions.iter().fold(0, |sum, &position| sum.wrapping_add(query(position as usize)))
 }
 
 fn add(last: &mut u64, number: u64) -> u64 {
@@ -75,6 +77,6 @@ fn add(last: &mut u64, number: u64) -> u64 {
 
 /// Returns what it is given, so that the compiler doesn't see through.
 #[inline(never)]
-fn hidden(places: &[u64]) -> &[u64] {
-    places
+fn hidden(positions: &[u64]) -> &[u64] {
+    positions
 }

@@ -29,9 +29,9 @@ impl Genome {
     fn hits(&self, read: &str) -> Vec<(usize, usize)> {
         let forward: Vec<u64> = read.chars().map(code).collect();
         let backward = forward.iter().rev().map(|&base| if base < 5 { 5 - base } else { 5 }).collect();
-        let places = [forward, backward].into_iter().flat_map(|strand| self.text.places(&strand));
-        let starts = places.filter_map(|place| Some((place, self.starts.predecessor(place as u64)?)));
-        starts.map(|(place, start)| (self.starts.rank(start) as usize, place - start as usize)).collect()
+        let positions = [forward, backward].into_iter().flat_map(|strand| self.text.places(&strand));
+        let starts = positions.filter_map(|position| Some((position, self.starts.predecessor(position as u64)?)));
+        starts.map(|(position, start)| (self.starts.rank(start) as usize, position - start as usize)).collect()
     }
 }
 
@@ -39,8 +39,8 @@ impl Genome {
 fn plain_hits(sequences: [&str; 2], read: &str) -> Vec<(usize, usize)> {
     let complement = |base| ["AT", "CG", "GC", "TA", "NN"].into_iter().find_map(|pair| pair.strip_prefix(base));
     let strands = [read.to_string(), read.chars().rev().filter_map(complement).collect()];
-    let all: Vec<_> = (0..2).flat_map(|k| (0..sequences[k].len()).map(move |place| (k, place))).collect();
-    let found = |strand| all.iter().filter(move |(k, place)| sequences[*k][*place..].starts_with::<&str>(strand));
+    let all: Vec<_> = (0..2).flat_map(|k| (0..sequences[k].len()).map(move |position| (k, position))).collect();
+    let found = |strand| all.iter().filter(move |(k, position)| sequences[*k][*position..].starts_with::<&str>(strand));
     strands.iter().flat_map(|strand| found(strand).copied()).collect()
 }
 

@@ -43,7 +43,7 @@ impl Engine {
     /// Returns the documents in which some words follow one another.
     fn phrase(&self, words: &str) -> BTreeSet<u64> {
         let pattern: Vec<u64> = words.split(' ').map(|word| self.words[word].0).collect();
-        self.text.places(&pattern).into_iter().map(|place| self.ends.rank1(place) as u64).collect()
+        self.text.places(&pattern).into_iter().map(|position| self.ends.rank1(position) as u64).collect()
     }
 }
 

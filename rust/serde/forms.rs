@@ -12,9 +12,9 @@ fn comes_back<T: Serialize + DeserializeOwned + Saved + PartialEq + std::fmt::De
     assert_eq!(bincode::deserialize::<T>(&bytes).unwrap(), structure);
     // bincode writes the length of the saved form before it
     assert_eq!(bytes[8..], structure.save().unwrap());
-    for place in 8..bytes.len() {
+    for position in 8..bytes.len() {
         let mut other = bytes.clone();
-        other[place] ^= 1;
+        other[position] ^= 1;
         let error = bincode::deserialize::<T>(&other).unwrap_err().to_string();
         let expected = T::load(&other[8..]).err().unwrap().to_string();
         assert_eq!(error, expected);

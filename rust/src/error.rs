@@ -115,8 +115,8 @@ fn refused(error: BuildError) -> ! {
 #[cold]
 #[inline(never)]
 #[track_caller]
-pub(crate) fn no_bits(place: usize, n: usize) -> ! {
-    panic!("the list has no {} bits from {} on", n, place)
+pub(crate) fn no_bits(position: usize, n: usize) -> ! {
+    panic!("the list has no {} bits from {} on", n, position)
 }
 
 /// Panics for a range of values that the list doesn't have.
@@ -134,6 +134,6 @@ pub(crate) fn no_range(i: usize, j: usize) -> ! {
 #[cold]
 #[inline(never)]
 #[track_caller]
-pub(crate) fn no_bit(place: usize) -> ! {
-    panic!("the list has no bit at {}", place)
+pub(crate) fn no_bit(position: usize) -> ! {
+    panic!("the list has no bit at {}", position)
 }

@@ -506,7 +506,7 @@ pub(crate) fn answer_each(items: &mut [u64], other: u64, mut ask: impl FnMut(&mu
 /// Refuses the first item that `is_right` doesn't accept beside the one before it.
 pub(crate) fn check_ascending(items: &[u64], is_right: impl Fn(u64, u64) -> bool) -> Result<(), BuildError> {
     match items.windows(2).position(|pair| !is_right(pair[0], pair[1])) {
-        Some(place) => Err(BuildError::NotAscending { position: place + 1 }),
+        Some(position) => Err(BuildError::NotAscending { position: position + 1 }),
         None => Ok(()),
     }
 }

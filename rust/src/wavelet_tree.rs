@@ -41,18 +41,18 @@ pub struct WaveletTree {
 
 /// A symbol, and its sorted position: its index if all elements are sorted, and equal ones keep their order.
 #[derive(Clone, Copy, PartialEq, Eq, Hash, Debug)]
-pub struct SortedPlace {
+pub struct SortedPosition {
     /// The symbol.
     pub symbol: u64,
     /// The sorted position.
-    pub place: usize,
+    pub position: usize,
 }
 
 #[doc(hidden)]
-impl From<proved::SortedPlace> for SortedPlace {
+impl From<proved::SortedPosition> for SortedPosition {
     #[inline]
-    fn from(found: proved::SortedPlace) -> SortedPlace {
-        SortedPlace { symbol: found.symbol, place: found.place }
+    fn from(found: proved::SortedPosition) -> SortedPosition {
+        SortedPosition { symbol: found.symbol, position: found.position }
     }
 }
 
@@ -106,48 +106,48 @@ impl WaveletTree {
         self.symbols.bit_len()
     }
 
-    /// Returns the symbol at `place`, or `None` past the end.
+    /// Returns the symbol at `position`, or `None` past the end.
     #[doc = contract!(WaveletTree::get)]
     #[must_use]
     #[inline]
-    pub fn get(&self, place: usize) -> Option<u64> {
-        (place < self.len()).then(|| self.symbols.get(place))
+    pub fn get(&self, position: usize) -> Option<u64> {
+        (position < self.len()).then(|| self.symbols.get(position))
     }
 
     /// Iterates over the symbols in order, from both ends.
     #[inline]
     pub fn iter(&self) -> WaveletTreeIter<'_> {
-        WaveletTreeIter(Places { source: self, range: 0..self.len() })
+        WaveletTreeIter(Positions { source: self, range: 0..self.len() })
     }
 
-    /// Returns the symbol at `place` and its sorted position, or `None` past the end.
+    /// Returns the symbol at `position` and its sorted position, or `None` past the end.
     #[doc = contract!(WaveletTree::get_sorted)]
     #[must_use]
     #[inline]
-    pub fn get_sorted(&self, place: usize) -> Option<SortedPlace> {
-        (place < self.len()).then(|| self.symbols.get_sorted(place).into())
+    pub fn get_sorted(&self, position: usize) -> Option<SortedPosition> {
+        (position < self.len()).then(|| self.symbols.get_sorted(position).into())
     }
 
     /// Answers as [`get_sorted`](Self::get_sorted), and adds what is read to `tally`.
     #[doc = contract!(WaveletTree::get_sorted_counted)]
     #[inline]
-    pub fn get_sorted_counted(&self, place: usize, tally: &mut Tally) -> Option<SortedPlace> {
-        (place < self.len()).then(|| self.symbols.get_sorted_counted(place, &mut tally.0).into())
+    pub fn get_sorted_counted(&self, position: usize, tally: &mut Tally) -> Option<SortedPosition> {
+        (position < self.len()).then(|| self.symbols.get_sorted_counted(position, &mut tally.0).into())
     }
 
-    /// Returns how often a symbol occurs before `place`, or `None` if `place` is above the length.
+    /// Returns how often a symbol occurs before `position`, or `None` if `position` is above the length.
     #[doc = contract!(WaveletTree::rank)]
     #[must_use]
     #[inline]
-    pub fn rank(&self, place: usize, symbol: u64) -> Option<usize> {
-        (place <= self.len()).then(|| self.symbols.rank(place, symbol))
+    pub fn rank(&self, position: usize, symbol: u64) -> Option<usize> {
+        (position <= self.len()).then(|| self.symbols.rank(position, symbol))
     }
 
     /// Answers as [`rank`](Self::rank), and adds what is read to `tally`.
     #[doc = contract!(WaveletTree::rank_counted)]
     #[inline]
-    pub fn rank_counted(&self, place: usize, symbol: u64, tally: &mut Tally) -> Option<usize> {
-        (place <= self.len()).then(|| self.symbols.rank_counted(place, symbol, &mut tally.0))
+    pub fn rank_counted(&self, position: usize, symbol: u64, tally: &mut Tally) -> Option<usize> {
+        (position <= self.len()).then(|| self.symbols.rank_counted(position, symbol, &mut tally.0))
     }
 
     /// Returns the sorted positions of the occurrences of a symbol in a range, which are adjacent. `None` if there are
@@ -175,12 +175,12 @@ impl WaveletTree {
 
 /// A range of positions of a tree.
 #[derive(Clone)]
-pub(crate) struct Places<'a> {
+pub(crate) struct Positions<'a> {
     source: &'a WaveletTree,
     range: Range<usize>,
 }
 
-impl Walk for Places<'_> {
+impl Walk for Positions<'_> {
     type Item = u64;
 
     #[inline(always)]
@@ -211,7 +211,7 @@ impl Walk for Places<'_> {
 
 iterator! {
     /// Iterates over the symbols of a [`WaveletTree`], a [`get`](WaveletTree::get) each.
-    WaveletTreeIter ['a] ['a] = Places<'a>, u64, |it| it.clone()
+    WaveletTreeIter ['a] ['a] = Positions<'a>, u64, |it| it.clone()
 }
 
 impl<'a> IntoIterator for &'a WaveletTree {

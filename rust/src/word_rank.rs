@@ -85,47 +85,47 @@ impl WordRank {
         BitVecRefIter(self.bits.bits().iter())
     }
 
-    /// Returns the number of ones before `place`, or in the whole list past the end, in O(1).
+    /// Returns the number of ones before `position`, or in the whole list past the end, in O(1).
     #[doc = contract!(WordRank::rank1)]
     #[must_use]
     #[inline]
-    pub fn rank1(&self, place: usize) -> usize {
-        self.bits.rank1(place)
+    pub fn rank1(&self, position: usize) -> usize {
+        self.bits.rank1(position)
     }
 
-    /// Returns true if the bit at `place` is a one. `None` past the end.
+    /// Returns true if the bit at `position` is a one. `None` past the end.
     #[doc = contract!(WordRank::is_one)]
     #[must_use]
     #[inline]
-    pub fn is_one(&self, place: usize) -> Option<bool> {
-        (place < self.len()).then(|| self.bits.is_one(place))
+    pub fn is_one(&self, position: usize) -> Option<bool> {
+        (position < self.len()).then(|| self.bits.is_one(position))
     }
 
     /// Answers as [`is_one`](Self::is_one), and adds what is read to `tally`.
     #[doc = contract!(WordRank::is_one_counted)]
     #[inline]
-    pub fn is_one_counted(&self, place: usize, tally: &mut Tally) -> Option<bool> {
-        (place < self.len()).then(|| self.bits.is_one_counted(place, &mut tally.0))
+    pub fn is_one_counted(&self, position: usize, tally: &mut Tally) -> Option<bool> {
+        (position < self.len()).then(|| self.bits.is_one_counted(position, &mut tally.0))
     }
 
-    /// Returns the bit at `place`, and the number of ones before it, by one read of the word. `None` past the end.
+    /// Returns the bit at `position`, and the number of ones before it, by one read of the word. `None` past the end.
     #[doc = contract!(WordRank::get_and_rank1)]
     #[must_use]
     #[inline]
-    pub fn get_and_rank1(&self, place: usize) -> Option<BitAndRank> {
-        (place < self.len()).then(|| self.bits.get_and_rank1(place).into())
+    pub fn get_and_rank1(&self, position: usize) -> Option<BitAndRank> {
+        (position < self.len()).then(|| self.bits.get_and_rank1(position).into())
     }
 
     /// Answers as [`get_and_rank1`](Self::get_and_rank1), and adds what is read to `tally`.
     #[doc = contract!(WordRank::get_and_rank1_counted)]
     #[inline]
-    pub fn get_and_rank1_counted(&self, place: usize, tally: &mut Tally) -> Option<BitAndRank> {
-        (place < self.len()).then(|| self.bits.get_and_rank1_counted(place, &mut tally.0).into())
+    pub fn get_and_rank1_counted(&self, position: usize, tally: &mut Tally) -> Option<BitAndRank> {
+        (position < self.len()).then(|| self.bits.get_and_rank1_counted(position, &mut tally.0).into())
     }
 }
 
 counted! { WordRank, bits:
-    rank1_counted, rank1(place: usize) -> usize;
+    rank1_counted, rank1(position: usize) -> usize;
 }
 
 impl Default for WordRank {

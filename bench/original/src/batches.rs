@@ -16,7 +16,7 @@ fn run_symbols(settings: &Settings, n: usize, query_count: usize) {
     let list = symbols(n, WIDTH);
     let matrix = WaveletMatrix::from_slice(&list, WIDTH);
     let mut random = Random::new(9);
-    let places = random.many_below(query_count, n as u64);
+    let positions = random.many_below(query_count, n as u64);
     let symbol = |random: &mut Random| list[random.below(n as u64) as usize];
     let ranks: Vec<Rank> = (0..query_count)
         .map(|_| Rank { end: random.below(n as u64) as usize, symbol: symbol(&mut random) })
@@ -24,7 +24,7 @@ fn run_symbols(settings: &Settings, n: usize, query_count: usize) {
     let selected: Vec<u64> = (0..query_count).map(|_| symbol(&mut random)).collect();
     let quantiles = quantiles(&mut random, query_count, n as u64);
     series.run("get_u64", query_count, || {
-        folded(places.iter().map(|&place| matrix.get_u64(place as usize).unwrap_or(NONE)))
+        folded(positions.iter().map(|&position| matrix.get_u64(position as usize).unwrap_or(NONE)))
     });
     series.run("rank_u64", query_count, || {
         folded(ranks.iter().map(|it| number_or_none(matrix.rank_u64(it.end, it.symbol))))
@@ -55,9 +55,9 @@ fn run_members(settings: &Settings, n: usize, query_count: usize) {
     let members = members_uniform(n);
     let list = EliasFanoVec::from_slice(&members);
     let mut random = Random::new(8);
-    let places = random.many_below(query_count, n as u64);
+    let positions = random.many_below(query_count, n as u64);
     let numbers = random.many_below(query_count, members.last().map_or(1, |last| last + 1));
-    series.run("get", query_count, || folded(places.iter().map(|&it| list.get(it as usize).unwrap_or(NONE))));
+    series.run("get", query_count, || folded(positions.iter().map(|&it| list.get(it as usize).unwrap_or(NONE))));
     series.run("rank", query_count, || folded(numbers.iter().map(|&it| list.rank(it))));
     series.run("predecessor", query_count, || {
         folded(numbers.iter().map(|&it| list.predecessor(it).unwrap_or(NONE)))

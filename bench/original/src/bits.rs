@@ -26,11 +26,11 @@ pub fn run(settings: &Settings, limb_count: usize, percent: u64, query_count: us
     series.build("build", len, ones as u64, || source.clone(), RsVec::from_bit_vec);
     series.size("heap_overhead_percent", (bits.heap_size() as f64 * 8.0 / len as f64 - 1.0) * 100.0);
     let mut random = Random::new(7);
-    let places = random.many_below(query_count, len as u64);
+    let positions = random.many_below(query_count, len as u64);
     let of_ones = random.many_below(query_count, ones as u64);
     let of_zeros = random.many_below(query_count, zeros as u64);
-    series.run("rank1", query_count, || folded(places.iter().map(|&it| bits.rank1(it as usize) as u64)));
-    series.run("rank1_chained", query_count, || folded(chained(&places, |it| bits.rank1(it))));
+    series.run("rank1", query_count, || folded(positions.iter().map(|&it| bits.rank1(it as usize) as u64)));
+    series.run("rank1_chained", query_count, || folded(chained(&positions, |it| bits.rank1(it))));
     series.run("select1", query_count, || folded(of_ones.iter().map(|&it| bits.select1(it as usize) as u64)));
     series.run("select1_chained", query_count, || folded(chained(&of_ones, |it| bits.select1(it))));
     series.run("select0", query_count, || folded(of_zeros.iter().map(|&it| bits.select0(it as usize) as u64)));
@@ -47,9 +47,9 @@ pub fn run_word_rank(settings: &Settings, limb_count: usize, percent: u64, query
     let len = bits.len();
     series.build("build", len, bits.rank1(len) as u64, || source.clone(), WordRank::from_bit_vec);
     series.size("heap_overhead_percent", (bits.heap_size() as f64 * 8.0 / len as f64 - 1.0) * 100.0);
-    let places = Random::new(7).many_below(query_count, len as u64);
-    series.run("rank1", query_count, || folded(places.iter().map(|&it| bits.rank1(it as usize) as u64)));
-    series.run("rank1_chained", query_count, || folded(chained(&places, |it| bits.rank1(it))));
+    let positions = Random::new(7).many_below(query_count, len as u64);
+    series.run("rank1", query_count, || folded(positions.iter().map(|&it| bits.rank1(it as usize) as u64)));
+    series.run("rank1_chained", query_count, || folded(chained(&positions, |it| bits.rank1(it))));
 }
 
 /// The series `walks`, but for the walk by chunks, which the crate has with AVX-512 alone.
@@ -61,8 +61,8 @@ pub fn run_walks(settings: &Settings, limb_count: usize, percent: u64) {
     series.walk("iter1", ones, || summed(bits.iter1().map(|it| it as u64)));
     series.walk("iter1_back", ones, || summed(bits.iter1().rev().map(|it| it as u64)));
     series.walk("iter1_nth", ones / STEP, || {
-        let mut places = bits.iter1();
-        summed((0..ones / STEP).map(|_| places.nth(STEP - 1).unwrap_or(0) as u64))
+        let mut positions = bits.iter1();
+        summed((0..ones / STEP).map(|_| positions.nth(STEP - 1).unwrap_or(0) as u64))
     });
     series.walk("sparse_equals1", ones, || u64::from(bits.sparse_equals::<false>(&bits)));
 }
@@ -75,7 +75,7 @@ pub fn run_lists(settings: &Settings, limb_count: usize, query_count: usize) {
     let bits = BitVec::from_limbs(&limbs);
     let len = bits.len();
     series.run("from_limbs", len, || BitVec::from_limbs(&limbs).len() as u64);
-    let places = Random::new(7).many_below(query_count, len as u64);
+    let positions = Random::new(7).many_below(query_count, len as u64);
     // A list of three bits is extended, so that no limb falls on a limb.
     series.walk("extend_bitvec", len, || {
         let mut list = BitVec::from_ones(3);
@@ -83,7 +83,7 @@ pub fn run_lists(settings: &Settings, limb_count: usize, query_count: usize) {
         list.len() as u64
     });
     series.run("get_bits", query_count, || {
-        folded(places.iter().map(|&it| bits.get_bits(it as usize, WIDTH).unwrap_or(u64::MAX)))
+        folded(positions.iter().map(|&it| bits.get_bits(it as usize, WIDTH).unwrap_or(u64::MAX)))
     });
     series.walk("count_ones", len, || bits.count_ones());
 }

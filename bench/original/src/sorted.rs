@@ -18,11 +18,11 @@ fn run_list(settings: &Settings, name: &str, numbers: &[u64], asked: Asked) {
     let list = EliasFanoVec::from_slice(numbers);
     series.size("heap_bits_per_item", list.heap_size() as f64 * 8.0 / len as f64);
     let mut random = Random::new(8);
-    let places = random.many_below(asked.count, len as u64);
+    let positions = random.many_below(asked.count, len as u64);
     let values = random.many_below(asked.count, asked.span);
     let values: Vec<u64> = values.iter().map(|it| asked.first + it).collect();
-    series.run("get", asked.count, || folded(places.iter().map(|&it| list.get(it as usize).unwrap_or(NONE))));
-    series.run("delta", asked.count, || folded(places.iter().map(|&it| list.delta(it as usize).unwrap_or(NONE))));
+    series.run("get", asked.count, || folded(positions.iter().map(|&it| list.get(it as usize).unwrap_or(NONE))));
+    series.run("delta", asked.count, || folded(positions.iter().map(|&it| list.delta(it as usize).unwrap_or(NONE))));
     series.run("rank", asked.count, || folded(values.iter().map(|&it| list.rank(it))));
     series.run("predecessor", asked.count, || folded(values.iter().map(|&it| list.predecessor(it).unwrap_or(NONE))));
     series.run("successor", asked.count, || folded(values.iter().map(|&it| list.successor(it).unwrap_or(NONE))));
@@ -55,10 +55,10 @@ pub fn run_sparse(settings: &Settings, limb_count: usize, percent: u64, query_co
     let list = SparseRSVec::from_bitvec(&bits);
     series.size("heap_bits_per_item", list.heap_size() as f64 * 8.0 / ones as f64);
     let mut random = Random::new(7);
-    let places = random.many_below(query_count, list.len());
+    let positions = random.many_below(query_count, list.len());
     let numbers = random.many_below(query_count, ones);
-    series.run("get", query_count, || folded(places.iter().map(|&it| list.get(it).unwrap_or(NONE))));
-    series.run("rank1", query_count, || folded(places.iter().map(|&it| list.rank1(it))));
+    series.run("get", query_count, || folded(positions.iter().map(|&it| list.get(it).unwrap_or(NONE))));
+    series.run("rank1", query_count, || folded(positions.iter().map(|&it| list.rank1(it))));
     series.run("select1", query_count, || folded(numbers.iter().map(|&it| list.select1(it as usize))));
     series.walk("iter1", ones as usize, || summed(list.iter1()));
 }

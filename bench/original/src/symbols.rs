@@ -5,7 +5,7 @@ use crate::workload::{NONE, Random, folded, summed, symbols};
 use std::ops::Range;
 use vers_vecs::WaveletMatrix;
 
-/// A range of places, and a number of one of its members by size.
+/// A range of positions, and a number of one of its members by size.
 pub struct Quantile {
     pub range: Range<usize>,
     pub number: usize,
@@ -25,10 +25,10 @@ pub fn number_or_none(answer: Option<usize>) -> u64 {
 }
 
 /// Places of a list, and symbols of it.
-fn places_and_symbols(random: &mut Random, count: usize, list: &[u64]) -> (Vec<u64>, Vec<u64>) {
-    let places = random.many_below(count, list.len() as u64);
+fn positions_and_symbols(random: &mut Random, count: usize, list: &[u64]) -> (Vec<u64>, Vec<u64>) {
+    let positions = random.many_below(count, list.len() as u64);
     let others = random.many_below(count, list.len() as u64);
-    (places, others.iter().map(|&it| list[it as usize]).collect())
+    (positions, others.iter().map(|&it| list[it as usize]).collect())
 }
 
 /// The series `wavelet`: `n` symbols of a width, and `query_count` queries of each kind.
@@ -41,18 +41,18 @@ pub fn run(settings: &Settings, n: usize, width: u16, query_count: usize) {
     }
     let matrix = WaveletMatrix::from_slice(&list, width);
     let mut random = Random::new(9);
-    let (places, symbols) = places_and_symbols(&mut random, query_count, &list);
+    let (positions, symbols) = positions_and_symbols(&mut random, query_count, &list);
     // Of 8 bits, each symbol occurs some n / 256 times.
     let most = if width == 8 { n as u64 / 256 * 3 / 4 } else { 1 };
     let ranks = random.many_below(query_count, most);
     let quantiles = quantiles(&mut random, query_count, n as u64);
     series.size("heap_bits_per_item", matrix.heap_size() as f64 * 8.0 / n as f64);
     series.run("get_u64", query_count, || {
-        folded(places.iter().map(|&place| matrix.get_u64(place as usize).unwrap_or(NONE)))
+        folded(positions.iter().map(|&position| matrix.get_u64(position as usize).unwrap_or(NONE)))
     });
     series.run("rank_u64", query_count, || {
-        let asked = places.iter().zip(&symbols);
-        folded(asked.map(|(&place, &symbol)| number_or_none(matrix.rank_u64(place as usize, symbol))))
+        let asked = positions.iter().zip(&symbols);
+        folded(asked.map(|(&position, &symbol)| number_or_none(matrix.rank_u64(position as usize, symbol))))
     });
     series.run("select_u64", query_count, || {
         let asked = ranks.iter().zip(&symbols);
@@ -81,12 +81,12 @@ pub fn run_wavelet_tree(settings: &Settings, n: usize, width: u16, query_count: 
     series.build("build", n, n as u64, || list.as_slice(), |it| WaveletTree::from_integers(it, width));
     let tree = WaveletTree::from_integers(&list, width).expect("the symbols have this width");
     series.size("heap_bits_per_item", tree.heap_size() as f64 * 8.0 / n as f64);
-    let (places, symbols) = places_and_symbols(&mut Random::new(9), query_count, &list);
+    let (positions, symbols) = positions_and_symbols(&mut Random::new(9), query_count, &list);
     series.run("get_u64", query_count, || {
-        folded(places.iter().map(|&place| tree.get(place as usize).unwrap_or(NONE)))
+        folded(positions.iter().map(|&position| tree.get(position as usize).unwrap_or(NONE)))
     });
     series.run("rank_u64", query_count, || {
-        let asked = places.iter().zip(&symbols);
-        folded(asked.map(|(&place, &symbol)| number_or_none(tree.rank(place as usize, symbol))))
+        let asked = positions.iter().zip(&symbols);
+        folded(asked.map(|(&position, &symbol)| number_or_none(tree.rank(position as usize, symbol))))
     });
 }

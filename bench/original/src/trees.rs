@@ -29,8 +29,8 @@ fn bits_of(shape: Shape, count: usize) -> BitVec {
     }
 }
 
-fn answer(place: Option<usize>) -> u64 {
-    place.map_or(NONE, |it| it as u64)
+fn answer(position: Option<usize>) -> u64 {
+    position.map_or(NONE, |it| it as u64)
 }
 
 // From the root through the whole tree by first children, next siblings and parents: each node as it is entered.

@@ -127,25 +127,25 @@ exports! {
         fn vers_joined(handle: &mut VersHandle, code: u32, one: u64, other: u64, into: &mut VersHandle) -> u32;
     }
     quick {
-        fn vers_quick_bits_get(handle: &mut VersHandle, place: u64) -> VersAnswer;
-        fn vers_quick_bits_rank0(handle: &mut VersHandle, place: u64) -> VersAnswer;
-        fn vers_quick_bits_rank1(handle: &mut VersHandle, place: u64) -> VersAnswer;
+        fn vers_quick_bits_get(handle: &mut VersHandle, position: u64) -> VersAnswer;
+        fn vers_quick_bits_rank0(handle: &mut VersHandle, position: u64) -> VersAnswer;
+        fn vers_quick_bits_rank1(handle: &mut VersHandle, position: u64) -> VersAnswer;
         fn vers_quick_bits_select0(handle: &mut VersHandle, number: u64) -> VersAnswer;
         fn vers_quick_bits_select1(handle: &mut VersHandle, number: u64) -> VersAnswer;
-        fn vers_quick_sorted_get(handle: &mut VersHandle, place: u64) -> VersAnswer;
+        fn vers_quick_sorted_get(handle: &mut VersHandle, position: u64) -> VersAnswer;
         fn vers_quick_sorted_rank(handle: &mut VersHandle, number: u64) -> VersAnswer;
         fn vers_quick_sorted_predecessor(handle: &mut VersHandle, number: u64) -> VersAnswer;
         fn vers_quick_sorted_successor(handle: &mut VersHandle, number: u64) -> VersAnswer;
-        fn vers_quick_symbols_get(handle: &mut VersHandle, place: u64) -> VersAnswer;
+        fn vers_quick_symbols_get(handle: &mut VersHandle, position: u64) -> VersAnswer;
         fn vers_quick_symbols_rank(handle: &mut VersHandle, end: u64, symbol: u64) -> VersAnswer;
         fn vers_quick_symbols_quantile(handle: &mut VersHandle, from: u64, to: u64, number: u64) -> VersAnswer;
-        fn vers_quick_tree_get(handle: &mut VersHandle, place: u64) -> VersAnswer;
-        fn vers_quick_tree_close(handle: &mut VersHandle, place: u64) -> VersAnswer;
+        fn vers_quick_tree_get(handle: &mut VersHandle, position: u64) -> VersAnswer;
+        fn vers_quick_tree_close(handle: &mut VersHandle, position: u64) -> VersAnswer;
         fn vers_quick_tree_parent(handle: &mut VersHandle, node: u64) -> VersAnswer;
         fn vers_quick_tree_first_child(handle: &mut VersHandle, node: u64) -> VersAnswer;
         fn vers_quick_tree_next_sibling(handle: &mut VersHandle, node: u64) -> VersAnswer;
         fn vers_quick_tree_depth(handle: &mut VersHandle, node: u64) -> VersAnswer;
-        fn vers_quick_values_get(handle: &mut VersHandle, place: u64) -> VersAnswer;
+        fn vers_quick_values_get(handle: &mut VersHandle, position: u64) -> VersAnswer;
         fn vers_quick_values_range_min(handle: &mut VersHandle, from: u64, to: u64) -> VersAnswer;
     }
     saves {

@@ -21,10 +21,10 @@ def main(folder, client):
     paths = [os.path.join(folder, f"{k}.vers") for k in range(16)]
     whole = parts.Symbols(client, client.gather(client.map(made, paths, range(16))))
     median = whole.quantile(0, len(whole), len(whole) // 2)
-    place = whole.select(100, median)
-    assert whole.get(place) == median and whole.rank([place, place + 1], median) == [100, 101]
+    position = whole.select(100, median)
+    assert whole.get(position) == median and whole.rank([position, position + 1], median) == [100, 101]
     assert sum(whole.count(symbol) for symbol in range(256)) == len(whole)
-    print(f"the median of {len(whole)} symbols is {median}, and its occurrence 100 is at {place}")
+    print(f"the median of {len(whole)} symbols is {median}, and its occurrence 100 is at {position}")
 
 
 if __name__ == "__main__":

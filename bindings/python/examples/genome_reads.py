@@ -31,11 +31,11 @@ class Genome:
         self.starts = vers.EliasFanoVec([0, *accumulate(len(it) + 1 for it in sequences.values())])
 
     def hits(self, read):
-        """The strand, the sequence and the place in it of each occurrence of a read."""
+        """The strand, the sequence and the position in it of each occurrence of a read."""
         for strand, pattern in strands(read):
-            for place in self.text.places(pattern.translate(CODES)):
-                start = self.starts.predecessor(place)
-                yield strand, self.names[self.starts.rank(start)], place - start
+            for position in self.text.places(pattern.translate(CODES)):
+                start = self.starts.predecessor(position)
+                yield strand, self.names[self.starts.rank(start)], position - start
 
 
 def main(path, draw):

@@ -13,7 +13,7 @@ SAMPLE = {"name": "vers", "authors": [{"name": "A"}, {"name": "B", "mail": None}
 
 
 def walk(value, label, shape, labels):
-    """Appends the parentheses of a value, and the label of each node: its key or place, and the value of a leaf."""
+    """Appends the parentheses of a value, and the label of each node: its key or position, and the value of a leaf."""
     shape.append("(")
     children = value.items() if isinstance(value, dict) else enumerate(value) if isinstance(value, list) else ()
     labels.append((label, None if isinstance(value, (dict, list)) else value))
@@ -23,7 +23,7 @@ def walk(value, label, shape, labels):
 
 
 class Document:
-    """The nodes of a document, each a place where a parenthesis opens."""
+    """The nodes of a document, each a position where a parenthesis opens."""
 
     def __init__(self, value):
         shape, self.labels = [], []
@@ -31,7 +31,7 @@ class Document:
         self.tree = vers.BpTree("".join(shape))
 
     def path(self, node):
-        """The labels from the root to a node: the key or the place by which its parent has each."""
+        """The labels from the root to a node: the key or the position by which its parent has each."""
         up = [self.tree.level_ancestor(node, level) for level in range(self.tree.depth(node), -1, -1)]
         return [self.labels[self.tree.node_index(it)][0] for it in up]
 

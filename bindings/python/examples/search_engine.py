@@ -42,7 +42,7 @@ class Engine:
     def phrase(self, text):
         """The documents that have words one after another."""
         places = self.text.places([self.numbers[it] for it in words_of(text)])
-        return sorted({bisect.bisect_left(self.ends, place) for place in places})
+        return sorted({bisect.bisect_left(self.ends, position) for position in places})
 
 
 if __name__ == "__main__":

@@ -422,7 +422,7 @@ class Arrays(unittest.TestCase):
             tree.parent(numpy.array([0, 2]))
         with self.assertRaisesRegex(TypeError, "^the node at position 1 is masked$"):
             tree.parent(numpy.ma.array([0, 1], mask=[False, True]))
-        with self.assertRaisesRegex(OverflowError, "^the place at position 1 is -3"):
+        with self.assertRaisesRegex(OverflowError, "^the number at position 1 is -3"):
             bits.rank1(numpy.array([0, -3]))
 
     def test_like_single_calls(self):
@@ -468,8 +468,8 @@ class Arrays(unittest.TestCase):
         self.assertEqual(bits.each("successor1", [0, 3]).tolist(), [2, None])
         self.assertEqual(bits.each("predecessor1", [0, 3], other=-1), array("q", [-1, 2]))
         self.assertEqual(bits.each("successor0", [0, 1], other=9), array("q", [1, 9]))
-        self.assertIn("predecessor0(place)", vers.RsVec.__doc__)
-        with self.assertRaisesRegex(TypeError, r"^successor1 takes \(place\), and not 2 arguments$"):
+        self.assertIn("predecessor0(position)", vers.RsVec.__doc__)
+        with self.assertRaisesRegex(TypeError, r"^successor1 takes \(position\), and not 2 arguments$"):
             bits.each("successor1", [0], 1)
         if numpy is not None:
             found = bits.each("predecessor0", numpy.array([[0, 2]]))
@@ -522,7 +522,7 @@ class Arrays(unittest.TestCase):
 
     def test_help(self):
         page = pydoc.plain(pydoc.render_doc(vers.RsVec))
-        self.assertIn("rank1(place)", page)
+        self.assertIn("rank1(position)", page)
         self.assertIn("Returns the number of ones before a position", page)
         self.assertIn("quantile(start, end, number)", vers.WaveletMatrix.__doc__)
 
@@ -557,13 +557,13 @@ class Searches(unittest.TestCase):
                 self.assertEqual((value in made, made.count(value)), (value in items, items.count(value)), (made, value))
                 for ends in ((0, None), (40, None), (0, 3), (-4999, -1), (4998, 6000), (10, 5), (2, 1 << 70)):
                     places = range(*slice(*ends).indices(len(items)))
-                    place = next((k for k in places if items[k] == value), None)
-                    self.compare(made, (value, *ends), place)
+                    position = next((k for k in places if items[k] == value), None)
+                    self.compare(made, (value, *ends), position)
 
-    def compare(self, made, arguments, place):
-        """Compares an index with a place, or with None for a ValueError."""
-        if place is not None:
-            self.assertEqual(made.index(*arguments), place, (made, arguments))
+    def compare(self, made, arguments, position):
+        """Compares an index with a position, or with None for a ValueError."""
+        if position is not None:
+            self.assertEqual(made.index(*arguments), position, (made, arguments))
             return
         with self.assertRaisesRegex(ValueError, f"^{re.escape(repr(arguments[0]))} is not in the list$"):
             made.index(*arguments)
@@ -655,7 +655,7 @@ class Fasta(unittest.TestCase):
         self.refused("^the symbol at position 0 is 300, and residues", self.text.sites, [300, 1])
         with self.assertRaisesRegex(TypeError, "encode it"):
             self.text.sites("TA")
-        with self.assertRaisesRegex(OverflowError, "^the place is -1"):
+        with self.assertRaisesRegex(OverflowError, "^the position is -1"):
             self.text.site(-1)
 
     def test_like_a_search(self):

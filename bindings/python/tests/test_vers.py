@@ -43,11 +43,11 @@ class Lists(unittest.TestCase):
                 self.assertEqual([made.select0(k) for k in range(len(zeros) + 1)], [*zeros, count])
                 self.assertEqual((list(made.iter1()), list(made.iter0())), (ones, zeros))
                 self.assertEqual((made.rank0(count), made.zeros(), made.ones()), (len(zeros), len(zeros), len(ones)))
-                for place in (0, 1, count // 2, count, vers.NONE):
-                    self.assertEqual(made.successor1(place), next((it for it in ones if it > place), None))
-                    self.assertEqual(made.successor0(place), next((it for it in zeros if it > place), None))
-                    self.assertEqual(made.predecessor1(place), max((it for it in ones if it < place), default=None))
-                    self.assertEqual(made.predecessor0(place), max((it for it in zeros if it < place), default=None))
+                for position in (0, 1, count // 2, count, vers.NONE):
+                    self.assertEqual(made.successor1(position), next((it for it in ones if it > position), None))
+                    self.assertEqual(made.successor0(position), next((it for it in zeros if it > position), None))
+                    self.assertEqual(made.predecessor1(position), max((it for it in ones if it < position), default=None))
+                    self.assertEqual(made.predecessor0(position), max((it for it in zeros if it < position), default=None))
                 self.assertEqual(made.get_bits(0, 3), bits[0] + 2 * bits[1] + 4 * bits[2] if count > 2 else None)
                 self.assertGreaterEqual(made.heap_size(), count // 8)
 
@@ -57,9 +57,9 @@ class Lists(unittest.TestCase):
         self.assertEqual((made[0], made[-1], made[-100]), (bits[0], bits[-1], bits[0]))
         for part in (slice(None), slice(10, 20), slice(-5, None), slice(None, None, -3), slice(50, 10)):
             self.assertEqual(made[part].tolist(), bits[part])
-        for place in (100, -101, 1 << 64):
+        for position in (100, -101, 1 << 64):
             with self.assertRaises(IndexError):
-                made[place]
+                made[position]
         self.assertIsNone(made.get(100))
         self.assertEqual(1 in made, True)
         with self.assertRaises(OverflowError):
@@ -97,17 +97,17 @@ class Lists(unittest.TestCase):
             made = vers.BitVec.from_zeros(count)
             self.assertEqual((len(made), made.count_ones(), made), (count, 0, vers.BitVec([0] * count)))
             plain = [0] * count
-            for place in RANDOM.sample(range(count), count // 3):
-                made.flip(place)
-                plain[place] = 1
+            for position in RANDOM.sample(range(count), count // 3):
+                made.flip(position)
+                plain[position] = 1
             self.assertEqual((list(made), made.count_ones(), made.count(0)), (plain, sum(plain), count - sum(plain)))
         made = vers.BitVec([1, 0, 1])
         made.flip(0)
         made.flip(-2)
         self.assertEqual((list(made), made.count_ones(), made.count(True), made.count(2)), ([0, 1, 1], 2, 2, 0))
-        for place in (3, -4, vers.NONE):
+        for position in (3, -4, vers.NONE):
             with self.assertRaises(IndexError):
-                made.flip(place)
+                made.flip(position)
         with self.assertRaisesRegex(OverflowError, "^the length is -1"):
             vers.BitVec.from_zeros(-1)
 
@@ -173,7 +173,7 @@ class Lists(unittest.TestCase):
             self.assertEqual(list(made), values)
             for _ in range(200):
                 a, b = sorted(RANDOM.randrange(300) for _ in range(2))
-                self.assertEqual(made.range_min(a, b), min(range(a, b + 1), key=lambda place: values[place]))
+                self.assertEqual(made.range_min(a, b), min(range(a, b + 1), key=lambda position: values[position]))
             self.assertIsNone(made.range_min(3, 300))
             self.assertIsNone(made.range_min(3, 2))
 
@@ -193,7 +193,7 @@ class Lists(unittest.TestCase):
         self.assertEqual((made.level_next(4), made.level_prev(8), made.level_ancestor(8, 2)), (8, 4, 0))
         self.assertEqual((made.level_leftmost(2), made.level_rightmost(2), made.level_leftmost(3)), (2, 8, None))
         self.assertEqual((made.is_leaf(2), made.is_leaf(1), made.is_ancestor(0, 8)), (True, False, True))
-        self.assertEqual([made.has_node(place) for place in (2, 3, 14)], [True, False, False])
+        self.assertEqual([made.has_node(position) for position in (2, 3, 14)], [True, False, False])
         with self.assertRaises(vers.Refused):
             made.parent(3)
         other = vers.BpTree([0, 1])
@@ -462,10 +462,10 @@ class Owners(unittest.TestCase):
         self.assertEqual((len(text), text.bits_per_symbol(), text.step()), (55, 8, 4))
         self.assertEqual(repr(text), "<vers.TextIndex of 55 symbols: [97, 98, 114, 97, 99, 97, 100, 97, ...]>")
         for pattern in (b"", b"a", b"abra", b"raa", b"x", plain, plain + b"a"):
-            places = [place for place in range(len(plain) + 1) if plain.startswith(pattern, place)]
+            places = [position for position in range(len(plain) + 1) if plain.startswith(pattern, position)]
             self.assertEqual((text.count(pattern), list(text.places(pattern)), pattern in text),
                              (len(places), places, bool(places)))
-            order = sorted(places, key=lambda place: plain[place:])
+            order = sorted(places, key=lambda position: plain[position:])
             for limit in (0, 1, 3, vers.NONE):
                 self.assertEqual(list(text.first_places(pattern, limit)), order[:limit])
         self.assertEqual(bytes(text.extract(3, 11)), plain[3:11])
@@ -494,9 +494,9 @@ class Owners(unittest.TestCase):
             ends = [RANDOM.choice([None, RANDOM.randrange(-6000, 6000)]) for _ in range(2)]
             part = slice(*ends, RANDOM.choice([None, 1, 2, 700, -1, -3]))
             self.assertEqual(text[part].tolist(), list(plain[part]))
-        for place in (5000, -5001):
+        for position in (5000, -5001):
             with self.assertRaises(IndexError):
-                text[place]
+                text[position]
         with self.assertRaisesRegex(vers.OtherKind, "^the bytes are the saved form of BitVec or RsVec, and not of TextI"):
             vers.TextIndex.from_bytes(vers.RsVec("01").to_bytes())
         empty = pickle.loads(pickle.dumps(vers.TextIndex(b"", 3)))

@@ -17,7 +17,7 @@ ranks = bits.rank1([1, 2])
 many = bits.each("rank1", [1, 2], other=3)
 
 nearest = bits.each("successor1", [1, 2], other=-1)
-place: int = bits.index(1) + vers.EliasFanoVec([3]).count(3)
+position: int = bits.index(1) + vers.EliasFanoVec([3]).count(3)
 growing: vers.BitVec = vers.BitVec.from_zeros(3)
 growing.flip(0)
 ones: int = growing.count_ones()

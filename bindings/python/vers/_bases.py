@@ -199,15 +199,15 @@ class List(Generic[Q]):
         for first in range(start, end, 4096):
             yield self._part(first, min(first + 4096, end))
 
-    def _place(self, place: Any) -> int:
+    def _position(self, position: Any) -> int:
         """A position, which is from the end if it is negative."""
         try:
-            at = operator.index(place)
+            at = operator.index(position)
         except TypeError:
-            raise TypeError(f"an index is a whole number or a slice, and not of type {type(place).__name__}") from None
+            raise TypeError(f"an index is a whole number or a slice, and not of type {type(position).__name__}") from None
         at = at + self._length() if at < 0 else at
         if not 0 <= at <= NONE:
-            raise IndexError(f"no item at {place}")
+            raise IndexError(f"no item at {position}")
         return at
 
     def _traits(self) -> Any:
@@ -353,19 +353,19 @@ class Items(List[Q], Sequence[int]):
     """A list of which each item can be asked."""
 
     @query(codes.GET, None)
-    def get(self, place: int) -> Optional[int]:
+    def get(self, position: int) -> Optional[int]:
         """Returns the item at a position. None past the end."""
-        return self._find(codes.GET, place)
+        return self._find(codes.GET, position)
 
-    def __getitem__(self, place: Any) -> Any:
+    def __getitem__(self, position: Any) -> Any:
         """Returns the item at a position, which is from the end if it is negative. For a slice, returns an array of
         items: of bytes if they are bits, of the narrowest kind if they are symbols, and signed if they are members,
         documents or positions that are all below 2**63."""
-        if isinstance(place, slice):
-            return self._slice(range(*place.indices(self._length())))
-        item = self._find(codes.GET, self._place(place))
+        if isinstance(position, slice):
+            return self._slice(range(*position.indices(self._length())))
+        item = self._find(codes.GET, self._position(position))
         if item is None:
-            raise IndexError(f"no item at {place}")
+            raise IndexError(f"no item at {position}")
         return item
 
     def _slice(self, places: range) -> Any:
@@ -401,19 +401,19 @@ class Items(List[Q], Sequence[int]):
     def index(self, value: Any, start: int = 0, stop: Optional[int] = None) -> int:
         """Returns the first position of an item, from `start` on and below `stop`. Raises ValueError if there is
         none."""
-        place = self._first_place(value, *slice(start, stop).indices(self._length())[:2])
-        if place is None:
+        position = self._first_position(value, *slice(start, stop).indices(self._length())[:2])
+        if position is None:
             raise ValueError(f"{value!r} is not in the list")
-        return place
+        return position
 
     def count(self, value: Any) -> int:
         """Returns the number of items that equal a value."""
         return sum(part.count(value) for part in self._parts(0, self._length()))
 
     def __contains__(self, value: Any) -> bool:
-        return self._first_place(value, 0, self._length()) is not None
+        return self._first_position(value, 0, self._length()) is not None
 
-    def _first_place(self, value: Any, start: int, end: int) -> Optional[int]:
+    def _first_position(self, value: Any, start: int, end: int) -> Optional[int]:
         """The first position of an item in a range. None if there is none."""
         for k, part in enumerate(self._parts(start, end)):
             if value in part:

@@ -159,8 +159,13 @@ def _gathered(numbers: Any, what: str) -> Any:
             made.fromlist(chunk)
         except (TypeError, OverflowError):
             start = len(made)
-            made.fromlist([number(it, f"the {what} at position {start + k}") for k, it in enumerate(chunk)])
+            made.fromlist([number(it, _entry(what, start + k)) for k, it in enumerate(chunk)])
     return made
+
+
+def _entry(what: str, position: int) -> str:
+    """Names one of some numbers by its position in their array, for a message."""
+    return f"the {'number' if what == 'position' else what} at position {position}"
 
 
 def _chunks(items: Any, what: str) -> Iterator[Any]:
@@ -181,7 +186,7 @@ def _checked(numpy: Any, numbers: Any, what: str) -> Any:
     an array of any type is one of whole numbers."""
     mask = numpy.ma.getmask(numbers)
     if mask is not numpy.ma.nomask and mask.any():
-        raise TypeError(f"the {what} at position {first(mask)} is masked")
+        raise TypeError(f"{_entry(what, first(mask))} is masked")
     numbers = numpy.asarray(numbers)
     if numbers.dtype.kind == "O":
         return numpy.array(_gathered(numbers.ravel().tolist(), what), dtype=numpy.uint64).reshape(numbers.shape)
@@ -191,7 +196,7 @@ def _checked(numpy: Any, numbers: Any, what: str) -> Any:
         return numpy.zeros(numbers.shape, numpy.uint64)
     if numbers.dtype.kind == "i" and numbers.size and numbers.min() < 0:
         position = first(numbers < 0)
-        number(numbers.flat[position], f"the {what} at position {position}")
+        number(numbers.flat[position], _entry(what, position))
     return numbers
 
 
@@ -352,9 +357,9 @@ def _flags_of_text(text: str, digits: str) -> Iterator[bytes]:
     for start in range(0, len(text), CHUNK):
         chunk = text[start:start + CHUNK]
         if not set(digits).issuperset(chunk):
-            place, wrong = next((k, it) for k, it in enumerate(chunk) if it not in digits)
+            position, wrong = next((k, it) for k, it in enumerate(chunk) if it not in digits)
             shown = " or ".join(digits)
-            raise ValueError(f"the character at position {start + place} is {wrong!r}, and bits are {shown}")
+            raise ValueError(f"the character at position {start + position} is {wrong!r}, and bits are {shown}")
         yield chunk.translate(values).encode()
 
 
@@ -376,7 +381,7 @@ def _first_above(what: str, numbers: Held, most: int) -> str:
     if numbers.size == 0 or int(made.max() if _numpy_of(made) is not None else max(made)) <= most:
         return ""
     position = first(made > most) if _numpy_of(made) is not None else next(k for k, it in enumerate(made) if it > most)
-    return f"the {what} at position {position} is {_flat(made)[position]}"
+    return f"{_entry(what, position)} is {_flat(made)[position]}"
 
 
 def descent(what: str, numbers: Held, is_strict: bool) -> str:
@@ -436,9 +441,9 @@ def columns_of(arguments: Sequence[Any], names: Sequence[str]) -> Columns:
 def rows_of(columns: Columns) -> Any:
     """The numbers of queries, three in a row."""
     rows = array("Q", bytes(24 * columns.size))
-    for place, column in enumerate(columns.columns):
+    for position, column in enumerate(columns.columns):
         same = isinstance(column, int)
-        rows[place::3] = array("Q", [column]) * columns.size if same else array_of("Q", column.tobytes())
+        rows[position::3] = array("Q", [column]) * columns.size if same else array_of("Q", column.tobytes())
     return rows
 
 

@@ -72,12 +72,12 @@ class Sites:
         after = self._feeds[2 * number + 2] if number + 1 < len(self) else self._size
         return self._feeds[2 * number + 1] + 1, after
 
-    def site(self, place: int) -> Optional[Tuple[int, int]]:
+    def site(self, position: int) -> Optional[Tuple[int, int]]:
         """The number of the sequence at a position, and the offset in it. None if there is none."""
-        before = bisect_left(self._feeds, place)
-        if before % 2 or before == 0 or place >= self.ends(before // 2 - 1)[1]:
+        before = bisect_left(self._feeds, position)
+        if before % 2 or before == 0 or position >= self.ends(before // 2 - 1)[1]:
             return None
-        return before // 2 - 1, place - self._feeds[before - 1] - 1
+        return before // 2 - 1, position - self._feeds[before - 1] - 1
 
     def sites(self, places: Iterable[int]) -> List[Tuple[int, int]]:
         """`site` for each position. Raises Refused if one is in no sequence."""

@@ -87,10 +87,10 @@ class BitVec(Bits[_BitVecQuery]):
             raise NoMemory(f"there is no memory for {_buffers.counted(count, 'bits')}") from None
 
     @query(codes.GET_BITS)
-    def get_bits(self, place: int, count: int) -> Optional[int]:
+    def get_bits(self, position: int, count: int) -> Optional[int]:
         """Returns `count` bits from a position on as a number, the first bit as its lowest. None if there are fewer, or
         `count` is 0 or above 64."""
-        return self._find_by(codes.GET_BITS, place, count)
+        return self._find_by(codes.GET_BITS, position, count)
 
     def _change(self, code: int, a: int, b: int = 0, why: Optional[str] = None) -> None:
         library.done(library.change(self._at, code, a, b), why)
@@ -107,27 +107,27 @@ class BitVec(Bits[_BitVecQuery]):
     def extend(self, bits: Iterable[Any]) -> None:
         """Appends bits."""
         words, length = bits_of(bits)
-        for place, word in enumerate(words.keeper):
-            self.append_bits(word, min(64, length - 64 * place))
+        for position, word in enumerate(words.keeper):
+            self.append_bits(word, min(64, length - 64 * position))
 
     def drop_last(self, count: int) -> None:
         """Drops the last bits, or all of them."""
         self._change(codes.DROP_LAST, number(count, "the count"))
 
-    def __setitem__(self, place: int, bit: Any) -> None:
-        if isinstance(place, slice):
+    def __setitem__(self, position: int, bit: Any) -> None:
+        if isinstance(position, slice):
             raise TypeError("'BitVec' object doesn't support the assignment of slices")
-        at = self._place(place)
+        at = self._position(position)
         if at >= len(self):
-            raise IndexError(f"no item at {place}")
+            raise IndexError(f"no item at {position}")
         self._change(codes.SET, at, _buffers.bit(bit))
 
-    def __delitem__(self, place: Any) -> None:
+    def __delitem__(self, position: Any) -> None:
         raise TypeError("'BitVec' object doesn't support item deletion; `drop_last` drops the last bits")
 
-    def flip(self, place: int) -> None:
+    def flip(self, position: int) -> None:
         """Changes the bit at a position, from the end if it is negative. Raises IndexError if there is none."""
-        self[place] = not self[place]
+        self[position] = not self[position]
 
     def count_ones(self) -> int:
         """Returns the number of ones, by words."""
@@ -164,20 +164,20 @@ class RsVec(Fixed[_RsVecQuery], Bits[_RsVecQuery]):
         return made
 
     @query(codes.GET_BITS)
-    def get_bits(self, place: int, count: int) -> Optional[int]:
+    def get_bits(self, position: int, count: int) -> Optional[int]:
         """Returns `count` bits from a position on as a number, the first bit as its lowest; 0 for no bits. None if
         there are fewer, or `count` is above 64."""
-        return self._find_by(codes.GET_BITS, place, count)
+        return self._find_by(codes.GET_BITS, position, count)
 
     @query(codes.RANK1, True)
-    def rank1(self, place: int) -> int:
+    def rank1(self, position: int) -> int:
         """Returns the number of ones before a position; all of them past the end."""
-        return self._number(codes.RANK1, place)
+        return self._number(codes.RANK1, position)
 
     @query(codes.RANK0, True)
-    def rank0(self, place: int) -> int:
+    def rank0(self, position: int) -> int:
         """Returns the number of zeros before a position; all of them past the end."""
-        return self._number(codes.RANK0, place)
+        return self._number(codes.RANK0, position)
 
     @query(codes.SELECT1, True)
     def select1(self, number: int) -> int:
@@ -212,7 +212,7 @@ class RsVec(Fixed[_RsVecQuery], Bits[_RsVecQuery]):
         bit = _buffers.equal_number(value)
         return self.ones() if bit == 1 else self.zeros() if bit == 0 else 0
 
-    def _first_place(self, value: Any, start: int, end: int) -> Optional[int]:
+    def _first_position(self, value: Any, start: int, end: int) -> Optional[int]:
         bit = _buffers.equal_number(value)
         if bit not in (0, 1):
             return None
@@ -221,36 +221,36 @@ class RsVec(Fixed[_RsVecQuery], Bits[_RsVecQuery]):
         return found if found < end else None
 
     @query(COMBINED, True)
-    def successor1(self, place: int) -> Optional[int]:
+    def successor1(self, position: int) -> Optional[int]:
         """Returns the least position of a one strictly above a position, while `EliasFanoVec.successor` is at or above.
         None if there is none."""
-        return self._neighbour("successor1", place)
+        return self._neighbour("successor1", position)
 
     @query(COMBINED, True)
-    def successor0(self, place: int) -> Optional[int]:
+    def successor0(self, position: int) -> Optional[int]:
         """Returns the least position of a zero strictly above a position. None if there is none."""
-        return self._neighbour("successor0", place)
+        return self._neighbour("successor0", position)
 
     @query(COMBINED, True)
-    def predecessor1(self, place: int) -> Optional[int]:
+    def predecessor1(self, position: int) -> Optional[int]:
         """Returns the greatest position of a one strictly below a position, which may be past the end, while
         `EliasFanoVec.predecessor` is at or below. None if there is none."""
-        return self._neighbour("predecessor1", place)
+        return self._neighbour("predecessor1", position)
 
     @query(COMBINED, True)
-    def predecessor0(self, place: int) -> Optional[int]:
+    def predecessor0(self, position: int) -> Optional[int]:
         """Returns the greatest position of a zero strictly below a position, which may be past the end. None if there
         is none."""
-        return self._neighbour("predecessor0", place)
+        return self._neighbour("predecessor0", position)
 
-    def _neighbour(self, name: str, place: Any) -> Optional[int]:
+    def _neighbour(self, name: str, position: Any) -> Optional[int]:
         """The answer to a query of a neighbour: the next position of a bit above a position, or below it if the step is
         negative."""
-        if _buffers.is_many(place):
-            places: Optional[int] = self._asked_many(name, (place,), None)
+        if _buffers.is_many(position):
+            places: Optional[int] = self._asked_many(name, (position,), None)
             return places
         rank, select, step = _NEIGHBOURS[name]
-        at = number(place, "the place")
+        at = number(position, "the position")
         before = self._number(rank, min(at + 1, NONE)) if step > 0 else self._number(rank, at) - 1
         found = self._number(select, before) if before >= 0 else len(self)
         return found if found < len(self) else None
@@ -259,7 +259,7 @@ class RsVec(Fixed[_RsVecQuery], Bits[_RsVecQuery]):
         if name not in _NEIGHBOURS:
             return super()._asked_many(name, numbers, other)
         rank, select, step = _NEIGHBOURS[name]
-        columns = _buffers.columns_of(numbers, ["place"])
+        columns = _buffers.columns_of(numbers, ["position"])
         if step > 0:
             columns = _buffers.stepped(columns, 1)
         ranks = columns._replace(columns=[self._answers(rank, columns, 0, True)])
@@ -285,14 +285,14 @@ class SparseRSVec(Fixed[_SparseQuery]):
         return cls._made(library.sparse_build, held, bound, why=why)
 
     @query(codes.RANK1, True)
-    def rank1(self, place: int) -> int:
+    def rank1(self, position: int) -> int:
         """Returns the number of ones before a position; all of them past the end."""
-        return self._number(codes.RANK1, place)
+        return self._number(codes.RANK1, position)
 
     @query(codes.RANK0)
-    def rank0(self, place: int) -> int:
+    def rank0(self, position: int) -> int:
         """Returns the number of zeros before a position; all of them past the end."""
-        return self._number(codes.RANK0, place)
+        return self._number(codes.RANK0, position)
 
     @query(codes.SELECT1)
     def select1(self, number: int) -> int:
@@ -318,11 +318,11 @@ class SparseRSVec(Fixed[_SparseQuery]):
         bit = _buffers.equal_number(value)
         return self.rank1(NONE) if bit == 1 else self.rank0(NONE) if bit == 0 else 0
 
-    def _first_place(self, value: Any, start: int, end: int) -> Optional[int]:
+    def _first_position(self, value: Any, start: int, end: int) -> Optional[int]:
         bit = _buffers.equal_number(value)
         if bit == 0:
             # past the ones from the start on, which are few
-            return super()._first_place(0, start, end)
+            return super()._first_position(0, start, end)
         found = self.select1(self.rank1(start)) if bit == 1 else end
         return found if found < end else None
 
@@ -357,12 +357,12 @@ class EliasFanoVec(Ascending[_SortedQuery]):
         member = _buffers.equal_number(value)
         return 0 if member is None else self._past(member) - self.rank(member)
 
-    def _first_place(self, value: Any, start: int, end: int) -> Optional[int]:
+    def _first_position(self, value: Any, start: int, end: int) -> Optional[int]:
         member = _buffers.equal_number(value)
         if member is None:
             return None
-        place = max(self.rank(member), start)
-        return place if place < min(self._past(member), end) else None
+        position = max(self.rank(member), start)
+        return position if position < min(self._past(member), end) else None
 
     def _past(self, member: int) -> int:
         """The number of members that are at most a number."""
@@ -381,9 +381,9 @@ class EliasFanoVec(Ascending[_SortedQuery]):
         return self._find(codes.SUCCESSOR, number)
 
     @query(codes.DELTA, None)
-    def delta(self, place: int) -> Optional[int]:
+    def delta(self, position: int) -> Optional[int]:
         """Returns the member at a position less the one before it; the first member itself. None past the end."""
-        return self._find(codes.DELTA, place)
+        return self._find(codes.DELTA, position)
 
 
 class WaveletMatrix(Fixed[_SymbolsQuery]):
@@ -422,10 +422,10 @@ class WaveletMatrix(Fixed[_SymbolsQuery]):
         symbol = self._symbol(value)
         return 0 if symbol is None else self.rank(len(self), symbol) or 0
 
-    def _first_place(self, value: Any, start: int, end: int) -> Optional[int]:
+    def _first_position(self, value: Any, start: int, end: int) -> Optional[int]:
         symbol = self._symbol(value)
-        place = None if symbol is None else self.select_offset(start, 0, symbol)
-        return place if place is not None and place < end else None
+        position = None if symbol is None else self.select_offset(start, 0, symbol)
+        return position if position is not None and position < end else None
 
     def _symbol(self, value: Any) -> Optional[int]:
         """The symbol that equals a value. None if there is none, since a query takes the low bits."""
@@ -578,9 +578,9 @@ class BpTree(Shared[_TreeQuery]):
         return made
 
     @query(codes.GET)
-    def is_open(self, place: int) -> Optional[bool]:
+    def is_open(self, position: int) -> Optional[bool]:
         """Returns whether the parenthesis at a position opens. None past the end."""
-        found: Any = self._find(codes.GET, place)
+        found: Any = self._find(codes.GET, position)
         return found == 1 if type(found) is int else found
 
     def root(self) -> Optional[int]:
@@ -596,25 +596,25 @@ class BpTree(Shared[_TreeQuery]):
         return self._number(codes.IS_BALANCED) == 1
 
     @query(codes.EXCESS, True, 1 << 63)
-    def excess(self, place: int) -> int:
+    def excess(self, position: int) -> int:
         """Returns the number of ones less that of zeros, up to a position and at it. Raises Refused past the end."""
-        value = self._number(codes.EXCESS, place)
+        value = self._number(codes.EXCESS, position)
         return value - (1 << 64) if type(value) is int and value >> 63 else value
 
     @query(codes.CLOSE, True)
-    def close(self, place: int) -> Optional[int]:
+    def close(self, position: int) -> Optional[int]:
         """Returns the position that closes the parenthesis that opens at a position. None if there is none."""
-        return self._find(codes.CLOSE, place)
+        return self._find(codes.CLOSE, position)
 
     @query(codes.OPEN, True)
-    def open(self, place: int) -> Optional[int]:
+    def open(self, position: int) -> Optional[int]:
         """Returns the position that opens the parenthesis that closes at a position. None if there is none."""
-        return self._find(codes.OPEN, place)
+        return self._find(codes.OPEN, position)
 
     @query(codes.ENCLOSE, True)
-    def enclose(self, place: int) -> Optional[int]:
+    def enclose(self, position: int) -> Optional[int]:
         """Returns the position at which the nearest pair round a position opens. None if there is none."""
-        return self._find(codes.ENCLOSE, place)
+        return self._find(codes.ENCLOSE, position)
 
     @query(codes.NODE_HANDLE, True)
     def node_handle(self, number: int) -> int:
@@ -622,18 +622,18 @@ class BpTree(Shared[_TreeQuery]):
         balanced, that is the node of that number in preorder."""
         return self._number(codes.NODE_HANDLE, number)
 
-    def fwd_search(self, place: int, rise: int) -> Optional[int]:
-        """Returns the first position past `place` at which the excess has risen by `rise`, which may be negative. None
+    def fwd_search(self, position: int, rise: int) -> Optional[int]:
+        """Returns the first position past `position` at which the excess has risen by `rise`, which may be negative. None
         if there is none."""
-        return self._search(codes.FWD_SEARCH, place, rise)
+        return self._search(codes.FWD_SEARCH, position, rise)
 
-    def bwd_search(self, place: int, rise: int) -> Optional[int]:
-        """Returns the last position before `place` before which the excess is `rise` more, which may be negative. None
+    def bwd_search(self, position: int, rise: int) -> Optional[int]:
+        """Returns the last position before `position` before which the excess is `rise` more, which may be negative. None
         if there is none."""
-        return self._search(codes.BWD_SEARCH, place, rise)
+        return self._search(codes.BWD_SEARCH, position, rise)
 
-    def _search(self, code: int, place: int, rise: int) -> Optional[int]:
-        return self._found(code, number(place, "the place"), signed_number(rise, "the rise") % (1 << 64), 0)
+    def _search(self, code: int, position: int, rise: int) -> Optional[int]:
+        return self._found(code, number(position, "the position"), signed_number(rise, "the rise") % (1 << 64), 0)
 
     @query(codes.PARENT, True)
     def parent(self, node: int) -> Optional[int]:
@@ -692,9 +692,9 @@ class BpTree(Shared[_TreeQuery]):
         return self._number(codes.NODE_INDEX, node)
 
     @query(codes.HAS_NODE)
-    def has_node(self, place: int) -> bool:
+    def has_node(self, position: int) -> bool:
         """Returns whether the parentheses are balanced and a node opens at a position."""
-        return self._truth(codes.HAS_NODE, place)
+        return self._truth(codes.HAS_NODE, position)
 
     @query(codes.IS_LEAF)
     def is_leaf(self, node: int) -> bool:
@@ -755,9 +755,9 @@ class Postings(Ascending[_PostingsQuery]):
         return self._number(codes.RANK, number)
 
     @query(codes.COST)
-    def cost(self, place: int) -> Optional[int]:
+    def cost(self, position: int) -> Optional[int]:
         """Returns the cost of the document at a position. None past the end."""
-        return self._find(codes.COST, place)
+        return self._find(codes.COST, position)
 
     @query(codes.HAS)
     def contains(self, document: int) -> bool:
@@ -772,11 +772,11 @@ class Postings(Ascending[_PostingsQuery]):
         """Returns 1 for a document that the list has, and otherwise 0."""
         return int(value in self)
 
-    def _first_place(self, value: Any, start: int, end: int) -> Optional[int]:
+    def _first_position(self, value: Any, start: int, end: int) -> Optional[int]:
         if value not in self:
             return None
-        place = self.rank(int(value))
-        return place if start <= place < end else None
+        position = self.rank(int(value))
+        return position if start <= position < end else None
 
     @query(codes.SUCCESSOR, None)
     def next_at_least(self, number: int) -> Optional[int]:
@@ -884,10 +884,10 @@ class InvertedIndex(Shared[_InvertedQuery]):
         return self._number(codes.UNIVERSE)
 
     @query(codes.GET)
-    def pair_number(self, place: int) -> Optional[int]:
+    def pair_number(self, position: int) -> Optional[int]:
         """Returns the pair at a position of all pairs as one number: the term times the universe, plus the document.
         None past the end."""
-        return self._find(codes.GET, place)
+        return self._find(codes.GET, position)
 
     @query(codes.COUNT, True)
     def count(self, term: int) -> int:
@@ -895,9 +895,9 @@ class InvertedIndex(Shared[_InvertedQuery]):
         return self._number(codes.COUNT, term)
 
     @query(codes.TERM_GET, None)
-    def get(self, term: int, place: int) -> Optional[int]:
+    def get(self, term: int, position: int) -> Optional[int]:
         """Returns the document of a term at a position. None past the end."""
-        return self._find_by(codes.TERM_GET, term, place)
+        return self._find_by(codes.TERM_GET, term, position)
 
     @query(codes.TERM_RANK, True)
     def rank(self, term: int, number: int) -> int:
@@ -1026,11 +1026,11 @@ class TextIndex(Shared[str]):
             known = self._known_sequences = [(found.name(self, k), *found.ends(k)) for k in range(len(found))]
         return known[:]
 
-    def site(self, place: int) -> Optional[Tuple[str, int]]:
+    def site(self, position: int) -> Optional[Tuple[str, int]]:
         """Returns the name of the sequence at a position, and the offset in it from 0 on. None if the position is in a
         name, or past the end. Raises Refused for a text that isn't that of a FASTA file."""
         found = self._sites()
-        site = found.site(number(place, "the place"))
+        site = found.site(number(position, "the position"))
         return None if site is None else (found.name(self, site[0]), site[1])
 
     def sites(self, pattern: Numbers) -> List[Tuple[str, int]]:
@@ -1048,16 +1048,16 @@ class TextIndex(Shared[str]):
             known = self._known_sites = _fasta.Sites(self, self.places([_fasta.FEED])[:])
         return known
 
-    def __getitem__(self, place: Any) -> Any:
+    def __getitem__(self, position: Any) -> Any:
         """Returns the symbol at a position, which is from the end if it is negative. For a slice, returns an array of
         the narrowest kind that its symbols fit in: of bytes if they have at most 8 bits."""
-        if isinstance(place, slice):
-            places = range(*place.indices(len(self)))
+        if isinstance(position, slice):
+            places = range(*position.indices(len(self)))
             first, last = sorted((places[0], places[-1])) if places else (0, -1)
             return _buffers.narrowed(self._part(first, last + 1)[::places.step], self.bits_per_symbol())
-        at = self._place(place)
+        at = self._position(position)
         if at >= len(self):
-            raise IndexError(f"no item at {place}")
+            raise IndexError(f"no item at {position}")
         return self._part(at, at + 1)[0]
 
     def __iter__(self) -> Iterator[int]:

@@ -234,9 +234,9 @@ class _Parts:
         return self._starts[-1]
 
     @many
-    def get(self, place: int) -> Optional[int]:
+    def get(self, position: int) -> Optional[int]:
         """Returns the item at a position. None past the end. Asks one part. The merge is tested."""
-        item: Optional[int] = self._asked("get", place, lambda it: _route(self._starts, it, None, None))
+        item: Optional[int] = self._asked("get", position, lambda it: _route(self._starts, it, None, None))
         return item
 
     def _asked(self, name: str, asked: Any, route: Callable[[int], Route], *others: Any) -> Any:
@@ -277,15 +277,15 @@ class Bits(_Parts):
         self._before = [_sums(it[bit] for it in self._files.facts) for bit in (1, 2)]
 
     @many
-    def rank1(self, place: int) -> int:
+    def rank1(self, position: int) -> int:
         """Returns how many ones precede a position; all of them past the end. Merged by the law `CountsOfSpansAddUp`:
         the ones before the part, plus those in it before the position."""
-        return self._rank(1, place)
+        return self._rank(1, position)
 
     @many
-    def rank0(self, place: int) -> int:
+    def rank0(self, position: int) -> int:
         """Returns how many zeros precede a position; all of them past the end. Merged as `rank1`."""
-        return self._rank(0, place)
+        return self._rank(0, position)
 
     @many
     def select1(self, number: int) -> int:
@@ -314,8 +314,8 @@ class Bits(_Parts):
 
     def _select(self, bit: int, numbers: Any) -> int:
         before = self._before[bit]
-        place: int = self._asked(f"select{bit}", numbers, lambda it: _route(before, it, self._starts, len(self)))
-        return place
+        position: int = self._asked(f"select{bit}", numbers, lambda it: _route(before, it, self._starts, len(self)))
+        return position
 
 
 def _ends(members: Any) -> Tuple[int, int, int]:
@@ -336,13 +336,13 @@ class _Ascending(_Parts):
             if first < last + is_strict:
                 raise _faults.NotAscending(f"part {part} begins with {first} after {last}")
 
-    def _from(self, asked: int, absent: Optional[int], is_place: bool = False) -> Route:
+    def _from(self, asked: int, absent: Optional[int], is_position: bool = False) -> Route:
         """Returns the route of a number to the first part with a member at or above it."""
         at = bisect_left(self._lasts, asked)
         if at == len(self._full):
             return absent
         part = self._full[at]
-        return part, asked, self._starts[part] if is_place else 0
+        return part, asked, self._starts[part] if is_position else 0
 
     @many
     def rank(self, number: int) -> int:

@@ -1,6 +1,6 @@
 -- The queries of lists of bits.
 use Rattle.std.specs.Prelude.{ℕ, ◌*◌, Bool, false, true, List, length, slice_get, option_map}
-use Rattle.vers_bits.specs.Bits.{bit_value, count, limb_count, part_number, places, select}
+use Rattle.vers_bits.specs.Bits.{bit_value, count, limb_count, part_number, positions, select}
 use Rattle.vers_rank.specs.Queries.{index_size, part_number_or_zero}
 use Rattle.vers_sorted.specs.Layout.{heap_size_of}
 use Rattle.catalogue.specs.declared.answer.Answer.{Answer}
@@ -33,7 +33,7 @@ bits_answer bits _ a b c = Unknown
 abbrev pub sparse_answer : List Bool → Query → ℕ → ℕ → ℕ → Answer
 sparse_answer bits Len a b c = Found (length bits)
 sparse_answer bits Get a b c = found_or_absent (option_map bit_value (slice_get bits a))
-sparse_answer bits HeapSize a b c = Found (heap_size_of (places true bits))
+sparse_answer bits HeapSize a b c = Found (heap_size_of (positions true bits))
 sparse_answer bits Rank0 a b c = Found (count false bits a)
 sparse_answer bits Rank1 a b c = Found (count true bits a)
 sparse_answer bits Select1 a b c = Found (select true bits a)

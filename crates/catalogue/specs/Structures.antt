@@ -6,7 +6,7 @@ use Rattle.inverted.specs.Numbers.{IsOfNumbers}
 use Rattle.postings.specs.Posted.{ArePaired, Posted}
 use Rattle.text_index.specs.Texts.{Text}
 use Rattle.vers_bits.specs.Bits.{limbs, pack}
-use Rattle.vers_saved.specs.Format.{saved, column_words, level_words, place_words, posting_words, sorted_words, sparse_words, text_words, inverted_words}
+use Rattle.vers_saved.specs.Format.{saved, column_words, level_words, position_words, posting_words, sorted_words, sparse_words, text_words, inverted_words}
 use Rattle.vers_saved.specs.Kinds.{HasTextForm, IsForm, IsLoadedWhole, IsWhole, tree_kind}
 use Rattle.vers_saved.specs.declared.kind.Kind.{Kind as SavedKind}
 use Rattle.vers_saved.specs.declared.kind.TheConstants.{BIT_LISTS, SORTED_LISTS, SYMBOL_LISTS, SPARSE_LISTS, TABLE_VALUES, BLOCK_VALUES, POSTING_LISTS, TEXT_INDEXES, INVERTED_LISTS}
@@ -140,7 +140,7 @@ pub record Form : Type 0 where
 abbrev pub form_of : Content → Form
 form_of (GrowingBits bits) = record { count = length bits; width = 1; words = limbs bits; packed = [] }
 form_of (IndexedBits bits) = record { count = length bits; width = 1; words = limbs bits; packed = [] }
-form_of (SparseBits bits) = record { count = length (sparse_words bits); width = 64; words = sparse_words bits; packed = place_words bits }
+form_of (SparseBits bits) = record { count = length (sparse_words bits); width = 64; words = sparse_words bits; packed = position_words bits }
 form_of (SortedMembers members) = record { count = length (sorted_words members); width = 64; words = sorted_words members; packed = members }
 form_of (SymbolList symbols) = record { count = length symbols.items; width = symbols.width; words = level_words symbols.width symbols.items; packed = limbs (pack symbols.items symbols.width) }
 form_of (Parentheses bits) = record { count = length bits; width = 512; words = limbs bits; packed = [] }

@@ -1,7 +1,7 @@
 -- The queries of a list of symbols, as numbers of at most 64 bits.
 use Rattle.std.specs.Prelude.{ℕ, ◌-◌, ◌/◌, length, slice_get, Option}
 use Rattle.vers_wavelet.specs.Symbols.{Symbols, range_members, kth_by_size, greatest_up_to, least_from, as_word, matrix_size}
-use Rattle.vers_wavelet.specs.Numbers.{low_bits_of, rank_before, rank_between, place_from}
+use Rattle.vers_wavelet.specs.Numbers.{low_bits_of, rank_before, rank_between, position_from}
 use Rattle.catalogue.specs.declared.answer.Answer.{Answer}
 use Rattle.catalogue.specs.declared.query.Query.{Query}
 use Rattle.catalogue.specs.declared.query.Query.TheVariants.{Len, Get, HeapSize, Width, Symbols as OfSymbols}
@@ -17,9 +17,9 @@ if_numbers symbols found = found_or_absent (as_word symbols.width found)
 -- what queries for symbols at positions, and for positions of symbols, find
 abbrev pub found_of_symbols : Symbols → SymbolsQuery → ℕ → ℕ → ℕ → Option ℕ
 found_of_symbols symbols RankOf a b c = rank_before symbols a b
-found_of_symbols symbols SelectOf a b c = place_from symbols 0 a b
+found_of_symbols symbols SelectOf a b c = position_from symbols 0 a b
 found_of_symbols symbols RankRange a b c = rank_between symbols a b c
-found_of_symbols symbols SelectFrom a b c = place_from symbols a b c
+found_of_symbols symbols SelectFrom a b c = position_from symbols a b c
 found_of_symbols symbols Quantile a b c = kth_by_size (range_members symbols.items a b) c
 found_of_symbols symbols Least a b c = kth_by_size (range_members symbols.items a b) 0
 found_of_symbols symbols Greatest a b c = kth_by_size (range_members symbols.items a b) (b - a - 1)

@@ -17,13 +17,13 @@ use Rattle.catalogue.specs.declared.answer.Answer.TheVariants.{Found, Unknown}
 use Rattle.catalogue.specs.Answers.{found_or_absent, decided, answer_if}
 
 -- the position of the first bit
-abbrev pub first_place : List Bool → Option ℕ
-first_place [] = None
-first_place (bit ∷ bits) = Some 0
+abbrev pub first_position : List Bool → Option ℕ
+first_position [] = None
+first_position (bit ∷ bits) = Some 0
 
 -- the excess behind a position, as its 64 bits
 abbrev pub excess_answer : List Bool → ℕ → Answer
-excess_answer bits place = answer_if (nat_lt place (length bits)) (Found (cast_unsigned w64 (excess bits (place + 1))))
+excess_answer bits position = answer_if (nat_lt position (length bits)) (Found (cast_unsigned w64 (excess bits (position + 1))))
 
 -- from any parentheses. A signed number is passed as its 64 bits
 abbrev pub any_tree_answer : List Bool → TreeQuery → ℕ → ℕ → Answer
@@ -36,7 +36,7 @@ any_tree_answer bits Enclose a b = found_or_absent (enclosing bits a)
 any_tree_answer bits NodeHandle a b = Found (select true bits a)
 any_tree_answer bits FwdSearch a b = found_or_absent (first_rise_after bits a (cast_signed w64 b))
 any_tree_answer bits BwdSearch a b = found_or_absent (last_rise_before bits a (cast_signed w64 b))
-any_tree_answer bits Root a b = found_or_absent (first_place bits)
+any_tree_answer bits Root a b = found_or_absent (first_position bits)
 
 -- from the parentheses of a tree with blocks of `block_size` bits, other than about the relatives of a node
 abbrev pub whole_answer : (block_size : ℕ) → List Bool → Query → ℕ → ℕ → Answer

@@ -20,10 +20,10 @@ pub enum Answer {
 impl Answer {
     /// Returns an answer with a position.
     #[inline(always)]
-    pub fn place(place: usize) -> Answer
-        ensures { result ≡ answer.Found place }
+    pub fn position(position: usize) -> Answer
+        ensures { result ≡ answer.Found position }
     {
-        Answer::Found(place as u64)
+        Answer::Found(position as u64)
     }
 
     /// Returns an answer with a boolean, as 1 or 0.
@@ -47,11 +47,11 @@ impl Answer {
 
     /// Returns an answer with the position, or that there is none.
     #[inline(always)]
-    pub fn place_or_absent(place: Option<usize>) -> Answer
-        ensures { result ≡ found_or_absent place }
+    pub fn position_or_absent(position: Option<usize>) -> Answer
+        ensures { result ≡ found_or_absent position }
     {
-        match place {
-            Some(n) => Answer::place(n),
+        match position {
+            Some(n) => Answer::position(n),
             None => Answer::Absent,
         }
     }

@@ -22,10 +22,10 @@ pub const JOINTS: [Joint; 3] = [Joint::Intersection, Joint::Union, Joint::Differ
 
 impl Joint {
     // Returns the entry at a position of a table.
-    fn at(table: &[Joint], place: usize) -> Option<Joint>
-        ensures { result ≡ slice_get table.now place }
+    fn at(table: &[Joint], position: usize) -> Option<Joint>
+        ensures { result ≡ slice_get table.now position }
     {
-        table.get(place).copied()
+        table.get(position).copied()
     }
 
     /// Returns the `Joint` of a code, or `None` if there is none.

@@ -14,10 +14,10 @@ impl<A: Allocator + Copy> Queryable for Postings<A> {
     #[inline(always)]
     fn answer(&self, query: Query, a: u64, b: u64, c: u64) -> Answer {
         match query {
-            Query::Len => Answer::place(self.len()),
+            Query::Len => Answer::position(self.len()),
             Query::Get => Answer::number_or_absent(self.documents().get(a as usize)),
             Query::Cost => Answer::number_or_absent(self.costs().get(a as usize).copied()),
-            Query::HeapSize => Answer::place(self.heap_size()),
+            Query::HeapSize => Answer::position(self.heap_size()),
             Query::Rank => Answer::Found(self.rank(a)),
             Query::Has => Answer::truth(self.contains(a)),
             Query::Successor => Answer::number_or_absent(self.next_at_least(a)),

@@ -200,10 +200,10 @@ pub const QUERIES: [Query; 60] = [
 
 impl Query {
     // Returns the query at a position of a table.
-    fn at(table: &[Query], place: usize) -> Option<Query>
-        ensures { result ≡ slice_get table.now place }
+    fn at(table: &[Query], position: usize) -> Option<Query>
+        ensures { result ≡ slice_get table.now position }
     {
-        table.get(place).copied()
+        table.get(position).copied()
     }
 
     /// Returns the query of a code, or `None` if there is none.

@@ -14,9 +14,9 @@ impl<A: Allocator + Copy> Queryable for EliasFanoVec<A> {
     #[inline(always)]
     fn answer(&self, query: Query, a: u64, b: u64, c: u64) -> Answer {
         match query {
-            Query::Len => Answer::place(self.len()),
+            Query::Len => Answer::position(self.len()),
             Query::Get => Answer::number_or_absent(self.get(a as usize)),
-            Query::HeapSize => Answer::place(self.heap_size()),
+            Query::HeapSize => Answer::position(self.heap_size()),
             Query::Rank => Answer::Found(self.rank(a)),
             Query::Has => Answer::truth(self.has(a)),
             Query::Predecessor => Answer::number_or_absent(self.predecessor(a)),

@@ -16,7 +16,7 @@ impl<A: Allocator + Copy> Queryable for SparseRSVec<A> {
         match query {
             Query::Len => Answer::Found(self.len()),
             Query::Get => Answer::number_or_absent(self.get(a)),
-            Query::HeapSize => Answer::place(self.heap_size()),
+            Query::HeapSize => Answer::position(self.heap_size()),
             Query::Rank0 => Answer::Found(self.rank0(a)),
             Query::Rank1 => Answer::Found(self.rank1(a)),
             Query::Select1 => Answer::Found(self.select1(a as usize)),

@@ -224,10 +224,10 @@ pub const KINDS: [Kind; 11] = [
 
 impl Kind {
     // Returns the kind at a position of a table.
-    fn at(table: &[Kind], place: usize) -> Option<Kind>
-        ensures { result ≡ slice_get table.now place }
+    fn at(table: &[Kind], position: usize) -> Option<Kind>
+        ensures { result ≡ slice_get table.now position }
     {
-        table.get(place).copied()
+        table.get(position).copied()
     }
 
     /// Returns the kind of a code, or `None` if there is none.

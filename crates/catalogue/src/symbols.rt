@@ -17,9 +17,9 @@ impl<A: Allocator + Copy> Queryable for WaveletMatrix<A> {
     #[inline(always)]
     fn answer(&self, query: Query, a: u64, b: u64, c: u64) -> Answer {
         match query {
-            Query::Len => Answer::place(self.len()),
-            Query::Width => Answer::place(self.bits_per_element()),
-            Query::HeapSize => Answer::place(self.heap_size()),
+            Query::Len => Answer::position(self.len()),
+            Query::Width => Answer::position(self.bits_per_element()),
+            Query::HeapSize => Answer::position(self.heap_size()),
             Query::Get => Answer::number_or_absent(self.get_u64(a as usize)),
             Query::Symbols(query) => answer_of(self, query, a as usize, b, c),
             _ => Answer::Unknown,
@@ -41,11 +41,11 @@ fn answer_of<A: Allocator + Copy>(
 {
     let range = a..b as usize;
     match query {
-        SymbolsQuery::RankOf => Answer::place_or_absent(symbols.rank_u64(a, b)),
-        SymbolsQuery::SelectOf => Answer::place_or_absent(symbols.select_u64(a, b)),
-        SymbolsQuery::RankRange => Answer::place_or_absent(symbols.rank_range_u64(range, c)),
+        SymbolsQuery::RankOf => Answer::position_or_absent(symbols.rank_u64(a, b)),
+        SymbolsQuery::SelectOf => Answer::position_or_absent(symbols.select_u64(a, b)),
+        SymbolsQuery::RankRange => Answer::position_or_absent(symbols.rank_range_u64(range, c)),
         SymbolsQuery::SelectFrom => {
-            Answer::place_or_absent(symbols.select_offset_u64(a, b as usize, c))
+            Answer::position_or_absent(symbols.select_offset_u64(a, b as usize, c))
         }
         SymbolsQuery::Quantile => Answer::number_or_absent(symbols.quantile_u64(range, c as usize)),
         SymbolsQuery::Least => Answer::number_or_absent(symbols.range_min_u64(range)),

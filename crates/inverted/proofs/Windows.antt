@@ -151,7 +151,7 @@ member_past (n ∷ ns) universe t d more =
       ]
     ]
 
--- ---- the next document, and the document at a place
+-- ---- the next document, and the document at a position
 
 IsFrom : ℕ → List ℕ → Type 0
 IsFrom v ns = (j : ℕ) → j < length ns → v ≤ get_or ns j 0
@@ -267,7 +267,7 @@ get_is (n ∷ ns) universe t i up =
         rw (get_next n ns (below (n ∷ ns) (t * universe) + suc j) (below ns (t * universe) + j) (omega (arith, below_no n ns (t * universe) from)))
         (later j)
 
--- a place from which on there is none
+-- a position from which on there is none
 pub get_past : (ns : List ℕ) (universe t i n : ℕ) → IsNonDecreasing ns → n ≡ length ns → n - below ns (t * universe) ≤ i → None ≡ slice_get (documents_of ns universe t) i
 get_past ns universe t i n up same past =
     sym (sym (get_is ns universe t i up) ∙ rw (slice_get_past ns (below ns (t * universe) + i) (omega (arith, past, same))) refl)

@@ -77,18 +77,18 @@ fn wrong_list(index: &Index, lists: &[(u64, &[u64])]) -> Option<usize> {
 
 // Returns true if the pairs of an index are those of these lists, each as one number.
 fn has_numbers(index: &Index, lists: &[(u64, &[u64])]) -> bool {
-    let mut place = 0usize;
+    let mut position = 0usize;
     for (term, documents) in lists {
         for document in *documents {
             let number = term.wrapping_mul(index.universe()).wrapping_add(*document);
-            if index.pair_number(place) != Some(number) {
+            if index.pair_number(position) != Some(number) {
                 return false;
             }
-            place = place.saturating_add(1);
+            position = position.saturating_add(1);
         }
     }
-    index.len() == place
-        && index.pair_number(place).is_none()
+    index.len() == position
+        && index.pair_number(position).is_none()
         && index.pair_number(usize::MAX).is_none()
 }
 

@@ -30,8 +30,8 @@ pub fn numbered<A: Allocator + Copy>(
 
 /// Returns true if a list has these members.
 pub fn has_members<A: Allocator + Copy>(list: &EliasFanoVec<A>, wanted: &[u64]) -> bool {
-    for (place, number) in wanted.iter().enumerate() {
-        if list.get(place) != Some(*number) {
+    for (position, number) in wanted.iter().enumerate() {
+        if list.get(position) != Some(*number) {
             return false;
         }
     }
@@ -86,9 +86,9 @@ pub fn is_answered<A: Allocator + Copy>(
 /// Returns true if a term has these documents, by both forms of `count` and `get`.
 pub fn has_list<A: Allocator + Copy>(index: &InvertedIndex<A>, term: u64, wanted: &[u64]) -> bool {
     let mut tally = Tally::new();
-    for (place, document) in wanted.iter().enumerate() {
-        if index.get(term, place) != Some(*document)
-            || index.get_counted(term, place, &mut tally) != Some(*document)
+    for (position, document) in wanted.iter().enumerate() {
+        if index.get(term, position) != Some(*document)
+            || index.get_counted(term, position, &mut tally) != Some(*document)
         {
             return false;
         }

@@ -1,5 +1,5 @@
 pub mod Names
 pub mod Members
-pub mod Places
+pub mod Positions
 pub mod Sharing
 pub mod Paired

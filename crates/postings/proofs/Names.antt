@@ -1,6 +1,6 @@
 -- The names of specs/ and of other crates that many proofs use.
 pub use Rattle.postings.specs.Posted.{ArePaired, Posted, lookups}
-unfoldable pub use Rattle.postings.specs.Posted.{cheapest, common, places_between}
+unfoldable pub use Rattle.postings.specs.Posted.{cheapest, common, positions_between}
 pub use Rattle.std.proofs.Common.{All, Bool, Fits, List, None, Some, [], ap, arith, cond, drop, false, get_or, inl, inr, length, refl, rules, subst, suc, sym, take, true, w64, zero, ℕ, ◌*◌, ◌++◌, ◌+◌, ◌-◌, ◌<◌, ◌∙◌, ◌∷◌, ◌≡◌, ◌≤◌}
 pub use Rattle.std.proofs.lemmas.Bool.{cases_lt, le-leb, lt-leb}
 pub use Rattle.std.proofs.lemmas.List.{append-nil, get_or-drop, get_or_default, length-drop}

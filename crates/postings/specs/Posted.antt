@@ -24,14 +24,14 @@ abbrev pub postings_size : Posted → ℕ
 postings_size posted = heap_size_of posted.documents + fast_heap_size (length posted.costs)
 
 -- the positions of the documents from one number to another, both included
-unfoldable pub places_between : List ℕ → ℕ → ℕ → List ℕ
-places_between documents from to =
+unfoldable pub positions_between : List ℕ → ℕ → ℕ → List ℕ
+positions_between documents from to =
     filter (λ i. nat_le from (slice_index documents i) && nat_le (slice_index documents i) to) (range_with_len 0 (length documents))
 
 -- the first document of least cost from document `from` to document `to`, both included; `None` if there is none
 unfoldable pub cheapest : Posted → ℕ → ℕ → Option ℕ
 cheapest posted from to =
-    option_map (slice_index posted.documents) (first_least_of posted.costs (places_between posted.documents from to))
+    option_map (slice_index posted.documents) (first_least_of posted.costs (positions_between posted.documents from to))
 
 -- the documents that are also in the other list, ascending
 unfoldable pub common : List ℕ → List ℕ → List ℕ

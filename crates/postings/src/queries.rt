@@ -86,8 +86,8 @@ impl<A: Allocator + Copy> Postings<A> {
         if start >= end {
             return None;
         }
-        let place = self.costs.range_min_counted(start, end - 1, tally);
-        self.documents.get_counted(place, tally)
+        let position = self.costs.range_min_counted(start, end - 1, tally);
+        self.documents.get_counted(position, tally)
     }
 
     /// Returns the documents that are in both lists, ascending, in this list's allocator. Errors: `AllocError`

@@ -56,8 +56,8 @@ fn no_documents(rt: HostRuntime) {
 
 // Returns true if a list has these documents and costs.
 fn gives(list: &Postings<Global>, documents: &[u64], costs: &[u64]) -> bool {
-    for (place, document) in documents.iter().enumerate() {
-        if list.documents().get(place) != Some(*document) {
+    for (position, document) in documents.iter().enumerate() {
+        if list.documents().get(position) != Some(*document) {
             return false;
         }
     }
@@ -66,11 +66,11 @@ fn gives(list: &Postings<Global>, documents: &[u64], costs: &[u64]) -> bool {
 
 #[test]
 fn documents_and_costs(rt: HostRuntime) {
-    let told = asked(
+    let is_given = asked(
         posted(rt.alloc(), &[2, 5, 9, 12], &[7, 3, 3, 8]),
         |list: &Postings<Global>| gives(list, &[2, 5, 9, 12], &[7, 3, 3, 8]),
     );
-    assert!(rt; told == Ok(true));
+    assert!(rt; is_given == Ok(true));
 }
 
 // Returns true if a list reports the bytes of its documents and these of its costs.

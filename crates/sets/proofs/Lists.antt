@@ -13,7 +13,7 @@ below_rises members = record { rises = below_up members; bounded = below_le memb
 
 -- ---- the next member
 
--- a list has none of the numbers from v to the member at the place where those below v end
+-- a list has none of the numbers from v to the member at the position where those below v end
 next_none_before : (xs : List ℕ) (v to : ℕ) → IsNonDecreasing xs → (below xs v < length xs → to ≤ get_or xs (below xs v) 0) → HasNone (is_member xs) v to
 next_none_before xs v to up first x from before =
     not_member xs x (λ i inside same. elim (cases_lt i (below xs v)) [

@@ -36,8 +36,8 @@ pub fn multiples<A: Allocator + Copy>(
 
 /// Returns true if a list has these members.
 pub fn has_members<A: Allocator + Copy>(list: &EliasFanoVec<A>, wanted: &[u64]) -> bool {
-    for (place, number) in wanted.iter().enumerate() {
-        if list.get(place) != Some(*number) {
+    for (position, number) in wanted.iter().enumerate() {
+        if list.get(position) != Some(*number) {
             return false;
         }
     }

@@ -10,11 +10,11 @@ pub enum Look {
 }
 
 /// Returns the bit at a position.
-pub fn bit_of(look: Look, place: usize) -> bool {
+pub fn bit_of(look: Look, position: usize) -> bool {
     match look {
         Look::Zeros => false,
         Look::Ones => true,
-        Look::Mixed => (place as u64).wrapping_mul(0x9E37_79B9_7F4A_7C15) >> 63 == 1,
-        Look::Sparse => place % 1000 == 999,
+        Look::Mixed => (position as u64).wrapping_mul(0x9E37_79B9_7F4A_7C15) >> 63 == 1,
+        Look::Sparse => position % 1000 == 999,
     }
 }

@@ -22,18 +22,18 @@ pub use Rattle.std.specs.List.{AllPairs, count_by, insert, position_or_len, pref
 pub use Rattle.std.specs.List.Sorted.{IsNonDecreasing, IsNonDecreasingBy, IsPermutation, IsStrictlyIncreasing}
 pub use Rattle.std.specs.Prelude.{All, Contains, filter, slice_get, slice_index_or, slice_range, ◌↔◌, ◌⊎◌}
 pub use Rattle.text_index.specs.Columns.{HasColumn, IsIndexable}
-pub use Rattle.text_index.specs.Makers.{count_reads, kept_reads, pattern_reads, place_reads, step_reads, symbols_of}
+pub use Rattle.text_index.specs.Makers.{count_reads, kept_reads, pattern_reads, position_reads, step_reads, symbols_of}
 pub use Rattle.text_index.specs.Sizes.{column_of, greatest, kept_marks, kept_rows, number_width, packed_size}
 pub use Rattle.text_index.specs.Texts.{IsSuffixOrder, is_kept, row_of, symbols_before}
 unfoldable pub use Rattle.text_index.specs.Sizes.{kept_ranks}
-unfoldable pub use Rattle.text_index.specs.Texts.{begins_with, below, by_suffix, comes_before, places_in_order, places_of, occurs_at}
+unfoldable pub use Rattle.text_index.specs.Texts.{begins_with, below, by_suffix, comes_before, positions_in_order, positions_of, occurs_at}
 pub use Rattle.text_index.specs.inside.Building.{OrdersBy, PairedUpTo, RankedUpTo, SameOrder, rank_of}
 pub use Rattle.text_index.specs.inside.Checking.{CheckedUpTo, HeadsAt, HeadsUpTo, LeadsBack, follows, led}
 pub use Rattle.text_index.specs.inside.Groups.{AreQueries, AsksFor, HasComeTo, HaveMoved, HaveRows, IsAbsent, taken_reads}
 pub use Rattle.text_index.specs.inside.Paths.{AreLinked, HasCome, HaveCome, IsKeptPath, IsLoaded, IsNext, IsOnePath, IsWalk, NextUpTo, SteppedUpTo, led_by}
 unfoldable pub use Rattle.text_index.specs.inside.Paths.{walked, walked_on}
 pub use Rattle.text_index.specs.inside.Samples.{AreNumbers, AreSamplesOf, HoldRanks, HoldRows, IsPacked, PutRows, Walked, between, unpacked}
-pub use Rattle.text_index.specs.inside.Suffixes.{Found, IsIndexOf, StepsBack, back, column_place, is_not_after, lesser, passing, seen, text_in}
+pub use Rattle.text_index.specs.inside.Suffixes.{Found, IsIndexOf, StepsBack, back, column_position, is_not_after, lesser, passing, seen, text_in}
 unfoldable pub use Rattle.text_index.specs.inside.Suffixes.{not_above, spelled, text_of}
 pub use Rattle.vers_bits.proofs.PublicLaws.{length-packed, passes_first, select_at}
 pub use Rattle.vers_bits.specs.Bits.{is_bit, limb_count, low_bits, number, pack, part, select}
@@ -47,7 +47,7 @@ pub use Rattle.vers_wavelet.specs.Symbols.{IsKth, Symbols}
 pub use Rattle.wavelet_tree.proofs.PublicLaws.{depth-le-height}
 pub use Rattle.text_index.specs.declared.rows.RowRange.{RowRange}
 pub use Rattle.text_index.specs.declared.rows.TheConstants.{GROUP}
-pub use Rattle.wavelet_tree.specs.Queries.{IsSortedRange, access_fork_reads, access_reads, fork_reads, occurring, query_reads, sorted_place, tree_size, walk_reads}
+pub use Rattle.wavelet_tree.specs.Queries.{IsSortedRange, access_fork_reads, access_reads, fork_reads, occurring, query_reads, sorted_position, tree_size, walk_reads}
 unfoldable pub use Rattle.wavelet_tree.specs.Queries.{sum_reads}
 pub use Rattle.wavelet_tree.specs.declared.batch.RangeQuery.{RangeQuery}
 unfoldable pub use Rattle.wavelet_tree.specs.Trees.{balanced, depth, height}

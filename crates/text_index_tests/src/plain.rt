@@ -90,7 +90,7 @@ fn reads_of_count(text: &TextIndex<Global>) -> (u64, u64) {
 }
 
 // Returns the numbers of rank calls, numbers and sampled positions that locating its last occurrence reads.
-fn reads_of_place(text: &TextIndex<Global>) -> (u64, u64, u64) {
+fn reads_of_position(text: &TextIndex<Global>) -> (u64, u64, u64) {
     let mut tally = Tally::new();
     text.places(&[0, 0, 0, 0, 0]).next_back_counted(&mut tally);
     (tally.rank_calls(), tally.items(), tally.low_parts())
@@ -103,16 +103,16 @@ fn reads_of_one_symbol(
     let symbols = periodic(alloc, n, 1)?;
     let made = TextIndex::from_slice(alloc, symbols.as_slice(), 2);
     asked(made, |text: &TextIndex<Global>| {
-        (reads_of_count(text), reads_of_place(text))
+        (reads_of_count(text), reads_of_position(text))
     })
 }
 
 #[test]
-fn counts_and_places_read_within_their_bounds(rt: HostRuntime) {
+fn counts_and_positions_read_within_their_bounds(rt: HostRuntime) {
     match reads_of_one_symbol(rt.alloc(), 20000) {
-        Ok((count, place)) => {
+        Ok((count, position)) => {
             assert!(rt; count.0 == 0 && count.1 <= 5 * 2);
-            assert!(rt; place.0 <= 32 + 1 && place.1 == 0 && place.2 == 1);
+            assert!(rt; position.0 <= 32 + 1 && position.1 == 0 && position.2 == 1);
         }
         Err(_) => assert!(rt; false),
     }
@@ -127,10 +127,10 @@ fn are_located_within(text: &TextIndex<Global>) -> bool {
     let mut walk = text.places(&[]);
     for _ in 0..text.len() {
         let mut tally = Tally::new();
-        let Some(place) = walk.next_counted(&mut tally) else {
+        let Some(position) = walk.next_counted(&mut tally) else {
             return false;
         };
-        let steps = (place % STEP) as u64;
+        let steps = (position % STEP) as u64;
         if tally.nodes() != 2 * steps
             || tally.rank_calls() != steps + 2
             || tally.block_entries() != 2 * steps + 1

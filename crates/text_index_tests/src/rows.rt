@@ -43,7 +43,7 @@ fn wrong_row(alloc: Global, rows: &[Row]) -> Option<usize> {
 }
 
 #[test]
-fn patterns_have_their_places(rt: HostRuntime) {
+fn patterns_have_their_positions(rt: HostRuntime) {
     assert!(rt; wrong_row(rt.alloc(), &ROWS).is_none());
 }
 
@@ -64,9 +64,9 @@ fn patterns_are_counted_together(rt: HostRuntime) {
 }
 
 // Symbols of two bits, a pattern, and its positions in suffix-array order.
-type Places<'a> = (&'a [u64], &'a [u64], &'a [usize]);
+type Positions<'a> = (&'a [u64], &'a [u64], &'a [usize]);
 
-const PLACES: [Places; 6] = [
+const POSITIONS: [Positions; 6] = [
     (&[2, 1, 2, 1, 2], &[2], &[4, 2, 0]),
     (&[2, 1, 2, 1, 2], &[], &[5, 3, 1, 4, 2, 0]),
     (&[2, 1, 2, 1, 2], &[2, 2], &[]),
@@ -80,7 +80,7 @@ const PLACES: [Places; 6] = [
 ];
 
 // Returns the number of the first row whose pattern has other positions.
-fn wrong_places(alloc: Global, rows: &[Places]) -> Option<usize> {
+fn wrong_positions(alloc: Global, rows: &[Positions]) -> Option<usize> {
     for (row, (symbols, pattern, wanted)) in rows.iter().enumerate() {
         let is_right = asked(
             TextIndex::from_slice(alloc, symbols, 2),
@@ -97,8 +97,8 @@ fn wrong_places(alloc: Global, rows: &[Places]) -> Option<usize> {
 }
 
 #[test]
-fn places_in_their_order(rt: HostRuntime) {
-    assert!(rt; wrong_places(rt.alloc(), &PLACES).is_none());
+fn positions_in_their_order(rt: HostRuntime) {
+    assert!(rt; wrong_positions(rt.alloc(), &POSITIONS).is_none());
 }
 
 // Symbols, their width, the step, and the error of the constructor.

@@ -5,7 +5,8 @@ use crate::bits::indexed;
 use crate::report::{Report, Timed, asked, timed_since};
 use crate::symbols::{Quantile, Quantiles, Symbols, sorted_build};
 use crate::workload::{
-    Below, Draw, NONE, Questions, Random, RandomBits, fold, members_uniform, place_or_none, symbols,
+    Below, Draw, NONE, Questions, Random, RandomBits, fold, members_uniform, position_or_none,
+    symbols,
 };
 use std::alloc::Global;
 use std::io;
@@ -101,7 +102,7 @@ impl Batched for Gets {
     type Structure = Matrix;
 
     fn one(matrix: &Matrix, query: &GetQuery) -> u64 {
-        matrix.get_u64(query.place).unwrap_or(NONE)
+        matrix.get_u64(query.position).unwrap_or(NONE)
     }
 
     fn each(matrix: &Matrix, queries: &mut [GetQuery]) {
@@ -130,7 +131,7 @@ impl Batched for Ranks<'_> {
     type Structure = Matrix;
 
     fn one(matrix: &Matrix, query: &RankQuery) -> u64 {
-        place_or_none(matrix.rank_u64(query.end, query.symbol))
+        position_or_none(matrix.rank_u64(query.end, query.symbol))
     }
 
     fn each(matrix: &Matrix, queries: &mut [RankQuery]) {
@@ -138,7 +139,7 @@ impl Batched for Ranks<'_> {
     }
 
     fn answer(query: &RankQuery) -> u64 {
-        place_or_none(query.answer)
+        position_or_none(query.answer)
     }
 }
 
@@ -158,7 +159,7 @@ impl Batched for Selects<'_> {
     type Structure = Matrix;
 
     fn one(matrix: &Matrix, query: &SelectQuery) -> u64 {
-        place_or_none(matrix.select_u64(query.rank, query.symbol))
+        position_or_none(matrix.select_u64(query.rank, query.symbol))
     }
 
     fn each(matrix: &Matrix, queries: &mut [SelectQuery]) {
@@ -166,7 +167,7 @@ impl Batched for Selects<'_> {
     }
 
     fn answer(query: &SelectQuery) -> u64 {
-        place_or_none(query.answer)
+        position_or_none(query.answer)
     }
 }
 
@@ -251,8 +252,8 @@ impl Batched for Ones {
         bits.select1_each(numbers);
     }
 
-    fn answer(place: &usize) -> u64 {
-        *place as u64
+    fn answer(position: &usize) -> u64 {
+        *position as u64
     }
 }
 
@@ -279,8 +280,8 @@ impl Batched for Zeros {
         bits.select0_each(numbers);
     }
 
-    fn answer(place: &usize) -> u64 {
-        *place as u64
+    fn answer(position: &usize) -> u64 {
+        *position as u64
     }
 }
 
@@ -307,9 +308,9 @@ type List = EliasFanoVec<Global>;
 
 /// Positions of that many members.
 #[derive(Clone, Copy)]
-struct Places(u64);
+struct Positions(u64);
 
-impl Draw for Places {
+impl Draw for Positions {
     type Item = Option<u64>;
 
     fn draw(&self, random: &mut Random) -> Option<u64> {
@@ -317,18 +318,18 @@ impl Draw for Places {
     }
 }
 
-impl Batched for Places {
+impl Batched for Positions {
     type Structure = List;
 
-    fn one(list: &List, place: &Option<u64>) -> u64 {
-        match *place {
-            Some(place) => list.get(place as usize).unwrap_or(NONE),
+    fn one(list: &List, position: &Option<u64>) -> u64 {
+        match *position {
+            Some(position) => list.get(position as usize).unwrap_or(NONE),
             None => NONE,
         }
     }
 
-    fn each(list: &List, places: &mut [Option<u64>]) {
-        list.get_each(places);
+    fn each(list: &List, positions: &mut [Option<u64>]) {
+        list.get_each(positions);
     }
 
     fn answer(member: &Option<u64>) -> u64 {
@@ -417,8 +418,8 @@ impl Batched for Successors {
 
 // Runs the series over a list whose members are below a number.
 fn run_list(report: &Report, end: u64, list: &List) -> io::Result<()> {
-    let places = report.questions(8, 0, Places(list.len() as u64));
-    run_kind(report, "get", list, &places)?;
+    let positions = report.questions(8, 0, Positions(list.len() as u64));
+    run_kind(report, "get", list, &positions)?;
     run_kind(report, "rank", list, &report.questions(8, 1, Below(end)))?;
     let numbers = report.questions(8, 1, Predecessors(end));
     run_kind(report, "predecessor", list, &numbers)?;

@@ -1,7 +1,7 @@
 //! The series of lists of bits with rank and select.
 use crate::lists::bits_of;
 use crate::report::{Report, asked};
-use crate::walks::sum_of_places;
+use crate::walks::sum_of_positions;
 use crate::workload::Below;
 use std::alloc::{AllocError, Global};
 use std::io;
@@ -9,8 +9,8 @@ use vers_rank::fast_rs_vec::RsVec;
 
 type Bits = RsVec<Global>;
 
-fn rank1(bits: &Bits, place: &u64) -> u64 {
-    bits.rank1(*place as usize) as u64
+fn rank1(bits: &Bits, position: &u64) -> u64 {
+    bits.rank1(*position as usize) as u64
 }
 
 fn select1(bits: &Bits, number: &u64) -> u64 {
@@ -23,7 +23,7 @@ fn select0(bits: &Bits, number: &u64) -> u64 {
 
 #[inline(never)]
 fn iter1_pass(bits: &Bits) -> u64 {
-    sum_of_places(bits.iter1())
+    sum_of_positions(bits.iter1())
 }
 
 // Returns the overhead of the list over its bits, in thousandths of a percent.
@@ -48,9 +48,9 @@ fn run_built(report: &Report, limbs: &[u64], bits: &Bits) -> io::Result<()> {
     let ones = bits.ones() as u64;
     report.builds_of_copies(len, ones, limbs, bits_of, RsVec::from_bit_vec)?;
     report.size("heap_overhead_percent", overhead(bits))?;
-    let places = report.questions(7, 0, Below(len));
-    report.queries("rank1", bits, &places, rank1)?;
-    report.chained_queries("rank1_chained", bits, &places, rank1)?;
+    let positions = report.questions(7, 0, Below(len));
+    report.queries("rank1", bits, &positions, rank1)?;
+    report.chained_queries("rank1_chained", bits, &positions, rank1)?;
     let numbers = report.questions(7, 1, Below(ones));
     report.queries("select1", bits, &numbers, select1)?;
     report.chained_queries("select1_chained", bits, &numbers, select1)?;

@@ -48,8 +48,8 @@ fn contains_halving(all: &Plain, number: &u64) -> u64 {
 }
 
 fn next_halving(all: &Plain, number: &u64) -> u64 {
-    let (Ok(place) | Err(place)) = all.binary_search(number);
-    all.get(place).copied().unwrap_or(NONE)
+    let (Ok(position) | Err(position)) = all.binary_search(number);
+    all.get(position).copied().unwrap_or(NONE)
 }
 
 // Returns the documents of the shorter list that are in the longer one too, by bisection.
@@ -87,27 +87,27 @@ fn galloped(list: &[u64], from: usize, document: u64) -> usize {
         end = end.saturating_add(step);
         step = step.wrapping_mul(2);
     }
-    start.saturating_add(place_between(list, start, end, document))
+    start.saturating_add(position_between(list, start, end, document))
 }
 
 // Returns the position of a document in a part of the list, by bisection.
 #[inline]
-fn place_between(list: &[u64], start: usize, end: usize, document: u64) -> usize {
+fn position_between(list: &[u64], start: usize, end: usize, document: u64) -> usize {
     let Some(part) = list.get(start..end.min(list.len())) else {
         return 0;
     };
-    let (Ok(place) | Err(place)) = part.binary_search(&document);
-    place
+    let (Ok(position) | Err(position)) = part.binary_search(&document);
+    position
 }
 
 // Returns the documents of the shorter list that are in the longer one too, each searched from the last
 // position on.
 fn common_by_galloping(shorter: &[u64], longer: &Plain) -> Result<Vec<u64>, AllocError> {
     let mut found = Vec::new(*longer.allocator());
-    let mut place = 0;
+    let mut position = 0;
     for document in shorter {
-        place = galloped(longer.as_slice(), place, *document);
-        if longer.get(place) == Some(document) {
+        position = galloped(longer.as_slice(), position, *document);
+        if longer.get(position) == Some(document) {
             found.push(*document)?;
         }
     }
@@ -144,8 +144,8 @@ fn made(alloc: Global, documents: &[u64]) -> Result<List, AllocError> {
     made_of(with_costs(alloc, documents)?)
 }
 
-fn made_at(alloc: Global, lists: &[Vec<u64>], place: usize) -> Result<List, AllocError> {
-    let documents: &[u64] = match lists.get(place) {
+fn made_at(alloc: Global, lists: &[Vec<u64>], position: usize) -> Result<List, AllocError> {
+    let documents: &[u64] = match lists.get(position) {
         Some(list) => list.as_slice(),
         None => &[],
     };

@@ -41,8 +41,8 @@ fn extend_bitvec_pass(bits: &Bits) -> u64 {
     len_or_none(extended(bits))
 }
 
-fn get_bits(bits: &Bits, place: &u64) -> u64 {
-    match bits.get_bits(*place as usize, WIDTH) {
+fn get_bits(bits: &Bits, position: &u64) -> u64 {
+    match bits.get_bits(*position as usize, WIDTH) {
         Some(word) => word,
         None => NONE,
     }
@@ -64,7 +64,7 @@ pub fn run(report: &Report, limbs: &[u64]) -> io::Result<()> {
 fn run_built(report: &Report, _source: (), bits: &Bits) -> io::Result<()> {
     let len = bits.len() as u64;
     report.walk("extend_bitvec", len, bits, extend_bitvec_pass)?;
-    let places = report.questions(7, 0, Below(len));
-    report.queries("get_bits", bits, &places, get_bits)?;
+    let positions = report.questions(7, 0, Below(len));
+    report.queries("get_bits", bits, &positions, get_bits)?;
     report.walk("count_ones", len, bits, count_ones_pass)
 }

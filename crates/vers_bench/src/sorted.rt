@@ -13,12 +13,12 @@ use vers_sorted::order::is_ascending;
 
 type Members = EliasFanoVec<Global>;
 
-fn get(list: &Members, place: &u64) -> u64 {
-    list.get(*place as usize).unwrap_or(NONE)
+fn get(list: &Members, position: &u64) -> u64 {
+    list.get(*position as usize).unwrap_or(NONE)
 }
 
-fn delta(list: &Members, place: &u64) -> u64 {
-    list.delta(*place as usize).unwrap_or(NONE)
+fn delta(list: &Members, position: &u64) -> u64 {
+    list.delta(*position as usize).unwrap_or(NONE)
 }
 
 fn rank(list: &Members, value: &u64) -> u64 {
@@ -57,9 +57,9 @@ impl Draw for Asked {
 fn run_built(report: &Report, values: Asked, list: &Members) -> io::Result<()> {
     let len = list.len() as u64;
     report.size("heap_bits_per_item", bits_per_item(list.heap_size(), len))?;
-    let places = Questions::new(values.count, 8, 0, Below(len));
-    report.queries("get", list, &places, get)?;
-    report.queries("delta", list, &places, delta)?;
+    let positions = Questions::new(values.count, 8, 0, Below(len));
+    report.queries("get", list, &positions, get)?;
+    report.queries("delta", list, &positions, delta)?;
     let values = Questions::new(values.count, 8, 1, values);
     report.queries("rank", list, &values, rank)?;
     report.queries("predecessor", list, &values, predecessor)?;

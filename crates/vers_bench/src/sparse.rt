@@ -12,12 +12,12 @@ type Bits = BitVec<Global>;
 
 type Sparse = SparseRSVec<Global>;
 
-fn get(list: &Sparse, place: &u64) -> u64 {
-    list.get(*place).unwrap_or(NONE)
+fn get(list: &Sparse, position: &u64) -> u64 {
+    list.get(*position).unwrap_or(NONE)
 }
 
-fn rank1(list: &Sparse, place: &u64) -> u64 {
-    list.rank1(*place)
+fn rank1(list: &Sparse, position: &u64) -> u64 {
+    list.rank1(*position)
 }
 
 fn select1(list: &Sparse, number: &u64) -> u64 {
@@ -53,9 +53,9 @@ fn run_bits(report: &Report, _source: (), bits: &Bits) -> io::Result<()> {
 
 fn run_built(report: &Report, ones: u64, list: &Sparse) -> io::Result<()> {
     report.size("heap_bits_per_item", bits_per_item(list.heap_size(), ones))?;
-    let places = report.questions(7, 0, Below(list.len()));
-    report.queries("get", list, &places, get)?;
-    report.queries("rank1", list, &places, rank1)?;
+    let positions = report.questions(7, 0, Below(list.len()));
+    report.queries("get", list, &positions, get)?;
+    report.queries("rank1", list, &positions, rank1)?;
     report.queries(
         "select1",
         list,

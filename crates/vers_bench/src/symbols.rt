@@ -1,7 +1,7 @@
 //! The series of wavelet matrices.
 use crate::report::{Report, asked, bits_per_item};
 use crate::walks::sum_of;
-use crate::workload::{Below, Draw, NONE, Questions, Random, place_or_none, symbols};
+use crate::workload::{Below, Draw, NONE, Questions, Random, position_or_none, symbols};
 use std::alloc::{AllocError, Global};
 use std::io;
 use vers_wavelet::wavelet::WaveletMatrix;
@@ -62,21 +62,21 @@ impl Draw for Symbols<'_> {
     type Item = u64;
 
     fn draw(&self, random: &mut Random) -> u64 {
-        let place = random.below(self.list.len() as u64) as usize;
-        self.list.get(place).copied().unwrap_or(0)
+        let position = random.below(self.list.len() as u64) as usize;
+        self.list.get(position).copied().unwrap_or(0)
     }
 }
 
-fn get(matrix: &Matrix, place: &u64) -> u64 {
-    matrix.get_u64(*place as usize).unwrap_or(NONE)
+fn get(matrix: &Matrix, position: &u64) -> u64 {
+    matrix.get_u64(*position as usize).unwrap_or(NONE)
 }
 
-fn rank(matrix: &Matrix, place: &u64, symbol: &u64) -> u64 {
-    place_or_none(matrix.rank_u64(*place as usize, *symbol))
+fn rank(matrix: &Matrix, position: &u64, symbol: &u64) -> u64 {
+    position_or_none(matrix.rank_u64(*position as usize, *symbol))
 }
 
 fn select(matrix: &Matrix, rank: &u64, symbol: &u64) -> u64 {
-    place_or_none(matrix.select_u64(*rank as usize, *symbol))
+    position_or_none(matrix.select_u64(*rank as usize, *symbol))
 }
 
 fn kth(matrix: &Matrix, asked: &Quantile) -> u64 {
@@ -115,12 +115,12 @@ fn run_built(report: &Report, source: Symbols, matrix: &Matrix) -> io::Result<()
     let size = bits_per_item(matrix.heap_size(), n);
     report.size("heap_bits_per_item", size)?;
     let count = report.settings.scaled(200_000);
-    let places = Questions::new(count, 9, 0, Below(n));
+    let positions = Questions::new(count, 9, 0, Below(n));
     let symbols = Questions::new(count, 9, 1, source);
     let ranks = Questions::new(count, 9, 2, Below(source.most_occurrences()));
     let quantiles = Questions::new(count, 9, 3, Quantiles(n));
-    report.queries("get_u64", matrix, &places, get)?;
-    report.paired_queries("rank_u64", matrix, &places, &symbols, rank)?;
+    report.queries("get_u64", matrix, &positions, get)?;
+    report.paired_queries("rank_u64", matrix, &positions, &symbols, rank)?;
     report.paired_queries("select_u64", matrix, &ranks, &symbols, select)?;
     report.queries("quantile_u64", matrix, &quantiles, kth)?;
     report.paired_queries("predecessor_u64", matrix, &quantiles, &symbols, predecessor)?;

@@ -24,36 +24,38 @@ const COUNTS: [(&str, usize); 3] = [("count_8", 8), ("count_16", 16), ("count_32
 const LONGEST: usize = 32;
 
 // The number of occurrences of a pattern that are located, and the number of symbols that are extracted.
-const PLACES: usize = 10;
+const POSITIONS: usize = 10;
 
 const PIECE: usize = 64;
 
 // Returns the `len` symbols from a position on.
-fn pattern(symbols: &[u64], place: u64, len: usize) -> &[u64] {
-    let place = place as usize;
-    symbols.get(place..place.saturating_add(len)).unwrap_or(&[])
+fn pattern(symbols: &[u64], position: u64, len: usize) -> &[u64] {
+    let position = position as usize;
+    symbols
+        .get(position..position.saturating_add(len))
+        .unwrap_or(&[])
 }
 
-fn count(text: &Text, symbols: &[u64], place: u64, len: usize) -> u64 {
-    text.count(pattern(symbols, place, len)) as u64
+fn count(text: &Text, symbols: &[u64], position: u64, len: usize) -> u64 {
+    text.count(pattern(symbols, position, len)) as u64
 }
 
 // Returns the first positions of a pattern of eight symbols, folded.
-fn places(text: &Text, symbols: &[u64], place: u64) -> u64 {
-    let Ok(found) = text.first_places(pattern(symbols, place, 8), PLACES) else {
+fn sum_of_first(text: &Text, symbols: &[u64], position: u64) -> u64 {
+    let Ok(found) = text.first_places(pattern(symbols, position, 8), POSITIONS) else {
         return NONE;
     };
     let mut sum = 0;
-    for place in &found {
-        sum = fold(sum, *place as u64);
+    for position in &found {
+        sum = fold(sum, *position as u64);
     }
     sum
 }
 
 // Returns the symbols from a position on, folded.
-fn piece(text: &Text, place: u64) -> u64 {
-    let place = place as usize;
-    let Ok(Some(found)) = text.extract(place..place.saturating_add(PIECE)) else {
+fn piece(text: &Text, position: u64) -> u64 {
+    let position = position as usize;
+    let Ok(Some(found)) = text.extract(position..position.saturating_add(PIECE)) else {
         return NONE;
     };
     let mut sum = 0;
@@ -73,12 +75,12 @@ fn run_counts(report: &Report, source: Source, text: &Text) -> io::Result<()> {
     let begins = Below(source.symbols.len().saturating_sub(LONGEST) as u64);
     for (number, (name, len)) in COUNTS.iter().enumerate() {
         let asked = Questions::new(queries, 102, number, begins);
-        let answer = |it: &Text, place: &u64| count(it, source.symbols, *place, *len);
+        let answer = |it: &Text, position: &u64| count(it, source.symbols, *position, *len);
         report.queries(name, text, &asked, answer)?;
     }
     let begins = Below(source.others.len().saturating_sub(LONGEST) as u64);
     let asked = Questions::new(queries, 102, 3, begins);
-    let answer = |it: &Text, place: &u64| count(it, source.others, *place, LONGEST);
+    let answer = |it: &Text, position: &u64| count(it, source.others, *position, LONGEST);
     report.queries("count_absent_32", text, &asked, answer)
 }
 
@@ -89,11 +91,11 @@ fn run_queries(report: &Report, source: Source, text: &Text) -> io::Result<()> {
     let queries = report.settings.scaled(20_000);
     let begins = Below(n.saturating_sub(PIECE as u64));
     let asked = Questions::new(queries, 103, 0, begins);
-    let answer = |it: &Text, place: &u64| places(it, source.symbols, *place);
+    let answer = |it: &Text, position: &u64| sum_of_first(it, source.symbols, *position);
     report.queries("first_places_10", text, &asked, answer)?;
     let asked = Questions::new(queries, 103, 1, begins);
-    report.queries("extract_64", text, &asked, |it: &Text, place: &u64| {
-        piece(it, *place)
+    report.queries("extract_64", text, &asked, |it: &Text, position: &u64| {
+        piece(it, *position)
     })
 }
 

@@ -6,8 +6,8 @@ ghost use Rattle.vers_trees.specs.Forest.{IsBalanced, forest_of};
 ghost use Rattle.vers_trees.specs.Nodes.{IsNode};
 
 use crate::report::{Report, asked, bits_per_item, or_refused};
-use crate::walks::sum_of_places;
-use crate::workload::{Random, fold, parentheses, place_or_none};
+use crate::walks::sum_of_positions;
+use crate::workload::{Random, fold, parentheses, position_or_none};
 use std::alloc::{AllocError, Global};
 use std::io;
 use vers_bits::bit_vec::{BitVec, GrowError};
@@ -38,11 +38,11 @@ struct Climb {
 }
 
 fn close(tree: &Tree, node: &usize) -> u64 {
-    place_or_none(tree.close(*node))
+    position_or_none(tree.close(*node))
 }
 
 fn open(tree: &Tree, end: &usize) -> u64 {
-    place_or_none(tree.open(*end))
+    position_or_none(tree.open(*end))
 }
 
 #[inline(never)]
@@ -52,7 +52,7 @@ fn parent_pass(tree: &Tree, nodes: &[usize]) -> u64
 {
     let mut sum = 0;
     for node in nodes {
-        sum = fold(sum, place_or_none(tree.parent(*node)));
+        sum = fold(sum, position_or_none(tree.parent(*node)));
     }
     sum
 }
@@ -64,7 +64,7 @@ fn subtree_size_pass(tree: &Tree, nodes: &[usize]) -> u64
 {
     let mut sum = 0;
     for node in nodes {
-        sum = fold(sum, place_or_none(tree.subtree_size(*node)));
+        sum = fold(sum, position_or_none(tree.subtree_size(*node)));
     }
     sum
 }
@@ -78,7 +78,7 @@ fn level_ancestor_pass(tree: &Tree, climbs: &[Climb]) -> u64
     for climb in climbs {
         sum = fold(
             sum,
-            place_or_none(tree.level_ancestor(climb.node, climb.levels)),
+            position_or_none(tree.level_ancestor(climb.node, climb.levels)),
         );
     }
     sum
@@ -114,7 +114,7 @@ fn children_count(tree: &Tree, nodes: &[usize]) -> u64
 
 #[inline(never)]
 fn dfs_iter_pass(tree: &Tree) -> u64 {
-    sum_of_places(tree.dfs_iter())
+    sum_of_positions(tree.dfs_iter())
 }
 
 // Returns the node of this number in preorder, or `None` if there are fewer.

@@ -17,11 +17,11 @@ const STEP: usize = 10;
 
 /// Returns the sum of the positions that a walk passes.
 #[inline(always)]
-pub fn sum_of_places<I: Iterator<Item = usize> + Drop>(walk: I) -> u64
+pub fn sum_of_positions<I: Iterator<Item = usize> + Drop>(walk: I) -> u64
     requires can { I.can_next walk }
     requires ends { IsFinite (I.remaining walk) }
 {
-    walk.fold(0u64, |sum, place| sum.wrapping_add(place as u64))
+    walk.fold(0u64, |sum, position| sum.wrapping_add(position as u64))
 }
 
 /// Returns the sum of the numbers that a walk passes.
@@ -35,28 +35,28 @@ pub fn sum_of<I: Iterator<Item = u64> + Drop>(walk: I) -> u64
 
 #[inline(never)]
 fn front_pass(bits: &Bits) -> u64 {
-    sum_of_places(bits.iter1())
+    sum_of_positions(bits.iter1())
 }
 
 #[inline(never)]
 fn back_pass(bits: &Bits) -> u64 {
-    sum_of_places(bits.iter1().rev())
+    sum_of_positions(bits.iter1().rev())
 }
 
 #[inline(never)]
 fn nth_pass(bits: &Bits) -> u64 {
-    let mut places = bits.iter1();
+    let mut positions = bits.iter1();
     let mut sum = 0u64;
     for _ in 0..bits.ones() / STEP {
-        let place = places.nth(STEP - 1).unwrap_or(0);
-        sum = sum.wrapping_add(place as u64);
+        let position = positions.nth(STEP - 1).unwrap_or(0);
+        sum = sum.wrapping_add(position as u64);
     }
     sum
 }
 
 #[inline(never)]
 fn chunks_pass(bits: &Bits) -> u64 {
-    sum_of_places(bits.bit_set_iter1())
+    sum_of_positions(bits.bit_set_iter1())
 }
 
 #[inline(never)]

@@ -107,9 +107,9 @@ pub fn fold(sum: u64, answer: u64) -> u64 {
 }
 
 /// Returns a position or a count as a number, or the value for no answer.
-pub fn place_or_none(place: Option<usize>) -> u64 {
-    match place {
-        Some(place) => place as u64,
+pub fn position_or_none(position: Option<usize>) -> u64 {
+    match position {
+        Some(position) => position as u64,
         None => NONE,
     }
 }
@@ -407,8 +407,8 @@ pub fn drawn(alloc: Global, documents: &[u64], number: usize) -> Result<Vec<u64>
 
 // Returns a document of a range from `start` on, or one more.
 fn drawn_from(random: &mut Random, documents: &[u64], start: usize, stretch: usize) -> u64 {
-    let place = start.wrapping_add(random.below(stretch as u64) as usize);
-    let document = documents.get(place).copied().unwrap_or(NONE);
+    let position = start.wrapping_add(random.below(stretch as u64) as usize);
+    let document = documents.get(position).copied().unwrap_or(NONE);
     document.wrapping_add(random.below(2))
 }
 

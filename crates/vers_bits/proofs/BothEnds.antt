@@ -6,7 +6,7 @@ use Rattle.vers_bits.specs.Walk.Step.{next, next_back, nth, nth_back}
 use Rattle.vers_bits.specs.Walk.Walk.{no_call, call}
 
 module _ {X : Type 0} where
-  -- ---- the items at the places of a span
+  -- ---- the items at the positions of a span
   pub length-items_in : (xs : List X) (s : Span) → s.to ≤ length xs → length (items_in xs s) ≡ s.to - s.from
   unfolding items_in
   length-items_in xs s h = simp (length-take, length-drop) (omega arith)

@@ -56,8 +56,8 @@ chunk_at n (suc k) xs (suc i) h =
 -- an item of one of the chunks
 pub chunk_item : (n k : ℕ) (xs : List ℕ) (i j : ℕ) → i < k → j < n → get_or (get_or (first_chunks n k xs) i []) j 0 ≡ get_or xs (n * i + j) 0
 chunk_item n k xs i j h small =
-    let place : i * n + j ≡ n * i + j = omega arith in
-    rw (chunk_at n k xs i h, get_or-take n (drop (i * n) xs) j 0 small, get_or-drop (i * n) xs j 0, place) refl
+    let position : i * n + j ≡ n * i + j = omega arith in
+    rw (chunk_at n k xs i h, get_or-take n (drop (i * n) xs) j 0 small, get_or-drop (i * n) xs j 0, position) refl
 
 pub ruleset sums = (ones-bound)
 

@@ -1,4 +1,4 @@
--- How many of the first places hold a bit.
+-- How many of the first positions hold a bit.
 use Rattle.vers_bits.proofs.Names.{◌≡◌, ℕ, ◌+◌, ◌-◌, ◌*◌, ◌%◌, ◌^◌, ◌≤◌, min, Bool, true, false, cond, List, [], ◌∷◌, length, take, drop, refl, sym, ap, ◌∙◌, arith, count_by, count_ones, length-take, take_all, take-take, sum_by-cons, sum_by-append, count_by-le-length, take-add, number, is_bit, rules, count, limb}
 use Rattle.vers_bits.proofs.Num.{number-take, ones-number}
 
@@ -6,7 +6,7 @@ pub count_none : (b : Bool) (l : List Bool) → count b l 0 ≡ 0
 unfolding count
 count_none b l = refl
 
--- the first p + m places: the first p, and m of the others
+-- the first p + m positions: the first p, and m of the others
 pub count_split : (b : Bool) (l : List Bool) (p m : ℕ) → count b l (p + m) ≡ count b l p + count b (drop p l) m
 unfolding count
 count_split b l p m = ap (count_by (is_bit b)) (take-add p m l) ∙ sum_by-append (λ x. cond (is_bit b x) 1 0) (take p l) (take m (drop p l))
@@ -21,7 +21,7 @@ count_le b l i = grind (arith, count_by-le-length, length-take)
 pub count_up : (b : Bool) (l : List Bool) (i j : ℕ) → i ≤ j → count b l i ≤ count b l j
 count_up b l i j h = omega (arith, count_to b l i j h)
 
--- at most one a place
+-- at most one a position
 pub count_near : (b : Bool) (l : List Bool) (i j : ℕ) → i ≤ j → count b l j ≤ count b l i + (j - i)
 count_near b l i j h = omega (arith, count_to b l i j h, (count_le b (drop i l) (j - i)).0)
 
@@ -34,7 +34,7 @@ both_of [] = refl
 both_of (true ∷ l) = search (rules, sum_by-cons, both_of l)
 both_of (false ∷ l) = search (rules, sum_by-cons, both_of l)
 
--- each place below the length holds one of the two
+-- each position below the length holds one of the two
 pub count_both : (l : List Bool) (i : ℕ) → count false l i + count true l i ≡ min i (length l)
 unfolding count
 count_both l i = both_of (take i l) ∙ length-take i l
@@ -51,6 +51,6 @@ pub count_limb_whole : (l : List Bool) (k : ℕ) → count true l (64 * k + 64) 
 unfolding limb count
 count_limb_whole l k = count_split true l (64 * k) 64 ∙ ap (λ x. count true l (64 * k) + x) (sym (ones-number (take 64 (drop (64 * k) l))))
 
--- no place has more before it than the whole list holds
+-- no position has more before it than the whole list holds
 pub count_le_all : (b : Bool) (l : List Bool) (i : ℕ) → count b l i ≤ count b l (length l)
 count_le_all b l i = grind (arith, count_up, count_past)

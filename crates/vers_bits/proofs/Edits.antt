@@ -20,7 +20,7 @@ module _ (ws : List ℕ) (n : ℕ) (enough : limb_count n ≤ length ws) where
   pub cut_part : 0 < n % 64 → CutsTo ws (set (take (limb_count n) ws) (n / 64) (get_or (take (limb_count n) ws) (n / 64) 0 % 2 ^ (n % 64))) n
   cut_part part = grind (arith, length-take, get_or-take, length-set, cases_eq, set_here, bit_at_mod, set_apart, bit_at_mod_above, past_words)
 
--- ---- a bit put at a place
+-- ---- a bit put at a position
 
 pub put_bits : {ws vs : List ℕ} {p : ℕ} {b : Bool} → Puts ws vs p b → (n : ℕ) → p < n → word_bits vs n ≡ set (word_bits ws n) p b
 put_bits {ws} {vs} {p} {b} puts n within =

@@ -9,9 +9,9 @@ limbs-word_bits words n h fits =
     fill_by_all (limb (word_bits words n)) words (limb_count (length (word_bits words n))) 0 (h.counted ∙ ap limb_count (sym (length-word_bits words n)))
     (λ k p. grind (arith, limb-word_bits))
 
--- place i of a list is a digit of its limb
+-- position i of a list is a digit of its limb
 pub bit_at-limb : (l : List Bool) (i : ℕ) → bit_at (limb l (i / 64)) (i % 64) ≡ bit_value (get_or l i false)
-bit_at-limb l i = let place : 64 * (i / 64) + i % 64 ≡ i = omega arith in rw (limb_bit l (i / 64) (i % 64) (omega arith), place) refl
+bit_at-limb l i = let position : 64 * (i / 64) + i % 64 ≡ i = omega arith in rw (limb_bit l (i / 64) (i % 64) (omega arith), position) refl
 
 pub length-limbs : (l : List Bool) → length (limbs l) ≡ limb_count (length l)
 unfolding limbs

@@ -10,7 +10,7 @@ number_below l k few = omega (arith, number-lt l, pow-le-pow_right {n = 2} (omeg
 pub byte_value : (b : Bool) → bool_byte b ≡ bit_value b
 byte_value b = grind arith
 
--- the number of the items from place i on, by that of the items after it
+-- the number of the items from position i on, by that of the items after it
 pub number_from : {X : Type 0} (f : X → Bool) (xs : List X) (i j : ℕ) (x : X) → i < length xs → j ≡ i + 1 → x ≡ get_or xs i x
     → 2 * number (map f (drop j xs)) + bit_value (f x) ≡ number (map f (drop i xs))
 number_from f xs i j x h next is =

@@ -10,5 +10,5 @@ pub highest_bit : (w : ℕ) → 0 < w → w < 18446744073709551616
     → (count_leading_zeros 64 w < 64) × (bit_at w (63 - count_leading_zeros 64 w) ≡ 1) × ((i : ℕ) → 63 - count_leading_zeros 64 w < i → bit_at w i ≡ 0)
 highest_bit w some fits =
     let top = leading_top 64 w some fits in
-    let place : 63 - count_leading_zeros 64 w ≡ top.0 = omega (arith, top.1) in
-    (omega (arith, top.1), ap (bit_at w) place ∙ top_bit w top.0 top.2 top.3, (λ i h. bit_at_above w (suc top.0) i top.3 (omega (arith, place, h))))
+    let position : 63 - count_leading_zeros 64 w ≡ top.0 = omega (arith, top.1) in
+    (omega (arith, top.1), ap (bit_at w) position ∙ top_bit w top.0 top.2 top.3, (λ i h. bit_at_above w (suc top.0) i top.3 (omega (arith, position, h))))

@@ -16,12 +16,12 @@ held {ws} {n} {l} holds = record {
 same_default : {X : Type 0} (k i : ℕ) (d : X) → get_or (replicate k d) i d ≡ d
 same_default k i d = grind (arith, get_or-replicate, get_or_past, length-replicate)
 
--- a place with a zero has one with more words of zeros, too
+-- a position with a zero has one with more words of zeros, too
 zeros_past : (ws : List ℕ) (k i : ℕ) → word_bit ws i ≡ false → word_bit (ws ++ replicate k 0) i ≡ false
 zeros_past ws k i off = grind (arith, get_or_append_left, get_or-append_right, same_default, bit_at-zero)
 
 module _ (ws : List ℕ) (n v k : ℕ) (holds : HoldsBits ws n) (small : v < 2 ^ k) where
-  -- the list with the low k digits of v behind it, place by place
+  -- the list with the low k digits of v behind it, position by position
   grown : List Bool
   grown = word_bits ws n ++ low_bits v k
 
@@ -74,8 +74,8 @@ module _ (ws : List ℕ) (n v k : ℕ) (holds : HoldsBits ws n) (small : v < 2 ^
   last_word_high i h high =
       let shifted : v * 2 ^ (n % 64) ≡ v * 2 ^ (n % 64) + 0 = omega arith in
       let word : (64 * (n / 64) + i) / 64 ≡ n / 64 = omega arith in
-      let place : (64 * (n / 64) + i) % 64 ≡ i = omega arith in
-      let off : eqb (bit_at (get_or ws (n / 64) 0) i) 1 ≡ false = rw (word, place) at (holds.padded (64 * (n / 64) + i) (omega arith)) in
+      let position : (64 * (n / 64) + i) % 64 ≡ i = omega arith in
+      let off : eqb (bit_at (get_or ws (n / 64) 0) i) 1 ≡ false = rw (word, position) at (holds.padded (64 * (n / 64) + i) (omega arith)) in
       let none : bit_at (get_or ws (n / 64) 0) i ≡ 0 = grind (arith, bit_value_test, bit_at-lt) in
       rw (bit_at_or, none, bit_at_mod (v * 2 ^ (n % 64)) 64 i h, shifted, bit_at_cat_high v (n % 64) 0 i (omega (arith, pow_pos (n % 64))) high) (omega arith)
 

@@ -2,8 +2,8 @@ pub mod Names
 pub mod Num
 pub mod Words
 pub mod Count
-pub mod PlaceSums
-pub mod Places
+pub mod PositionSums
+pub mod Positions
 pub mod Neighbours
 pub mod Passing
 pub mod Counting

@@ -24,7 +24,7 @@ bit_at_mod x w i h = rw (← and_mask x w, bit_at_and, bit_at_ones w i h) (omega
 pub bit_at_mod_above : (x w i : ℕ) → w ≤ i → bit_at (x % 2 ^ w) i ≡ 0
 bit_at_mod_above x w i h = bit_at_above (x % 2 ^ w) w i (mod_below x (2 ^ w) (pow_pos w)) h
 
--- a list that agrees with the low digits of a number, place by place
+-- a list that agrees with the low digits of a number, position by position
 pub low_bits_are : (v n : ℕ) (l : List Bool) → length l ≡ n → ((i : ℕ) → i < n → eqb (bit_at v i) 1 ≡ get_or l i false) → low_bits v n ≡ l
 low_bits_are v n l e each =
     ext_get_or false (low_bits v n) l (length-low_bits v n ∙ sym e)

@@ -1,4 +1,4 @@
--- Masked lists, place by place and limb by limb.
+-- Masked lists, position by position and limb by limb.
 use Rattle.vers_bits.proofs.Names.{◌≡◌, ℕ, ◌+◌, ◌-◌, ◌*◌, ◌/◌, ◌%◌, ◌^◌, ◌<◌, ◌≤◌, Bool, false, eqb, List, Some, None, min, length, get_or, set, take, drop, arith, bit_at, bit_and, count_ones, cases_lt, cases_eq, ones-le, bit_at-lt, shr_and_one, same_from_bits, slice_get-get_or, slice_get_past, get_or-take, get_or-drop, get_or_past, get_or-set_same, get_or-set_other, length-take, length-drop, length-map-range_with_len, get_or-map-range_with_len, bit_value, word_bits, CutsTo, slice_get, limb, masked}
 use Rattle.vers_bits.proofs.Words.{word_bits_are}
 use Rattle.vers_bits.proofs.Edits.{cut_holds}
@@ -34,9 +34,9 @@ limb-masked g l r k =
     let w : ℕ = g (limb l k) (limb r k) in
     let bits : List Bool = take 64 (drop (64 * k) (masked g l r)) in
     same_from_bits _ (w % 2 ^ m) (λ i.
-    let place : i < 64 → ((64 * k + i) / 64 ≡ k) × ((64 * k + i) % 64 ≡ i) = λ h. omega arith in
+    let position : i < 64 → ((64 * k + i) / 64 ≡ k) × ((64 * k + i) % 64 ≡ i) = λ h. omega arith in
     let rest = drop (64 * k) (masked g l r) in
-    grind (arith, place, bit_at-number bits i, cases_lt i m, get_or-take 64 rest i false, get_or-drop (64 * k) (masked g l r) i false, get_or-masked g l r (64 * k + i), bit_value_test (bit_at w i), bit_at-lt w i, bit_at_mod w m i, get_or_past bits i false, length-take 64 rest, length-drop (64 * k) (masked g l r), length-masked g l r, bit_at_mod_above w m i))
+    grind (arith, position, bit_at-number bits i, cases_lt i m, get_or-take 64 rest i false, get_or-drop (64 * k) (masked g l r) i false, get_or-masked g l r (64 * k + i), bit_value_test (bit_at w i), bit_at-lt w i, bit_at_mod w m i, get_or_past bits i false, length-take 64 rest, length-drop (64 * k) (masked g l r), length-masked g l r, bit_at_mod_above w m i))
 
 -- at most as many ones as the limb has bits of the list
 pub few_ones : (w n : ℕ) → w < 2 ^ min n 64 → (count_ones w ≤ 64) × (count_ones w ≤ n)
@@ -53,13 +53,13 @@ pub ruleset counts = (count_limb_whole, count_past, count_none, count_le, count_
 pub ruleset parts = (part_of_limb, part_number_none, part_number_some, parts_join, length-masked)
 
 -- a read with a test before it
-pub place-masked : (g : ℕ → ℕ → ℕ) (l r : List Bool) (p : ℕ) → p < length l → slice_get (masked g l r) p ≡ Some (get_or (masked g l r) p false)
-place-masked g l r p h = slice_get-get_or (masked g l r) p false (omega (arith, length-masked g l r))
+pub position-masked : (g : ℕ → ℕ → ℕ) (l r : List Bool) (p : ℕ) → p < length l → slice_get (masked g l r) p ≡ Some (get_or (masked g l r) p false)
+position-masked g l r p h = slice_get-get_or (masked g l r) p false (omega (arith, length-masked g l r))
 
-pub place_past-masked : (g : ℕ → ℕ → ℕ) (l r : List Bool) (p : ℕ) → length l ≤ p → slice_get (masked g l r) p ≡ None
-place_past-masked g l r p h = slice_get_past (masked g l r) p (omega (arith, length-masked g l r))
+pub position_past-masked : (g : ℕ → ℕ → ℕ) (l r : List Bool) (p : ℕ) → length l ≤ p → slice_get (masked g l r) p ≡ None
+position_past-masked g l r p h = slice_get_past (masked g l r) p (omega (arith, length-masked g l r))
 
-pub ruleset places = (place-masked, place_past-masked)
+pub ruleset positions = (position-masked, position_past-masked)
 
 -- words that are the answers on both limbs, cut to the length
 pub combined : {us vs : List ℕ} {n : ℕ} → CutsTo us vs n → (g : ℕ → ℕ → ℕ) (l r : List Bool) → length l ≡ n

@@ -23,7 +23,7 @@ pub use Rattle.std.specs.List.{AllPairs, count_by, fold, last_or, range_with_len
 pub use Rattle.std.specs.Prelude.{bit_and, bit_or, bit_xor, count_ones, filter, find, flat_map, nat_lt, option_map, sum_by}
 pub use Rattle.std.specs.Simd.{first_chunks}
 pub use Rattle.vers_bits.specs.Bits.{bit_value, is_bit, limb_count, number, pack}
-unfoldable pub use Rattle.vers_bits.specs.Bits.{count, limb, limbs, low_bits, masked, part_number, place_after, place_before, places, select}
+unfoldable pub use Rattle.vers_bits.specs.Bits.{count, limb, limbs, low_bits, masked, part_number, position_after, position_before, positions, select}
 pub use Rattle.vers_bits.specs.Equality.{same_bits, same_bits-Decides}
 unfoldable pub use Rattle.vers_bits.specs.Equality.{hash_input}
 pub use Rattle.vers_bits.specs.Masks.{AnswersAs, xor, zip_bits}

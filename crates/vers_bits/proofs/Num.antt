@@ -26,13 +26,13 @@ number-take zero l = omega arith
 number-take (suc k) [] = grind arith
 number-take (suc k) (b ∷ l) = grind (arith, number-take k l, number_half b l, number_odd b l, mod-pow-add (number (b ∷ l)) k 1)
 
--- digit i of the number is place i of the list
+-- digit i of the number is position i of the list
 pub bit_at-number : (l : List Bool) (i : ℕ) → bit_at (number l) i ≡ bit_value (get_or l i false)
 bit_at-number [] i = bit_at-zero i
 bit_at-number (b ∷ l) zero = grind (arith, bit_at_lowest, number_odd)
 bit_at-number (b ∷ l) (suc i) = grind (arith, bit_at-suc, number_half, bit_at-number l i)
 
--- as many digits of the number are 1 as places of the list are true
+-- as many digits of the number are 1 as positions of the list are true
 pub ones-number : (l : List Bool) → count_ones (number l) ≡ count_by (is_bit true) l
 ones-number [] = ones-ones 0
 ones-number (b ∷ l) = ones_step (number (b ∷ l)) ∙ (rw (number_odd, number_half, ones-number l) (search (rules, sum_by-cons)))

@@ -9,8 +9,8 @@ pub element : (items : List ℕ) (k e : ℕ) → e < length items → take k (dr
 element [] k e h = absurd (omega arith)
 element (v ∷ items) k zero h = grind (arith, take_at, length-low_bits)
 element (v ∷ items) k (suc e) h =
-    let place : suc e * k ≡ k + e * k = omega arith in
-    rw (place, ← drop-drop (e * k) k, drop_at (low_bits v k) (pack items k) k (length-low_bits v k)) (element items k e (omega arith))
+    let position : suc e * k ≡ k + e * k = omega arith in
+    rw (position, ← drop-drop (e * k) k, drop_at (low_bits v k) (pack items k) k (length-low_bits v k)) (element items k e (omega arith))
 
 pub packed_element : (items : List ℕ) (k e : ℕ) → 1 ≤ k → k ≤ 64 → e < length items → part_number (pack items k) (e * k) k ≡ Some (get_or items e 0 % 2 ^ k)
 packed_element items k e some few h =

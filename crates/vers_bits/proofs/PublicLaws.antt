@@ -1,14 +1,14 @@
 -- The laws that proofs of other crates may cite. A crate above imports this file and no other of this folder.
-use Rattle.vers_bits.proofs.Names.{arith, ◌≡◌, ℕ, ◌+◌, ◌-◌, ◌*◌, ◌%◌, ◌/◌, ◌^◌, ◌<◌, ◌≤◌, min, suc, Bool, true, false, cond, eqb, ltb, List, [], ◌∷◌, ◌++◌, length, map, take, drop, get_or, slice_get, Option, None, Some, bool_byte, count_ones, sum_by, filter, find, flat_map, YieldsFirst, YieldsLast, MakesProgress, item_count, bit_at, count_leading_zeros, AllPairs, count_by, last_or, get_or_default, bit_value, number, low_bits, pack, is_bit, count, places, select, place_after, place_before, limb, limbs, limb_count, Span, TakesNth, TakesNthBack, TakesFirst, TakesLast, items_in}
--- `IsPlace bit bits r p`: place p is number r of those that hold the bit
-pub use Rattle.vers_bits.proofs.Places.{IsPlace}
+use Rattle.vers_bits.proofs.Names.{arith, ◌≡◌, ℕ, ◌+◌, ◌-◌, ◌*◌, ◌%◌, ◌/◌, ◌^◌, ◌<◌, ◌≤◌, min, suc, Bool, true, false, cond, eqb, ltb, List, [], ◌∷◌, ◌++◌, length, map, take, drop, get_or, slice_get, Option, None, Some, bool_byte, count_ones, sum_by, filter, find, flat_map, YieldsFirst, YieldsLast, MakesProgress, item_count, bit_at, count_leading_zeros, AllPairs, count_by, last_or, get_or_default, bit_value, number, low_bits, pack, is_bit, count, positions, select, position_after, position_before, limb, limbs, limb_count, Span, TakesNth, TakesNthBack, TakesFirst, TakesLast, items_in}
+-- `IsPosition bit bits r p`: position p is number r of those that hold the bit
+pub use Rattle.vers_bits.proofs.Positions.{IsPosition}
 use Rattle.vers_bits.proofs.Num as Num
 use Rattle.vers_bits.proofs.LowBits as LowBits
 use Rattle.vers_bits.proofs.Gather as Gather
 use Rattle.vers_bits.proofs.Highest as Highest
 use Rattle.vers_bits.proofs.Count as Count
-use Rattle.vers_bits.proofs.PlaceSums as PlaceSums
-use Rattle.vers_bits.proofs.Places as Places
+use Rattle.vers_bits.proofs.PositionSums as PositionSums
+use Rattle.vers_bits.proofs.Positions as Positions
 use Rattle.vers_bits.proofs.Neighbours as Neighbours
 use Rattle.vers_bits.proofs.Passing as Passing
 use Rattle.vers_bits.proofs.Packed as Packed
@@ -18,7 +18,7 @@ use Rattle.vers_bits.proofs.Growing as Growing
 
 -- ---- counts
 
--- a count is at most the place, and at most the length
+-- a count is at most the position, and at most the length
 pub count_le : (bit : Bool) (bits : List Bool) (i : ℕ) → (count bit bits i ≤ i) × (count bit bits i ≤ length bits)
 count_le = Count.count_le
 
@@ -26,7 +26,7 @@ count_le = Count.count_le
 pub count_le_all : (bit : Bool) (bits : List Bool) (i : ℕ) → count bit bits i ≤ count bit bits (length bits)
 count_le_all = Count.count_le_all
 
--- nothing stands before the first place
+-- nothing stands before the first position
 pub count_none : (bit : Bool) (bits : List Bool) → count bit bits 0 ≡ 0
 count_none = Count.count_none
 
@@ -34,98 +34,98 @@ count_none = Count.count_none
 pub count_past : (bit : Bool) (bits : List Bool) (i : ℕ) → length bits ≤ i → count bit bits i ≡ count bit bits (length bits)
 count_past = Count.count_past
 
--- a count never falls from a place to a later one
+-- a count never falls from a position to a later one
 pub count_up : (bit : Bool) (bits : List Bool) (i j : ℕ) → i ≤ j → count bit bits i ≤ count bit bits j
 count_up = Count.count_up
 
--- between two places a count rises by at most the places between them
+-- between two positions a count rises by at most the positions between them
 pub count_near : (bit : Bool) (bits : List Bool) (i j : ℕ) → i ≤ j → count bit bits j ≤ count bit bits i + (j - i)
 count_near = Count.count_near
 
--- each place holds a zero or a one
+-- each position holds a zero or a one
 pub count_both : (bits : List Bool) (i : ℕ) → count false bits i + count true bits i ≡ min i (length bits)
 count_both = Count.count_both
 
--- past a place that holds the bit the count is one more, past another it is the same
+-- past a position that holds the bit the count is one more, past another it is the same
 pub count_more_yes : (bit : Bool) (bits : List Bool) (p : ℕ) → p < length bits → is_bit bit (get_or bits p false) ≡ true → count bit bits (p + 1) ≡ count bit bits p + 1
-count_more_yes = Places.count_more_yes
+count_more_yes = Positions.count_more_yes
 
 pub count_more_no : (bit : Bool) (bits : List Bool) (p : ℕ) → p < length bits → is_bit bit (get_or bits p false) ≡ false → count bit bits (p + 1) ≡ count bit bits p
-count_more_no = Places.count_more_no
+count_more_no = Positions.count_more_no
 
--- the ones below a place of a limb are those before the limb, and those of the limb's low bits
+-- the ones below a position of a limb are those before the limb, and those of the limb's low bits
 pub count_limb : (bits : List Bool) (k r : ℕ) → r ≤ 64 → count true bits (64 * k + r) ≡ count true bits (64 * k) + count_ones (limb bits k % 2 ^ r)
 count_limb = Count.count_limb
 
 pub count_limb_whole : (bits : List Bool) (k : ℕ) → count true bits (64 * k + 64) ≡ count true bits (64 * k) + count_ones (limb bits k)
 count_limb_whole = Count.count_limb_whole
 
--- ---- places
+-- ---- positions
 
--- the places of a bit before the others
-pub places-cons : (bit b : Bool) (bits : List Bool) → places bit (b ∷ bits) ≡ cond (is_bit bit b) (0 ∷ []) [] ++ map (λ i. 1 + i) (places bit bits)
-places-cons = PlaceSums.places-cons
+-- the positions of a bit before the others
+pub positions-cons : (bit b : Bool) (bits : List Bool) → positions bit (b ∷ bits) ≡ cond (is_bit bit b) (0 ∷ []) [] ++ map (λ i. 1 + i) (positions bit bits)
+positions-cons = PositionSums.positions-cons
 
--- a number is the sum of the powers of two at the places of its ones
-pub number-places : (bits : List Bool) → number bits ≡ sum_by (λ i. 2 ^ i) (places true bits)
-number-places = PlaceSums.number-places
+-- a number is the sum of the powers of two at the positions of its ones
+pub number-positions : (bits : List Bool) → number bits ≡ sum_by (λ i. 2 ^ i) (positions true bits)
+number-positions = PositionSums.number-positions
 
--- all places are as many as the whole list counts
-pub length-places : (bit : Bool) (bits : List Bool) → length (places bit bits) ≡ count bit bits (length bits)
-length-places = Places.length-places
+-- all positions are as many as the whole list counts
+pub length-positions : (bit : Bool) (bits : List Bool) → length (positions bit bits) ≡ count bit bits (length bits)
+length-positions = Positions.length-positions
 
--- where there is a place of number r, `select` is that place
-pub select_is_place : (bit : Bool) (bits : List Bool) (r : ℕ) → r < count bit bits (length bits) → IsPlace bit bits r (select bit bits r)
-select_is_place = Places.select_is_place
+-- where there is a position of number r, `select` is that position
+pub select_is_position : (bit : Bool) (bits : List Bool) (r : ℕ) → r < count bit bits (length bits) → IsPosition bit bits r (select bit bits r)
+select_is_position = Positions.select_is_position
 
--- a place that holds the bit is the one with the number that its count says
+-- a position that holds the bit is the one with the number that its count says
 pub select_at : (bit : Bool) (bits : List Bool) (r p : ℕ) → p < length bits → is_bit bit (get_or bits p false) ≡ true → count bit bits p ≡ r → select bit bits r ≡ p
-select_at = Places.select_at
+select_at = Positions.select_at
 
 -- past the last number `select` is the length
 pub select_past : (bit : Bool) (bits : List Bool) (r : ℕ) → count bit bits (length bits) ≤ r → select bit bits r ≡ length bits
-select_past = Places.select_past
+select_past = Positions.select_past
 
--- the count up to the place of number r, and past it
+-- the count up to the position of number r, and past it
 pub count_at_select : (bit : Bool) (bits : List Bool) (r : ℕ) → r < count bit bits (length bits)
     → (select bit bits r < length bits) × (count bit bits (select bit bits r) ≡ r) × (count bit bits (select bit bits r + 1) ≡ r + 1)
-count_at_select = Places.count_at_select
+count_at_select = Positions.count_at_select
 
--- number r stands below p where more than r places below p hold the bit, and not below p where at most r do
+-- number r stands below p where more than r positions below p hold the bit, and not below p where at most r do
 pub select_below : (bit : Bool) (bits : List Bool) (r p : ℕ) → r < count bit bits p → select bit bits r < p
-select_below = Places.select_below
+select_below = Positions.select_below
 
 pub select_not_below : (bit : Bool) (bits : List Bool) (r p : ℕ) → r < count bit bits (length bits) → count bit bits p ≤ r → p ≤ select bit bits r
-select_not_below = Places.select_not_below
+select_not_below = Positions.select_not_below
 
--- a greater number stands at a later place
+-- a greater number stands at a later position
 pub select_up : (bit : Bool) (bits : List Bool) (r q : ℕ) → r < q → q < count bit bits (length bits) → select bit bits r < select bit bits q
 select_up bit bits r q h some = grind (arith, select_below, count_at_select)
 
--- number r of the first n places stands there, holds the bit, and r stand before it
+-- number r of the first n positions stands there, holds the bit, and r stand before it
 pub select_holds : (bit : Bool) (bits : List Bool) (r n : ℕ) → n ≤ length bits → r < count bit bits n
     → (select bit bits r < n) × (is_bit bit (get_or bits (select bit bits r) false) ≡ true) × (count bit bits (select bit bits r) ≡ r)
-select_holds bit bits r n h few = grind (arith, select_is_place, count_le_all, select_below)
+select_holds bit bits r n h few = grind (arith, select_is_position, count_le_all, select_below)
 
 -- ---- neighbours
 
 -- the neighbour above p is number `count (p + 1)`, where there is one
-pub place_after_some : (bit : Bool) (bits : List Bool) (p : ℕ) → count bit bits (p + 1) < count bit bits (length bits) → place_after bit bits p ≡ Some (select bit bits (count bit bits (p + 1)))
-place_after_some = Neighbours.place_after_some
+pub position_after_some : (bit : Bool) (bits : List Bool) (p : ℕ) → count bit bits (p + 1) < count bit bits (length bits) → position_after bit bits p ≡ Some (select bit bits (count bit bits (p + 1)))
+position_after_some = Neighbours.position_after_some
 
-pub place_after_none : (bit : Bool) (bits : List Bool) (p : ℕ) → count bit bits (length bits) ≤ count bit bits (p + 1) → place_after bit bits p ≡ None
-place_after_none = Neighbours.place_after_none
+pub position_after_none : (bit : Bool) (bits : List Bool) (p : ℕ) → count bit bits (length bits) ≤ count bit bits (p + 1) → position_after bit bits p ≡ None
+position_after_none = Neighbours.position_after_none
 
--- there is none above a place past the end
-pub place_after_past : (bit : Bool) (bits : List Bool) (p : ℕ) → length bits ≤ p → place_after bit bits p ≡ None
-place_after_past bit bits p h = place_after_none bit bits p (omega (arith, count_past bit bits (p + 1) (omega arith)))
+-- there is none above a position past the end
+pub position_after_past : (bit : Bool) (bits : List Bool) (p : ℕ) → length bits ≤ p → position_after bit bits p ≡ None
+position_after_past bit bits p h = position_after_none bit bits p (omega (arith, count_past bit bits (p + 1) (omega arith)))
 
 -- the neighbour below p is the last of those that `count p` counts, where it counts some
-pub place_before_some : (bit : Bool) (bits : List Bool) (p : ℕ) → 0 < count bit bits p → place_before bit bits p ≡ Some (select bit bits (count bit bits p - 1))
-place_before_some = Neighbours.place_before_some
+pub position_before_some : (bit : Bool) (bits : List Bool) (p : ℕ) → 0 < count bit bits p → position_before bit bits p ≡ Some (select bit bits (count bit bits p - 1))
+position_before_some = Neighbours.position_before_some
 
-pub place_before_none : (bit : Bool) (bits : List Bool) (p : ℕ) → count bit bits p ≡ 0 → place_before bit bits p ≡ None
-place_before_none = Neighbours.place_before_none
+pub position_before_none : (bit : Bool) (bits : List Bool) (p : ℕ) → count bit bits p ≡ 0 → position_before bit bits p ≡ None
+position_before_none = Neighbours.position_before_none
 
 -- ---- numbers of bits
 
@@ -181,17 +181,17 @@ pub last_passing_is : (o : Option ℕ) (p : ℕ → Bool) (s : List ℕ) (k : �
     → ((i : ℕ) → k + 1 ≤ i → i < length s → p (get_or s i 0) ≡ false) → last_or o (filter p s) ≡ slice_get s k
 last_passing_is = Neighbours.last_passing_is
 
--- ---- iterators from both ends, over the items at the places of a span
+-- ---- iterators from both ends, over the items at the positions of a span
 
--- a span of all places has all items
+-- a span of all positions has all items
 pub all_items : {X : Type 0} (xs : List X) (s : Span) → s.from ≡ 0 → s.to ≡ length xs → items_in xs s ≡ xs
 all_items = BothEnds.all_items
 
--- it has as many items as places
+-- it has as many items as positions
 pub length-items_in : {X : Type 0} (xs : List X) (s : Span) → s.to ≤ length xs → length (items_in xs s) ≡ s.to - s.from
 length-items_in = BothEnds.length-items_in
 
--- a span that dropped n places and gave the next took item n, and one that had no more than n places ended
+-- a span that dropped n positions and gave the next took item n, and one that had no more than n positions ended
 pub gave : {X : Type 0} (n : ℕ) (xs : List X) (s t : Span) {old : List X} {p : ℕ} {x : X} → items_in xs s ≡ old → s.to ≤ length xs
     → (p ≡ s.from + n) × (p < s.to) × (t.from ≡ p + 1) × (t.to ≡ s.to) → slice_get xs p ≡ Some x → TakesNth n old (Some x) (items_in xs t)
 gave n xs s t view within some is = BothEnds.gave n xs s t view within some is
@@ -275,7 +275,7 @@ top_bit = Highest.top_bit
 pub byte_value : (b : Bool) → bool_byte b ≡ bit_value b
 byte_value = Gather.byte_value
 
--- the number of the items from place i on, by that of the items after it
+-- the number of the items from position i on, by that of the items after it
 pub number_from : {X : Type 0} (f : X → Bool) (xs : List X) (i j : ℕ) (x : X) → i < length xs → j ≡ i + 1 → x ≡ get_or xs i x
     → 2 * number (map f (drop j xs)) + bit_value (f x) ≡ number (map f (drop i xs))
 number_from f xs i j x h next is = Gather.number_from f xs i j x h next is

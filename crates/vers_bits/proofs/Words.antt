@@ -16,7 +16,7 @@ pub take-word_bits : (ws : List ℕ) (n k : ℕ) → k ≤ n → take k (word_bi
 unfolding word_bits
 take-word_bits ws n k h = take-map-range_with_len (word_bit ws) 0 n k h
 
--- the words hold the list that they hold place by place
+-- the words hold the list that they hold position by position
 pub word_bits_are : (ws : List ℕ) (n : ℕ) (l : List Bool) → length l ≡ n → ((i : ℕ) → i < n → word_bit ws i ≡ get_or l i false) → word_bits ws n ≡ l
 word_bits_are ws n l e each =
     ext_get_or false (word_bits ws n) l (length-word_bits ws n ∙ sym e)
@@ -55,7 +55,7 @@ unfolding limb
 bit_of_limb ws n k i holds small =
     let w : ℕ = get_or ws k 0 in
     let here : bit_value (word_bit ws (64 * k + i)) ≡ bit_at w i = ap bit_value (grind arith) ∙ bit_value_test (bit_at w i) (bit_at-lt w i) in
-    let place : get_or (take 64 (drop (64 * k) (word_bits ws n))) i false ≡ get_or (word_bits ws n) (64 * k + i) false =
+    let position : get_or (take 64 (drop (64 * k) (word_bits ws n))) i false ≡ get_or (word_bits ws n) (64 * k + i) false =
     get_or-take 64 (drop (64 * k) (word_bits ws n)) i false small ∙ get_or-drop (64 * k) (word_bits ws n) i false in
     grind (arith, bit_at-number, cases_lt, get_or-word_bits, get_or_past, length-word_bits)
 
@@ -68,7 +68,7 @@ limb-word_bits ws n k holds fits = search (rules, same_from_bits_below, limb-lt,
 
 -- ---- one bit more
 
--- past the words each place is false
+-- past the words each position is false
 pub past_words : (ws : List ℕ) (i : ℕ) → 64 * length ws ≤ i → word_bit ws i ≡ false
 past_words ws i h = grind (arith, get_or_past, bit_at-zero)
 

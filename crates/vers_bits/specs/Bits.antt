@@ -26,20 +26,20 @@ unfoldable pub count : Bool → List Bool → ℕ → ℕ
 count bit bits i = count_by (is_bit bit) (take i bits)
 
 -- the positions of all bits that equal `bit`, ascending
-unfoldable pub places : Bool → List Bool → List ℕ
-places bit bits = filter (λ p. is_bit bit (slice_index_or bits p false)) (range_with_len 0 (length bits))
+unfoldable pub positions : Bool → List Bool → List ℕ
+positions bit bits = filter (λ p. is_bit bit (slice_index_or bits p false)) (range_with_len 0 (length bits))
 
 -- the position of occurrence r of `bit`, from 0, or the length if there are at most r
 unfoldable pub select : Bool → List Bool → ℕ → ℕ
-select bit bits r = slice_index_or (places bit bits) r (length bits)
+select bit bits r = slice_index_or (positions bit bits) r (length bits)
 
 -- the least position above p of a bit that equals `bit`
-unfoldable pub place_after : Bool → List Bool → ℕ → Option ℕ
-place_after bit bits p = find (λ q. nat_lt p q) (places bit bits)
+unfoldable pub position_after : Bool → List Bool → ℕ → Option ℕ
+position_after bit bits p = find (λ q. nat_lt p q) (positions bit bits)
 
 -- the greatest position below p of a bit that equals `bit`
-unfoldable pub place_before : Bool → List Bool → ℕ → Option ℕ
-place_before bit bits p = last_or None (filter (λ q. nat_lt q p) (places bit bits))
+unfoldable pub position_before : Bool → List Bool → ℕ → Option ℕ
+position_before bit bits p = last_or None (filter (λ q. nat_lt q p) (positions bit bits))
 
 -- the n bits from position p, or fewer at the end
 abbrev pub part : List Bool → ℕ → ℕ → List Bool

@@ -1,6 +1,6 @@
 -- The laws of lists of bits, as statements.
 use Rattle.std.specs.Prelude.{◌≡◌, ℕ, ◌*◌, ◌-◌, ◌/◌, ◌%◌, ◌^◌, ◌<◌, ◌≤◌, ◌||◌, ◌&&◌, Bool, false, List, ◌++◌, length, take, drop, slice_index, slice_index_or, MatchOption, Some, bit_or, bit_and, bit_xor, ◌+◌, min, sum_by, true}
-use Rattle.vers_bits.specs.Bits.{number, low_bits, pack, part_number, masked, is_bit, count, places, select, place_after, place_before}
+use Rattle.vers_bits.specs.Bits.{number, low_bits, pack, part_number, masked, is_bit, count, positions, select, position_after, position_before}
 use Rattle.vers_bits.specs.Masks.{zip_bits, xor}
 use Rattle.vers_bits.specs.Equality.{hash_input}
 
@@ -32,9 +32,9 @@ LowBitsGoOn = (v j k : ℕ) → low_bits v (j + k) ≡ low_bits v j ++ low_bits 
 abbrev pub BitsFollowFromNumber : Type 0
 BitsFollowFromNumber = (bits : List Bool) → low_bits (number bits) (length bits) ≡ bits
 
--- a number is the sum of the powers of two at the places of its ones
+-- a number is the sum of the powers of two at the positions of its ones
 abbrev pub NumberIsSumOfPowers : Type 0
-NumberIsSumOfPowers = (bits : List Bool) → number bits ≡ sum_by (λ i. 2 ^ i) (places true bits)
+NumberIsSumOfPowers = (bits : List Bool) → number bits ≡ sum_by (λ i. 2 ^ i) (positions true bits)
 
 -- element e of a packed list of 1 to 64 bits an element is element e modulo `2 ^ k`
 abbrev pub PackedElementsAreItems : Type 0
@@ -68,7 +68,7 @@ SelectFindsNumber = (bit : Bool) (bits : List Bool) (r : ℕ) → r < count bit 
     → (count bit bits (select bit bits r) ≡ r) × (is_bit bit (slice_index_or bits (select bit bits r) false) ≡ true)
 
 -- p is the first position from i whose bit equals `bit`, or the length if there is none
-pub record IsNextPlace (bit : Bool) (bits : List Bool) (i p : ℕ) : Type 0 where
+pub record IsNextPosition (bit : Bool) (bits : List Bool) (i p : ℕ) : Type 0 where
   pub from : i ≤ p
   pub within : p ≤ length bits
   pub none_between : (q : ℕ) → i ≤ q → q < p → is_bit bit (slice_index_or bits q false) ≡ false
@@ -76,7 +76,7 @@ pub record IsNextPlace (bit : Bool) (bits : List Bool) (i p : ℕ) : Type 0 wher
 
 -- select of the count before position i finds the next such bit from i, or the length
 abbrev pub SelectOfCountIsNext : Type 0
-SelectOfCountIsNext = (bit : Bool) (bits : List Bool) (i : ℕ) → i ≤ length bits → IsNextPlace bit bits i (select bit bits (count bit bits i))
+SelectOfCountIsNext = (bit : Bool) (bits : List Bool) (i : ℕ) → i ≤ length bits → IsNextPosition bit bits i (select bit bits (count bit bits i))
 
 -- a count never falls from a position to a later one
 abbrev pub CountsGrow : Type 0
@@ -105,9 +105,9 @@ HoldsAt bit bits p = (p < length bits) × (is_bit bit (slice_index_or bits p fal
 -- no bit between a position and its neighbour above equals `bit`; without a neighbour, no bit above does
 abbrev pub NoneUpToNeighbour : Type 0
 NoneUpToNeighbour = (bit : Bool) (bits : List Bool) (p : ℕ)
-    → MatchOption (place_after bit bits p) (NoneFrom bit bits (p + 1) (length bits)) (λ q. (p < q) × HoldsAt bit bits q × NoneFrom bit bits (p + 1) q)
+    → MatchOption (position_after bit bits p) (NoneFrom bit bits (p + 1) (length bits)) (λ q. (p < q) × HoldsAt bit bits q × NoneFrom bit bits (p + 1) q)
 
 -- no bit between a position and its neighbour below equals `bit`; without a neighbour, no bit below does
 abbrev pub NoneDownToNeighbour : Type 0
 NoneDownToNeighbour = (bit : Bool) (bits : List Bool) (p : ℕ)
-    → MatchOption (place_before bit bits p) (NoneFrom bit bits 0 (min p (length bits))) (λ q. (q < p) × HoldsAt bit bits q × NoneFrom bit bits (q + 1) (min p (length bits)))
+    → MatchOption (position_before bit bits p) (NoneFrom bit bits 0 (min p (length bits))) (λ q. (q < p) × HoldsAt bit bits q × NoneFrom bit bits (q + 1) (min p (length bits)))

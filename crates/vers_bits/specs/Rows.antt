@@ -1,6 +1,6 @@
 -- Worked rows of the definitions, which compute.
 use Rattle.std.specs.Prelude.{◌≡◌, ◌+◌, Bool, true, false, List, [], ◌∷◌, Some, None, refl}
-use Rattle.vers_bits.specs.Bits.{number, low_bits, count, places, select, place_after, place_before, part_number, pack, limb, masked}
+use Rattle.vers_bits.specs.Bits.{number, low_bits, count, positions, select, position_after, position_before, part_number, pack, limb, masked}
 
 -- the bits 0110
 abbrev bits_0110 : List Bool
@@ -25,36 +25,36 @@ pub count_ones-0110-past : count true bits_0110 99 ≡ 2
 unfolding count
 count_ones-0110-past = refl
 
-pub places_of_ones-0110 : places true bits_0110 ≡ 1 ∷ 2 ∷ []
-unfolding places
-places_of_ones-0110 = refl
+pub positions_of_ones-0110 : positions true bits_0110 ≡ 1 ∷ 2 ∷ []
+unfolding positions
+positions_of_ones-0110 = refl
 
 pub select1-0110-1 : select true bits_0110 1 ≡ 2
-unfolding select places
+unfolding select positions
 select1-0110-1 = refl
 
 pub select1-0110-2 : select true bits_0110 2 ≡ 4
-unfolding select places
+unfolding select positions
 select1-0110-2 = refl
 
 pub select0-0110-1 : select false bits_0110 1 ≡ 3
-unfolding select places
+unfolding select positions
 select0-0110-1 = refl
 
-pub one_after-0110-1 : place_after true bits_0110 1 ≡ Some 2
-unfolding place_after places
+pub one_after-0110-1 : position_after true bits_0110 1 ≡ Some 2
+unfolding position_after positions
 one_after-0110-1 = refl
 
-pub one_after-0110-2 : place_after true bits_0110 2 ≡ None
-unfolding place_after places
+pub one_after-0110-2 : position_after true bits_0110 2 ≡ None
+unfolding position_after positions
 one_after-0110-2 = refl
 
-pub one_before-0110-9 : place_before true bits_0110 9 ≡ Some 2
-unfolding place_before places
+pub one_before-0110-9 : position_before true bits_0110 9 ≡ Some 2
+unfolding position_before positions
 one_before-0110-9 = refl
 
-pub one_before-0110-1 : place_before true bits_0110 1 ≡ None
-unfolding place_before places
+pub one_before-0110-1 : position_before true bits_0110 1 ≡ None
+unfolding position_before positions
 one_before-0110-1 = refl
 
 -- the items 7 and 1 in 3 bits each: 111 100

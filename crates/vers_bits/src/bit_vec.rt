@@ -117,40 +117,40 @@ impl<A: Allocator + Copy> BitVec<A> {
         self.len() == 0
     }
 
-    /// Returns true if the bit at `place` is a one, or `None` if `place` is out of bounds.
-    pub fn is_bit_set(&self, place: usize) -> Option<bool>
-        ensures { result ≡ slice_get self.now place }
+    /// Returns true if the bit at `position` is a one, or `None` if `position` is out of bounds.
+    pub fn is_bit_set(&self, position: usize) -> Option<bool>
+        ensures { result ≡ slice_get self.now position }
     {
-        if place >= self.len() {
+        if position >= self.len() {
             return None;
         }
-        Some((self.data[place / 64] >> (place % 64)) & 1 == 1)
+        Some((self.data[position / 64] >> (position % 64)) & 1 == 1)
     }
 
-    /// Returns the bit at `place`, 1 or 0, or `None` if `place` is out of bounds.
-    pub fn get(&self, place: usize) -> Option<u64>
-        ensures { result ≡ option_map bit_value (slice_get self.now place) }
+    /// Returns the bit at `position`, 1 or 0, or `None` if `position` is out of bounds.
+    pub fn get(&self, position: usize) -> Option<u64>
+        ensures { result ≡ option_map bit_value (slice_get self.now position) }
     {
-        if place >= self.len() {
+        if position >= self.len() {
             return None;
         }
-        Some((self.data[place / 64] >> (place % 64)) & 1)
+        Some((self.data[position / 64] >> (position % 64)) & 1)
     }
 
-    /// Returns true if the bit at `place` is a one. Precondition: `place` is below the length.
-    pub fn is_bit_set_unchecked(&self, place: usize) -> bool
-        requires { place < length self.now }
-        ensures { result ≡ slice_index_or self.now place false }
+    /// Returns true if the bit at `position` is a one. Precondition: `position` is below the length.
+    pub fn is_bit_set_unchecked(&self, position: usize) -> bool
+        requires { position < length self.now }
+        ensures { result ≡ slice_index_or self.now position false }
     {
-        (self.data[place / 64] >> (place % 64)) & 1 == 1
+        (self.data[position / 64] >> (position % 64)) & 1 == 1
     }
 
-    /// Returns the bit at `place`, 1 or 0. Precondition: `place` is below the length.
-    pub fn get_unchecked(&self, place: usize) -> u64
-        requires { place < length self.now }
-        ensures { result ≡ bit_value (slice_index_or self.now place false) }
+    /// Returns the bit at `position`, 1 or 0. Precondition: `position` is below the length.
+    pub fn get_unchecked(&self, position: usize) -> u64
+        requires { position < length self.now }
+        ensures { result ≡ bit_value (slice_index_or self.now position false) }
     {
-        u64::from(self.is_bit_set_unchecked(place))
+        u64::from(self.is_bit_set_unchecked(position))
     }
 
     /// Returns limb `k`: the 64 bits from position `64 * k`, least significant first, with zeros past the
@@ -208,26 +208,26 @@ impl<A: Allocator + Copy> BitVec<A> {
         8 * self.data.len()
     }
 
-    /// Returns the `n` bits from position `place` as a number. `None` if there are fewer, or `n` is 0 or above
+    /// Returns the `n` bits from `position` on as a number. `None` if there are fewer, or `n` is 0 or above
     /// 64.
     #[tactic(auto, using(crate::proofs::Counting::parts))]
-    pub fn get_bits(&self, place: usize, n: usize) -> Option<u64>
-        ensures { result ≡ part_number self.now place n }
+    pub fn get_bits(&self, position: usize, n: usize) -> Option<u64>
+        ensures { result ≡ part_number self.now position n }
     {
         let len = self.len();
-        if n == 0 || n > 64 || place > len || n > len - place {
+        if n == 0 || n > 64 || position > len || n > len - position {
             return None;
         }
-        Some(self.get_bits_unchecked(place, n))
+        Some(self.get_bits_unchecked(position, n))
     }
 
-    /// Returns the `n` bits from position `place` as a number: 0 if `n` is 0. Precondition: `n` is at most 64,
-    /// and `place + n` at most the length.
+    /// Returns the `n` bits from `position` on as a number: 0 if `n` is 0. Precondition: `n` is at most 64,
+    /// and `position + n` at most the length.
     #[tactic(auto, using(crate::proofs::Counting::in_limbs))]
-    pub fn get_bits_unchecked(&self, place: usize, n: usize) -> u64
+    pub fn get_bits_unchecked(&self, position: usize, n: usize) -> u64
         requires few { n ≤ 64 }
-        requires within { place + n ≤ length self.now }
-        ensures { result ≡ number (part self.now place n) }
+        requires within { position + n ≤ length self.now }
+        ensures { result ≡ number (part self.now position n) }
     {
         // A position below the length is below `MAX_LEN`.
         let _ = self.len();
@@ -236,8 +236,8 @@ impl<A: Allocator + Copy> BitVec<A> {
         }
         // The limb of the last bit is the next one, or the first again, of which no bit is kept: no branch
         // depends on the position, which would often be mispredicted.
-        let first = self.limb(place / 64) >> (place % 64);
-        let last = self.limb((place + n - 1) / 64) << 1 << (63 - place % 64);
+        let first = self.limb(position / 64) >> (position % 64);
+        let last = self.limb((position + n - 1) / 64) << 1 << (63 - position % 64);
         (first | last) & (u64::MAX >> (64 - n))
     }
 
@@ -250,7 +250,7 @@ impl<A: Allocator + Copy> BitVec<A> {
         // A product that overflows exceeds `MAX_LEN`, and so the length.
         let _ = self.len();
         match index.checked_mul(n) {
-            Some(place) => self.get_bits(place, n),
+            Some(position) => self.get_bits(position, n),
             None => None,
         }
     }

@@ -39,9 +39,9 @@ impl Span {
             self.from = self.to;
             return None;
         }
-        let place = self.from + n;
-        self.from = place + 1;
-        Some(place)
+        let position = self.from + n;
+        self.from = position + 1;
+        Some(position)
     }
 
     /// Skips `n` positions from the back and takes the next. If at most `n` are left, returns `None` and none

@@ -3,7 +3,7 @@ use Rattle.vers_c.proofs.Names.{◌+◌, ◌-◌, ◌<◌, ◌≤◌, length, ma
 use Rattle.std.proofs.Common.{◌≡◌, ℕ, ◌++◌, ◌∙◌, Bool, List, [], ◌∷◌, Option, drop, ap, refl, sym, unwrap_or, get_or-drop}
 use Rattle.std.proofs.lemmas.List.{get_or_default}
 use Rattle.std.proofs.lemmas.Option.{unwrap_or-slice_get}
-use Rattle.vers_bits.specs.Bits.{places, select}
+use Rattle.vers_bits.specs.Bits.{positions, select}
 use Rattle.vers_bits.specs.Walk.{TakesNth}
 
 -- an item that is still as it was, where those before it were written
@@ -13,7 +13,7 @@ still {X} f xs ys i d inside is =
     let long : length front ≡ i = length-map (take i xs) f ∙ length-take-le i xs (omega arith) in
     ap (λ l. get_or l i d) (is ∙ ap (λ l. front ++ l) (drop_more xs i d inside)) ∙ get_or_at front (get_or xs i d) (drop (i + 1) xs) d i long
 
--- items at one place of two lists of which the same is read off
+-- items at one position of two lists of which the same is read off
 same_at : {Q R A : Type 0} (f : Q → A) (g : R → A) (qs : List Q) (rs : List R) (i : ℕ) (q : Q) (r : R) → i < length qs → i < length rs → q ≡ get_or qs i q → r ≡ get_or rs i r → map f qs ≡ map g rs → f q ≡ g r
 same_at f g qs rs i q r in_qs in_rs read_q read_r same =
     ap f read_q ∙ sym (get_or-map f qs i q (f q) in_qs) ∙ ap (λ l. get_or l i (f q)) same ∙ get_or-map g rs i r (f q) in_rs ∙ ap g (sym read_r)
@@ -42,19 +42,19 @@ written_more {X} f xs ys i v d inside value is =
     ap (λ y. set ys i y) value ∙ map_over_more f xs ys i x inside is (get_or_default xs i d x inside ∙ sym (still f xs ys i x inside is))
 
 -- one position more of a run
-module _ (bit : Bool) (bits : List Bool) (left new : List ℕ) (skip n : ℕ) (taken : Option ℕ) (before : drop skip left ≡ drop n (places bit bits)) (steps : TakesNth skip left taken new) where
-  pub run_goes_on : new ≡ drop (n + 1) (places bit bits)
-  run_goes_on = steps.left ∙ sym (drop-drop 1 skip left) ∙ ap (drop 1) before ∙ drop-drop 1 n (places bit bits)
+module _ (bit : Bool) (bits : List Bool) (left new : List ℕ) (skip n : ℕ) (taken : Option ℕ) (before : drop skip left ≡ drop n (positions bit bits)) (steps : TakesNth skip left taken new) where
+  pub run_goes_on : new ≡ drop (n + 1) (positions bit bits)
+  run_goes_on = steps.left ∙ sym (drop-drop 1 skip left) ∙ ap (drop 1) before ∙ drop-drop 1 n (positions bit bits)
 
   pub run_taken : unwrap_or taken (length bits) ≡ select bit bits n
   unfolding select
   run_taken =
       let d : ℕ = length bits in
-      let same : get_or left (skip + 0) d ≡ get_or (places bit bits) (n + 0) d = sym (get_or-drop skip left 0 d) ∙ ap (λ l. get_or l 0 d) before ∙ get_or-drop n (places bit bits) 0 d in
+      let same : get_or left (skip + 0) d ≡ get_or (positions bit bits) (n + 0) d = sym (get_or-drop skip left 0 d) ∙ ap (λ l. get_or l 0 d) before ∙ get_or-drop n (positions bit bits) 0 d in
       let left_at : skip ≡ skip + 0 = omega arith in
-      let place_at : n + 0 ≡ n = omega arith in
+      let position_at : n + 0 ≡ n = omega arith in
       ap (λ o. unwrap_or o d) steps.given ∙ unwrap_or-slice_get left skip d
-      ∙ ap (λ i. get_or left i d) left_at ∙ same ∙ ap (λ i. get_or (places bit bits) i d) place_at
+      ∙ ap (λ i. get_or left i d) left_at ∙ same ∙ ap (λ i. get_or (positions bit bits) i d) position_at
 
 -- a group more
 pub group_more : {X : Type 0} (f : X → X) (xs ys zs : List X) (i n : ℕ) → i + n ≤ length xs → ys ≡ map f (take i xs) ++ drop i xs → zs ≡ map f (take n (drop i ys))

@@ -12,14 +12,14 @@ pub use Rattle.std_alloc.proofs.BoxSteps.Form.{B, Bx, D, P, R, args, box_ty, box
 pub use Rattle.std_alloc.proofs.BoxSteps.Steps.{box_in, box_out}
 pub use Rattle.std_alloc.proofs.ResultValues.{and_tt}
 pub use Rattle.std_alloc.specs.Box.Ownership.{box_owns}
-pub use Rattle.vers_bits.specs.Bits.{places, select}
+pub use Rattle.vers_bits.specs.Bits.{positions, select}
 pub use Rattle.catalogue.specs.Answers.{found_or_absent, value_or}
 pub use Rattle.vers_c.specs.Batches.{asked, answered_row}
 pub use Rattle.catalogue.specs.SymbolsAnswers.{if_numbers}
 pub use Rattle.vers_sorted.proofs.PublicLaws.{ones_at-same}
 pub use Rattle.vers_sorted.specs.Ones.{ones_at}
 pub use Rattle.vers_sorted.specs.Sorted.{below, greatest_not_above, least_not_below}
-pub use Rattle.vers_wavelet.specs.Numbers.{low_bits_of, place_from, places_of, rank_before}
+pub use Rattle.vers_wavelet.specs.Numbers.{low_bits_of, position_from, positions_of, rank_before}
 pub use Rattle.vers_wavelet.specs.Symbols.{Symbols, by_size, occurrences}
 unfoldable pub use Rattle.vers_wavelet.specs.Symbols.{as_word, kth_by_size, range_members}
 pub use base.Fml.{flft, fsep, ftrue}

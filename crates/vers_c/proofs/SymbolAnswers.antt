@@ -1,5 +1,5 @@
 -- What many queries of symbols find, as functions of the list.
-use Rattle.vers_c.proofs.Names.{Bool, length, slice_get, map, Option, Some, None, true, false, arith, ◌&&◌, slice_range, nat_le, if◌then◌else◌, map-map, slice_get_past, Symbols, by_size, kth_by_size, occurrences, range_members, as_word, low_bits_of, places_of, rank_before, found_or_absent, if_numbers}
+use Rattle.vers_c.proofs.Names.{Bool, length, slice_get, map, Option, Some, None, true, false, arith, ◌&&◌, slice_range, nat_le, if◌then◌else◌, map-map, slice_get_past, Symbols, by_size, kth_by_size, occurrences, range_members, as_word, low_bits_of, positions_of, rank_before, found_or_absent, if_numbers}
 use Rattle.std.proofs.Common.{◌≡◌, ℕ, List, [], refl, sym, ap, ◌∙◌}
 
 -- what many queries that were answered at once say
@@ -19,10 +19,10 @@ both_tested : (a b : Bool) (found : Option ℕ) → (if a && b then found else N
 both_tested true b found = refl
 both_tested false b found = refl
 
--- a count of places, if there are so many
+-- a count of positions, if there are so many
 pub rank_inside : (symbols : Symbols) (end s : ℕ) → (if nat_le symbols.width 64 && nat_le end (length symbols.items) then Some (length (occurrences symbols.items 0 end (low_bits_of symbols s))) else None)
     ≡ (if nat_le symbols.width 64 then rank_before symbols end s else None)
-rank_inside symbols end s = both_tested (nat_le symbols.width 64) (nat_le end (length symbols.items)) (Some (length (places_of symbols 0 end s)))
+rank_inside symbols end s = both_tested (nat_le symbols.width 64) (nat_le end (length symbols.items)) (Some (length (positions_of symbols 0 end s)))
 
 -- a member by size of a range that ends within the list, if it does
 pub kth_inside : (width : ℕ) (items : List ℕ) (a b i : ℕ) → (if nat_le width 64 && nat_le b (length items) then slice_get (by_size (slice_range items a b)) i else None)

@@ -18,7 +18,7 @@ sorted_made numbers = if each_next nat_le numbers then Some (SortedMembers numbe
 -- from the positions of ones, which have to ascend strictly and to be less than the length
 abbrev pub sparse_made : List ℕ → ℕ → Option Content
 sparse_made ones len =
-    if each_next nat_lt ones && list_all (λ place. nat_lt place len) ones then Some (SparseBits (ones_at ones len)) else None
+    if each_next nat_lt ones && list_all (λ position. nat_lt position len) ones then Some (SparseBits (ones_at ones len)) else None
 
 -- of numbers, of which `width` low bits count; that is at most 64
 abbrev pub symbols_made : List ℕ → ℕ → Option Content

@@ -1,7 +1,7 @@
 -- Texts, in which patterns are found.
 use Rattle.std.specs.Prelude.{◌≡◌, ◌⊎◌, ℕ, ◌==◌, ◌<◌, ◌≤◌, ◌∷◌, ◌&&◌, not, nat_le, List, length, slice_index, take, Option, Some, None, if◌then◌else◌}
 use Rattle.std.specs.List.{slice_range}
-use Rattle.text_index.specs.Texts.{places_in_order, places_of}
+use Rattle.text_index.specs.Texts.{positions_in_order, positions_of}
 use Rattle.text_index.specs.Makers.{is_text}
 use Rattle.catalogue.specs.Structures.{Content, IndexedText, PlainNumbers}
 use Rattle.catalogue.specs.declared.answer.Answer.{Answer}
@@ -17,7 +17,7 @@ text_made symbols width step =
 
 -- how many occurrences a pattern has in some symbols
 abbrev pub occurrences : List ℕ → List ℕ → ℕ
-occurrences text pattern = length (places_of text pattern)
+occurrences text pattern = length (positions_of text pattern)
 
 -- how many occurrences a pattern has in a text
 abbrev pub pattern_count : Content → List ℕ → Answer
@@ -30,14 +30,14 @@ contents_count None pattern = vacant
 contents_count (Some held) pattern = as_vers_answer (pattern_count held pattern)
 
 -- the occurrences of a pattern in a text, ascending, as plain numbers
-abbrev pub pattern_places : Content → List ℕ → Option Content
-pattern_places (IndexedText text) pattern = Some (PlainNumbers (places_of text.items pattern))
-pattern_places held pattern = None
+abbrev pub pattern_positions : Content → List ℕ → Option Content
+pattern_positions (IndexedText text) pattern = Some (PlainNumbers (positions_of text.items pattern))
+pattern_positions held pattern = None
 
 -- the first occurrences of a pattern in the order of the suffixes, at most `limit`, as plain numbers
-abbrev pub first_pattern_places : Content → List ℕ → ℕ → Option Content
-first_pattern_places (IndexedText text) pattern limit = Some (PlainNumbers (take limit (places_in_order text.items pattern)))
-first_pattern_places held pattern limit = None
+abbrev pub first_pattern_positions : Content → List ℕ → ℕ → Option Content
+first_pattern_positions (IndexedText text) pattern limit = Some (PlainNumbers (take limit (positions_in_order text.items pattern)))
+first_pattern_positions held pattern limit = None
 
 -- the symbols of a text from one position to before another, as plain numbers, if it has these positions
 abbrev pub piece : Content → ℕ → ℕ → Option Content

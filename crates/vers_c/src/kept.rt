@@ -6,7 +6,7 @@ ghost use Rattle.vers_c.specs.Batches.{answered_row};
 ghost use Rattle.vers_c.specs.Changes.{IsChanged, changed_by_code, coded_status};
 ghost use Rattle.vers_c.specs.Codes.{batch_status, coded_answer, query_of};
 ghost use Rattle.vers_c.specs.Lists.{coded_joined, common_of, joined_of, listed_of};
-ghost use Rattle.vers_c.specs.Texts.{first_pattern_places, pattern_count, pattern_places, piece};
+ghost use Rattle.vers_c.specs.Texts.{first_pattern_positions, pattern_count, pattern_positions, piece};
 ghost use Rattle.vers_c.specs.Structures.{content};
 
 use crate::asked::{Row, answer_each};
@@ -274,7 +274,7 @@ pub fn count(kept: &Kept, pattern: &[u64]) -> Answer
     ensures { result ≡ pattern_count (content kept.now) pattern.now }
 {
     match kept {
-        Kept::Other(Structure::Text(text)) => Answer::place(text.count(pattern)),
+        Kept::Other(Structure::Text(text)) => Answer::position(text.count(pattern)),
         _ => Answer::Unknown,
     }
 }
@@ -282,14 +282,14 @@ pub fn count(kept: &Kept, pattern: &[u64]) -> Answer
 /// Returns the positions of a pattern in a text, ascending, as plain numbers. `None` if this is no text.
 /// Errors: `AllocError` if the allocator refuses a request.
 pub fn places(kept: &Kept, alloc: Global, pattern: &[u64]) -> Result<Option<Kept>, AllocError>
-    ensures places { IfOk result (λ made. option_map content made
-        ≡ pattern_places (content kept.now) pattern.now) }
-    ensures text { IsErr result → IsSome (pattern_places (content kept.now) pattern.now) }
+    ensures positions { IfOk result (λ made. option_map content made
+        ≡ pattern_positions (content kept.now) pattern.now) }
+    ensures text { IsErr result → IsSome (pattern_positions (content kept.now) pattern.now) }
 {
     match kept {
         Kept::Other(Structure::Text(text)) => {
-            let places = text.places_ascending(pattern)?;
-            Ok(Some(numbers(as_numbers(alloc, &places)?)))
+            let positions = text.places_ascending(pattern)?;
+            Ok(Some(numbers(as_numbers(alloc, &positions)?)))
         }
         _ => Ok(None),
     }
@@ -303,15 +303,15 @@ pub fn first_places(
     pattern: &[u64],
     limit: usize,
 ) -> Result<Option<Kept>, AllocError>
-    ensures places { IfOk result (λ made. option_map content made
-        ≡ first_pattern_places (content kept.now) pattern.now limit) }
+    ensures positions { IfOk result (λ made. option_map content made
+        ≡ first_pattern_positions (content kept.now) pattern.now limit) }
     ensures text { IsErr result
-        → IsSome (first_pattern_places (content kept.now) pattern.now limit) }
+        → IsSome (first_pattern_positions (content kept.now) pattern.now limit) }
 {
     match kept {
         Kept::Other(Structure::Text(text)) => {
-            let places = text.first_places(pattern, limit)?;
-            Ok(Some(numbers(as_numbers(alloc, &places)?)))
+            let positions = text.first_places(pattern, limit)?;
+            Ok(Some(numbers(as_numbers(alloc, &positions)?)))
         }
         _ => Ok(None),
     }

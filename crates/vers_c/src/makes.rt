@@ -57,7 +57,7 @@ pub fn bits(alloc: Global, words: &[u64], len: usize) -> Result<RsVec<Global>, G
 /// below `len`. Errors: `AllocError` if the allocator refuses a request.
 pub fn sparse(alloc: Global, ones: &[u64], len: u64) -> Result<SparseRSVec<Global>, AllocError>
     requires rising { IsStrictlyIncreasing ones.now }
-    requires within { All (λ place. place < len) ones.now }
+    requires within { All (λ position. position < len) ones.now }
     ensures { IfOk result (λ bits. bits ≡ ones_at ones.now len) }
 {
     SparseRSVec::new(alloc, ones, len)

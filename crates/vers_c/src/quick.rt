@@ -45,12 +45,12 @@ fn ask_as(
 pub extern "C" fn vers_quick_bits_get(
     alloc: Global,
     handle: &mut VersHandle,
-    place: u64,
+    position: u64,
 ) -> VersAnswer
-    ensures value { result ≡ contents_asked (contents handle.old) query.Get place 0 0 }
+    ensures value { result ≡ contents_asked (contents handle.old) query.Get position 0 0 }
     ensures kept { contents handle.new ≡ contents handle.old }
 {
-    ask_as(alloc, handle, Kind::Bits, Query::Get, place, 0, 0)
+    ask_as(alloc, handle, Kind::Bits, Query::Get, position, 0, 0)
 }
 
 /// Returns the number of zeros below a position, fastest for bits with rank and select.
@@ -58,12 +58,12 @@ pub extern "C" fn vers_quick_bits_get(
 pub extern "C" fn vers_quick_bits_rank0(
     alloc: Global,
     handle: &mut VersHandle,
-    place: u64,
+    position: u64,
 ) -> VersAnswer
-    ensures value { result ≡ contents_asked (contents handle.old) query.Rank0 place 0 0 }
+    ensures value { result ≡ contents_asked (contents handle.old) query.Rank0 position 0 0 }
     ensures kept { contents handle.new ≡ contents handle.old }
 {
-    ask_as(alloc, handle, Kind::Bits, Query::Rank0, place, 0, 0)
+    ask_as(alloc, handle, Kind::Bits, Query::Rank0, position, 0, 0)
 }
 
 /// Returns the number of ones below a position, fastest for bits with rank and select.
@@ -71,12 +71,12 @@ pub extern "C" fn vers_quick_bits_rank0(
 pub extern "C" fn vers_quick_bits_rank1(
     alloc: Global,
     handle: &mut VersHandle,
-    place: u64,
+    position: u64,
 ) -> VersAnswer
-    ensures value { result ≡ contents_asked (contents handle.old) query.Rank1 place 0 0 }
+    ensures value { result ≡ contents_asked (contents handle.old) query.Rank1 position 0 0 }
     ensures kept { contents handle.new ≡ contents handle.old }
 {
-    ask_as(alloc, handle, Kind::Bits, Query::Rank1, place, 0, 0)
+    ask_as(alloc, handle, Kind::Bits, Query::Rank1, position, 0, 0)
 }
 
 /// Returns the position of a zero by its number, fastest for bits with rank and select.
@@ -110,12 +110,12 @@ pub extern "C" fn vers_quick_bits_select1(
 pub extern "C" fn vers_quick_sorted_get(
     alloc: Global,
     handle: &mut VersHandle,
-    place: u64,
+    position: u64,
 ) -> VersAnswer
-    ensures value { result ≡ contents_asked (contents handle.old) query.Get place 0 0 }
+    ensures value { result ≡ contents_asked (contents handle.old) query.Get position 0 0 }
     ensures kept { contents handle.new ≡ contents handle.old }
 {
-    ask_as(alloc, handle, Kind::Sorted, Query::Get, place, 0, 0)
+    ask_as(alloc, handle, Kind::Sorted, Query::Get, position, 0, 0)
 }
 
 /// Returns the number of members below a number, fastest for ascending lists.
@@ -170,12 +170,12 @@ pub extern "C" fn vers_quick_sorted_successor(
 pub extern "C" fn vers_quick_symbols_get(
     alloc: Global,
     handle: &mut VersHandle,
-    place: u64,
+    position: u64,
 ) -> VersAnswer
-    ensures value { result ≡ contents_asked (contents handle.old) query.Get place 0 0 }
+    ensures value { result ≡ contents_asked (contents handle.old) query.Get position 0 0 }
     ensures kept { contents handle.new ≡ contents handle.old }
 {
-    ask_as(alloc, handle, Kind::Symbols, Query::Get, place, 0, 0)
+    ask_as(alloc, handle, Kind::Symbols, Query::Get, position, 0, 0)
 }
 
 /// Returns 1 if a parenthesis opens, otherwise 0, fastest for parentheses.
@@ -183,12 +183,12 @@ pub extern "C" fn vers_quick_symbols_get(
 pub extern "C" fn vers_quick_tree_get(
     alloc: Global,
     handle: &mut VersHandle,
-    place: u64,
+    position: u64,
 ) -> VersAnswer
-    ensures value { result ≡ contents_asked (contents handle.old) query.Get place 0 0 }
+    ensures value { result ≡ contents_asked (contents handle.old) query.Get position 0 0 }
     ensures kept { contents handle.new ≡ contents handle.old }
 {
-    ask_as(alloc, handle, Kind::Tree, Query::Get, place, 0, 0)
+    ask_as(alloc, handle, Kind::Tree, Query::Get, position, 0, 0)
 }
 
 /// Returns the value at a position, fastest for values with blocks.
@@ -196,12 +196,12 @@ pub extern "C" fn vers_quick_tree_get(
 pub extern "C" fn vers_quick_values_get(
     alloc: Global,
     handle: &mut VersHandle,
-    place: u64,
+    position: u64,
 ) -> VersAnswer
-    ensures value { result ≡ contents_asked (contents handle.old) query.Get place 0 0 }
+    ensures value { result ≡ contents_asked (contents handle.old) query.Get position 0 0 }
     ensures kept { contents handle.new ≡ contents handle.old }
 {
-    ask_as(alloc, handle, Kind::Fast, Query::Get, place, 0, 0)
+    ask_as(alloc, handle, Kind::Fast, Query::Get, position, 0, 0)
 }
 
 /// Returns the first position of a least value from one position to another, both included, fastest for values
@@ -269,9 +269,9 @@ pub extern "C" fn vers_quick_symbols_quantile(
 pub extern "C" fn vers_quick_tree_close(
     alloc: Global,
     handle: &mut VersHandle,
-    place: u64,
+    position: u64,
 ) -> VersAnswer
-    ensures value { result ≡ contents_asked (contents handle.old) (query.Tree of_tree.Close) place 0 0 }
+    ensures value { result ≡ contents_asked (contents handle.old) (query.Tree of_tree.Close) position 0 0 }
     ensures kept { contents handle.new ≡ contents handle.old }
 {
     ask_as(
@@ -279,7 +279,7 @@ pub extern "C" fn vers_quick_tree_close(
         handle,
         Kind::Tree,
         Query::Tree(TreeQuery::Close),
-        place,
+        position,
         0,
         0,
     )

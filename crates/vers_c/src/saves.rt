@@ -78,7 +78,7 @@ pub extern "C" fn vers_saved_size(alloc: Global, handle: &mut VersHandle) -> Ver
     let size = owner.saved_size();
     put(handle, owner);
     match size {
-        Some(size) => VersAnswer::of(Answer::place(size)),
+        Some(size) => VersAnswer::of(Answer::position(size)),
         None => VersAnswer::of(Answer::Absent),
     }
 }

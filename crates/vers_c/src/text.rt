@@ -47,12 +47,12 @@ pub fn is_text_of_u16s(width: u32, u16s: &[u16]) -> bool
 }
 
 /// Returns positions as plain numbers. Errors: `AllocError` if the allocator refuses a request.
-pub fn as_numbers(alloc: Global, places: &[usize]) -> Result<Vec<u64, Global>, AllocError>
-    ensures { IfOk result (λ numbers. numbers.items ≡ places.now) }
+pub fn as_numbers(alloc: Global, positions: &[usize]) -> Result<Vec<u64, Global>, AllocError>
+    ensures { IfOk result (λ numbers. numbers.items ≡ positions.now) }
 {
-    let mut numbers = Vec::with_capacity(alloc, places.len())?;
-    for place in places {
-        numbers.push(*place as u64)?;
+    let mut numbers = Vec::with_capacity(alloc, positions.len())?;
+    for position in positions {
+        numbers.push(*position as u64)?;
     }
     Ok(numbers)
 }

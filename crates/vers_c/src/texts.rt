@@ -2,7 +2,7 @@
 ghost use Rattle.std.specs.Prelude.{◌≡◌};
 ghost use Rattle.std.specs.Option.{option_and_then};
 ghost use Rattle.vers_c.specs.Makes.{IsMade};
-ghost use Rattle.vers_c.specs.Texts.{IsCounted, contents_count, first_pattern_places, pattern_places, piece, text_made};
+ghost use Rattle.vers_c.specs.Texts.{IsCounted, contents_count, first_pattern_positions, pattern_positions, piece, text_made};
 ghost use Rattle.vers_c.specs.Structures.{contents};
 
 use crate::answer::VersAnswer;
@@ -133,7 +133,7 @@ pub extern "C" fn vers_places(
     pattern: &[u64],
     into: &mut VersHandle,
 ) -> u32
-    ensures made { IsMade (option_and_then (λ held. pattern_places held pattern.now) (contents handle.old))
+    ensures made { IsMade (option_and_then (λ held. pattern_positions held pattern.now) (contents handle.old))
         (contents into.old) (contents into.new) result }
     ensures kept { contents handle.new ≡ contents handle.old }
 {
@@ -160,7 +160,7 @@ pub extern "C" fn vers_first_places(
     into: &mut VersHandle,
 ) -> u32
     ensures made { IsMade
-        (option_and_then (λ held. first_pattern_places held pattern.now limit) (contents handle.old))
+        (option_and_then (λ held. first_pattern_positions held pattern.now limit) (contents handle.old))
         (contents into.old) (contents into.new) result }
     ensures kept { contents handle.new ≡ contents handle.old }
 {

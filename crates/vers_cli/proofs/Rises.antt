@@ -75,26 +75,26 @@ told order words (Some numbers) end e h = rw (all_first words numbers e) (e, ris
 pub not_told : (order : ℕ → ℕ → Bool) (found : Option (List ℕ)) (numbers : List ℕ) → rise_after order 0 0 found ≡ None → found ≡ Some numbers → each_next order numbers ≡ false
 not_told order found numbers h e = fall order numbers (rw e at h)
 
--- ---- places of ones
+-- ---- positions of ones
 
--- all places that ascend strictly are below a limit where the last one is
-last_below : (limit p : ℕ) (places : List ℕ) → each_next nat_lt (p ∷ places) ≡ true
-    → nat_lt (get_or (p ∷ places) (length places) 0) limit ≡ list_all (λ place. nat_lt place limit) (p ∷ places)
+-- all positions that ascend strictly are below a limit where the last one is
+last_below : (limit p : ℕ) (positions : List ℕ) → each_next nat_lt (p ∷ positions) ≡ true
+    → nat_lt (get_or (p ∷ positions) (length positions) 0) limit ≡ list_all (λ position. nat_lt position limit) (p ∷ positions)
 last_below limit p [] up = grind arith
-last_below limit p (q ∷ places) up =
-    let parts = and_parts (nat_lt p q) (each_next nat_lt (q ∷ places)) up in
-    grind (arith, nat_tests, last_below limit q places parts.1, parts.0)
+last_below limit p (q ∷ positions) up =
+    let parts = and_parts (nat_lt p q) (each_next nat_lt (q ∷ positions)) up in
+    grind (arith, nat_tests, last_below limit q positions parts.1, parts.0)
 
-pub all_below : (limit last len : ℕ) (places : List ℕ) → each_next nat_lt places ≡ true → len ≡ length places → last ≡ last_of places
-    → ((len == 0) || nat_lt last limit) ≡ list_all (λ place. nat_lt place limit) places
+pub all_below : (limit last len : ℕ) (positions : List ℕ) → each_next nat_lt positions ≡ true → len ≡ length positions → last ≡ last_of positions
+    → ((len == 0) || nat_lt last limit) ≡ list_all (λ position. nat_lt position limit) positions
 all_below limit last len [] up counted end = rw counted refl
-all_below limit last len (p ∷ places) up counted end =
-    let at : length (p ∷ places) - 1 ≡ length places = omega arith in
-    let some : (length (p ∷ places) == 0) ≡ false = ne_eqb (length (p ∷ places)) 0 (λ e. omega arith) in
-    rw (counted, end, some) (ap (λ k. nat_lt (get_or (p ∷ places) k 0) limit) at ∙ last_below limit p places up)
+all_below limit last len (p ∷ positions) up counted end =
+    let at : length (p ∷ positions) - 1 ≡ length positions = omega arith in
+    let some : (length (p ∷ positions) == 0) ≡ false = ne_eqb (length (p ∷ positions)) 0 (λ e. omega arith) in
+    rw (counted, end, some) (ap (λ k. nat_lt (get_or (p ∷ positions) k 0) limit) at ∙ last_below limit p positions up)
 
-pub all_are_below : (limit : ℕ) (places : List ℕ) → list_all (λ place. nat_lt place limit) places ≡ true → All (λ place. place < limit) places
-all_are_below limit places h k d l = ltb-true _ _ (AllPass-from_list_all (λ place. nat_lt place limit) places h k d l)
+pub all_are_below : (limit : ℕ) (positions : List ℕ) → list_all (λ position. nat_lt position limit) positions ≡ true → All (λ position. position < limit) positions
+all_are_below limit positions h k d l = ltb-true _ _ (AllPass-from_list_all (λ position. nat_lt position limit) positions h k d l)
 
 -- numbers that ascend strictly ascend
 pub rising_ascends : (numbers : List ℕ) → each_next nat_lt numbers ≡ true → each_next nat_le numbers ≡ true

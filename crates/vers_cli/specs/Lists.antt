@@ -2,7 +2,7 @@
 use Rattle.std.specs.Prelude.{ℕ, Bool, true, nat_le, List, reverse, if◌then◌else◌}
 use Rattle.inverted.specs.Lists.{list_of}
 use Rattle.postings.specs.Posted.{common}
-use Rattle.vers_bits.specs.Bits.{places}
+use Rattle.vers_bits.specs.Bits.{positions}
 use Rattle.vers_trees.specs.Balance.{are_balanced, has_node}
 use Rattle.vers_trees.specs.Forest.{Forest, forest_of}
 use Rattle.vers_trees.specs.Nodes.{children, subtree}
@@ -29,10 +29,10 @@ if_numbers symbols numbers = if nat_le symbols.width 64 then Numbers numbers els
 -- a list of all items of a structure, or of all nodes
 abbrev pub all_reply : Content → Listing → PlainReply
 all_reply (SortedMembers members) Items = Numbers members
-all_reply (SparseBits bits) Items = Numbers (places true bits)
+all_reply (SparseBits bits) Items = Numbers (positions true bits)
 all_reply (SymbolList symbols) Items = if_numbers symbols symbols.items
 all_reply (SymbolList symbols) BySize = if_numbers symbols (by_size symbols.items)
-all_reply (Parentheses bits) Items = Numbers (places true bits)
+all_reply (Parentheses bits) Items = Numbers (positions true bits)
 all_reply (Parentheses bits) Postorder = reply_if (are_balanced bits) (Numbers (postorder (forest_of bits)))
 all_reply _ _ = WrongStructure
 

@@ -46,7 +46,7 @@ first_numbers (word ∷ more) = first_then (number_of word) (first_numbers more)
 abbrev pub sparse_loaded : Option (List ℕ) → Loading (List Bool)
 sparse_loaded None = Malformed
 sparse_loaded (Some []) = Malformed
-sparse_loaded (Some (len ∷ ones)) = if each_next nat_lt ones && list_all (λ place. nat_lt place len) ones then Accepted (ones_at ones len) else Inadmissible
+sparse_loaded (Some (len ∷ ones)) = if each_next nat_lt ones && list_all (λ position. nat_lt position len) ones then Accepted (ones_at ones len) else Inadmissible
 
 -- the load line `values n ..`, for its numbers
 abbrev pub values_loaded : Option (List ℕ) → Loading (List ℕ)

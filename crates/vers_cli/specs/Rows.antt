@@ -1,7 +1,7 @@
 -- Worked rows of the definitions, which compute.
 use Rattle.std.specs.Prelude.{◌≡◌, ℕ, ◌++◌, true, false, List, [], ◌∷◌, codes, Some, None, refl}
 use Rattle.std.specs.Fmt.{digits}
-use Rattle.vers_bits.specs.Bits.{count, places, select}
+use Rattle.vers_bits.specs.Bits.{count, positions, select}
 use Rattle.vers_sorted.specs.Sorted.{is_member, below, least_not_below}
 use Rattle.vers_sorted.specs.Ones.{ones_at}
 use Rattle.vers_wavelet.specs.Symbols.{occurrences, range_members, kth_by_size, greatest_up_to, least_from, as_word}
@@ -10,8 +10,8 @@ use Rattle.vers_trees.specs.Excess.{excess, first_rise_after, last_rise_before, 
 use Rattle.vers_trees.specs.Forest.{forest_of}
 use Rattle.vers_trees.specs.Nodes.{closing, is_ancestor, is_proper_ancestor, depth, parent, nodes_under, level, level_ancestor, subtree, node_index}
 use Rattle.vers_trees.specs.Traversals.{subtree_post}
-use Rattle.vers_rmq.specs.Minima.{is_least as costs_least, first_least, first_least_of, least_place}
-use Rattle.postings.specs.Posted.{places_between as places_of_range, cheapest, common}
+use Rattle.vers_rmq.specs.Minima.{is_least as costs_least, first_least, first_least_of, least_position}
+use Rattle.postings.specs.Posted.{positions_between as positions_of_range, cheapest, common}
 use Rattle.vers_trees.specs.declared.trees.bp.relatives.LevelEnd.TheVariants.{Rightmost}
 use Rattle.vers_words.specs.Text.{number_of, signed_number_of}
 use Rattle.vers_engine.specs.Lines.{lines_of}
@@ -57,11 +57,11 @@ unfolding answer_to_parts number_of count digits
 answer-rank1_3 = refl
 
 pub answer-select1_1 : answer_to held_0110 (codes "select1 1") ≡ ended (codes "2")
-unfolding answer_to_parts number_of select places digits
+unfolding answer_to_parts number_of select positions digits
 answer-select1_1 = refl
 
 pub answer-select1_2 : answer_to held_0110 (codes "select1 2") ≡ ended (codes "4")
-unfolding answer_to_parts number_of select places digits
+unfolding answer_to_parts number_of select positions digits
 answer-select1_2 = refl
 
 pub answer-get_9 : answer_to held_0110 (codes "get 9") ≡ ended (codes "none")
@@ -81,7 +81,7 @@ pub answer-malformed : answer_to held_0110 (codes "rank1 x") ≡ ended (codes "b
 unfolding answer_to_parts number_of
 answer-malformed = refl
 
--- an ascending list may have equal members, and a sparse list takes each place once
+-- an ascending list may have equal members, and a sparse list takes each position once
 pub answer-sorted_449 : answer_to None (codes "sorted 4 4 9") ≡ ended (codes "3")
 unfolding answer_to_parts number_of digits
 answer-sorted_449 = refl
@@ -112,29 +112,29 @@ pub held-sparse_5_13 : holding_after None (codes "sparse 5 1 3") ≡ Some (Spars
 unfolding holding_after_parts number_of ones_at is_member
 held-sparse_5_13 = refl
 
--- a place that is not below the length, and a line without a length
-pub answer-place_outside : answer_to held_449 (codes "sparse 3 3") ≡ ended (codes "refused")
+-- a position that is not below the length, and a line without a length
+pub answer-position_outside : answer_to held_449 (codes "sparse 3 3") ≡ ended (codes "refused")
 unfolding answer_to_parts number_of
-answer-place_outside = refl
+answer-position_outside = refl
 
 pub answer-no_length : answer_to held_449 (codes "sparse") ≡ ended (codes "bad line")
 unfolding answer_to_parts
 answer-no_length = refl
 
--- a range has both its ends, and of equal least values the first place counts
+-- a range has both its ends, and of equal least values the first position counts
 pub first_least-0-4 : first_least values_31211 0 4 ≡ Some 1
-unfolding least_place first_least_of costs_least
+unfolding least_position first_least_of costs_least
 first_least-0-4 = refl
 
 pub first_least-2-4 : first_least values_31211 2 4 ≡ Some 3
-unfolding least_place first_least_of costs_least
+unfolding least_position first_least_of costs_least
 first_least-2-4 = refl
 
 pub first_least-4-4 : first_least values_31211 4 4 ≡ Some 4
-unfolding least_place first_least_of costs_least
+unfolding least_position first_least_of costs_least
 first_least-4-4 = refl
 
--- the start is past the end, or the end is no place
+-- the start is past the end, or the end is no position
 pub first_least-2-1 : first_least values_31211 2 1 ≡ None
 first_least-2-1 = refl
 
@@ -142,7 +142,7 @@ pub first_least-0-5 : first_least values_31211 0 5 ≡ None
 first_least-0-5 = refl
 
 pub answer-range_min_2_4 : answer_to (Some (BlockValues values_31211)) (codes "range_min 2 4") ≡ ended (codes "3")
-unfolding answer_to_parts number_of digits least_place first_least_of costs_least
+unfolding answer_to_parts number_of digits least_position first_least_of costs_least
 answer-range_min_2_4 = refl
 
 pub answer-range_min_0_5 : answer_to (Some (BlockValues values_31211)) (codes "range_min 0 5") ≡ ended (codes "refused")
@@ -170,7 +170,7 @@ unfolding answer_to_parts number_of signed_number_of last_rise_before excess cou
 answer-bwd_search_5 = refl
 
 pub answer-dfs_iter : answer_to held_tree (codes "dfs_iter") ≡ ended (codes "0 1 3")
-unfolding answer_to_parts places digits
+unfolding answer_to_parts positions digits
 answer-dfs_iter = refl
 
 -- the excess may be below 0, and is refused past the end
@@ -232,7 +232,7 @@ pub answer-range_median_u64_0_2 : answer_to held_153 (codes "range_median_u64 0 
 unfolding answer_to_parts number_of range_members kth_by_size digits as_word
 answer-range_median_u64_0_2 = refl
 
--- a range that begins past the last place, and one that ends before it begins
+-- a range that begins past the last position, and one that ends before it begins
 pub answer-rank_range_u64_3_3 : answer_to held_153 (codes "rank_range_u64 3 3 1") ≡ ended (codes "none")
 unfolding answer_to_parts number_of as_word
 answer-rank_range_u64_3_3 = refl
@@ -278,7 +278,7 @@ pub answer-level_ancestor_3_2 : answer_to held_tree (codes "level_ancestor 3 2")
 unfolding answer_to_parts number_of digits forest_of closing is_ancestor is_proper_ancestor depth parent nodes_under level level_ancestor subtree node_index
 answer-level_ancestor_3_2 = refl
 
--- a place without a one, parentheses that are not balanced, and malformed arguments, which come first
+-- a position without a one, parentheses that are not balanced, and malformed arguments, which come first
 pub answer-parent_2 : answer_to held_tree (codes "parent 2") ≡ ended (codes "refused")
 unfolding answer_to_parts number_of
 answer-parent_2 = refl
@@ -319,7 +319,7 @@ unfolding answer_to_parts number_of least_not_below digits
 answer-next_6 = refl
 
 pub answer-cheapest_6_12 : answer_to held_postings (codes "cheapest 6 12") ≡ ended (codes "9")
-unfolding answer_to_parts number_of cheapest places_of_range first_least_of costs_least digits
+unfolding answer_to_parts number_of cheapest positions_of_range first_least_of costs_least digits
 answer-cheapest_6_12 = refl
 
 pub answer-intersect : answer_to held_postings (codes "intersect 5 6 12 40") ≡ ended (codes "5 12")
@@ -402,5 +402,5 @@ input = ended (codes "bits 0110") ++ ended (codes "rank1 3") ++ ended (codes "se
 
 pub answers-input : answers_to None (lines_of input)
     ≡ ended (codes "4") ++ ended (codes "2") ++ ended (codes "2") ++ ended (codes "4") ++ ended (codes "none")
-unfolding answer_to_parts holding_after_parts number_of count select places digits
+unfolding answer_to_parts holding_after_parts number_of count select positions digits
 answers-input = refl

@@ -3,7 +3,7 @@ ghost use Rattle.std.specs.Prelude.{◌≡◌, ℕ, List, true, unwrap_or, optio
 ghost use Rattle.std.specs.Iterator.{Drains, IsFinite};
 ghost use Rattle.catalogue.specs.Structures.{content_of, Documents, Parentheses, SortedMembers, SymbolList};
 ghost use Rattle.postings.specs.Posted.{common};
-ghost use Rattle.vers_bits.specs.Bits.{places};
+ghost use Rattle.vers_bits.specs.Bits.{positions};
 ghost use Rattle.vers_trees.specs.Forest.{IsBalanced, forest_of};
 ghost use Rattle.vers_trees.specs.Nodes.{IsNode};
 ghost use Rattle.vers_words.specs.Reply.{plain_reply, Numbers, Refused};
@@ -80,17 +80,17 @@ fn symbols_reply<A: Allocator + Copy>(
 }
 
 // Returns the numbers that an iterator over positions has left.
-fn places_left<A: Allocator + Copy, I: Iterator<Item = usize> + Drop>(
+fn positions_left<A: Allocator + Copy, I: Iterator<Item = usize> + Drop>(
     alloc: A,
-    places: I,
+    positions: I,
 ) -> Result<Vec<u64, A>, AllocError>
-    requires can { I.can_next places }
-    requires ends { IsFinite (I.remaining places) }
-    ensures { IfOk result (λ numbers. Drains I.next_gives places numbers.items) }
+    requires can { I.can_next positions }
+    requires ends { IsFinite (I.remaining positions) }
+    ensures { IfOk result (λ numbers. Drains I.next_gives positions numbers.items) }
 {
     let mut numbers = Vec::new(alloc);
-    for place in places {
-        numbers.push(place as u64)?;
+    for position in positions {
+        numbers.push(position as u64)?;
     }
     Ok(numbers)
 }
@@ -115,9 +115,9 @@ fn preorder<A: Allocator + Copy>(
     alloc: A,
     tree: &BpTree<512, &A>,
 ) -> Result<Vec<u64, A>, AllocError>
-    ensures { IfOk result (λ numbers. numbers.items ≡ places true tree.now) }
+    ensures { IfOk result (λ numbers. numbers.items ≡ positions true tree.now) }
 {
-    places_left(alloc, tree.dfs_iter())
+    positions_left(alloc, tree.dfs_iter())
 }
 
 // Returns the reply with all nodes in postorder.
@@ -131,7 +131,7 @@ fn postorder_reply<A: Allocator + Copy>(
     if !tree.is_balanced() {
         return Ok(Reply::Refused);
     }
-    Ok(Reply::Numbers(places_left(alloc, tree.dfs_post_iter())?))
+    Ok(Reply::Numbers(positions_left(alloc, tree.dfs_post_iter())?))
 }
 
 /// Returns the reply with the nodes that a walk from a node passes. Errors: `AllocError` if the allocator refuses a
@@ -166,10 +166,10 @@ fn walk<A: Allocator + Copy>(
     ensures { IfOk result (λ numbers. numbers.items ≡ walk_of (forest_of tree.now) nodes node) }
 {
     match nodes {
-        Nodes::Children => places_left(alloc, tree.children(node)),
-        Nodes::RevChildren => places_left(alloc, tree.rev_children(node)),
-        Nodes::Subtree => places_left(alloc, tree.subtree_iter(node)),
-        Nodes::SubtreePost => places_left(alloc, tree.subtree_post_iter(node)),
+        Nodes::Children => positions_left(alloc, tree.children(node)),
+        Nodes::RevChildren => positions_left(alloc, tree.rev_children(node)),
+        Nodes::Subtree => positions_left(alloc, tree.subtree_iter(node)),
+        Nodes::SubtreePost => positions_left(alloc, tree.subtree_post_iter(node)),
     }
 }
 

@@ -20,13 +20,13 @@ use vers_words::text::{number, split_first_word};
 pub fn is_accepted(arguments: &[u8]) -> bool
     ensures { result ≡ accepts (sparse_loaded (numbers_all (words_in arguments.now))) }
 {
-    let Some((word, places)) = split_first_word(arguments) else {
+    let Some((word, positions)) = split_first_word(arguments) else {
         return false;
     };
     let Some(len) = number(word) else {
         return false;
     };
-    match rise_of(places, true) {
+    match rise_of(positions, true) {
         None => false,
         Some(rise) => rise.is_below(len),
     }
@@ -41,14 +41,14 @@ pub fn load<'a, A: Allocator + Copy>(
     ensures { IfOk result (λ loading.
         map_loading content_of loading ≡ loaded Load.Sparse (words_in arguments.now)) }
 {
-    let Some((word, places)) = split_first_word(arguments) else {
+    let Some((word, positions)) = split_first_word(arguments) else {
         return Ok(Loading::Malformed);
     };
     let Some(len) = number(word) else {
         return Ok(Loading::Malformed);
     };
-    let Some(rise) = rise_of(places, true) else {
-        if count_numbers(places).is_none() {
+    let Some(rise) = rise_of(positions, true) else {
+        if count_numbers(positions).is_none() {
             return Ok(Loading::Malformed);
         }
         return Ok(Loading::Inadmissible);
@@ -56,7 +56,7 @@ pub fn load<'a, A: Allocator + Copy>(
     if !rise.is_below(len) {
         return Ok(Loading::Inadmissible);
     }
-    match members_of(*alloc, places, rise) {
+    match members_of(*alloc, positions, rise) {
         Ok(ones) => Ok(Loading::Accepted(Structure::Sparse(SparseRSVec::from_sorted(ones, len)))),
         Err(error) => Err(error),
     }

@@ -22,7 +22,7 @@ pub fn assert_answered(
 
 const CASES: [Case; 16] = [
     (
-        "ranks, places and bits",
+        "ranks, positions and bits",
         &["bits 0110 -> 4; rank1 3 -> 2; select1 1 -> 2; select1 2 -> 4; get 9 -> none"],
     ),
     (
@@ -165,7 +165,7 @@ const TREE_CASES: [Case; 9] = [
         ],
     ),
     (
-        "searches pass the place they begin at, and find the nearest",
+        "searches pass the position they begin at, and find the nearest",
         &[
             "tree 1010101011 -> 10; bwd_search 8 0 -> 6; fwd_search 0 0 -> 2; tree 111111111111111111111111 -> 24",
             "bwd_search 16 0 -> none; bwd_search 16 -16 -> 0; fwd_search 3 4 -> 7; is_balanced -> 0",
@@ -179,7 +179,7 @@ const TREE_CASES: [Case; 9] = [
         ],
     ),
     (
-        "places and rises at the ends of their types",
+        "positions and rises at the ends of their types",
         &[
             "tree 110100 -> 6; fwd_search 0 9223372036854775807 -> none; fwd_search 5 0 -> none",
             "fwd_search 18446744073709551615 0 -> none; bwd_search 6 -1 -> none",
@@ -601,7 +601,7 @@ const LONG_CASES: [LongCase; 6] = [
         ],
     ),
     (
-        "200000 bits, a one at every odd place",
+        "200000 bits, a one at every odd position",
         "bits ",
         [("01", 100000), ("", 0)],
         &[

@@ -218,7 +218,7 @@ fn a_long_line_takes_three_times_its_room(rt: HostRuntime) -> Result<(), Fail> {
 }
 
 // Returns true if a line is loaded over a longer list with no more memory than that one takes.
-fn is_loaded_in_its_place(alloc: Global, line: Line) -> Result<bool, RunError> {
+fn is_loaded_in_its_position(alloc: Global, line: Line) -> Result<bool, RunError> {
     let mut text = Vec::new(alloc);
     push_line(&mut text, LINES[2], LINES[2].times)?;
     let len = text.len();
@@ -230,7 +230,7 @@ fn is_loaded_in_its_place(alloc: Global, line: Line) -> Result<bool, RunError> {
 // Returns the first line that takes more memory.
 fn first_beside(alloc: Global) -> Result<Option<&'static [u8]>, RunError> {
     for line in LINES {
-        if !is_loaded_in_its_place(alloc, line)? {
+        if !is_loaded_in_its_position(alloc, line)? {
             return Ok(Some(line.start));
         }
     }

@@ -9,7 +9,7 @@ use crate::answerer::Answerer;
 use std::alloc::{AllocError, Allocator};
 use std::io::{Read, Write};
 use vers_io::{Device, Sink, Source};
-use vers_words::text::place_of;
+use vers_words::text::position_of;
 
 /// Why a run ended before the end of its input.
 #[derive(Clone, Copy, PartialEq, Eq, Debug, Drop)]
@@ -108,7 +108,7 @@ impl<S: Answerer<A>, A: Allocator> Session<S, A> {
             × TakesSome S.answering result self.old.store self.old.pending.items bytes.now text
             self.new.store self.new.pending.items }
     {
-        match place_of(b'\n', bytes) {
+        match position_of(b'\n', bytes) {
             Some(end) => {
                 self.answer_line(&bytes[..end])?;
                 Ok(end + 1)

@@ -45,8 +45,8 @@ fn print_indexed(rt: &HostRuntime, bits: &RsVec<Global>) -> io::Result<()> {
     let len = bits.len();
     println!(rt; "index len {len}")?;
     print!(rt; "index rank0")?;
-    for place in (0..len).step_by(512) {
-        print!(rt; " {}", bits.rank0(place))?;
+    for position in (0..len).step_by(512) {
+        print!(rt; " {}", bits.rank0(position))?;
     }
     println!(rt; " {}", bits.rank0(len))?;
     println!(rt; "index select0 {} {}", bits.select0(0), bits.select0(8192))?;

@@ -28,24 +28,24 @@ fn print_least(
 // Prints for each position the least item from the start of a part of `size` positions up to it.
 fn print_from_starts(rt: &HostRuntime, minima: &FastRmq<Global>, size: usize) -> io::Result<()> {
     print!(rt; "minima from_start_of_{size}")?;
-    for place in 0..minima.len() {
-        let within = place.checked_rem(size).unwrap_or(0);
-        print_least(rt, minima, place.saturating_sub(within), place)?;
+    for position in 0..minima.len() {
+        let within = position.checked_rem(size).unwrap_or(0);
+        print_least(rt, minima, position.saturating_sub(within), position)?;
     }
     println!(rt; "")
 }
 
 // Prints for each position the least item from it up to the end of a part of `size` positions.
 fn print_to_ends(rt: &HostRuntime, minima: &FastRmq<Global>, size: usize) -> io::Result<()> {
-    let final_place = minima.len().saturating_sub(1);
+    let final_position = minima.len().saturating_sub(1);
     print!(rt; "minima to_end_of_{size}")?;
-    for place in 0..minima.len() {
-        let within = place.checked_rem(size).unwrap_or(0);
-        let end = place
+    for position in 0..minima.len() {
+        let within = position.checked_rem(size).unwrap_or(0);
+        let end = position
             .saturating_sub(within)
             .saturating_add(size)
             .saturating_sub(1);
-        print_least(rt, minima, place, end.min(final_place))?;
+        print_least(rt, minima, position, end.min(final_position))?;
     }
     println!(rt; "")
 }

@@ -7,8 +7,8 @@ use vers_vecs::WaveletMatrix;
 fn print_matrix(rt: &HostRuntime, matrix: &WaveletMatrix<Global>) -> io::Result<()> {
     println!(rt; "symbols bits_per_element {}", matrix.bits_per_element())?;
     print!(rt; "symbols get_u64")?;
-    for place in 0..matrix.len() {
-        if let Some(symbol) = matrix.get_u64(place) {
+    for position in 0..matrix.len() {
+        if let Some(symbol) = matrix.get_u64(position) {
             print!(rt; " {symbol}")?;
         }
     }

@@ -17,8 +17,8 @@ fn made(alloc: Global) -> Result<Tree, GrowError> {
 
 fn print_tree(rt: &HostRuntime, tree: &Tree) -> io::Result<()> {
     print!(rt; "tree excess")?;
-    for place in 0..tree.len() {
-        print!(rt; " {}", tree.excess(place))?;
+    for position in 0..tree.len() {
+        print!(rt; " {}", tree.excess(position))?;
     }
     println!(rt; "\ntree heap_size {}", tree.heap_size())
 }

@@ -165,7 +165,7 @@ pub ruleset bytes = (reached, through_few, small_number)
 byte_at : (f : ℕ → ℕ) (a n k : ℕ) → ((i : ℕ) → i ≤ 8 → f i ≤ 64) → k < n → a + n ≤ 9 → packed f a n / 2 ^ (8 * k) % 256 ≡ f (a + k)
 unfolding packed
 byte_at f a zero k few h within = absurd (omega arith)
-byte_at f a (suc n) zero few h within = let place : a + 0 ≡ a = omega arith in rw place (omega (arith, few a (omega arith)))
+byte_at f a (suc n) zero few h within = let position : a + 0 ≡ a = omega arith in rw position (omega (arith, few a (omega arith)))
 byte_at f a (suc n) (suc k) few h within =
     let power : 8 * suc k ≡ 8 + 8 * k = omega arith in
     let rest : (packed f (a + 1) n * 256 + f a) / 256 ≡ packed f (a + 1) n = omega (arith, few a (omega arith)) in
@@ -176,7 +176,7 @@ pub part_of : (w k : ℕ) → k < 8 → ones_through_bytes w * 256 % 18446744073
 unfolding ones_through_bytes packed
 part_of w k h =
     let shifted : ones_through_bytes w * 256 % 18446744073709551616 ≡ packed (ones_below_byte w) 0 8 = omega (arith, ones_few w) in
-    let place : 0 + k ≡ k = omega arith in
-    rw shifted (rw place at (byte_at (ones_below_byte w) 0 8 k (λ i low. omega (arith, ones_few w (8 * i))) h (omega arith)))
+    let position : 0 + k ≡ k = omega arith in
+    rw shifted (rw position at (byte_at (ones_below_byte w) 0 8 k (λ i low. omega (arith, ones_few w (8 * i))) h (omega arith)))
 
 pub ruleset parts = (part_of, masked_byte)

@@ -3,7 +3,7 @@ pub mod PublicLaws
 pub mod Batches
 pub mod Words
 pub mod ByteOnes
-pub mod BytePlaces
+pub mod BytePositions
 pub mod Ranks
 pub mod Selects
 pub mod Tables

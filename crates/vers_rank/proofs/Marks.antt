@@ -1,4 +1,4 @@
--- Words whose ones are places of a limb.
+-- Words whose ones are positions of a limb.
 use Rattle.vers_rank.proofs.Names.{zero, suc, ◌≡◌, ℕ, ◌+◌, ◌-◌, ◌*◌, ◌/◌, ◌%◌, ◌^◌, ◌<◌, ◌≤◌, min, max, Bool, true, false, List, length, get_or, take, drop, pow_mono, sym, ap, ◌∙◌, arith, inl, inr, w64, count_ones, bit_and, bit_at, bit_not, trailing_zeros, cases_lt, cases_eq, cases_Bool, length-take, and_le_l, bit_at-zero, bit_at-lt, bit_at_and, bit_at_not, bit_at-trailing_zeros, ones_shl, one_shl, pow_below, bit_at-pow_other, bit_at-pow_same, ◌⊎◌, ◌≢◌, ones_shr, bit_at_ones, bit_at_ones_above, bit_at_mask_inside, bit_at_mask_below, bit_value, is_bit, count, count_up, count_past, count_more_yes, count_more_no, highest_bit, limb_bit, number-lt, value_one, IsMarked, marked, count_leading_zeros, ones, limb}
 use Rattle.vers_rank.specs.inside.Walks.{IsWithin}
 use Rattle.vers_rank.proofs.Words.{ones_few, ones_split, one_more}
@@ -19,7 +19,7 @@ pub some_word : (w i : ℕ) → bit_at w i ≡ 1 → 0 < w
 some_word w i on = grind (arith, bit_at-zero i)
 
 -- ---- parts of a word
--- the ones of v are those of w from place s on and below place t
+-- the ones of v are those of w from position s on and below position t
 pub record IsCut (w v s t : ℕ) : Type 0 where
   pub less : v ≤ w
   pub only : (i : ℕ) → i < 64 → bit_at v i ≡ 1 → (bit_at w i ≡ 1) × (s ≤ i) × (i < t)
@@ -63,7 +63,7 @@ cut_highest w some fits =
     let at = highest_bit w some fits in
     cut_clear w (63 - count_leading_zeros 64 w) 0 _ (omega (arith, at.0)) (λ i _ to e. absurd (omega arith)) (λ i h on out. grind (arith, at.2 i))
 
--- ---- the places of a limb
+-- ---- the positions of a limb
 pub limb_fits : (l : List Bool) (k : ℕ) → limb l k < 18446744073709551616
 unfolding limb
 limb_fits l k =
@@ -93,7 +93,7 @@ whole_marked b l k lo hi low high = record {
 }
 
 module _ {b : Bool} {l : List Bool} {k w lo hi : ℕ} (is : IsMarked b l k w lo hi) where
-  -- the places from number `from` on and below number `to`
+  -- the positions from number `from` on and below number `to`
   pub marked_cut : (v s t from to : ℕ) → IsCut w v s t → max from (count b l (64 * k)) ≡ max lo (count b l (64 * k + s)) → min to (count b l (64 * k + 64)) ≡ min hi (count b l (64 * k + t)) → IsMarked b l k v from to
   marked_cut v s t from to cut low high = record {
     fits = omega (arith, cut.less, is.fits);
@@ -108,7 +108,7 @@ module _ {b : Bool} {l : List Bool} {k w lo hi : ℕ} (is : IsMarked b l k w lo 
         cut.all i h after before (is.complete i h (grind (arith, low, high, at, next, count_up b l (64 * k) (64 * k + i), count_up b l (64 * k + i + 1) (64 * k + 64))));
   }
 
--- ---- the ones of a word are as many as the places
+-- ---- the ones of a word are as many as the positions
 module _ {b : Bool} {l : List Bool} {k w lo hi : ℕ} (is : IsMarked b l k w lo hi) (order : lo ≤ hi) where
   abbrev within : ℕ → ℕ
   within n = min (max n lo) hi
@@ -129,8 +129,8 @@ module _ {b : Bool} {l : List Bool} {k w lo hi : ℕ} (is : IsMarked b l k w lo 
   ones_within zero h inside = let start : 64 * k + 0 ≡ 64 * k = omega arith in omega (arith, ones_few w 0, ap (count b l) start)
   ones_within (suc j) h inside =
       let size : suc j ≡ j + 1 = omega arith in
-      let place : 64 * k + suc j ≡ 64 * k + j + 1 = omega arith in
-      omega (arith, ap (λ n. count_ones (w % 2 ^ n)) size, one_more w j, ones_within j (omega arith) (λ i less. inside i (omega arith)), within_next j (omega arith) (inside j (omega arith)), ap (count b l) place)
+      let position : 64 * k + suc j ≡ 64 * k + j + 1 = omega arith in
+      omega (arith, ap (λ n. count_ones (w % 2 ^ n)) size, one_more w j, ones_within j (omega arith) (λ i less. inside i (omega arith)), within_next j (omega arith) (inside j (omega arith)), ap (count b l) position)
 
   -- the word has all the ones up to the end of the list
   pub ones_past : (n : ℕ) → n ≤ 64 → 64 * k ≤ length l → length l ≤ 64 * k + n → hi ≤ count b l (length l) → hi ≤ min (max (count b l (64 * k)) lo) hi + count_ones (w % 2 ^ n)
@@ -140,9 +140,9 @@ module _ {b : Bool} {l : List Bool} {k w lo hi : ℕ} (is : IsMarked b l k w lo 
       let rest : j + (n - j) ≡ n = omega arith in
       omega (arith, rw end at (ones_within j (omega arith) (λ i less _. omega arith)), rw rest at (ones_split w j (n - j)))
 
-  -- the number of a one's place, by the ones below it
-  pub place_of : (q r : ℕ) → q < 64 → hi ≤ count b l (length l) → 64 * k ≤ length l → bit_at w q ≡ 1 → min (max (count b l (64 * k)) lo) hi + count_ones (w % 2 ^ q) ≡ r → r < hi → (IsWithin b l lo hi (64 * k + q)) × (count b l (64 * k + q) ≡ r)
-  place_of q r small all start on number some =
+  -- the number of a one's position, by the ones below it
+  pub position_of : (q r : ℕ) → q < 64 → hi ≤ count b l (length l) → 64 * k ≤ length l → bit_at w q ≡ 1 → min (max (count b l (64 * k)) lo) hi + count_ones (w % 2 ^ q) ≡ r → r < hi → (IsWithin b l lo hi (64 * k + q)) × (count b l (64 * k + q) ≡ r)
+  position_of q r small all start on number some =
       let inside : 64 * k + q < length l = grind (arith, ones_past q (omega arith) start) in
       let at = is.sound q small on inside in
       (at, omega (arith, ones_within q (omega arith) (λ i less _. omega arith), at.low))

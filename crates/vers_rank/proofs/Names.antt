@@ -8,8 +8,8 @@ pub use Rattle.std.proofs.lemmas.Simd.{get_or-chunk, get_or-put_chunk_at, get_or
 pub use Rattle.std.specs.Int.{bit_at, bit_not, trailing_zeros}
 pub use Rattle.std.specs.List.{All, range_with_len}
 pub use Rattle.std.specs.Prelude.{bit_and, count_by, count_ones}
-pub use Rattle.vers_bits.proofs.PublicLaws.{IsPlace, any_default, bit_item, count_at_select, count_both, count_le, count_le_all, count_limb, count_limb_whole, count_more_no, count_more_yes, count_near, count_none, count_past, count_up, goes_first, highest_bit, length-bits, length-places, limb_bit, number-lt, select_at, select_below, select_holds, select_is_place, select_not_below, select_past, select_up, value_none, value_one, yields_first}
-pub use Rattle.vers_bits.specs.Bits.{bit_value, block_count, count, is_bit, limb_count, number, places}
+pub use Rattle.vers_bits.proofs.PublicLaws.{IsPosition, any_default, bit_item, count_at_select, count_both, count_le, count_le_all, count_limb, count_limb_whole, count_more_no, count_more_yes, count_near, count_none, count_past, count_up, goes_first, highest_bit, length-bits, length-positions, limb_bit, number-lt, select_at, select_below, select_holds, select_is_position, select_not_below, select_past, select_up, value_none, value_one, yields_first}
+pub use Rattle.vers_bits.specs.Bits.{bit_value, block_count, count, is_bit, limb_count, number, positions}
 unfoldable pub use Rattle.vers_bits.specs.Bits.{limb, part_number, select}
 pub use Rattle.vers_rank.specs.Queries.{index_size, select_reads, superblock_count}
 unfoldable pub use Rattle.vers_rank.specs.Queries.{part_number_or_zero}
@@ -17,8 +17,8 @@ pub use Rattle.vers_rank.specs.inside.Batches.{IsIn, StandsFor, number_of, super
 pub use Rattle.vers_rank.specs.inside.Index.{AreEntries, AreFirstSamples, IsAmongLimbs, AreLimbsOf, IsIndexed, IsLimbWith, IsSample, held_before, held_of}
 unfoldable pub use Rattle.vers_rank.specs.inside.Index.{held, held_in}
 pub use Rattle.vers_rank.specs.inside.Offsets.{last_first, ones_below}
-pub use Rattle.vers_rank.specs.inside.Walks.{IsChunkWalkOf, IsMarked, IsReading, IsReadingBack, chunk_places_left, chunks_unread, marked}
-unfoldable pub use Rattle.vers_rank.specs.inside.Walks.{places_from}
+pub use Rattle.vers_rank.specs.inside.Walks.{IsChunkWalkOf, IsMarked, IsReading, IsReadingBack, chunk_positions_left, chunks_unread, marked}
+unfoldable pub use Rattle.vers_rank.specs.inside.Walks.{positions_from}
 pub use Rattle.vers_tally.proofs.PublicLaws.{adds_then, adds_weaker, digits_halved, digits_up, within_itself}
 pub use Rattle.vers_tally.specs.Reads.{AddsAtMost, IsWithin, Reads, digits, no_reads, one_more, only_block_entries, only_data_words, only_rank_calls, only_superblock_entries, plus, times}
 pub use lib.Lanes.{chunk, mask_l, put_chunk, zip2}

@@ -1,4 +1,4 @@
--- What the neighbours of a place are, by counts and selects.
-use Rattle.vers_bits.proofs.PublicLaws.{place_after_some, place_after_none, place_after_past, place_before_some, place_before_none}
+-- What the neighbours of a position are, by counts and selects.
+use Rattle.vers_bits.proofs.PublicLaws.{position_after_some, position_after_none, position_after_past, position_before_some, position_before_none}
 
-pub ruleset neighbours = (place_after_some, place_after_none, place_after_past, place_before_some, place_before_none)
+pub ruleset neighbours = (position_after_some, position_after_none, position_after_past, position_before_some, position_before_none)

@@ -31,7 +31,7 @@ each_last_first P xs (suc n) all j h = elim (cases_eq j n) [
   | inr other ↦ each_last_first P xs n (All-tail P (0 + get_or xs n 0) (last_first 0 xs n) all) j (omega (arith, other, h))
 ]
 
--- ---- places of ones
+-- ---- positions of ones
 range_below : (n : ℕ) → All (λ i. i < n) (range_with_len 0 n)
 range_below n = All-from_get_or (λ i. i < n) (range_with_len 0 n) 0 (λ i h. let small : i < n = omega (arith, h, length-range_with_len 0 n) in omega (arith, small, get_or-range_with_len 0 n i 0 small))
 
@@ -41,7 +41,7 @@ offset_below xs count n w listed j h =
     let all : All (λ i. i < n) (last_first 0 xs count) = rw listed (All-filter (λ i. eqb (bit_at w i) 1) (λ i. i < n) (range_with_len 0 n) (range_below n)) in
     omega (arith, each_last_first (λ i. i < n) xs count all j h)
 
--- the places that pass a test, by those d places before that pass another
+-- the positions that pass a test, by those d positions before that pass another
 passing_from : (p q : ℕ → Bool) (f : ℕ → ℕ) (d a n : ℕ) → ((i : ℕ) → f i ≡ d + i) → ((i : ℕ) → a ≤ i → i < a + n → p (d + i) ≡ q i) → filter p (range_with_len (d + a) n) ≡ map f (filter q (range_with_len a n))
 passing_from p q f d a zero shift same = refl
 passing_from p q f d a (suc n) shift same =
@@ -50,7 +50,7 @@ passing_from p q f d a (suc n) shift same =
     let here = same a (omega arith) (omega arith) in
     elim (cases_Bool (q a)) [ inl on ↦ rw (here, on, next, rest, shift a) refl | inr off ↦ rw (here, off, next) rest ]
 
--- the ones of 16 bits are those of the low byte, and those of the high byte 8 places on
+-- the ones of 16 bits are those of the low byte, and those of the high byte 8 positions on
 two_bytes : (c : ℕ) → ones_below 16 c ≡ ones_below 8 (c % 256) ++ map (λ i. 8 + i) (ones_below 8 (c / 256))
 two_bytes c =
     let p : ℕ → Bool = λ i. eqb (bit_at c i) 1 in
@@ -107,8 +107,8 @@ module _ (buffer highs lows : List ℕ) (c : ℕ) (room : length buffer ≡ 16) 
   high_at j h =
       let within : j < 8 = omega (arith, h, few_high) in
       let at = get_or-put_chunk_at 0 buffer raised j 0 (omega (arith, raised_long highs long_high, within)) (omega (arith, raised_long highs long_high, room)) in
-      let place : 0 + j ≡ j = omega arith in
-      omega (arith, get_or-put_chunk_below above first lows j 0 h, at, ap (λ k. get_or first k 0) place, raised_at j within)
+      let position : 0 + j ≡ j = omega arith in
+      omega (arith, get_or-put_chunk_below above first lows j 0 h, at, ap (λ k. get_or first k 0) position, raised_at j within)
 
   low_at : (j : ℕ) → j < count_ones (c % 256) → 0 + get_or filled (above + j) 0 ≡ 0 + get_or lows j 0
   low_at j h = omega (arith, get_or-put_chunk_at above first lows j 0 (omega arith) (omega (arith, length-put_chunk 0 buffer raised)))

@@ -1,4 +1,4 @@
--- The place after a place that holds the bit, in the same limb.
+-- The position after a position that holds the bit, in the same limb.
 use Rattle.vers_rank.proofs.Names.{◌≡◌, ◌≢◌, ℕ, zero, suc, ◌+◌, ◌-◌, ◌*◌, ◌/◌, ◌%◌, ◌^◌, ◌<◌, ◌≤◌, Bool, true, false, List, length, get_or, refl, sym, ◌∙◌, arith, min, w64, bit_at, trailing_zeros, cases_lt, bit_at-suc, bit_at-zero, bit_at_above, bit_at-trailing_zeros, bit_value, is_bit, count, limb, select, count_more_no, select_at, count_at_select, select_past, select_up, select_holds, value_one, value_none, shr-shr, shr_split, bit_at_cat_low, marked}
 use Rattle.vers_rank.proofs.Marks.{marked_fits, marked_bit}
 
@@ -37,25 +37,25 @@ module _ (b : Bool) (l : List Bool) (k q : ℕ) (after : 0 < marked b (limb l k)
   on = value_one (is_bit b (get_or l next false)) (sym (bit_after far (omega (arith, in_word))) ∙ far_is.1)
 
   stays : (r d : ℕ) → r < count b l (length l) → 64 * k + q ≡ select b l r → d ≤ far → 64 * k + q + 1 + d ≤ length l → count b l (64 * k + q + 1 + d) ≡ r + 1
-  stays r zero some place less inside = let e : 64 * k + q + 1 + 0 ≡ 64 * k + q + 1 = omega arith in rw (e, place) (count_at_select b l r some).2
-  stays r (suc d) some place less inside =
+  stays r zero some position less inside = let e : 64 * k + q + 1 + 0 ≡ 64 * k + q + 1 = omega arith in rw (e, position) (count_at_select b l r some).2
+  stays r (suc d) some position less inside =
       let e : 64 * k + q + 1 + suc d ≡ 64 * k + q + 1 + d + 1 = omega arith in
       let off = value_none (is_bit b (get_or l (64 * k + q + 1 + d) false)) (sym (bit_after d (omega (arith, in_word))) ∙ far_is.2 d (omega arith)) in
-      rw (e, count_more_no b l (64 * k + q + 1 + d) (omega arith) off) (stays r d some place (omega arith) (omega arith))
+      rw (e, count_more_no b l (64 * k + q + 1 + d) (omega arith) off) (stays r d some position (omega arith) (omega arith))
 
-  -- the place after that of number r, where the word of number r holds another past it
-  pub place_after : (r : ℕ) → r < count b l (length l) → 64 * k + q ≡ select b l r → min next (length l) ≡ select b l (r + 1)
-  place_after r some place =
+  -- the position after that of number r, where the word of number r holds another past it
+  pub position_after : (r : ℕ) → r < count b l (length l) → 64 * k + q ≡ select b l r → min next (length l) ≡ select b l (r + 1)
+  position_after r some position =
       let d = length l - (64 * k + q + 1) in
-      grind (arith, cases_lt next (length l), on, select_at b l (r + 1) next, select_past b l (r + 1), stays r far some place, stays r d some place, count_at_select b l r some)
+      grind (arith, cases_lt next (length l), on, select_at b l (r + 1) next, select_past b l (r + 1), stays r far some position, stays r d some position, count_at_select b l r some)
 
 -- where the word of number r holds no other past it, the next stands in another word
 pub none_after : (b : Bool) (l : List Bool) (r k q : ℕ) → q < 64 → r + 1 < count b l (length l) → 64 * k + q ≡ select b l r → marked b (limb l k) / 2 ^ q / 2 ≡ 0
     → (64 * k + q) / 64 ≢ select b l (r + 1) / 64
-none_after b l r k q small more place none same =
+none_after b l r k q small more position none same =
     let p = select b l (r + 1) in
     let holds : is_bit b (get_or l p false) ≡ true = (select_holds b l (r + 1) (length l) (omega arith) more).1 in
-    let past : 64 * k + q < p = omega (arith, place, select_up b l r (r + 1) (omega arith) more) in
+    let past : 64 * k + q < p = omega (arith, position, select_up b l r (r + 1) (omega arith) more) in
     let i = p - (64 * k + q + 1) in
     let there : 64 * k + (q + 1 + i) ≡ p = omega (arith, past) in
     absurd (grind (arith, there, holds, same, small, none, marked_bit b l k (q + 1 + i), digit_past (marked b (limb l k)) q i, bit_at-zero i))

@@ -1,4 +1,4 @@
--- From counts to places.
+-- From counts to positions.
 use Rattle.vers_rank.proofs.Names.{◌≡◌, ℕ, ◌+◌, ◌-◌, ◌*◌, ◌/◌, ◌<◌, ◌≤◌, Bool, true, false, List, length, get_or, ap, ◌∙◌, refl, sym, inl, inr, arith, min, cases_lt, cases_Bool, is_bit, count, limb, limb_count, select, count_le_all, count_le, count_up, count_near, count_limb, count_both, count_past, select_at, select_past, select_below, select_not_below, count_at_select, count_more_yes, count_more_no, digits, digits_up, digits_halved, IsSample, IsLimbWith, IsAmongLimbs, held, held_in, held_of}
 use Rattle.vers_rank.proofs.Ranks.{count_at}
 use Rattle.vers_rank.proofs.Words.{ones_few}
@@ -20,7 +20,7 @@ held_limb b l k j h = grind (arith, cases_Bool b, count_limb l k j h, count_le t
 pub count_le_held : (b : Bool) (l : List Bool) (i : ℕ) → count b l i ≤ held b l i
 count_le_held b l i = grind (arith, cases_lt i (length l), held_is b l i, held_is b l (length l), count_past b l i, held_up b l (length l) i)
 
--- every place that a select gives is within the list, or its end
+-- every position that a select gives is within the list, or its end
 pub select_le : (b : Bool) (l : List Bool) (r : ℕ) → select b l r ≤ length l
 select_le b l r = grind (arith, cases_lt r (count b l (length l)), count_at_select b l r, select_past b l r)
 
@@ -28,10 +28,10 @@ select_le b l r = grind (arith, cases_lt r (count b l (length l)), count_at_sele
 pub held_more : (b : Bool) (l : List Bool) (k : ℕ) → held b l (64 * (k + 1)) ≡ held b l (64 * k) + held_in b (limb l k) 64
 held_more b l k = ap (held b l) (let e : 64 * (k + 1) ≡ 64 * k + 64 = omega arith in e) ∙ held_limb b l k 64 (omega arith)
 
--- number r is the place that the search in limb k found
-pub place_found : (b : Bool) (l : List Bool) (r k p seen : ℕ) → r < count b l (length l) → seen ≡ held b l (64 * k) → seen ≤ r → p < 64
+-- number r is the position that the search in limb k found
+pub position_found : (b : Bool) (l : List Bool) (r k p seen : ℕ) → r < count b l (length l) → seen ≡ held b l (64 * k) → seen ≤ r → p < 64
     → held_in b (limb l k) p ≤ r - seen → r - seen < held_in b (limb l k) (p + 1) → select b l r ≡ 64 * k + p
-place_found b l r k p seen some counted before small from to =
+position_found b l r k p seen some counted before small from to =
     let q = 64 * k + p in
     grind (arith, cases_lt q (length l), count_le_held b l q, held_is b l (q + 1), count_past b l (q + 1), select_not_below b l r q, select_below b l r (q + 1), held_limb b l k p, held_limb b l k (p + 1))
 
@@ -69,12 +69,12 @@ pub ruleset block_search = (count_up, count_le)
 
 pub ruleset limb_search = (held_more, held_up)
 
--- n places more, of which `ones` are ones
+-- n positions more, of which `ones` are ones
 held_among : (b : Bool) (l : List Bool) (i n ones : ℕ) → count true l i + ones ≡ count true l (i + n) → ones ≤ n → (held b l i + held_of b ones n ≡ held b l (i + n)) × (held_of b ones n ≤ n)
 unfolding held
 held_among b l i n ones counts few = grind (arith, cases_Bool b, count_le true l i)
 
--- half of twice n limbs: the second where the places of the first don't pass number r, and else the first
+-- half of twice n limbs: the second where the positions of the first don't pass number r, and else the first
 pub half_of : (b : Bool) (l : List Bool) (block r n limb before ones : ℕ) → IsAmongLimbs b l block r (2 * n) limb before → count true l (64 * limb) + ones ≡ count true l (64 * (limb + n)) → ones ≤ 64 * n
     → (before + held_of b ones (64 * n) ≤ r → IsAmongLimbs b l block r n (limb + n) (before + held_of b ones (64 * n))) × (r < before + held_of b ones (64 * n) → IsAmongLimbs b l block r n limb before)
 half_of b l block r n limb before ones is counts few =
@@ -87,7 +87,7 @@ half_of b l block r n limb before ones is counts few =
 pub one_limb : (b : Bool) (l : List Bool) (block r limb before : ℕ) → IsAmongLimbs b l block r 1 limb before → IsLimbWith b l block r (8 * block + 7) limb before
 one_limb b l block r limb before is = grind arith
 
--- half of a block: the second where the places of the first don't pass number r, and else the first
+-- half of a block: the second where the positions of the first don't pass number r, and else the first
 pub block_half : (b : Bool) (l : List Bool) (block r ones : ℕ) → count true l (64 * (8 * block)) + ones ≡ count true l (64 * (8 * block + 4)) → ones ≤ 256
     → (held_of b ones 256 ≤ r → IsAmongLimbs b l block r 4 (8 * block + 4) (held_of b ones 256)) × (r < held_of b ones 256 → IsAmongLimbs b l block r 4 (8 * block) 0)
 block_half b l block r ones counts few =

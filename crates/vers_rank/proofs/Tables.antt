@@ -12,8 +12,8 @@ from_number test zero v k xs passed h = absurd (omega (arith, h))
 from_number test (suc n) v zero xs passed h = grind (arith, and_parts)
 from_number test (suc n) v (suc k) xs passed h =
     let number : v + suc k ≡ v + 1 + k = omega arith in
-    let place : 8 * suc k ≡ 8 + 8 * k = omega arith in
-    rw (number, place, ← drop-drop (8 * k) 8 xs) (from_number test n (v + 1) k (drop 8 xs) (and_parts _ _ passed).1 (omega (arith, h)))
+    let position : 8 * suc k ≡ 8 + 8 * k = omega arith in
+    rw (number, position, ← drop-drop (8 * k) 8 xs) (from_number test n (v + 1) k (drop 8 xs) (and_parts _ _ passed).1 (omega (arith, h)))
 
 pub tried : (test : ℕ → List ℕ → Bool) (n k : ℕ) (xs : List ℕ) → tries test n 0 xs ≡ true → k < n → test k (chunk (8 * k) 8 xs) ≡ true
 tried test n k xs passed h = grind (arith, from_number)

@@ -18,9 +18,9 @@ mod select_iter;
 use crate::build::{add_entries, samples};
 pub use bit_set_iter::BitSetIter;
 pub use iter::{RsVecIter, RsVecRefIter};
-pub use pair::PlacePair;
+pub use pair::PositionPair;
 pub use rank::RankedBit;
-pub use select_iter::{Places, SelectIntoIter, SelectIter};
+pub use select_iter::{Positions, SelectIntoIter, SelectIter};
 use std::alloc::{AllocError, Allocator};
 use std::marker::Model;
 use vers_bits::bit_vec::{BitVec, MAX_LEN};
@@ -170,89 +170,89 @@ impl<A: Allocator + Copy> RsVec<A> {
             + 8 * self.one_samples.len()
     }
 
-    /// Returns the bit at `place`, 1 or 0, or `None` if `place` is out of bounds.
+    /// Returns the bit at `position`, 1 or 0, or `None` if `position` is out of bounds.
     #[inline]
-    pub fn get(&self, place: usize) -> Option<u64>
-        ensures { result ≡ option_map bit_value (slice_get self.now place) }
+    pub fn get(&self, position: usize) -> Option<u64>
+        ensures { result ≡ option_map bit_value (slice_get self.now position) }
     {
         let mut tally = Tally::new();
-        self.get_counted(place, &mut tally)
+        self.get_counted(position, &mut tally)
     }
 
-    /// Returns `get(place)`. Reads at most one data word.
+    /// Returns `get(position)`. Reads at most one data word.
     #[inline(always)]
-    pub fn get_counted(&self, place: usize, tally: &mut Tally) -> Option<u64>
-        ensures value { result ≡ option_map bit_value (slice_get self.now place) }
+    pub fn get_counted(&self, position: usize, tally: &mut Tally) -> Option<u64>
+        ensures value { result ≡ option_map bit_value (slice_get self.now position) }
         ensures counted { tally.new.rank_calls ≡ one_more tally.old.rank_calls }
         ensures adds { AddsAtMost tally.old tally.new get_reads }
     {
         tally.add_rank_call();
-        self.bits.get(place, tally)
+        self.bits.get(position, tally)
     }
 
-    /// Returns the bit at `place`, 1 or 0. Precondition: `place` is below the length.
+    /// Returns the bit at `position`, 1 or 0. Precondition: `position` is below the length.
     #[inline]
-    pub fn get_unchecked(&self, place: usize) -> u64
-        requires { place < length self.now }
-        ensures { result ≡ bit_value (slice_index_or self.now place false) }
+    pub fn get_unchecked(&self, position: usize) -> u64
+        requires { position < length self.now }
+        ensures { result ≡ bit_value (slice_index_or self.now position false) }
     {
         let mut tally = Tally::new();
-        u64::from(self.is_one_counted(place, &mut tally))
+        u64::from(self.is_one_counted(position, &mut tally))
     }
 
-    /// Returns true if the bit at `place` is a one. Reads one data word. Precondition: `place` is below the
+    /// Returns true if the bit at `position` is a one. Reads one data word. Precondition: `position` is below the
     /// length.
     #[inline(always)]
-    pub fn is_one_counted(&self, place: usize, tally: &mut Tally) -> bool
-        requires { place < length self.now }
-        ensures value { result ≡ slice_index_or self.now place false }
+    pub fn is_one_counted(&self, position: usize, tally: &mut Tally) -> bool
+        requires { position < length self.now }
+        ensures value { result ≡ slice_index_or self.now position false }
         ensures counted { tally.new.rank_calls ≡ one_more tally.old.rank_calls }
         ensures adds { AddsAtMost tally.old tally.new get_reads }
     {
         tally.add_rank_call();
-        self.bits.is_one(place, tally)
+        self.bits.is_one(position, tally)
     }
 
-    /// Returns the `n` bits from position `place` as a number; 0 if `n` is 0. `None` if there are fewer, or `n`
+    /// Returns the `n` bits from `position` on as a number; 0 if `n` is 0. `None` if there are fewer, or `n`
     /// is above 64.
     #[inline]
-    pub fn get_bits(&self, place: usize, n: usize) -> Option<u64>
-        ensures { result ≡ part_number_or_zero self.now place n }
+    pub fn get_bits(&self, position: usize, n: usize) -> Option<u64>
+        ensures { result ≡ part_number_or_zero self.now position n }
     {
         let mut tally = Tally::new();
-        self.get_bits_counted(place, n, &mut tally)
+        self.get_bits_counted(position, n, &mut tally)
     }
 
-    /// Returns `get_bits(place, n)`. Reads at most two data words.
+    /// Returns `get_bits(position, n)`. Reads at most two data words.
     #[inline(always)]
     #[tactic(auto, using(crate::proofs::Parts::parts))]
-    pub fn get_bits_counted(&self, place: usize, n: usize, tally: &mut Tally) -> Option<u64>
-        ensures value { result ≡ part_number_or_zero self.now place n }
+    pub fn get_bits_counted(&self, position: usize, n: usize, tally: &mut Tally) -> Option<u64>
+        ensures value { result ≡ part_number_or_zero self.now position n }
         ensures counted { tally.new.rank_calls ≡ one_more tally.old.rank_calls }
         ensures adds { AddsAtMost tally.old tally.new get_bits_reads }
     {
         tally.add_rank_call();
         if n == 0 {
-            return if place <= self.bits.len() {
+            return if position <= self.bits.len() {
                 Some(0)
             } else {
                 None
             };
         }
-        self.bits.get_bits(place, n, tally)
+        self.bits.get_bits(position, n, tally)
     }
 
-    /// Returns the `n` bits from position `place` as a number; 0 if `n` is 0. Precondition: `n` is at most 64,
-    /// and `place + n` at most the length.
+    /// Returns the `n` bits from `position` on as a number; 0 if `n` is 0. Precondition: `n` is at most 64,
+    /// and `position + n` at most the length.
     #[inline]
     #[tactic(auto, using(crate::proofs::Parts::parts))]
-    pub fn get_bits_unchecked(&self, place: usize, n: usize) -> u64
+    pub fn get_bits_unchecked(&self, position: usize, n: usize) -> u64
         requires few { n ≤ 64 }
-        requires within { place + n ≤ length self.now }
-        ensures { result ≡ number (part self.now place n) }
+        requires within { position + n ≤ length self.now }
+        ensures { result ≡ number (part self.now position n) }
     {
         let mut tally = Tally::new();
-        self.get_bits_counted(place, n, &mut tally).unwrap()
+        self.get_bits_counted(position, n, &mut tally).unwrap()
     }
 }
 

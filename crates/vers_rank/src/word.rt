@@ -50,13 +50,13 @@ pub fn held_in_word(word: u64, bit: bool) -> usize
 /// in a fixed number of steps.
 #[inline(always)]
 #[tactic(auto, using(crate::proofs::Words::turns))]
-pub fn place_in_word(word: u64, bit: bool, r: usize) -> usize
+pub fn position_in_word(word: u64, bit: bool, r: usize) -> usize
     requires { r < held_in bit word 64 }
     ensures within { result < 64 }
     ensures from { held_in bit word result ≤ r }
     ensures to { r < held_in bit word (result + 1) }
 {
-    place_of_one(marks(bit, word), r)
+    position_of_one(marks(bit, word), r)
 }
 
 /// Returns the word in which the positions that have the bit are ones.
@@ -70,7 +70,7 @@ pub fn marks(bit: bool, word: u64) -> u64
 // Returns the position in a word of its one `r`.
 #[inline(always)]
 #[tactic(auto, using(crate::proofs::Words::splits))]
-fn place_of_one(word: u64, r: usize) -> usize
+fn position_of_one(word: u64, r: usize) -> usize
     requires { r < held_in true word 64 }
     ensures within { result < 64 }
     ensures from { held_in true word result ≤ r }
@@ -78,7 +78,7 @@ fn place_of_one(word: u64, r: usize) -> usize
 {
     let byte = byte_with(word, r);
     let before = ones_before(word, byte);
-    8 * byte + place_in_byte(word >> (8 * byte), r - before)
+    8 * byte + position_in_byte(word >> (8 * byte), r - before)
 }
 
 // Returns the byte of one `r`: the number of bytes that have, with the bytes below, at most `r` ones.
@@ -107,28 +107,28 @@ fn ones_before(word: u64, byte: usize) -> usize
 
 // Returns the position of one `r`, which is in the lowest byte.
 #[inline(always)]
-#[tactic(auto, using(crate::proofs::BytePlaces::places), unfolding(crate::specs::inside::Index::held_in))]
-fn place_in_byte(word: u64, r: usize) -> usize
+#[tactic(auto, using(crate::proofs::BytePositions::positions), unfolding(crate::specs::inside::Index::held_in))]
+fn position_in_byte(word: u64, r: usize) -> usize
     requires { r < held_in true word 8 }
     ensures within { result < 8 }
     ensures from { held_in true word result ≤ r }
     ensures to { r < held_in true word (result + 1) }
 {
     let byte = (word & 0xff) as usize;
-    place_at(8 * byte + r) as usize
+    position_at(8 * byte + r) as usize
 }
 
 // Returns an entry of the table of positions.
 #[inline(always)]
-fn place_at(i: usize) -> u8
+fn position_at(i: usize) -> u8
     requires { i < 2048 }
-    ensures { result ≡ slice_index_or PLACES i 0 }
+    ensures { result ≡ slice_index_or POSITIONS i 0 }
 {
-    PLACES[i]
+    POSITIONS[i]
 }
 
 // At 8 times a byte plus a number, the position in the byte of that one, or 0 if it has no such one.
-static PLACES: [u8; 2048] = [
+static POSITIONS: [u8; 2048] = [
     0, 0, 0, 0, 0, 0, 0, 0, 0, 0, 0, 0, 0, 0, 0, 0, 1, 0, 0, 0, 0, 0, 0, 0, 0, 1, 0, 0, 0, 0, 0, 0,
     2, 0, 0, 0, 0, 0, 0, 0, 0, 2, 0, 0, 0, 0, 0, 0, 1, 2, 0, 0, 0, 0, 0, 0, 0, 1, 2, 0, 0, 0, 0, 0,
     3, 0, 0, 0, 0, 0, 0, 0, 0, 3, 0, 0, 0, 0, 0, 0, 1, 3, 0, 0, 0, 0, 0, 0, 0, 1, 3, 0, 0, 0, 0, 0,

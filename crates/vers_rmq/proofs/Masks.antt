@@ -1,10 +1,10 @@
--- Masks of least places.
+-- Masks of least positions.
 use Rattle.vers_rmq.proofs.Names.{◌≡◌, ◌≢◌, ℕ, ◌+◌, ◌-◌, ◌*◌, ◌/◌, ◌%◌, ◌^◌, ◌<◌, ◌≤◌, List, get_or, sym, ap, ◌∙◌, inl, inr, arith, bit_and, bit_or, bit_at, w128, trailing_zeros, pow-le-pow_right, pow_pos, shr-shr, leading_top, div_below, and_le_l, shl_below, bit_at_and, bit_at_or, bit_at_ones, bit_at_ones_above, bit_at_above, bit_at-lt, bit_at-trailing_zeros, bit_at-zero, bit_at_cat_low, bit_at_cat_high, ones_shr, same_from_bits, cases_lt, IsFirstLeast, IsLastSet, IsFirstSet, AddsOne, PrefixUpTo, SuffixFrom, IsPrefixMask, IsSuffixMask, part_end, count_leading_zeros}
 use Rattle.std.specs.Int.Bits.{or_zero_r}
 use Rattle.vers_rmq.proofs.Minima.{least_at, least_longer, least_earlier, least_ends}
 use Rattle.vers_bits.proofs.PublicLaws.{top_bit}
 
--- the items at two least places are the same
+-- the items at two least positions are the same
 same_value : (xs : List ℕ) (i j m n : ℕ) → IsFirstLeast xs i j m → IsFirstLeast xs i j n → get_or xs m 0 ≤ get_or xs n 0
 same_value xs i j m n a b = a.least n b.from b.to
 
@@ -21,8 +21,8 @@ prefix_more xs s f k mask more least u lt a =
       base = u.base;
       some = omega arith;
       first = grind arith;
-      places = λ j p g h t. elim (cases_lt (s + j) k) [
-        | inl old ↦ u.places j p g old (grind arith)
+      positions = λ j p g h t. elim (cases_lt (s + j) k) [
+        | inl old ↦ u.positions j p g old (grind arith)
         | inr new ↦ elim (cases_lt p j) [
           | inl less ↦ absurd (omega (arith, a.here, t.clear (k - s) (omega arith) (omega arith)))
           | inr same ↦ grind arith
@@ -41,11 +41,11 @@ prefix_skip xs s f k e mask least m ke u b le =
       base = u.base;
       some = omega arith;
       first = u.first;
-      places = λ j p g h t. elim (cases_lt (s + j) k) [
-        | inl old ↦ u.places j p g old t
+      positions = λ j p g h t. elim (cases_lt (s + j) k) [
+        | inl old ↦ u.positions j p g old t
         | inr new ↦ elim (cases_lt p (k - s)) [
           | inl on ↦
-              let before : IsFirstLeast xs f (s + (k - 1 - s)) (s + p) = u.places (k - 1 - s) p (omega arith) (omega arith) (record { within = omega arith; set_at = t.set_at; clear = λ q y l. t.clear q y (omega arith) }) in
+              let before : IsFirstLeast xs f (s + (k - 1 - s)) (s + p) = u.positions (k - 1 - s) p (omega arith) (omega arith) (record { within = omega arith; set_at = t.set_at; clear = λ q y l. t.clear q y (omega arith) }) in
               let here : IsFirstLeast xs f (k - 1) (s + p) = least_ends xs f (s + (k - 1 - s)) (k - 1) (s + p) (omega arith) before in
               least_longer xs f (k - 1) k (s + j) (e - 1) (s + p) m here b (omega arith) (omega arith) (omega arith) (omega arith) (omega (arith, same_value xs f (k - 1) (s + p) least here u.best))
           | inr off ↦ absurd (omega (arith, t.set_at, u.above p (omega arith)))
@@ -69,8 +69,8 @@ suffix_more xs s k n e mask more least sk en u le a =
       base = sk;
       some = omega arith;
       last = grind arith;
-      places = λ i p h f t. elim (cases_lt k (s + i)) [
-        | inl old ↦ u.places i p (omega arith) f (grind arith)
+      positions = λ i p h f t. elim (cases_lt k (s + i)) [
+        | inl old ↦ u.positions i p (omega arith) f (grind arith)
         | inr new ↦ elim (cases_lt i p) [
           | inl less ↦ absurd (omega (arith, a.here, t.clear (k - s) (omega arith) (omega arith)))
           | inr same ↦ grind arith
@@ -89,23 +89,23 @@ suffix_skip xs s c k e mask least m sc ck u b lt =
       base = sc;
       some = omega arith;
       last = u.last;
-      places = λ i p h f t. elim (cases_lt (s + i) k) [
+      positions = λ i p h f t. elim (cases_lt (s + i) k) [
         | inl new ↦ elim (cases_lt p (k - s)) [
           | inl off ↦ absurd (omega (arith, t.set_at, u.below p (omega arith)))
           | inr on ↦
-              let after : IsFirstLeast xs (s + (k - s)) (e - 1) (s + p) = u.places (k - s) p (omega arith) (omega arith) (record { within = on; set_at = t.set_at; clear = λ q g l. t.clear q (omega arith) l }) in
+              let after : IsFirstLeast xs (s + (k - s)) (e - 1) (s + p) = u.positions (k - s) p (omega arith) (omega arith) (record { within = on; set_at = t.set_at; clear = λ q g l. t.clear q (omega arith) l }) in
               let ek : s + (k - s) ≡ k = omega arith in
               let here : IsFirstLeast xs k (e - 1) (s + p) = rw ek at after in
               least_earlier xs c (s + i) (k - 1) k (e - 1) m (s + p) b here (omega arith) (omega arith) (omega arith) (omega arith) (omega (arith, same_value xs k (e - 1) (s + p) least here u.best))
         ]
-        | inr old ↦ u.places i p old f t
+        | inr old ↦ u.positions i p old f t
       ];
       best = least_earlier xs c c (k - 1) k (e - 1) m least b u.best (omega arith) (omega arith) (omega arith) (omega arith) lt;
       above = u.above;
       below = λ q h. u.below q (omega arith);
     }
 
--- ---- bits that are put into a mask from place o on
+-- ---- bits that are put into a mask from position o on
 placed_high : (n o d : ℕ) → bit_at (n * 2 ^ o) (d + o) ≡ bit_at n d
 placed_high n o d =
     let whole : n * 2 ^ o ≡ n * 2 ^ o + 0 = omega arith in
@@ -167,7 +167,7 @@ pub prefix_alone : (xs : List ℕ) (w s k mask least : ℕ) → ((j : ℕ) → s
     → IsPrefixMask xs w s k mask
 prefix_alone xs w s k mask least one u = record {
   starts = λ j h. let e : w * (j / w) ≡ s - s = omega (arith, one j h) in ap (bit_at mask) e ∙ u.first;
-  places = λ j p h t. let e : s + w * (j / w) ≡ s = omega (arith, one j h) in rw e (u.places j p (omega arith) h t);
+  positions = λ j p h t. let e : s + w * (j / w) ≡ s = omega (arith, one j h) in rw e (u.positions j p (omega arith) h t);
   above = u.above;
 }
 
@@ -175,7 +175,7 @@ pub suffix_alone : (xs : List ℕ) (w s k e mask least : ℕ) → ((i : ℕ) →
     → SuffixFrom xs s k e mask least → IsSuffixMask xs w s k e mask
 suffix_alone xs w s k e mask least one u = record {
   ends = λ i h f. let q : part_end w s e i - 1 - s ≡ e - 1 - s = omega (arith, one i h f) in ap (bit_at mask) q ∙ u.last;
-  places = λ i p h f t. least_ends xs (s + i) (e - 1) (part_end w s e i - 1) (s + p) (omega (arith, one i h f)) (u.places i p h f t);
+  positions = λ i p h f t. least_ends xs (s + i) (e - 1) (part_end w s e i - 1) (s + p) (omega (arith, one i h f)) (u.positions i p h f t);
   above = u.above;
   below = u.below;
 }
@@ -186,16 +186,16 @@ pub prefix_part : (xs : List ℕ) (s k e mask part least : ℕ) → 16 * ((k - s
 prefix_part xs s k e mask part least aligned few m u =
     record {
       starts = grind (arith, bit_at_or, bit_at-lt);
-      places = λ j p h t. elim (cases_lt (s + j) k) [
+      positions = λ j p h t. elim (cases_lt (s + j) k) [
         | inl old ↦
             let keeps : (q : ℕ) → q ≤ j → bit_at (bit_or mask part) q ≡ bit_at mask q = λ q l. grind (arith, bit_at_or) in
-            m.places j p old (grind arith)
+            m.positions j p old (grind arith)
         | inr new ↦
             let keeps : (q : ℕ) → k ≤ s + q → bit_at (bit_or mask part) q ≡ bit_at part q = λ q l. grind (arith, bit_at_or) in
             let e : s + 16 * (j / 16) ≡ k = omega arith in
             elim (cases_lt p (k - s)) [
               | inl less ↦ absurd (omega (arith, u.first, keeps (k - s) (omega arith), t.clear (k - s) less (omega arith)))
-              | inr rest ↦ rw e (u.places j p new h (grind arith))
+              | inr rest ↦ rw e (u.positions j p new h (grind arith))
             ]
       ];
       above = grind (arith, bit_at_or);
@@ -206,16 +206,16 @@ pub suffix_part : (xs : List ℕ) (s c k e mask part least : ℕ) → 16 * ((c -
 suffix_part xs s c k e mask part least aligned next ke m u =
     record {
       ends = grind (arith, bit_at_or, bit_at-lt);
-      places = λ i p h f t. elim (cases_lt (s + i) k) [
+      positions = λ i p h f t. elim (cases_lt (s + i) k) [
         | inl new ↦
             let keeps : (q : ℕ) → s + q < k → bit_at (bit_or mask part) q ≡ bit_at part q = λ q l. grind (arith, bit_at_or) in
             elim (cases_lt (k - 1 - s) p) [
               | inl more ↦ absurd (omega (arith, u.last, keeps (k - 1 - s) (omega arith), t.clear (k - 1 - s) (omega arith) more))
-              | inr rest ↦ least_ends xs (s + i) (k - 1) (part_end 16 s e i - 1) (s + p) (omega arith) (u.places i p h new (grind arith))
+              | inr rest ↦ least_ends xs (s + i) (k - 1) (part_end 16 s e i - 1) (s + p) (omega arith) (u.positions i p h new (grind arith))
             ]
         | inr old ↦
             let keeps : (q : ℕ) → k ≤ s + q → bit_at (bit_or mask part) q ≡ bit_at mask q = λ q l. grind (arith, bit_at_or) in
-            m.places i p old f (grind arith)
+            m.positions i p old f (grind arith)
       ];
       above = grind (arith, bit_at_or);
       below = grind (arith, bit_at_or);
@@ -233,7 +233,7 @@ low_ones j h = let e : 128 - (127 - j) ≡ j + 1 = omega arith in rw e at (ones_
 some_low : (mask j : ℕ) → bit_at mask 0 ≡ 1 → 0 < bit_and mask (2 ^ (j + 1) - 1)
 some_low mask j first = some_bit _ 0 (bit_at_and mask (2 ^ (j + 1) - 1) 0 ∙ omega (arith, first, bit_at_ones (j + 1) 0 (omega arith)))
 
--- the place of its highest 1
+-- the position of its highest 1
 pub last_found : (mask j : ℕ) → j < 128 → bit_at mask 0 ≡ 1 → mask < 2 ^ 128 → IsLastSet mask j (127 - count_leading_zeros 128 (bit_and mask ((2 ^ 128 - 1) / 2 ^ (127 - j))))
 last_found mask j h first fits =
     let t = leading_top 128 (bit_and mask (2 ^ (j + 1) - 1)) (some_low mask j first) (omega (arith, and_le_l mask (2 ^ (j + 1) - 1), fits)) in

@@ -1,12 +1,12 @@
--- How first places of least items join.
+-- How first positions of least items join.
 use Rattle.vers_rmq.proofs.Names.{◌≡◌, ℕ, ◌+◌, ◌-◌, ◌<◌, ◌≤◌, List, leb, get_or, subst, arith, cond-true, cond-false, le-leb, lt-leb, PlacedItem, IsFirstLeast, IsLeastItem, lesser_item, lesser}
 use Rattle.std.proofs.lemmas.Bool.Decides.{nat_tests}
 
--- a range of one place
+-- a range of one position
 pub least_at : (xs : List ℕ) (i : ℕ) → IsFirstLeast xs i i i
 least_at xs i = grind arith
 
--- the choice between two places
+-- the choice between two positions
 pub lesser_first : (xs : List ℕ) (m n : ℕ) → get_or xs m 0 ≤ get_or xs n 0 → lesser xs m n ≡ m
 unfolding lesser
 lesser_first xs m n h = grind (arith, nat_tests)
@@ -19,7 +19,7 @@ pub lesser_inside : (xs : List ℕ) (m n k : ℕ) → m < k → n < k → lesser
 unfolding lesser
 lesser_inside xs m n k h i = grind (arith, nat_tests)
 
--- a least place stays one where the range goes on over items that are not below its item
+-- a least position stays one where the range goes on over items that are not below its item
 pub least_longer : (xs : List ℕ) (i k h j e m n : ℕ) → IsFirstLeast xs i k m → IsFirstLeast xs h e n → i ≤ h → h ≤ k + 1 → k ≤ j → j ≤ e
     → get_or xs m 0 ≤ get_or xs n 0 → IsFirstLeast xs i j m
 least_longer xs i k h j e m n a b ih hk kj je le = grind arith
@@ -41,9 +41,9 @@ least_ends xs i j k m e a = let P : ℕ → Type 0 = λ n. IsFirstLeast xs i n m
 candidate_second : (a b : PlacedItem) → b.value < a.value → lesser_item a b ≡ b
 candidate_second a b h = cond-false (leb a.value b.value) a b (lt-leb a.value b.value h)
 
--- a candidate read at a place
-pub item_at : (xs : List ℕ) (i j m : ℕ) (c : PlacedItem) → IsFirstLeast xs i j m → c.place ≡ m → c.value ≡ get_or xs m 0 → IsLeastItem xs i j c
-item_at xs i j m c a place value = grind arith
+-- a candidate read at a position
+pub item_at : (xs : List ℕ) (i j m : ℕ) (c : PlacedItem) → IsFirstLeast xs i j m → c.position ≡ m → c.value ≡ get_or xs m 0 → IsLeastItem xs i j c
+item_at xs i j m c a position value = grind arith
 
 -- the candidates of two ranges that meet or overlap
 pub item_join : (xs : List ℕ) (i k h j : ℕ) (a b r : PlacedItem) → IsLeastItem xs i k a → IsLeastItem xs h j b → i ≤ h → h ≤ k + 1 → k ≤ j → r ≡ lesser_item a b → IsLeastItem xs i j r
@@ -53,24 +53,24 @@ item_join xs i k h j a b r left right ih hk kj e = grind (arith, item_at, least_
 pub item_ends : (xs : List ℕ) (i j k : ℕ) (c : PlacedItem) → j ≡ k → IsLeastItem xs i j c → IsLeastItem xs i k c
 item_ends xs i j k c e a = let P : ℕ → Type 0 = λ n. IsLeastItem xs i n c in subst P e a
 
--- the place of the chosen one
-pub chosen_place : (xs : List ℕ) (m n : ℕ) (r : PlacedItem) → r ≡ lesser_item (record { place = m; value = get_or xs m 0 }) (record { place = n; value = get_or xs n 0 }) → r.place ≡ lesser xs m n
-chosen_place xs m n r e = grind (arith, candidate_second, lesser_second, cond-true, le-leb, lesser_first)
+-- the position of the chosen one
+pub chosen_position : (xs : List ℕ) (m n : ℕ) (r : PlacedItem) → r ≡ lesser_item (record { position = m; value = get_or xs m 0 }) (record { position = n; value = get_or xs n 0 }) → r.position ≡ lesser xs m n
+chosen_position xs m n r e = grind (arith, candidate_second, lesser_second, cond-true, le-leb, lesser_first)
 
--- a range has one first least place
-pub same_place : (xs : List ℕ) (i j m n : ℕ) → IsFirstLeast xs i j m → IsFirstLeast xs i j n → m ≡ n
-same_place xs i j m n a b = grind arith
+-- a range has one first least position
+pub same_position : (xs : List ℕ) (i j m n : ℕ) → IsFirstLeast xs i j m → IsFirstLeast xs i j n → m ≡ n
+same_position xs i j m n a b = grind arith
 
--- a range inside another, with its place
+-- a range inside another, with its position
 pub least_within : (xs : List ℕ) (s e i j m : ℕ) → IsFirstLeast xs s e m → s ≤ i → i ≤ m → m ≤ j → j ≤ e → IsFirstLeast xs i j m
 least_within xs s e i j m a si im mj je = grind arith
 
 -- a scan: its start, a step, and its end
-pub scan_start : (xs : List ℕ) (i : ℕ) (c : PlacedItem) → c.place ≡ i → c.value ≡ get_or xs i 0 → IsLeastItem xs i (i + 1 - 1) c
-scan_start xs i c place value = item_ends xs i i (i + 1 - 1) c (omega arith) (item_at xs i i i c (least_at xs i) place value)
+pub scan_start : (xs : List ℕ) (i : ℕ) (c : PlacedItem) → c.position ≡ i → c.value ≡ get_or xs i 0 → IsLeastItem xs i (i + 1 - 1) c
+scan_start xs i c position value = item_ends xs i i (i + 1 - 1) c (omega arith) (item_at xs i i i c (least_at xs i) position value)
 
-pub scan_more : (xs : List ℕ) (i k : ℕ) (a b r : PlacedItem) → i < k → IsLeastItem xs i (k - 1) a → b.place ≡ k → b.value ≡ get_or xs k 0 → r ≡ lesser_item a b → IsLeastItem xs i (k + 1 - 1) r
-scan_more xs i k a b r ik best place value e = grind (arith, item_ends, item_join, item_at, least_at)
+pub scan_more : (xs : List ℕ) (i k : ℕ) (a b r : PlacedItem) → i < k → IsLeastItem xs i (k - 1) a → b.position ≡ k → b.value ≡ get_or xs k 0 → r ≡ lesser_item a b → IsLeastItem xs i (k + 1 - 1) r
+scan_more xs i k a b r ik best position value e = grind (arith, item_ends, item_join, item_at, least_at)
 
 pub scan_end : (xs : List ℕ) (i j k : ℕ) (c : PlacedItem) → k ≡ j + 1 → IsLeastItem xs i (k - 1) c → IsLeastItem xs i j c
 scan_end xs i j k c e best = item_ends xs i (k - 1) j c (omega arith) best

@@ -10,7 +10,7 @@ pub use Rattle.std.specs.Int.Count.{count_leading_zeros}
 pub use Rattle.std.specs.List.{find, list_all, range_with_len}
 pub use Rattle.vers_rmq.specs.Layout.{binary_heap_size, clog}
 pub use Rattle.vers_rmq.specs.Minima.{IsFirstLeast}
-unfoldable pub use Rattle.vers_rmq.specs.Minima.{first_least_of, is_least, least_place, lesser}
+unfoldable pub use Rattle.vers_rmq.specs.Minima.{first_least_of, is_least, least_position, lesser}
 pub use Rattle.vers_rmq.specs.declared.rmq.least.PlacedItem.{PlacedItem}
 pub use Rattle.vers_rmq.specs.inside.Blocks.{AreAllBlocks, AreBlocks, IsBlock, block_end, no_masks}
 pub use Rattle.vers_rmq.specs.inside.Candidates.{IsLeastItem, lesser_item}

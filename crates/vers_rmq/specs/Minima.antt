@@ -16,16 +16,16 @@ lesser items m n = if nat_le (slice_index items m) (slice_index items n) then m 
 
 -- whether none of the positions has a lesser element than position m
 unfoldable pub is_least : List ℕ → List ℕ → ℕ → Bool
-is_least items places m = list_all (λ p. nat_le (slice_index items m) (slice_index items p)) places
+is_least items positions m = list_all (λ p. nat_le (slice_index items m) (slice_index items p)) positions
 
 -- the first of the positions that has a least element of them
 unfoldable pub first_least_of : List ℕ → List ℕ → Option ℕ
-first_least_of items places = find (is_least items places) places
+first_least_of items positions = find (is_least items positions) positions
 
 -- the first position of a least element from position i to position j, both included; i if i is past j
-unfoldable pub least_place : List ℕ → ℕ → ℕ → ℕ
-least_place items i j = unwrap_or (first_least_of items (range_with_len i (j + 1 - i))) i
+unfoldable pub least_position : List ℕ → ℕ → ℕ → ℕ
+least_position items i j = unwrap_or (first_least_of items (range_with_len i (j + 1 - i))) i
 
 -- the first position of a least element from position i to position j, both included; `None` unless i is at most j and j is a position
 abbrev pub first_least : List ℕ → ℕ → ℕ → Option ℕ
-first_least items i j = if nat_le i j && nat_lt j (length items) then Some (least_place items i j) else None
+first_least items i j = if nat_le i j && nat_lt j (length items) then Some (least_position items i j) else None

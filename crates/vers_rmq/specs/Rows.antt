@@ -4,7 +4,7 @@ use Rattle.std.specs.declared.ops.Bound.TheVariants.{Included, Excluded, Unbound
 use Rattle.vers_tally.specs.Reads.{digits}
 use Rattle.vers_rmq.specs.Minima.{lesser}
 use Rattle.vers_rmq.specs.Layout.{binary_heap_size, fast_heap_size}
-use Rattle.vers_rmq.specs.Ranges.{start_place, end_place}
+use Rattle.vers_rmq.specs.Ranges.{start_position, end_position}
 
 -- items of which some are equal
 abbrev items_31211 : List ℕ
@@ -18,23 +18,23 @@ pub lesser-1-3 : lesser items_31211 1 3 ≡ 1
 unfolding lesser
 lesser-1-3 = refl
 
-pub start_place-excluded : start_place (Excluded 0) 5 ≡ 1
-start_place-excluded = refl
+pub start_position-excluded : start_position (Excluded 0) 5 ≡ 1
+start_position-excluded = refl
 
-pub start_place-past : start_place (Included 9) 5 ≡ 4
-start_place-past = refl
+pub start_position-past : start_position (Included 9) 5 ≡ 4
+start_position-past = refl
 
-pub end_place-excluded : end_place (Excluded 3) 5 ≡ 2
-end_place-excluded = refl
+pub end_position-excluded : end_position (Excluded 3) 5 ≡ 2
+end_position-excluded = refl
 
-pub end_place-included : end_place (Included 3) 5 ≡ 3
-end_place-included = refl
+pub end_position-included : end_position (Included 3) 5 ≡ 3
+end_position-included = refl
 
-pub end_place-unbounded : end_place Unbounded 5 ≡ 4
-end_place-unbounded = refl
+pub end_position-unbounded : end_position Unbounded 5 ≡ 4
+end_position-unbounded = refl
 
-pub end_place-greatest : end_place (Excluded 18446744073709551615) 5 ≡ 4
-end_place-greatest = refl
+pub end_position-greatest : end_position (Excluded 18446744073709551615) 5 ≡ 4
+end_position-greatest = refl
 
 pub binary_heap_size-11 : binary_heap_size 11 ≡ 308
 unfolding digits

@@ -1,16 +1,16 @@
 -- Words that are copied one after another.
-use Rattle.vers_saved.proofs.Names.{◌≡◌, ℕ, ◌+◌, ◌-◌, ◌<◌, ◌≤◌, List, ◌++◌, length, get_or, take, drop, Option, Some, None, sym, ap, ◌∙◌, inl, inr, arith, slice_get, unwrap_or, cases_lt, same_lists, length-take, length-drop, get_or-take, get_or-drop, get_or_append_left, get_or-append_right, drop-drop, slice_get-get_or, slice_get_past, places}
+use Rattle.vers_saved.proofs.Names.{◌≡◌, ℕ, ◌+◌, ◌-◌, ◌<◌, ◌≤◌, List, ◌++◌, length, get_or, take, drop, Option, Some, None, sym, ap, ◌∙◌, inl, inr, arith, slice_get, unwrap_or, cases_lt, same_lists, length-take, length-drop, get_or-take, get_or-drop, get_or_append_left, get_or-append_right, drop-drop, slice_get-get_or, slice_get_past, positions}
 use Rattle.std.proofs.Common.{set}
 use Rattle.std.proofs.lemmas.List.{get_or-set_other, get_or-set_same}
 
--- n words, each of which is that at its place
+-- n words, each of which is that at its position
 pub copied : (words out : List ℕ) (from n : ℕ) → length out ≡ n → from + n ≤ length words → ((j : ℕ) → j < n → get_or out j 0 ≡ get_or words (from + j) 0)
     → out ≡ take n (drop from words)
 copied words out from n long few each =
     same_lists out (take n (drop from words)) (omega (arith, long, length-take n (drop from words), length-drop from words)) (λ k d small.
     let here : get_or out k 0 ≡ get_or (take n (drop from words)) k 0 =
     each k (omega (arith, long)) ∙ sym (get_or-take n (drop from words) k 0 (omega (arith, long)) ∙ get_or-drop from words k 0) in
-    grind (arith, places))
+    grind (arith, positions))
 
 -- one word more is copied
 pub one_more : (words out : List ℕ) (from k x : ℕ) → k < length out → ((j : ℕ) → j < k → get_or out j 0 ≡ get_or words (from + j) 0) → x ≡ get_or words (from + k) 0
@@ -20,7 +20,7 @@ one_more words out from k x inside each is j h = elim (cases_lt j k) [
   | inr here ↦ let same : j ≡ k = omega (arith, h, here) in rw same (get_or-set_same out k x 0 inside ∙ is)
 ]
 
--- a walk along xs that has come to place p of xs and ys gives the word there, or where it gives none, it is one of ys
+-- a walk along xs that has come to position p of xs and ys gives the word there, or where it gives none, it is one of ys
 pub both_word : (xs ys : List ℕ) {left : List ℕ} (p : ℕ) {n x : ℕ} {given : Option ℕ} → left ≡ drop p xs → n ≡ length xs → given ≡ slice_get left 0 → x ≡ unwrap_or given (get_or ys (p - n) 0)
     → x ≡ get_or (xs ++ ys) p 0
 both_word xs ys {left} p {n} is is_count is_given is_word =

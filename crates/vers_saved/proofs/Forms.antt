@@ -55,9 +55,9 @@ framed : (kind : Kind) (size n : ℕ) (words : List ℕ) → IsForm kind size (g
 unfolding with_sum is_summed
 framed kind size n words form is long =
     let front_words : List ℕ = head kind.version kind.number (get_or words 4 0) (get_or words 3 0) in
-    let place : n + 5 ≡ 5 + n = omega arith in
+    let position : n + 5 ≡ 5 + n = omega arith in
     let front : take (n + 5) words ≡ front_words ++ words_among n words =
-    ap (λ m. take m words) place ∙ take-add 5 n words
+    ap (λ m. take m words) position ∙ take-add 5 n words
     ∙ ap (λ l. l ++ words_among n words) (first_five kind.version kind.number words (omega arith) form.ours form.version form.kind_is) in
     let summed : is_summed n words ≡ true = rw is form.summed in
     let sum : get_or words (n + 5) 0 ≡ check_sum (front_words ++ words_among n words) = eqb-true _ _ summed ∙ ap check_sum front in

@@ -132,7 +132,7 @@ short_inverted t short =
     omega (arith, short, ap length m.2, length-sorted m.0, length-drop 2 t)))
 
 word_in : (ws : List ℕ) (from n k p word : ℕ) → k < n → p ≡ from + k → word ≡ get_or ws p 0 → word ≡ get_or (take n (drop from ws)) k 0
-word_in ws from n k p word few place is = is ∙ ap (λ q. get_or ws q 0) place ∙ sym (get_or-drop from ws k 0) ∙ sym (get_or-take n (drop from ws) k 0 few)
+word_in ws from n k p word few position is = is ∙ ap (λ q. get_or ws q 0) position ∙ sym (get_or-drop from ws k 0) ∙ sym (get_or-take n (drop from ws) k 0 few)
 
 later_in : (t : List ℕ) (k word : ℕ) → word ≡ get_or t (2 + k) 0 → word ≡ get_or (drop 2 t) k 0
 later_in t k word is = is ∙ sym (get_or-drop 2 t k 0)

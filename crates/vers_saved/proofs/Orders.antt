@@ -22,8 +22,8 @@ length-words_among n words e = length-take n (drop 5 words) ∙ omega (arith, le
 
 pub get_or-words_among : (n : ℕ) (words : List ℕ) (k : ℕ) → k < n → get_or (words_among n words) k 0 ≡ get_or words (k + 5) 0
 get_or-words_among n words k h =
-    let place : 5 + k ≡ k + 5 = omega arith in
-    get_or-take n (drop 5 words) k 0 h ∙ get_or-drop 5 words k 0 ∙ ap (λ p. get_or words p 0) place
+    let position : 5 + k ≡ k + 5 = omega arith in
+    get_or-take n (drop 5 words) k 0 h ∙ get_or-drop 5 words k 0 ∙ ap (λ p. get_or words p 0) position
 
 -- one word more
 pub copied_more : (n : ℕ) (words : List ℕ) (k : ℕ) (kept : List ℕ) (word : ℕ) → length words ≡ n + 6 → k < n → kept ≡ take k (words_among n words)
@@ -35,10 +35,10 @@ pub ordered_more : (o : ℕ → ℕ → Bool) (n : ℕ) (words : List ℕ) (k : 
     → holds ≡ each_next o (take (suc k) (words_among n words)) → before ≡ get_or words (k + 5) 0 → next ≡ get_or words (k + 6) 0
     → (holds && o before next) ≡ each_next o (take (suc (k + 1)) (words_among n words))
 ordered_more o n words k holds before next long h so_far is_before is_next =
-    let place : suc k + 5 ≡ k + 6 = omega arith in
+    let position : suc k + 5 ≡ k + 6 = omega arith in
     let more : suc k ≡ k + 1 = omega arith in
     let first : before ≡ get_or (words_among n words) k 0 = is_before ∙ sym (get_or-words_among n words k (omega arith)) in
-    let second : next ≡ get_or (words_among n words) (suc k) 0 = is_next ∙ sym (get_or-words_among n words (suc k) h ∙ ap (λ p. get_or words p 0) place) in
+    let second : next ≡ get_or (words_among n words) (suc k) 0 = is_next ∙ sym (get_or-words_among n words (suc k) h ∙ ap (λ p. get_or words p 0) position) in
     rw (so_far, first, second)
     (sym (each_next-more o (words_among n words) k (omega (arith, length-words_among n words long))) ∙ ap (λ m. each_next o (take (suc m) (words_among n words))) more)
 

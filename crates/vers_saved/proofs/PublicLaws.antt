@@ -1,21 +1,21 @@
 -- The laws that proofs of other crates may cite. A crate above imports this file and no other of this folder.
-use Rattle.vers_saved.proofs.Names.{◌≡◌, ℕ, ◌*◌, ◌≤◌, false, List, length, refl, sym, ap, subst, at_version, arith, level_words, Kind, BIT_LISTS, SORTED_LISTS, SYMBOL_LISTS, PACKED_SYMBOLS, SPARSE_LISTS, TABLE_VALUES, BLOCK_VALUES, POSTING_LISTS, limbs, pack, item_bits, saved, packed_kind, place_words, sorted_words, sparse_words, posting_words, IsWhole, tree_kind}
+use Rattle.vers_saved.proofs.Names.{◌≡◌, ℕ, ◌*◌, ◌≤◌, false, List, length, refl, sym, ap, subst, at_version, arith, level_words, Kind, BIT_LISTS, SORTED_LISTS, SYMBOL_LISTS, PACKED_SYMBOLS, SPARSE_LISTS, TABLE_VALUES, BLOCK_VALUES, POSTING_LISTS, limbs, pack, item_bits, saved, packed_kind, position_words, sorted_words, sparse_words, posting_words, IsWhole, tree_kind}
 use Rattle.vers_saved.specs.Laws as Laws
 use Rattle.vers_saved.specs.Format.{inverted_words}
 use Rattle.vers_saved.specs.declared.kind.TheConstants.{INVERTED_LISTS}
 use Rattle.vers_saved.specs.inside.InvertedTelling.{inverted_tell}
-use Rattle.vers_saved.specs.inside.Telling.{bits_tell, levels_tell, numbers_tell, places_tell, sorted_tell, sparse_tell, same_symbols, postings_tell}
+use Rattle.vers_saved.specs.inside.Telling.{bits_tell, levels_tell, numbers_tell, positions_tell, sorted_tell, sparse_tell, same_symbols, postings_tell}
 use Rattle.vers_wavelet.specs.Symbols.{Symbols}
 use Rattle.vers_saved.proofs.RoundTrips.{AreBounds, one_form}
 use Rattle.vers_saved.proofs.Versions.{none_named}
 use Rattle.vers_saved.proofs.Shapes as Shapes
 use Rattle.vers_saved.proofs.BitLists.{whole_limbs}
 use Rattle.vers_saved.proofs.WordLists.{whole_listed, whole_table, whole_blocks}
-use Rattle.vers_saved.proofs.SortedForms.{members_fit, places_fit, whole_sorted, whole_sparse}
+use Rattle.vers_saved.proofs.SortedForms.{members_fit, positions_fit, whole_sorted, whole_sparse}
 use Rattle.vers_saved.proofs.InvertedForms.{whole_index}
 use Rattle.vers_saved.proofs.SymbolLevels.{whole_levels}
 use Rattle.vers_saved.proofs.SymbolLists.{whole_symbols}
-use Rattle.vers_saved.proofs.SparseLists.{whole_places}
+use Rattle.vers_saved.proofs.SparseLists.{whole_positions}
 use Rattle.vers_saved.proofs.Parentheses.{whole_tree}
 use Rattle.vers_saved.proofs.PostingLists.{whole_postings}
 
@@ -65,12 +65,12 @@ packed_symbols_go_round width some few =
 pub sparse_go_round : Laws.SparseGoRound
 sparse_go_round =
     goes_round SPARSE_LISTS _ (λ bits. length (sparse_words bits)) (λ bits. 64) sparse_words (omega arith) refl
-    (λ x may. whole_sparse x may.0 (omega (arith, may.1)) (places_fit x may.0 (omega (arith, may.1)))) (λ x y mx my. sparse_tell x y tt tt)
+    (λ x may. whole_sparse x may.0 (omega (arith, may.1)) (positions_fit x may.0 (omega (arith, may.1)))) (λ x y mx my. sparse_tell x y tt tt)
 
 pub listed_sparse_go_round : Laws.ListedSparseGoRound
 listed_sparse_go_round =
-    goes_round (packed_kind SPARSE_LISTS) _ (λ bits. length (place_words bits)) (λ bits. 64) place_words (omega arith) refl
-    (λ x may. whole_places x may.0 may.1) (λ x y mx my. places_tell refl x y tt tt)
+    goes_round (packed_kind SPARSE_LISTS) _ (λ bits. length (position_words bits)) (λ bits. 64) position_words (omega arith) refl
+    (λ x may. whole_positions x may.0 may.1) (λ x y mx my. positions_tell refl x y tt tt)
 
 pub table_values_go_round : Laws.TableValuesGoRound
 table_values_go_round =

@@ -30,9 +30,9 @@ row_parts : (bits k n : ℕ) (words : List ℕ) → k * limb_count bits + limb_c
 row_parts bits k n words inside h = elim (cases_eq (bits % 64) 0) [
   | inl whole ↦ inl whole
   | inr part ↦
-      let place : k * limb_count bits + (limb_count bits - 1) + 5 ≡ k * limb_count bits + limb_count bits + 4 = omega arith in
+      let position : k * limb_count bits + (limb_count bits - 1) + 5 ≡ k * limb_count bits + limb_count bits + 4 = omega arith in
       let small : get_or words (k * limb_count bits + limb_count bits + 4) 0 < 2 ^ (bits % 64) = grind (arith, nat_tests) in
-      inr (rw (get_or-words_among n words (k * limb_count bits + (limb_count bits - 1)) (omega arith), place) small)
+      inr (rw (get_or-words_among n words (k * limb_count bits + (limb_count bits - 1)) (omega arith), position) small)
 ]
 
 row_from : (bits k n : ℕ) (words : List ℕ) → k * limb_count bits + limb_count bits ≤ n
@@ -41,8 +41,8 @@ row_from bits k n words inside (inl whole) = grind (arith, nat_tests)
 row_from bits k n words inside (inr small) = elim (cases_eq (bits % 64) 0) [
   | inl whole ↦ grind (arith, nat_tests)
   | inr part ↦
-      let place : k * limb_count bits + (limb_count bits - 1) + 5 ≡ k * limb_count bits + limb_count bits + 4 = omega arith in
-      let here = rw (get_or-words_among n words (k * limb_count bits + (limb_count bits - 1)) (omega arith), place) at small in
+      let position : k * limb_count bits + (limb_count bits - 1) + 5 ≡ k * limb_count bits + limb_count bits + 4 = omega arith in
+      let here = rw (get_or-words_among n words (k * limb_count bits + (limb_count bits - 1)) (omega arith), position) at small in
       grind (arith, nat_tests)
 ]
 

@@ -1,11 +1,11 @@
 -- Saved forms of ascending lists, and of lists of bits with few ones, by parts.
-use Rattle.vers_saved.proofs.Names.{◌≡◌, ℕ, zero, suc, ◌+◌, ◌-◌, ◌^◌, ◌<◌, ◌≤◌, Bool, true, false, List, [], ◌∷◌, ◌++◌, length, get_or, take, drop, refl, sym, ap, subst, ◌∙◌, inl, inr, arith, cases_eq, ne_eqb, All, IsNonDecreasing, IsStrictlyIncreasing, cases_lt, and_from, and_parts, get_or_past, get_or-drop, drop-drop, drop-take, length-drop, take_all, ◌&&◌, get_or_default, get_or_append_left, length-limbs, get_or-limbs, limb, limbs, limb_count, sorted_words, sparse_words, decoded_members, are_of_list, are_of_sparse, words_for, IsWhole, may_be_saved, each_next, each_next-ascending, each_next-rising, SORTED_LISTS, SPARSE_LISTS, count, count_at_select, length-places, any_default, select_up}
+use Rattle.vers_saved.proofs.Names.{◌≡◌, ℕ, zero, suc, ◌+◌, ◌-◌, ◌^◌, ◌<◌, ◌≤◌, Bool, true, false, List, [], ◌∷◌, ◌++◌, length, get_or, take, drop, refl, sym, ap, subst, ◌∙◌, inl, inr, arith, cases_eq, ne_eqb, All, IsNonDecreasing, IsStrictlyIncreasing, cases_lt, and_from, and_parts, get_or_past, get_or-drop, drop-drop, drop-take, length-drop, take_all, ◌&&◌, get_or_default, get_or_append_left, length-limbs, get_or-limbs, limb, limbs, limb_count, sorted_words, sparse_words, decoded_members, are_of_list, are_of_sparse, words_for, IsWhole, may_be_saved, each_next, each_next-ascending, each_next-rising, SORTED_LISTS, SPARSE_LISTS, count, count_at_select, length-positions, any_default, select_up}
 use Rattle.std.proofs.Math.Seq.{get_or-append_right}
 use Rattle.std.specs.Prelude.{nat_lt}
 use Rattle.std.specs.List.{list_all}
 use Rattle.std.proofs.lemmas.Bool.{lt-ltb, ltb-true}
 use Rattle.std.proofs.lemmas.List.Sums.{AllPass-from_list_all, list_all-from_AllPass}
-use Rattle.vers_bits.specs.Bits.{places, select}
+use Rattle.vers_bits.specs.Bits.{positions, select}
 use Rattle.vers_sorted.proofs.PublicLaws.{in_order_up}
 use Rattle.vers_sorted.specs.Layout.{first_of, last_of, high_count, low_parts, high_parts}
 use Rattle.vers_sorted.specs.Sorted.{order_of}
@@ -14,7 +14,7 @@ use Rattle.vers_saved.proofs.LimbLists.{limbs_fit}
 use Rattle.vers_saved.proofs.Shapes.{bounds_are, flat_words, within_bounds, as_many, refuted, too_many}
 use Rattle.vers_saved.proofs.SortedParts.{are_own, length-sorted, of_list, own_decoded}
 use Rattle.vers_saved.proofs.WordLists.{whole_numbers, listed_few, listed_up, whole_listed}
-use Rattle.vers_saved.specs.inside.Telling.{own_counts, places_up, sorted_tell}
+use Rattle.vers_saved.specs.inside.Telling.{own_counts, positions_up, sorted_tell}
 
 -- ---- ascending lists
 
@@ -73,35 +73,35 @@ pub ruleset sorted = (sorted_few, listed_few, listed_up, too_long)
 
 -- ---- lists of bits with few ones
 
-rising_places : (bits : List Bool) → IsStrictlyIncreasing (places true bits)
+rising_positions : (bits : List Bool) → IsStrictlyIncreasing (positions true bits)
 unfolding select
-rising_places bits k h =
-    let few : k + 1 < count true bits (length bits) = omega (arith, length-places true bits) in
-    omega (arith, select_up true bits k (k + 1) (omega arith) few, any_default (places true bits) k (length bits) 0 (omega arith), any_default (places true bits) (k + 1) (length bits) 0 h)
+rising_positions bits k h =
+    let few : k + 1 < count true bits (length bits) = omega (arith, length-positions true bits) in
+    omega (arith, select_up true bits k (k + 1) (omega arith) few, any_default (positions true bits) k (length bits) 0 (omega arith), any_default (positions true bits) (k + 1) (length bits) 0 h)
 
-places_below : (bits : List Bool) → All (λ p. p < length bits) (places true bits)
+positions_below : (bits : List Bool) → All (λ p. p < length bits) (positions true bits)
 unfolding select
-places_below bits k d h =
-    let few : k < count true bits (length bits) = omega (arith, length-places true bits) in
-    omega (arith, (count_at_select true bits k few).0, any_default (places true bits) k (length bits) d h)
+positions_below bits k d h =
+    let few : k < count true bits (length bits) = omega (arith, length-positions true bits) in
+    omega (arith, (count_at_select true bits k few).0, any_default (positions true bits) k (length bits) d h)
 
 are_sparse_own : (bits : List Bool) → are_of_sparse (sparse_words bits) ≡ true
 are_sparse_own bits =
-    let rise : each_next (order_of true) (places true bits) ≡ true = (each_next-rising (places true bits)).1 (rising_places bits) in
-    and_from _ _ (are_own (places true bits) true rise)
-    (rw (own_decoded (places true bits) (places_up bits)) (list_all-from_AllPass (λ p. nat_lt p (length bits)) (places true bits) (λ k d h. lt-ltb _ _ (places_below bits k d h))))
+    let rise : each_next (order_of true) (positions true bits) ≡ true = (each_next-rising (positions true bits)).1 (rising_positions bits) in
+    and_from _ _ (are_own (positions true bits) true rise)
+    (rw (own_decoded (positions true bits) (positions_up bits)) (list_all-from_AllPass (λ p. nat_lt p (length bits)) (positions true bits) (λ k d h. lt-ltb _ _ (positions_below bits k d h))))
 
-pub places_fit : (bits : List Bool) → length bits < 2 ^ 64 → length (sorted_words (places true bits)) ≤ 288230376151711743 → AreWords (sorted_words (places true bits))
-places_fit bits small few = members_fit (places true bits) (λ k. elim (cases_lt k (length (places true bits))) [
-  | inl less ↦ omega (arith, places_below bits k 0 less)
-  | inr past ↦ rw (get_or_past (places true bits) k 0 past) (omega arith)
+pub positions_fit : (bits : List Bool) → length bits < 2 ^ 64 → length (sorted_words (positions true bits)) ≤ 288230376151711743 → AreWords (sorted_words (positions true bits))
+positions_fit bits small few = members_fit (positions true bits) (λ k. elim (cases_lt k (length (positions true bits))) [
+  | inl less ↦ omega (arith, positions_below bits k 0 less)
+  | inr past ↦ rw (get_or_past (positions true bits) k 0 past) (omega arith)
 ]) few
 
-sparse_fit : (bits : List Bool) → length bits < 2 ^ 64 → AreWords (sorted_words (places true bits)) → AreWords (sparse_words bits)
+sparse_fit : (bits : List Bool) → length bits < 2 ^ 64 → AreWords (sorted_words (positions true bits)) → AreWords (sparse_words bits)
 sparse_fit bits small fit zero = small
 sparse_fit bits small fit (suc k) = fit k
 
-pub whole_sparse : (bits : List Bool) → length bits < 2 ^ 64 → length (sorted_words (places true bits)) + 1 ≤ 288230376151711743 → AreWords (sorted_words (places true bits))
+pub whole_sparse : (bits : List Bool) → length bits < 2 ^ 64 → length (sorted_words (positions true bits)) + 1 ≤ 288230376151711743 → AreWords (sorted_words (positions true bits))
     → IsWhole SPARSE_LISTS (length (sparse_words bits)) 64 (sparse_words bits)
 whole_sparse bits small few fit =
     whole_numbers SPARSE_LISTS (sparse_words bits) refl refl (within_bounds SPARSE_LISTS (length (sparse_words bits)) 64 refl (omega (arith, few))) (sparse_fit bits small fit) (are_sparse_own bits)
@@ -144,7 +144,7 @@ module _ (ws : List ℕ) (count width : ℕ) (whole : IsWhole SPARSE_LISTS count
     pub ones_below : All (λ p. p < get_or ws 0 0) ones
     ones_below = subst (All (λ p. p < get_or ws 0 0)) own_ones (of_sparse ws whole.ordered).3
 
-    pub sparse_again : (v : List Bool) → length v ≡ get_or ws 0 0 → places true v ≡ ones → (length (sparse_words v) ≡ count) × (sparse_words v ≡ ws)
+    pub sparse_again : (v : List Bool) → length v ≡ get_or ws 0 0 → positions true v ≡ ones → (length (sparse_words v) ≡ count) × (sparse_words v ≡ ws)
     sparse_again v long at =
         let few = sparse_few ws count width whole in
         let words : sparse_words v ≡ ws =

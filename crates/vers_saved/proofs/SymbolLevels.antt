@@ -30,13 +30,13 @@ pub row_limb : (ls : List (List Bool)) (n k p : ℕ) → AllOf ls n → k < leng
 row_limb [] n k p even inside small = absurd (omega arith)
 row_limb (l ∷ ls) n zero p even inside small =
     let here = length-limbs l ∙ ap limb_count (first_of l ls n even) in
-    let place : 0 * limb_count n + p ≡ p = omega arith in
-    ap (λ q. get_or (limbs l ++ flat_map limbs ls) q 0) place ∙ get_or_append_left (limbs l) (flat_map limbs ls) 0 p (omega (arith, here))
+    let position : 0 * limb_count n + p ≡ p = omega arith in
+    ap (λ q. get_or (limbs l ++ flat_map limbs ls) q 0) position ∙ get_or_append_left (limbs l) (flat_map limbs ls) 0 p (omega (arith, here))
 row_limb (l ∷ ls) n (suc k) p even inside small =
     let here : length (limbs l) ≡ limb_count n = length-limbs l ∙ ap limb_count (first_of l ls n even) in
-    let place : suc k * limb_count n + p - limb_count n ≡ k * limb_count n + p = omega arith in
+    let position : suc k * limb_count n + p - limb_count n ≡ k * limb_count n + p = omega arith in
     get_or-append_right (limbs l) (flat_map limbs ls) (limb_count n) (suc k * limb_count n + p) 0 here (omega arith)
-    ∙ ap (λ q. get_or (flat_map limbs ls) q 0) place ∙ row_limb ls n k p (rest_of l ls n even) (omega arith) small
+    ∙ ap (λ q. get_or (flat_map limbs ls) q 0) position ∙ row_limb ls n k p (rest_of l ls n even) (omega arith) small
 
 rows_fit : (ls : List (List Bool)) → AreWords (flat_map limbs ls)
 rows_fit [] = λ k. omega arith
@@ -77,9 +77,9 @@ no_symbols width count wrong = refuted _ (λ may. let b = shape_bounds SYMBOL_LI
 -- limb k of all levels
 pub level_limb : (symbols : Symbols) (k level limb : ℕ) (v : List Bool) → level * limb_count (length symbols.items) + limb ≡ k → limb < limb_count (length symbols.items) → level < symbols.width
     → v ≡ get_or (symbol_levels symbols) level [] → get_or (level_words symbols.width symbols.items) k 0 ≡ get_or (limbs v) limb 0
-level_limb symbols k level limb v place small inside is =
+level_limb symbols k level limb v position small inside is =
     let even = levels_even symbols in
-    rw (← place, is) (row_limb (symbol_levels symbols) (length symbols.items) level limb even.1 (omega (arith, even.0)) small)
+    rw (← position, is) (row_limb (symbol_levels symbols) (length symbols.items) level limb even.1 (omega (arith, even.0)) small)
 
 pub length-level_words : (symbols : Symbols) → length (level_words symbols.width symbols.items) ≡ symbols.width * limb_count (length symbols.items)
 length-level_words symbols = let even = levels_even symbols in length-rows (symbol_levels symbols) (length symbols.items) even.1 ∙ ap (λ w. w * limb_count (length symbols.items)) even.0
@@ -92,7 +92,7 @@ pub ruleset symbols = (no_symbols, few_levels, too_many)
 -- the level of a limb, of which there are at least one in a level
 pub level_inside : (width bits limbs level limb k : ℕ) → limbs ≡ max (limb_count bits) 1 → level * limbs + limb ≡ k → k < width * limb_count bits → limb < limbs
     → (limbs ≡ limb_count bits) × (level < width)
-level_inside width bits limbs level limb k is place inside small =
+level_inside width bits limbs level limb k is position inside small =
     let some : 0 < limb_count bits = elim (cases_eq (limb_count bits) 0) [
       | inl none ↦ let no : width * limb_count bits ≡ 0 = ap (λ n. width * n) none ∙ omega arith in absurd (omega (arith, no))
       | inr part ↦ omega arith
@@ -128,10 +128,10 @@ module _ (count width k : ℕ) (words rest : List ℕ) (ls : List (List Bool)) (
     | inl full ↦ inl full
     | inr small ↦ elim (cases_lt 0 (limb_count count)) [
       | inl some ↦
-          let place : k * limb_count count + (limb_count count - 1) - k * limb_count count ≡ limb_count count - 1 = omega arith in
+          let position : k * limb_count count + (limb_count count - 1) - k * limb_count count ≡ limb_count count - 1 = omega arith in
           let here : get_or (take (limb_count count) rest) (limb_count count - 1) 0 ≡ get_or words (k * limb_count count + (limb_count count - 1)) 0 =
           get_or-take (limb_count count) rest (limb_count count - 1) 0 (omega arith)
-          ∙ ap (λ p. get_or rest p 0) (sym place)
+          ∙ ap (λ p. get_or rest p 0) (sym position)
           ∙ sym (get_or-append_right (flat_map limbs ls) rest (k * limb_count count) (k * limb_count count + (limb_count count - 1)) 0 done (omega arith))
           ∙ ap (λ l. get_or l (k * limb_count count + (limb_count count - 1)) 0) parts in
           inr (rw here small)

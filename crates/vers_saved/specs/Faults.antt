@@ -93,7 +93,7 @@ are_of_list rising words = each_next (order_of rising) (decoded_members words) &
 
 -- whether they are a length, and the words of a list that ascends strictly and is below the length
 abbrev pub are_of_sparse : List ℕ → Bool
-are_of_sparse words = are_of_list true (drop 1 words) && list_all (λ place. nat_lt place (slice_index words 0)) (decoded_members (drop 1 words))
+are_of_sparse words = are_of_list true (drop 1 words) && list_all (λ position. nat_lt position (slice_index words 0)) (decoded_members (drop 1 words))
 
 -- the number that all numbers of an inverted index are below: the product of the first two words
 abbrev pub end_of_numbers : List ℕ → ℕ

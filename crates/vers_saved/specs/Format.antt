@@ -3,7 +3,7 @@
 use Rattle.std.specs.Prelude.{ℕ, ◌+◌, ◌-◌, ◌*◌, ◌/◌, ◌%◌, ◌^◌, Bool, true, List, [], ◌∷◌, ◌++◌, length, map, fold, flat_map, bit_xor, take, drop, slice_index}
 use Rattle.std.specs.Int.{w64, to_le_bytes, from_le_bytes, rotate_left}
 use Rattle.std.specs.Simd.{first_chunks}
-use Rattle.vers_bits.specs.Bits.{limb_count, limbs, pack, places}
+use Rattle.vers_bits.specs.Bits.{limb_count, limbs, pack, positions}
 use Rattle.vers_sorted.specs.Layout.{first_of, last_of, low_count, high_count, low_parts, high_parts, members, width}
 use Rattle.vers_wavelet.specs.Makers.{symbol_levels}
 use Rattle.vers_saved.specs.declared.kind.TheConstants.{BITS, SORTED, SYMBOLS, SPARSE, VALUES, PARENTHESES, POSTINGS, TEXTS, INVERTED}
@@ -104,19 +104,19 @@ packed_form width items = saved VERSION SYMBOLS (length items) width (limbs (pac
 
 -- the words of a sparse list of bits: the length, and the words of the list of the ones' positions
 abbrev pub sparse_words : List Bool → List ℕ
-sparse_words bits = length bits ∷ sorted_words (places true bits)
+sparse_words bits = length bits ∷ sorted_words (positions true bits)
 
 -- the saved form of a list of bits with few ones
 abbrev pub saved_sparse : List Bool → List ℕ
 saved_sparse bits = saved PARTS_VERSION SPARSE (length (sparse_words bits)) 64 (sparse_words bits)
 
 -- the words of the first version: the positions of the ones, and the length
-abbrev pub place_words : List Bool → List ℕ
-place_words bits = places true bits ++ length bits ∷ []
+abbrev pub position_words : List Bool → List ℕ
+position_words bits = positions true bits ++ length bits ∷ []
 
 -- the first version of that form
-abbrev pub places_form : List Bool → List ℕ
-places_form bits = saved VERSION SPARSE (length (place_words bits)) 64 (place_words bits)
+abbrev pub positions_form : List Bool → List ℕ
+positions_form bits = saved VERSION SPARSE (length (position_words bits)) 64 (position_words bits)
 
 -- the saved form of numbers in any order: each as a word
 abbrev pub saved_values : List ℕ → List ℕ

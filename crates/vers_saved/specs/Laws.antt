@@ -8,7 +8,7 @@ use Rattle.postings.specs.Posted.{ArePaired}
 use Rattle.inverted.specs.Numbers.{IsOfNumbers}
 use Rattle.vers_saved.specs.declared.kind.Kind.{Kind}
 use Rattle.vers_saved.specs.declared.kind.TheConstants.{GREATEST_WORDS, BIT_LISTS, SORTED_LISTS, SYMBOL_LISTS, PACKED_SYMBOLS, SPARSE_LISTS, TABLE_VALUES, BLOCK_VALUES, POSTING_LISTS, INVERTED_LISTS}
-use Rattle.vers_saved.specs.Format.{check_sum, saved_bits, saved_sorted, sorted_words, listed_form, saved_symbols, packed_form, saved_sparse, sparse_words, places_form, saved_values, saved_parentheses, saved_postings, inverted_words, saved_inverted}
+use Rattle.vers_saved.specs.Format.{check_sum, saved_bits, saved_sorted, sorted_words, listed_form, saved_symbols, packed_form, saved_sparse, sparse_words, positions_form, saved_values, saved_parentheses, saved_postings, inverted_words, saved_inverted}
 use Rattle.vers_saved.specs.Faults.{fault_of, packed_kind}
 use Rattle.vers_saved.specs.Kinds.{AreWords, tree_kind}
 
@@ -51,7 +51,7 @@ SparseGoRound = GoesRound SPARSE_LISTS (λ bits. (length bits < 2 ^ 64) × (leng
 
 -- a sparse list of bits that was saved in the first version loads as the same list
 abbrev pub ListedSparseGoRound : Type 0
-ListedSparseGoRound = GoesRound (packed_kind SPARSE_LISTS) (λ bits. (length bits < 2 ^ 64) × (count true bits (length bits) < GREATEST_WORDS)) places_form
+ListedSparseGoRound = GoesRound (packed_kind SPARSE_LISTS) (λ bits. (length bits < 2 ^ 64) × (count true bits (length bits) < GREATEST_WORDS)) positions_form
 
 -- saved 64-bit numbers, up to the length limit of a sparse table, load as the same list
 abbrev pub TableValuesGoRound : Type 0

@@ -1,6 +1,6 @@
 -- Worked rows of the definitions, which compute.
 use Rattle.std.specs.Prelude.{◌≡◌, ℕ, List, [], ◌∷◌, ◌++◌, true, false, None, Some, refl}
-use Rattle.vers_bits.specs.Bits.{limbs, limb, low_bits, places, select}
+use Rattle.vers_bits.specs.Bits.{limbs, limb, low_bits, positions, select}
 use Rattle.vers_tally.specs.Reads.{digits}
 use Rattle.vers_sorted.specs.Ones.{ones_at}
 use Rattle.vers_sorted.specs.Sorted.{is_member}
@@ -8,7 +8,7 @@ use Rattle.vers_sorted.specs.Layout.{high_length, high_of, high_parts, low_parts
 use Rattle.vers_saved.specs.declared.kind.Order.TheVariants.{Ascending, Rising, HalfRising, InvertedParts}
 use Rattle.vers_saved.specs.declared.kind.TheConstants.{BIT_LISTS, SORTED_LISTS}
 use Rattle.vers_saved.specs.declared.fault.LoadError.TheVariants.{TooShort, OtherKind, BadLength}
-use Rattle.vers_saved.specs.Format.{word_bytes, bytes_word, words_of, mix, check_sum, head, with_sum, saved, saved_bits, decoded_members, inverted_words, place_words, posting_words, sorted_words, sparse_words}
+use Rattle.vers_saved.specs.Format.{word_bytes, bytes_word, words_of, mix, check_sum, head, with_sum, saved, saved_bits, decoded_members, inverted_words, position_words, posting_words, sorted_words, sparse_words}
 use Rattle.vers_saved.specs.Faults.{are_of_list, in_order, is_padded, is_summed, row_words, fault_of, version_fault}
 
 pub word_bytes-258 : word_bytes 258 ≡ 2 ∷ 1 ∷ 0 ∷ 0 ∷ 0 ∷ 0 ∷ 0 ∷ 0 ∷ []
@@ -55,22 +55,22 @@ unfolding high_parts high_length high_of ones_at is_member low_parts low_width w
 sorted_words-0147 = refl
 
 pub decoded_members-0147 : decoded_members (4 ∷ 0 ∷ 7 ∷ 10 ∷ 166 ∷ []) ≡ 0 ∷ 1 ∷ 4 ∷ 7 ∷ []
-unfolding decoded_members members select places width digits low_bits
+unfolding decoded_members members select positions width digits low_bits
 decoded_members-0147 = refl
 
 -- twelve bits with ones at 1 and 3: their number, and the words of these members
 pub sparse_words-1-3 :
     sparse_words (false ∷ true ∷ false ∷ true ∷ false ∷ false ∷ false ∷ false ∷ false ∷ false ∷ false ∷ false ∷ [])
     ≡ 12 ∷ 2 ∷ 1 ∷ 3 ∷ 0 ∷ 10 ∷ []
-unfolding places high_parts high_length high_of ones_at is_member low_parts low_width width digits low_bits limb limbs
+unfolding positions high_parts high_length high_of ones_at is_member low_parts low_width width digits low_bits limb limbs
 sparse_words-1-3 = refl
 
 -- in the first version, the members and then the number of bits
-pub place_words-1-3 :
-    place_words (false ∷ true ∷ false ∷ true ∷ false ∷ false ∷ false ∷ false ∷ false ∷ false ∷ false ∷ false ∷ [])
+pub position_words-1-3 :
+    position_words (false ∷ true ∷ false ∷ true ∷ false ∷ false ∷ false ∷ false ∷ false ∷ false ∷ false ∷ false ∷ [])
     ≡ 1 ∷ 3 ∷ 12 ∷ []
-unfolding places
-place_words-1-3 = refl
+unfolding positions
+position_words-1-3 = refl
 
 -- the documents 3 and 7 of term 0 and 1 of term 2, of 3 terms and documents below 10
 pub inverted_words-three :
@@ -81,7 +81,7 @@ inverted_words-three = refl
 
 -- with 2 terms, the last number is past their documents
 pub in_order-inverted : in_order InvertedParts (2 ∷ 10 ∷ 3 ∷ 3 ∷ 21 ∷ 160 ∷ 38 ∷ []) ≡ false
-unfolding are_of_list decoded_members members select places width digits low_bits limbs low_parts low_width limb high_parts ones_at is_member high_length high_of
+unfolding are_of_list decoded_members members select positions width digits low_bits limbs low_parts low_width limb high_parts ones_at is_member high_length high_of
 in_order-inverted = refl
 
 -- two documents and their costs, which need not ascend

@@ -26,13 +26,13 @@ pub(crate) fn limb_of<A: Allocator + Copy>(bits: &RsVec<A>, k: usize) -> u64
     ensures { result ≡ slice_index (limbs bits.now) k }
 {
     let len = bits.len();
-    let place = 64 * k;
-    let left = len - place;
+    let position = 64 * k;
+    let left = len - position;
     // For a whole limb the compiler removes shift and mask.
     if left < 64 {
-        bits.get_bits_unchecked(place, left)
+        bits.get_bits_unchecked(position, left)
     } else {
-        bits.get_bits_unchecked(place, 64)
+        bits.get_bits_unchecked(position, 64)
     }
 }
 

@@ -39,14 +39,14 @@ fn drop_first<A: Allocator + Copy>(members: &mut EliasFanoRefIter<'_, A>, n: usi
 // Returns the number that a walk returned, or if it returned none, that at a position of the others, which come
 // after `count`.
 #[inline(always)]
-fn given_or(given: Option<u64>, others: &[u64], place: usize, count: usize) -> u64
-    requires some { given ≡ None → count ≤ place }
-    requires within { given ≡ None → place < count + length others.now }
-    ensures { result ≡ unwrap_or given (slice_index others.now (place - count)) }
+fn given_or(given: Option<u64>, others: &[u64], position: usize, count: usize) -> u64
+    requires some { given ≡ None → count ≤ position }
+    requires within { given ≡ None → position < count + length others.now }
+    ensures { result ≡ unwrap_or given (slice_index others.now (position - count)) }
 {
     match given {
         Some(number) => number,
-        None => others[place - count],
+        None => others[position - count],
     }
 }
 

@@ -1,6 +1,6 @@
 //! Lists of bits with few ones, saved by the length and the parts of the positions of the ones.
 ghost use Rattle.std.specs.Prelude.{[], ◌≡◌, ◌<◌, ◌≤◌, ◌^◌, ⊤, length, slice_index};
-ghost use Rattle.vers_saved.specs.Format.{place_words, sparse_words};
+ghost use Rattle.vers_saved.specs.Format.{position_words, sparse_words};
 ghost use Rattle.vers_saved.specs.declared.kind.TheConstants.{SPARSE_LISTS};
 
 use crate::form::Shape;
@@ -57,7 +57,7 @@ impl<A: Allocator + Copy> Saved for SparseRSVec<A> {
 
 #[tactic(auto, using(crate::proofs::SortedForms::sparse, crate::proofs::SparseLists::listed))]
 impl<A: Allocator + Copy> Loaded<A> for SparseRSVec<A> {
-    ghost use Rattle.vers_saved.specs.inside.Telling.{places_tell, sparse_tell};
+    ghost use Rattle.vers_saved.specs.inside.Telling.{positions_tell, sparse_tell};
 
     fn make(of: Shape, held: &mut Vec<u64, A>) -> Result<Self, AllocError> {
         let alloc = *held.allocator();
@@ -66,7 +66,7 @@ impl<A: Allocator + Copy> Loaded<A> for SparseRSVec<A> {
         Ok(SparseRSVec::from_sorted(ones, words[0]))
     }
 
-    ghost packed = { place_words };
+    ghost packed = { position_words };
 
     fn make_packed(of: Shape, held: &mut Vec<u64, A>) -> Result<Self, AllocError> {
         let alloc = *held.allocator();
@@ -75,7 +75,7 @@ impl<A: Allocator + Copy> Loaded<A> for SparseRSVec<A> {
         SparseRSVec::new(alloc, &words[..last], words[last])
     }
 
-    ghost first_tells = { places_tell };
+    ghost first_tells = { positions_tell };
 
     ghost tells = { sparse_tell };
 }

@@ -18,28 +18,28 @@ use vers_wavelet::wavelet::WaveletMatrix;
 
 // A limb of a level.
 #[derive(Clone, Copy, Drop)]
-struct Place {
+struct Position {
     level: usize,
     limb: usize,
 }
 
-// Returns the place of the next limb, where each level has as many limbs.
+// Returns the position of the next limb, where each level has as many limbs.
 #[inline(always)]
-fn place_after(place: Place, limbs: usize) -> Place
-    requires within { place.limb < limbs }
-    requires small { place.level < 65535 }
-    ensures next { result.level * limbs + result.limb ≡ place.level * limbs + place.limb + 1 }
+fn position_after(position: Position, limbs: usize) -> Position
+    requires within { position.limb < limbs }
+    requires small { position.level < 65535 }
+    ensures next { result.level * limbs + result.limb ≡ position.level * limbs + position.limb + 1 }
     ensures within { result.limb < limbs }
 {
-    let limb = place.limb + 1;
+    let limb = position.limb + 1;
     if limb == limbs {
-        return Place {
-            level: place.level + 1,
+        return Position {
+            level: position.level + 1,
             limb: 0,
         };
     }
-    Place {
-        level: place.level,
+    Position {
+        level: position.level,
         limb,
     }
 }
@@ -64,13 +64,13 @@ fn copy_across<A: Allocator + Copy>(list: &WaveletMatrix<A>, from: usize, out: &
         → slice_index out.new j ≡ slice_index (level_words list.now.width list.now.items) (from + j) }
 {
     let limbs = list.len().div_ceil(64).max(1);
-    let mut place = Place {
+    let mut position = Position {
         level: from / limbs,
         limb: from % limbs,
     };
     for j in 0..out.len() {
-        out[j] = limb_of(list.level(place.level), place.limb);
-        place = place_after(place, limbs);
+        out[j] = limb_of(list.level(position.level), position.limb);
+        position = position_after(position, limbs);
     }
 }
 

@@ -147,13 +147,16 @@ fn each_request_of_a_reader_refused(rt: HostRuntime) {
 }
 
 // Returns true if bytes are too short, and no memory was requested to find that out.
-fn is_told_without_memory<'a, S: Loaded<&'a Heap> + Drop>(heap: &'a Heap, bytes: &[u8]) -> bool {
+fn is_reported_without_memory<'a, S: Loaded<&'a Heap> + Drop>(
+    heap: &'a Heap,
+    bytes: &[u8],
+) -> bool {
     let loaded: Result<S, LoadError> = load_from_slice(heap, bytes);
     loaded.err() == Some(LoadError::TooShort) && heap.asked() == 0
 }
 
 fn hostile_bits<'a>(heap: &'a Heap) -> bool {
-    is_told_without_memory::<BitVec<&'a Heap>>(heap, &HOSTILE)
+    is_reported_without_memory::<BitVec<&'a Heap>>(heap, &HOSTILE)
 }
 
 #[test]

@@ -85,7 +85,11 @@ fn flipped<A: Allocator>(
 }
 
 // Returns true if no form with one bit changed is loaded, and none is refused for memory or the reader.
-fn flips_are_told<F: Fn(&[u8]) -> Option<LoadError>>(alloc: Global, bytes: &[u8], fault: F) -> bool
+fn flips_are_reported<F: Fn(&[u8]) -> Option<LoadError>>(
+    alloc: Global,
+    bytes: &[u8],
+    fault: F,
+) -> bool
     requires { F.IsAlwaysCallable fault }
 {
     for i in 0..bytes.len() {
@@ -103,7 +107,7 @@ fn flips_are_told<F: Fn(&[u8]) -> Option<LoadError>>(alloc: Global, bytes: &[u8]
 }
 
 // Returns true if each prefix of a form is too short.
-fn cuts_are_told<F: Fn(&[u8]) -> Option<LoadError>>(bytes: &[u8], fault: F) -> bool
+fn cuts_are_reported<F: Fn(&[u8]) -> Option<LoadError>>(bytes: &[u8], fault: F) -> bool
     requires { F.IsAlwaysCallable fault }
 {
     for i in 0..bytes.len() {
@@ -115,7 +119,11 @@ fn cuts_are_told<F: Fn(&[u8]) -> Option<LoadError>>(bytes: &[u8], fault: F) -> b
 }
 
 // Returns true if a form with one more byte has a wrong length.
-fn more_is_told<F: Fn(&[u8]) -> Option<LoadError>>(alloc: Global, bytes: &[u8], fault: F) -> bool
+fn more_bytes_are_reported<F: Fn(&[u8]) -> Option<LoadError>>(
+    alloc: Global,
+    bytes: &[u8],
+    fault: F,
+) -> bool
     requires { F.IsAlwaysCallable fault }
 {
     let Ok(mut longer) = Vec::from_slice(alloc, bytes) else {
@@ -125,7 +133,7 @@ fn more_is_told<F: Fn(&[u8]) -> Option<LoadError>>(alloc: Global, bytes: &[u8], 
 }
 
 /// Returns true if a form has no error, and each change of it has one.
-pub fn changes_are_told<F: Fn(&[u8]) -> Option<LoadError>>(
+pub fn changes_are_reported<F: Fn(&[u8]) -> Option<LoadError>>(
     alloc: Global,
     bytes: &[u8],
     fault: F,
@@ -133,15 +141,15 @@ pub fn changes_are_told<F: Fn(&[u8]) -> Option<LoadError>>(
     requires { F.IsAlwaysCallable fault }
 {
     fault(bytes).is_none()
-        && flips_are_told(alloc, bytes, &fault)
-        && cuts_are_told(bytes, &fault)
-        && more_is_told(alloc, bytes, &fault)
+        && flips_are_reported(alloc, bytes, &fault)
+        && cuts_are_reported(bytes, &fault)
+        && more_bytes_are_reported(alloc, bytes, &fault)
 }
 
 /// Returns true if a form is that of the list that it is loaded as, and each change of it has an error.
 pub fn is_kept<S: Loaded<Global> + Drop>(alloc: Global, bytes: &[u8]) -> bool {
     is_loaded::<S, Global>(alloc, bytes, bytes)
-        && changes_are_told(
+        && changes_are_reported(
             alloc,
             bytes,
             |bytes: &[u8]| fault_of::<S, Global>(alloc, bytes),

@@ -2,7 +2,7 @@
 //! made right again.
 use crate::devices::Pieces;
 use crate::memory::Heap;
-use crate::rows::{changes_are_told, is_saved_as};
+use crate::rows::{changes_are_reported, is_saved_as};
 use crate::stored::{COLUMN_TEXT, EMPTY_COLUMN_TEXT, EMPTY_TEXT, SYMBOLS, TEXT, WIDE_COLUMN_TEXT};
 use crate::streams::is_written;
 use std::alloc::{AllocError, Allocator, Global};
@@ -82,7 +82,7 @@ fn stored_texts(rt: HostRuntime) {
         &COLUMN_TEXT[..],
         &EMPTY_COLUMN_TEXT[..],
     ] {
-        assert!(rt; changes_are_told(alloc, bytes, |bytes: &[u8]| text_fault(alloc, bytes)));
+        assert!(rt; changes_are_reported(alloc, bytes, |bytes: &[u8]| text_fault(alloc, bytes)));
     }
     assert!(rt; text_fault(alloc, &SYMBOLS) == Some(LoadError::OtherKind));
 }

@@ -1,6 +1,6 @@
 //! Trees, which are loaded by functions of their own.
 use crate::memory::Heap;
-use crate::rows::{changes_are_told, is_saved_as};
+use crate::rows::{changes_are_reported, is_saved_as};
 use crate::stored::{BITS, PARENTHESES};
 use std::alloc::Global;
 use test_alloc::{Ending, Refusing, asked, done_if, out_of_memory_if};
@@ -43,7 +43,7 @@ fn parentheses(rt: HostRuntime) {
     let heap = Refusing::none(rt.alloc());
     assert!(rt; is_loaded(rt.alloc(), &heap, &PARENTHESES));
     assert!(rt;
-        changes_are_told(
+        changes_are_reported(
             rt.alloc(),
             &PARENTHESES,
             |bytes: &[u8]| tree_fault(&heap, bytes)

@@ -13,7 +13,7 @@ pub first_within : (s : List ℕ) (v before : ℕ) → IsNonDecreasing s → IsI
     → (high_of s v ≤ before) × (before - high_of s v < length s)
 first_within s v before up is b = grind (arith, high_up, start_at)
 
--- one more number that is begun, at a place past those that were before it
+-- one more number that is begun, at a position past those that were before it
 pub begun_more : (s asked before after parts : List ℕ) (j x y : ℕ) → j < length after → j < length parts
     → ((k : ℕ) → k < j → IsInside s (slice_index asked k) → IsBegun s (slice_index asked k) (slice_index before k) (slice_index after k) (slice_index parts k))
     → IsBegun s (slice_index asked j) (slice_index before j) x y

@@ -1,4 +1,4 @@
--- The ones beside a place, by the number of the bits there, and the members beside a bucket.
+-- The ones beside a position, by the number of the bits there, and the members beside a bucket.
 use Rattle.vers_sorted.proofs.Names.{◌≡◌, ℕ, ◌+◌, ◌-◌, ◌<◌, ◌≤◌, Bool, true, false, List, length, take, drop, get_or, sym, ap, ◌∙◌, arith, Some, w64, bit_at, trailing_zeros, IsNonDecreasing, number, count, select, highest_bit, select_at, count_at_select, count_both, count_more_yes, part_bit, value_none, value_one, part_number_or_zero, first_of, last_of, high_of, high_parts, IsPacked, IsStart, IsBucket, Bucket, count_leading_zeros}
 use Rattle.vers_sorted.proofs.Scans.{part_read, count_stays}
 use Rattle.vers_sorted.proofs.Aheads.{small, lowest}
@@ -6,7 +6,7 @@ use Rattle.vers_sorted.proofs.Packed.{high_same}
 use Rattle.vers_sorted.proofs.Split.{high_up}
 use Rattle.vers_sorted.proofs.Buckets.{start_at, zeros_counted}
 
--- ---- the next one from a place on
+-- ---- the next one from a position on
 
 module _ (l : List Bool) (from w : ℕ) (read : part_number_or_zero l from 64 ≡ Some w) (some : 0 < w) where
   here : (from + 64 ≤ length l) × (w ≡ number (take 64 (drop from l)))
@@ -21,7 +21,7 @@ module _ (l : List Bool) (from w : ℕ) (read : part_number_or_zero l from 64 �
   pub one_read : (k : ℕ) → count true l from ≡ k → from + trailing_zeros w64 w ≡ select true l k
   one_read k before = sym (select_at true l k (from + trailing_zeros w64 w) one_fits found.1 (found.2 ∙ before))
 
--- ---- the last one before a place
+-- ---- the last one before a position
 
 module _ (l : List Bool) (to w : ℕ) (far : 64 ≤ to) (read : part_number_or_zero l (to - 64) 64 ≡ Some w) (some : 0 < w) where
   part : (to - 64 + 64 ≤ length l) × (w ≡ number (take 64 (drop (to - 64) l)))
@@ -45,8 +45,8 @@ module _ (l : List Bool) (to w : ℕ) (far : 64 ≤ to) (read : part_number_or_z
       let on : get_or l p false ≡ true =
       value_one (get_or l p false) (sym (part_bit l (to - 64) 64 (63 - z) (omega arith)) ∙ bit_is (63 - z) (omega arith) 1 highest.1) in
       let stays = count_stays true l (p + 1) z (omega (arith, part.0, highest.0)) (λ i less.
-      let place : p + 1 + i ≡ to - 64 + (64 - z + i) = omega (arith, highest.0) in
-      rw place (value_none _ (sym (part_bit l (to - 64) 64 (64 - z + i) (omega (arith, highest.0))) ∙ bit_is (64 - z + i) (omega (arith, highest.0)) 0 (highest.2 (64 - z + i) (omega (arith, highest.0)))))) in
+      let position : p + 1 + i ≡ to - 64 + (64 - z + i) = omega (arith, highest.0) in
+      rw position (value_none _ (sym (part_bit l (to - 64) 64 (64 - z + i) (omega (arith, highest.0))) ∙ bit_is (64 - z + i) (omega (arith, highest.0)) 0 (highest.2 (64 - z + i) (omega (arith, highest.0)))))) in
       let past = count_more_yes true l p (omega (arith, part.0, highest.0)) on in
       at ∙ sym (select_at true l k p (omega (arith, part.0, highest.0)) on (omega (arith, past, stays, ap (count true l) rest, before)))
 
@@ -57,7 +57,7 @@ ones_around : (s : List ℕ) (h start : ℕ) → IsNonDecreasing s → 0 < lengt
     → (count true (high_parts s) (h + start) ≡ start) × (count true (high_parts s) (h + start + 1) ≡ start) × (h + start < length (high_parts s))
 ones_around s h start up some within is =
     let zero = start_at s up h some within in
-    let place : h + start ≡ select false (high_parts s) h = grind arith in
+    let position : h + start ≡ select false (high_parts s) h = grind arith in
     grind (arith, count_both, count_at_select, zeros_counted)
 
 module _ {s : List ℕ} {high low : List Bool} {first last width : ℕ} (packed : IsPacked s high low first last width) where

@@ -1,5 +1,5 @@
 -- Where the members with one high part begin and end.
-use Rattle.vers_sorted.proofs.Names.{◌≡◌, ℕ, ◌+◌, ◌-◌, ◌*◌, ◌/◌, ◌%◌, ◌^◌, ◌<◌, ◌≤◌, Bool, true, false, List, length, refl, ap, ◌∙◌, arith, inl, inr, slice_index, bit_and, IsNonDecreasing, and_mask, one_shl, cases_lt, count, select, count_both, count_up, count_at_select, select_below, select_not_below, digits, digits_halved, digits_up, below, first_of, last_of, low_width, high_place, high_parts, IsPacked, IsStart, IsBucket, Bucket, IsBetween, high_of, low_of}
+use Rattle.vers_sorted.proofs.Names.{◌≡◌, ℕ, ◌+◌, ◌-◌, ◌*◌, ◌/◌, ◌%◌, ◌^◌, ◌<◌, ◌≤◌, Bool, true, false, List, length, refl, ap, ◌∙◌, arith, inl, inr, slice_index, bit_and, IsNonDecreasing, and_mask, one_shl, cases_lt, count, select, count_both, count_up, count_at_select, select_below, select_not_below, digits, digits_halved, digits_up, below, first_of, last_of, low_width, high_position, high_parts, IsPacked, IsStart, IsBucket, Bucket, IsBetween, high_of, low_of}
 use Rattle.vers_sorted.proofs.Below.{below_le, below_from, below_to, below_before, below_after}
 use Rattle.vers_sorted.proofs.Split.{high_up, member_from, high_zeros}
 use Rattle.vers_sorted.proofs.Holds.{hold_high}
@@ -9,11 +9,11 @@ module _ (s : List ℕ) (up : IsNonDecreasing s) where
   pub zeros_counted : 0 < length s → count false (high_parts s) (length (high_parts s)) ≡ 2 + high_of s (last_of s)
   zeros_counted some = omega (arith, count_both (high_parts s) (length (high_parts s)), (hold_high s up).ones, (hold_high s up).total, high_zeros s some)
 
-  -- the zeros and ones up to the place of a member
-  zeros_at_member : (i : ℕ) → i < length s → count false (high_parts s) (high_place s i) ≡ high_of s (slice_index s i) + 1
+  -- the zeros and ones up to the position of a member
+  zeros_at_member : (i : ℕ) → i < length s → count false (high_parts s) (high_position s i) ≡ high_of s (slice_index s i) + 1
   zeros_at_member i h =
       let at = count_at_select true (high_parts s) i (omega (arith, (hold_high s up).ones)) in
-      omega (arith, count_both (high_parts s) (high_place s i), at.0, at.1, (hold_high s up).place i h, ap (count true (high_parts s)) ((hold_high s up).place i h))
+      omega (arith, count_both (high_parts s) (high_position s i), at.0, at.1, (hold_high s up).position i h, ap (count true (high_parts s)) ((hold_high s up).position i h))
 
   -- zero number h has as many ones below it as members have a high part below h
   pub start_at : (h : ℕ) → 0 < length s → h ≤ high_of s (last_of s) + 1 → (h ≤ select false (high_parts s) h) × IsStart s h (select false (high_parts s) h - h)
@@ -28,10 +28,10 @@ module _ (s : List ℕ) (up : IsNonDecreasing s) where
           within = few;
           before = λ i small.
               let left = select_below true (high_parts s) i q (omega arith) in
-              omega (arith, zeros_at_member i (omega arith), holds.place i (omega arith), at.1, count_up false (high_parts s) (high_place s i) q (omega (arith, holds.place i (omega arith))));
+              omega (arith, zeros_at_member i (omega arith), holds.position i (omega arith), at.1, count_up false (high_parts s) (high_position s i) q (omega (arith, holds.position i (omega arith))));
           after = λ i large short.
               let right = select_not_below true (high_parts s) i (q + 1) (omega (arith, holds.ones)) (omega (arith, count_both (high_parts s) (q + 1), at.2)) in
-              omega (arith, zeros_at_member i short, holds.place i short, at.2, count_up false (high_parts s) (q + 1) (high_place s i) (omega (arith, holds.place i short)));
+              omega (arith, zeros_at_member i short, holds.position i short, at.2, count_up false (high_parts s) (q + 1) (high_position s i) (omega (arith, holds.position i short)));
         },
       )
 

@@ -1,5 +1,5 @@
 -- Parts that are read member by member.
-use Rattle.vers_sorted.proofs.Names.{◌≡◌, ℕ, zero, suc, ◌+◌, ◌-◌, ◌*◌, ◌/◌, ◌%◌, ◌^◌, ◌<◌, ◌≤◌, Bool, true, false, List, length, take, drop, get_or, refl, sym, ap, ◌∙◌, inl, inr, arith, w64, bit_and, bit_or, bit_at, bit_value, trailing_zeros, bit_at-trailing_zeros, cases_lt, cases_Bool, mod_below, mod_low, pow_pos, pow-add, and_mask, mod-eq_of_lt, mod-pow-add, mul-mod_left, or_shifted, one_shl, shl-shr, shr-shr, drop-drop, drop-take, get_or_past, number, count, select, number-drop, limb_bit, value_none, value_one, count_none, count_past, count_more_no, count_more_yes, select_at, select_is_place, mul_comm, mul-le-mul_left}
+use Rattle.vers_sorted.proofs.Names.{◌≡◌, ℕ, zero, suc, ◌+◌, ◌-◌, ◌*◌, ◌/◌, ◌%◌, ◌^◌, ◌<◌, ◌≤◌, Bool, true, false, List, length, take, drop, get_or, refl, sym, ap, ◌∙◌, inl, inr, arith, w64, bit_and, bit_or, bit_at, bit_value, trailing_zeros, bit_at-trailing_zeros, cases_lt, cases_Bool, mod_below, mod_low, pow_pos, pow-add, and_mask, mod-eq_of_lt, mod-pow-add, mul-mod_left, or_shifted, one_shl, shl-shr, shr-shr, drop-drop, drop-take, get_or_past, number, count, select, number-drop, limb_bit, value_none, value_one, count_none, count_past, count_more_no, count_more_yes, select_at, select_is_position, mul_comm, mul-le-mul_left}
 use lib.Bits.{and_self}
 use Rattle.std.proofs.Math.ListN.{drop_of_length-le}
 use Rattle.std.proofs.lemmas.Bool.{false≢true}
@@ -185,7 +185,7 @@ first_at l some two =
 
 pub at_first : (l : List Bool) → 0 < count true l (length l) → select true l 0 ≡ 1 → limb l 0 % 4 ≡ 2
 at_first l some first =
-    let at = rw first at (select_is_place true l 0 some) in
+    let at = rw first at (select_is_position true l 0 some) in
     let one_on : bit_at (limb l 0) 1 ≡ 1 = limb_bit l 0 1 (omega arith) ∙ ap bit_value at.holds in
     let zero_off : get_or l 0 false ≡ false = elim (cases_Bool (get_or l 0 false)) [
       | inl on ↦ absurd (omega (arith, count_more_yes true l 0 (omega (arith, at.within)) on, at.before))

@@ -1,32 +1,32 @@
 -- What the high and low parts of an ascending list say of its members.
-use Rattle.vers_sorted.proofs.Names.{◌≡◌, ℕ, ◌-◌, ◌*◌, ◌^◌, ◌<◌, true, List, length, take, drop, ap, ◌∙◌, arith, slice_index, map, range_with_len, IsNonDecreasing, IsStrictlyIncreasing, mul_comm, same_number_lists, length-map, get_or-map, length-map-range_with_len, get_or-map-range_with_len, low_bits, pack, select, number-low_bits, length-packed, first_of, low_width, high_of, high_length, high_place, member, HoldHigh, HoldLow, element, low_of, high_parts, low_parts, members}
+use Rattle.vers_sorted.proofs.Names.{◌≡◌, ℕ, ◌-◌, ◌*◌, ◌^◌, ◌<◌, true, List, length, take, drop, ap, ◌∙◌, arith, slice_index, map, range_with_len, IsNonDecreasing, IsStrictlyIncreasing, mul_comm, same_number_lists, length-map, get_or-map, length-map-range_with_len, get_or-map-range_with_len, low_bits, pack, select, number-low_bits, length-packed, first_of, low_width, high_of, high_length, high_position, member, HoldHigh, HoldLow, element, low_of, high_parts, low_parts, members}
 use Rattle.vers_sorted.proofs.Ones.{length-ones_at, select-ones_at, all_ones}
 use Rattle.vers_sorted.proofs.Split.{parts_sum, high_up, member_from, high_zeros}
 
 -- ---- the high parts
 
-abbrev places_of : List ℕ → List ℕ
-places_of s = map (high_place s) (range_with_len 0 (length s))
+abbrev positions_of : List ℕ → List ℕ
+positions_of s = map (high_position s) (range_with_len 0 (length s))
 
-length-places_of : (s : List ℕ) → length (places_of s) ≡ length s
-length-places_of s = length-map-range_with_len (high_place s) 0 (length s)
+length-positions_of : (s : List ℕ) → length (positions_of s) ≡ length s
+length-positions_of s = length-map-range_with_len (high_position s) 0 (length s)
 
-place_of : (s : List ℕ) (i : ℕ) → i < length s → slice_index (places_of s) i ≡ high_place s i
-place_of s i h = get_or-map-range_with_len (high_place s) 0 (length s) i i 0 h (omega arith)
+position_of : (s : List ℕ) (i : ℕ) → i < length s → slice_index (positions_of s) i ≡ high_position s i
+position_of s i h = get_or-map-range_with_len (high_position s) 0 (length s) i i 0 h (omega arith)
 
-places_of-rise : (s : List ℕ) → IsNonDecreasing s → IsStrictlyIncreasing (places_of s)
-places_of-rise s up k h = grind (arith, length-places_of, place_of, high_up, member_from)
+positions_of-rise : (s : List ℕ) → IsNonDecreasing s → IsStrictlyIncreasing (positions_of s)
+positions_of-rise s up k h = grind (arith, length-positions_of, position_of, high_up, member_from)
 
-pub place_within : (s : List ℕ) → IsNonDecreasing s → (i : ℕ) → i < length s → high_place s i < high_length s
-place_within s up i h = grind (arith, high_zeros, high_up, member_from)
+pub position_within : (s : List ℕ) → IsNonDecreasing s → (i : ℕ) → i < length s → high_position s i < high_length s
+position_within s up i h = grind (arith, high_zeros, high_up, member_from)
 
 pub length-high_parts : (s : List ℕ) → length (high_parts s) ≡ high_length s
 unfolding high_parts
-length-high_parts s = length-ones_at (places_of s) (high_length s)
+length-high_parts s = length-ones_at (positions_of s) (high_length s)
 
 pub hold_high : (s : List ℕ) → IsNonDecreasing s → HoldHigh s (high_parts s)
 unfolding high_parts
-hold_high s up = grind (arith, all_ones, places_of-rise, length-places_of, place_of, place_within, length-high_parts, select-ones_at)
+hold_high s up = grind (arith, all_ones, positions_of-rise, length-positions_of, position_of, position_within, length-high_parts, select-ones_at)
 
 -- ---- the low parts
 
@@ -50,6 +50,6 @@ packs s up =
     same_number_lists _ s (length-map-range_with_len (member (high_parts s) (low_parts s) (first_of s) (low_width s)) 0 (length s))
     (λ k h.
     let short : k < length s = grind (arith, length-map-range_with_len, member) in
-    let q : select true (high_parts s) k - k - 1 ≡ high_of s (slice_index s k) = omega (arith, highs.place k short) in
+    let q : select true (high_parts s) k - k - 1 ≡ high_of s (slice_index s k) = omega (arith, highs.position k short) in
     rw (get_or-map-range_with_len (member (high_parts s) (low_parts s) (first_of s) (low_width s)) 0 (length s) k k 0 short (omega arith), q, lows.part k short)
     (omega (arith, parts_sum s (slice_index s k) (member_from s k up short), mul_comm (2 ^ low_width s) (high_of s (slice_index s k)), member_from s k up short)))

@@ -1,10 +1,10 @@
 -- How high and low parts are made.
-use Rattle.vers_sorted.proofs.Names.{◌≡◌, ◌==◌, ℕ, ◌+◌, ◌-◌, ◌*◌, ◌/◌, ◌^◌, ◌<◌, ◌≤◌, true, false, Bool, List, [], suc, ◌∷◌, ◌++◌, length, drop, Option, Some, None, unwrap_or, refl, sym, ap, ◌∙◌, arith, set, replicate, mul-le-mul_left, mul_comm, zero-div, slice_index, slice_get, map, if◌then◌else◌, range_with_len, IsNonDecreasing, get_or_past, append-nil, map-append, take_all, take_more, length-map, length-take, length-drop, drop-drop, get_or-drop, slice_get-get_or, slice_get_within, get_or_from_slice_get, map-range_with_len_more, flat_map-append, low_bits, pack, first_of, last_of, width, high_place, get_or-replicate, length-replicate, same_lists, TakesFirst, low_width, high_of, high_length, high_parts, low_parts, first_high_parts, first_low_parts}
+use Rattle.vers_sorted.proofs.Names.{◌≡◌, ◌==◌, ℕ, ◌+◌, ◌-◌, ◌*◌, ◌/◌, ◌^◌, ◌<◌, ◌≤◌, true, false, Bool, List, [], suc, ◌∷◌, ◌++◌, length, drop, Option, Some, None, unwrap_or, refl, sym, ap, ◌∙◌, arith, set, replicate, mul-le-mul_left, mul_comm, zero-div, slice_index, slice_get, map, if◌then◌else◌, range_with_len, IsNonDecreasing, get_or_past, append-nil, map-append, take_all, take_more, length-map, length-take, length-drop, drop-drop, get_or-drop, slice_get-get_or, slice_get_within, get_or_from_slice_get, map-range_with_len_more, flat_map-append, low_bits, pack, first_of, last_of, width, high_position, get_or-replicate, length-replicate, same_lists, TakesFirst, low_width, high_of, high_length, high_parts, low_parts, first_high_parts, first_low_parts}
 use Rattle.std.proofs.lemmas.Option.{same_Some}
 use Rattle.vers_sorted.proofs.Membership.{member_none}
 use Rattle.vers_sorted.proofs.Ones.{length-ones_at, ones_at_more, get_or-ones_at}
 use Rattle.vers_sorted.proofs.Split.{high_zeros, member_from}
-use Rattle.vers_sorted.proofs.Holds.{place_within, length-pack}
+use Rattle.vers_sorted.proofs.Holds.{position_within, length-pack}
 use Rattle.vers_sorted.proofs.Lengths.{high_fits}
 
 -- ---- ends
@@ -33,9 +33,9 @@ pub high_start : (s : List ℕ) (n : ℕ) → n ≡ high_length s → replicate 
 unfolding first_high_parts
 high_start s n e = grind (arith, same_lists, length-ones_at, length-replicate, get_or-ones_at, get_or-replicate, member_none)
 
-pub high_next : (s : List ℕ) (i : ℕ) → IsNonDecreasing s → i < length s → set (first_high_parts s i) (high_place s i) true ≡ first_high_parts s (i + 1)
+pub high_next : (s : List ℕ) (i : ℕ) → IsNonDecreasing s → i < length s → set (first_high_parts s i) (high_position s i) true ≡ first_high_parts s (i + 1)
 unfolding first_high_parts
-high_next s i up h = rw (map-range_with_len_more (high_place s) 0 i i (omega arith), ones_at_more _ _ _ (place_within s up i h)) refl
+high_next s i up h = rw (map-range_with_len_more (high_position s) 0 i i (omega arith), ones_at_more _ _ _ (position_within s up i h)) refl
 
 pub high_all : (s : List ℕ) → first_high_parts s (length s) ≡ high_parts s
 unfolding first_high_parts high_parts
@@ -43,7 +43,7 @@ high_all s = refl
 
 pub length-first_high_parts : (s : List ℕ) (i : ℕ) → length (first_high_parts s i) ≡ high_length s
 unfolding first_high_parts
-length-first_high_parts s i = length-ones_at (map (high_place s) (range_with_len 0 i)) (high_length s)
+length-first_high_parts s i = length-ones_at (map (high_position s) (range_with_len 0 i)) (high_length s)
 
 -- ---- the low parts
 
@@ -66,7 +66,7 @@ low_all s = ap (λ l. pack (map (λ m. m - first_of s) l) (low_width s)) (take_a
 
 -- ---- numbers read in turn
 
--- a number that was taken is that at its place
+-- a number that was taken is that at its position
 pub taken_at : (s rest new : List ℕ) (i v : ℕ) → rest ≡ drop i s → TakesFirst rest (Some v) new → (i < length s) × (slice_index s i ≡ v) × (new ≡ drop (i + 1) s)
 taken_at s rest new i v here t =
     let given : slice_get (drop i s) 0 ≡ Some v = sym (rw here at t.given) in
@@ -112,20 +112,20 @@ taken_above s rest new i v first up f here t =
     let at = taken_at s rest new i v here t in
     omega (arith, member_from s i up at.0, at.1)
 
-pub one_place : (s rest new : List ℕ) (i v first width : ℕ) → IsNonDecreasing s → first ≡ first_of s → width ≡ low_width s → rest ≡ drop i s → TakesFirst rest (Some v) new
-    → ((v - first) / 2 ^ width + i + 1 ≡ high_place s i) × (high_place s i < high_length s)
-one_place s rest new i v first width up f w here t =
+pub one_position : (s rest new : List ℕ) (i v first width : ℕ) → IsNonDecreasing s → first ≡ first_of s → width ≡ low_width s → rest ≡ drop i s → TakesFirst rest (Some v) new
+    → ((v - first) / 2 ^ width + i + 1 ≡ high_position s i) × (high_position s i < high_length s)
+one_position s rest new i v first width up f w here t =
     let at = taken_at s rest new i v here t in
     let high : (v - first) / 2 ^ width ≡ high_of s (slice_index s i) = grind (arith, high_part_is) in
-    grind (arith, place_within)
+    grind (arith, position_within)
 
 -- the parts with those of one number more
 pub one_more : (s rest new : List ℕ) (high set_high : List Bool) (i v first width : ℕ) → IsNonDecreasing s → first ≡ first_of s → width ≡ low_width s → rest ≡ drop i s → TakesFirst rest (Some v) new
     → high ≡ first_high_parts s i → set_high ≡ set high ((v - first) / 2 ^ width + i + 1) true → set_high ≡ first_high_parts s (i + 1)
 one_more s rest new high set_high i v first width up f w here t is put =
     let at = taken_at s rest new i v here t in
-    put ∙ ap (λ p. set high p true) (one_place s rest new i v first width up f w here t).0
-    ∙ ap (λ l. set l (high_place s i) true) is ∙ high_next s i up at.0
+    put ∙ ap (λ p. set high p true) (one_position s rest new i v first width up f w here t).0
+    ∙ ap (λ l. set l (high_position s i) true) is ∙ high_next s i up at.0
 
 -- ---- lengths
 

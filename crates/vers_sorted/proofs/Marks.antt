@@ -1,8 +1,8 @@
 -- The ones or the zeros of a limb, from the lowest up.
-use Rattle.vers_sorted.proofs.Names.{◌≡◌, ℕ, ◌+◌, ◌-◌, ◌*◌, ◌/◌, ◌%◌, ◌^◌, ◌<◌, ◌≤◌, Bool, true, false, List, length, get_or, slice_get, not, refl, sym, ap, ◌∙◌, Some, arith, inl, inr, min, w64, bit_at, bit_not, trailing_zeros, trailing_of_zero, cases_lt, shr-shr, bit_at-trailing_zeros, bit_at_not, bit_value, is_bit, count, places, limb, AreMarked, value_none, value_one, limb_bit, count_past, rules}
+use Rattle.vers_sorted.proofs.Names.{◌≡◌, ℕ, ◌+◌, ◌-◌, ◌*◌, ◌/◌, ◌%◌, ◌^◌, ◌<◌, ◌≤◌, Bool, true, false, List, length, get_or, slice_get, not, refl, sym, ap, ◌∙◌, Some, arith, inl, inr, min, w64, bit_at, bit_not, trailing_zeros, trailing_of_zero, cases_lt, shr-shr, bit_at-trailing_zeros, bit_at_not, bit_value, is_bit, count, positions, limb, AreMarked, value_none, value_one, limb_bit, count_past, rules}
 use Rattle.std.proofs.Math.Nat.{div-le_self}
 use Rattle.vers_sorted.proofs.Scans.{count_stays}
-use Rattle.vers_sorted.proofs.SparseBits.{no_place, place_at}
+use Rattle.vers_sorted.proofs.SparseBits.{no_position, position_at}
 
 -- ---- a limb
 
@@ -21,11 +21,11 @@ zeros_marked l k small i h = search (rules, bit_at_not, limb_bit, other_value)
 pub digits_past : (w t i : ℕ) → bit_at (w / 2 ^ t) i ≡ bit_at w (t + i)
 digits_past w t i = ap (λ m. m % 2) (shr-shr w t i)
 
--- the marks from place r of a limb on
+-- the marks from position r of a limb on
 marked_from : (b : Bool) (l : List Bool) (k r w : ℕ) → AreMarked b l (64 * k) 64 w → AreMarked b l (64 * k + r) (64 - r) (w / 2 ^ r)
 marked_from b l k r w marked i h =
-    let place : 64 * k + r + i ≡ 64 * k + (r + i) = omega arith in
-    rw place (digits_past w r i ∙ marked (r + i) (omega arith))
+    let position : 64 * k + r + i ≡ 64 * k + (r + i) = omega arith in
+    rw position (digits_past w r i ∙ marked (r + i) (omega arith))
 
 module _ (b : Bool) (l : List Bool) (p n w : ℕ) (within : p + n ≤ length l) (few : n ≤ 64) (fits : w < 18446744073709551616) (marked : AreMarked b l p n w) where
   below_lowest : (i : ℕ) → i < trailing_zeros w64 w → bit_at w i ≡ 0
@@ -40,31 +40,31 @@ module _ (b : Bool) (l : List Bool) (p n w : ℕ) (within : p + n ≤ length l) 
     | inr none ↦ grind (arith, trailing_of_zero)
   ]
 
-  -- its place is the next, where it is one of the n
-  found_at : trailing_zeros w64 w < n → slice_get (places b l) (count b l p) ≡ Some (p + trailing_zeros w64 w)
+  -- its position is the next, where it is one of the n
+  found_at : trailing_zeros w64 w < n → slice_get (positions b l) (count b l p) ≡ Some (p + trailing_zeros w64 w)
   found_at h =
       let stays = count_stays b l p (trailing_zeros w64 w) (omega (arith, within)) (λ i low. off i (omega arith) low) in
-      place_at b l p (p + trailing_zeros w64 w) (omega (arith, within)) (on h) stays
+      position_at b l p (p + trailing_zeros w64 w) (omega (arith, within)) (on h) stays
 
   -- else there is none
   none_at : n ≤ trailing_zeros w64 w → count b l (p + n) ≡ count b l p
   none_at h = count_stays b l p n within (λ i low. off i low (omega arith))
 
--- ---- a place, by the marks of its limb
+-- ---- a position, by the marks of its limb
 
 module _ (b : Bool) (l : List Bool) (p limb_word word n : ℕ) (inside : p < length l) (marked : AreMarked b l (64 * (p / 64)) 64 limb_word)
     (is : word ≡ limb_word / 2 ^ (p % 64)) (limb_fits : limb_word < 18446744073709551616) (so_many : n ≡ min (length l - p) (64 - p % 64)) where
   marked_here : AreMarked b l p n word
   marked_here i h =
-      let place : 64 * (p / 64) + p % 64 ≡ p = omega arith in
-      let here : AreMarked b l p (64 - p % 64) (limb_word / 2 ^ (p % 64)) = rw place at (marked_from b l (p / 64) (p % 64) limb_word marked) in
+      let position : 64 * (p / 64) + p % 64 ≡ p = omega arith in
+      let here : AreMarked b l p (64 - p % 64) (limb_word / 2 ^ (p % 64)) = rw position at (marked_from b l (p / 64) (p % 64) limb_word marked) in
       ap (λ w. bit_at w i) is ∙ here i (omega (arith, so_many))
 
   fits : word < 18446744073709551616
   fits = omega (arith, is, div-le_self limb_word (2 ^ (p % 64)), limb_fits)
 
-  pub place_found : (t : ℕ) → t ≡ trailing_zeros w64 word → t < n → slice_get (places b l) (count b l p) ≡ Some (p + t)
-  place_found t lowest h =
+  pub position_found : (t : ℕ) → t ≡ trailing_zeros w64 word → t < n → slice_get (positions b l) (count b l p) ≡ Some (p + t)
+  position_found t lowest h =
       found_at b l p n word (omega (arith, so_many)) (omega (arith, so_many)) fits marked_here (omega (arith, lowest, h))
       ∙ ap (λ i. Some (p + i)) (sym lowest)
 
@@ -83,4 +83,4 @@ module _ (b : Bool) (l : List Bool) (p limb_word word n : ℕ) (inside : p < len
 
 pub ruleset limbs = (ones_marked, zeros_marked)
 
-pub ruleset walking = (no_place)
+pub ruleset walking = (no_position)

@@ -2,7 +2,7 @@
 use Rattle.vers_sorted.proofs.Names.{◌≡◌, ℕ, ◌<◌, ◌≤◌, true, false, eqb, IsTrue, sym, ◌∙◌, eqb-true, List, length, arith, Some, slice_index, IsNonDecreasing, eq-eqb, ne_eqb, below, greatest_not_above, is_member, least_not_below, first_of, last_of, IsBucket, Bucket}
 use Rattle.vers_sorted.proofs.Below.{below_le, below_from, below_to, below_before, below_after}
 use Rattle.vers_sorted.proofs.Neighbours.{succ_at, pred_at, some_left, some_below}
-use Rattle.vers_sorted.proofs.Membership.{member_at, not_member, member_place}
+use Rattle.vers_sorted.proofs.Membership.{member_at, not_member, member_position}
 use Rattle.vers_sorted.proofs.Buckets.{start_below, in_bucket}
 
 -- a member that is v is not the only one to test: it is the one that `below` names
@@ -30,10 +30,10 @@ read_is_member s v k n h e on = member_at s v k h (sym e ∙ eqb-true n v on)
 -- ---- the neighbours of a member
 
 pub least_held : (s : List ℕ) (v : ℕ) → IsNonDecreasing s → is_member s v ≡ true → least_not_below s v ≡ Some v
-least_held s v up on = grind (arith, member_place, below_to, member_here, succ_at)
+least_held s v up on = grind (arith, member_position, below_to, member_here, succ_at)
 
 pub greatest_held : (s : List ℕ) (v : ℕ) → IsNonDecreasing s → is_member s v ≡ true → greatest_not_above s v ≡ Some v
-greatest_held s v up on = grind (arith, member_place, below_from, below_before, below_le, pred_at)
+greatest_held s v up on = grind (arith, member_position, below_from, below_before, below_le, pred_at)
 
 pub ruleset members = (in_bucket, start_below, none_above, all_less, none_past, found_at)
 

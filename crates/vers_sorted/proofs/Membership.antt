@@ -13,9 +13,9 @@ unfolding is_member
 not_member s v none =
     list_any_none (λ q. eqb q v) s (λ k d h. grind (arith, ne_eqb, get_or_default))
 
-pub member_place : (s : List ℕ) (v : ℕ) → is_member s v ≡ true → (k : ℕ) × (k < length s) × (get_or s k 0 ≡ v)
+pub member_position : (s : List ℕ) (v : ℕ) → is_member s v ≡ true → (k : ℕ) × (k < length s) × (get_or s k 0 ≡ v)
 unfolding is_member
-member_place s v on = grind (arith, Any-from_list_any, get_or_default, eqb-true)
+member_position s v on = grind (arith, Any-from_list_any, get_or_default, eqb-true)
 
 -- ---- by the first element, and by the last
 

@@ -17,8 +17,8 @@ pub use Rattle.std.specs.Int.Count.{count_leading_zeros, trailing_of_zero}
 pub use Rattle.std.specs.List.{IsAllAdjacentAnswer, list_all, range_with_len}
 pub use Rattle.std.specs.List.Sorted.{IsNonDecreasing, IsStrictlyIncreasing}
 pub use Rattle.std.specs.Prelude.{All, IsTrue, bit_and, bit_or, if◌then◌else◌, map, option_and_then, slice_index, slice_index_or, ◌↔◌}
-pub use Rattle.vers_bits.proofs.PublicLaws.{IsPlace, bit_at-number, count_at_select, count_both, count_le, count_more_no, count_more_yes, count_none, count_past, count_up, element, find_is, highest_bit, last_passing_is, length-low_bits, length-packed, length-places, limb_bit, low_bits-add, low_bits_of_rest, none_passing, number-drop, number-low_bits, number-lt, part_bit, passes_first, select_at, select_below, select_is_place, select_not_below, select_past, select_up, value_none, value_one}
-pub use Rattle.vers_bits.specs.Bits.{bit_value, count, is_bit, limb, limb_count, number, pack, places}
+pub use Rattle.vers_bits.proofs.PublicLaws.{IsPosition, bit_at-number, count_at_select, count_both, count_le, count_more_no, count_more_yes, count_none, count_past, count_up, element, find_is, highest_bit, last_passing_is, length-low_bits, length-packed, length-positions, limb_bit, low_bits-add, low_bits_of_rest, none_passing, number-drop, number-low_bits, number-lt, part_bit, passes_first, select_at, select_below, select_is_position, select_not_below, select_past, select_up, value_none, value_one}
+pub use Rattle.vers_bits.specs.Bits.{bit_value, count, is_bit, limb, limb_count, number, pack, positions}
 unfoldable pub use Rattle.vers_bits.specs.Bits.{low_bits, select}
 pub use Rattle.vers_bits.specs.Walk.{TakesFirst}
 unfoldable pub use Rattle.vers_bits.specs.Walk.{items_in}
@@ -26,7 +26,7 @@ pub use Rattle.vers_rank.proofs.PublicLaws.{adds_times, changed_all, changed_on}
 pub use Rattle.vers_rank.specs.Batches.{Changed}
 pub use Rattle.vers_rank.specs.Queries.{index_size}
 unfoldable pub use Rattle.vers_rank.specs.Queries.{part_number_or_zero}
-pub use Rattle.vers_sorted.specs.Layout.{ArePartsOf, clog, first_of, heap_size_of, high_place, high_count, last_of, low_count, member, member_reads, search_reads}
+pub use Rattle.vers_sorted.specs.Layout.{ArePartsOf, clog, first_of, heap_size_of, high_position, high_count, last_of, low_count, member, member_reads, search_reads}
 unfoldable pub use Rattle.vers_sorted.specs.Layout.{high_length, high_of, high_parts, low_of, low_parts, low_width, members, width}
 pub use Rattle.vers_sorted.specs.Ones.{AreMarked, AreSparse}
 unfoldable pub use Rattle.vers_sorted.specs.Ones.{ones_at}

@@ -1,8 +1,8 @@
--- The bits whose ones stand at given places: their counts, their places, and how they come about.
-use Rattle.vers_sorted.proofs.Names.{◌≡◌, ℕ, zero, suc, ◌+◌, ◌-◌, ◌<◌, ◌≤◌, Bool, true, false, ◌⊎◌, List, [], ◌∷◌, ◌++◌, length, get_or, refl, sym, ap, ◌∙◌, arith, inl, inr, eqb, set, slice_index, map, IsNonDecreasing, IsStrictlyIncreasing, cases_lt, cases_Bool, ne_eqb, eq-eqb, eqb-true, same_number_lists, same_lists, get_or-set_same, get_or-set_other, length-set, get_or-map, length-map, length-map-range_with_len, map-id, get_or-map-range_with_len, get_or_default, is_bit, count, places, count_none, count_up, count_more_yes, count_more_no, select_at, length-places, select_is_place, select_up, IsPlace, below, is_member, rules, nat_tests, select, ones_at}
+-- The bits whose ones stand at given positions: their counts, their positions, and how they come about.
+use Rattle.vers_sorted.proofs.Names.{◌≡◌, ℕ, zero, suc, ◌+◌, ◌-◌, ◌<◌, ◌≤◌, Bool, true, false, ◌⊎◌, List, [], ◌∷◌, ◌++◌, length, get_or, refl, sym, ap, ◌∙◌, arith, inl, inr, eqb, set, slice_index, map, IsNonDecreasing, IsStrictlyIncreasing, cases_lt, cases_Bool, ne_eqb, eq-eqb, eqb-true, same_number_lists, same_lists, get_or-set_same, get_or-set_other, length-set, get_or-map, length-map, length-map-range_with_len, map-id, get_or-map-range_with_len, get_or_default, is_bit, count, positions, count_none, count_up, count_more_yes, count_more_no, select_at, length-positions, select_is_position, select_up, IsPosition, below, is_member, rules, nat_tests, select, ones_at}
 use Rattle.std.proofs.lemmas.List.Kept.{AllPairs-from_increasing}
 use Rattle.vers_sorted.proofs.Below.{below_le, below_at, below_before, below_after, none_below, all_below}
-use Rattle.vers_sorted.proofs.Membership.{member_at, member_more, member_place, not_member}
+use Rattle.vers_sorted.proofs.Membership.{member_at, member_more, member_position, not_member}
 
 pub length-ones_at : (s : List ℕ) (n : ℕ) → length (ones_at s n) ≡ n
 unfolding ones_at
@@ -35,7 +35,7 @@ module _ (s : List ℕ) (up : IsStrictlyIncreasing s) where
   -- whether v is a member, by the member that `below` names
   pub member_test : (v : ℕ) → ((is_member s v ≡ true) × (below s (v + 1) ≡ below s v + 1))
       ⊎ ((is_member s v ≡ false) × (below s (v + 1) ≡ below s v))
-  member_test v = grind (arith, member_place, below_member, below_held, below_free, member_at)
+  member_test v = grind (arith, member_position, below_member, below_held, below_free, member_at)
 
   pub count-ones_at : (n i : ℕ) → i ≤ n → count true (ones_at s n) i ≡ below s i
   count-ones_at n zero h = grind (arith, count_none, none_below, ascends)
@@ -57,45 +57,45 @@ module _ (s : List ℕ) (up : IsStrictlyIncreasing s) where
   pub all_ones : (n : ℕ) → (0 < length s → slice_index s (length s - 1) < n) → count true (ones_at s n) (length (ones_at s n)) ≡ length s
   all_ones n within = grind (arith, length-ones_at, count-ones_at, all_below, ascends, below_le)
 
-  pub places-ones_at : (n : ℕ) → (0 < length s → slice_index s (length s - 1) < n) → places true (ones_at s n) ≡ s
+  pub positions-ones_at : (n : ℕ) → (0 < length s → slice_index s (length s - 1) < n) → positions true (ones_at s n) ≡ s
   unfolding select
-  places-ones_at n within = grind (arith, length-places, all_ones, same_number_lists, ascends, get_or_default, select-ones_at)
+  positions-ones_at n within = grind (arith, length-positions, all_ones, same_number_lists, ascends, get_or_default, select-ones_at)
 
 -- ---- how such bits come about
 
 pub ones_at_more : (s : List ℕ) (n p : ℕ) → p < n → ones_at (s ++ p ∷ []) n ≡ set (ones_at s n) p true
 ones_at_more s n p within = grind (arith, nat_tests, same_lists, length-ones_at, length-set, get_or-ones_at, member_more, get_or-set_same, get_or-set_other)
 
--- ---- the places of a list's own ones or zeros
+-- ---- the positions of a list's own ones or zeros
 
-pub places_rise : (b : Bool) (l : List Bool) → IsStrictlyIncreasing (places b l)
+pub positions_rise : (b : Bool) (l : List Bool) → IsStrictlyIncreasing (positions b l)
 unfolding select
-places_rise b l k h =
-    let more : k + 1 < count b l (length l) = omega (arith, length-places b l) in
+positions_rise b l k h =
+    let more : k + 1 < count b l (length l) = omega (arith, length-positions b l) in
     let step : select b l k < select b l (k + 1) = grind (arith, select_up) in
-    omega (arith, step, get_or_default (places b l) k 0 (length l) (omega arith), get_or_default (places b l) (k + 1) 0 (length l) h)
+    omega (arith, step, get_or_default (positions b l) k 0 (length l) (omega arith), get_or_default (positions b l) (k + 1) 0 (length l) h)
 
-pub places_within : (b : Bool) (l : List Bool) (k : ℕ) → k < length (places b l) → slice_index (places b l) k < length l
+pub positions_within : (b : Bool) (l : List Bool) (k : ℕ) → k < length (positions b l) → slice_index (positions b l) k < length l
 unfolding select
-places_within b l k h = grind (arith, length-places b l, get_or_default (places b l) k 0 (length l) h, select_is_place)
+positions_within b l k h = grind (arith, length-positions b l, get_or_default (positions b l) k 0 (length l) h, select_is_position)
 
-pub ones_at-places : (b : Bool) (l : List Bool) → ones_at (places b l) (length l) ≡ map (is_bit b) l
+pub ones_at-positions : (b : Bool) (l : List Bool) → ones_at (positions b l) (length l) ≡ map (is_bit b) l
 unfolding select
-ones_at-places b l =
-    same_lists _ _ (length-ones_at (places b l) (length l) ∙ sym (length-map l (is_bit b))) (λ k d h.
+ones_at-positions b l =
+    same_lists _ _ (length-ones_at (positions b l) (length l) ∙ sym (length-map l (is_bit b))) (λ k d h.
     let short : k < length l = grind (arith, length-ones_at) in
-    rw (get_or-ones_at (places b l) (length l) k d short, get_or-map (is_bit b) l k false d short)
+    rw (get_or-ones_at (positions b l) (length l) k d short, get_or-map (is_bit b) l k false d short)
     (elim (cases_Bool (is_bit b (get_or l k false))) [
       | inl on ↦
           let more : count b l (k + 1) ≡ count b l k + 1 = count_more_yes b l k short on in
-          let few : count b l k < length (places b l) = omega (arith, more, length-places b l, count_up b l (k + 1) (length l) (omega arith)) in
-          rw on (member_at (places b l) k _ few (get_or_default (places b l) (count b l k) 0 (length l) few ∙ select_at b l (count b l k) k short on refl))
-      | inr off ↦ rw off (not_member (places b l) k (λ r few e.
-          let at : IsPlace b l r (select b l r) = select_is_place b l r (omega (arith, length-places b l)) in
-          let same : select b l r ≡ k = get_or_default (places b l) r (length l) 0 few ∙ e in
+          let few : count b l k < length (positions b l) = omega (arith, more, length-positions b l, count_up b l (k + 1) (length l) (omega arith)) in
+          rw on (member_at (positions b l) k _ few (get_or_default (positions b l) (count b l k) 0 (length l) few ∙ select_at b l (count b l k) k short on refl))
+      | inr off ↦ rw off (not_member (positions b l) k (λ r few e.
+          let at : IsPosition b l r (select b l r) = select_is_position b l r (omega (arith, length-positions b l)) in
+          let same : select b l r ≡ k = get_or_default (positions b l) r (length l) 0 few ∙ e in
           absurd (cc (rw same at at.holds, off))))
     ]))
 
--- the places of the ones and the length tell the list
-pub ones_at-same : (bits : List Bool) (n : ℕ) (ones : List ℕ) → length bits ≡ n → places true bits ≡ ones → bits ≡ ones_at ones n
-ones_at-same bits n ones long at = rw (← long, ← at) (sym (map-id bits) ∙ sym (ones_at-places true bits))
+-- the positions of the ones and the length tell the list
+pub ones_at-same : (bits : List Bool) (n : ℕ) (ones : List ℕ) → length bits ≡ n → positions true bits ≡ ones → bits ≡ ones_at ones n
+ones_at-same bits n ones long at = rw (← long, ← at) (sym (map-id bits) ∙ sym (ones_at-positions true bits))

@@ -35,7 +35,7 @@ high_counted packed = packed.high_parts.total
 
 pub high_at : {s : List ℕ} {high low : List Bool} {first last width : ℕ} (i : ℕ) → IsPacked s high low first last width → i < length s
     → select true high i ≡ high_of s (slice_index s i) + i + 1
-high_at i packed h = packed.high_parts.place i h
+high_at i packed h = packed.high_parts.position i h
 
 -- ---- both
 

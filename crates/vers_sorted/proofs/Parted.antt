@@ -1,5 +1,5 @@
 -- Parts that say the members of a list in order are those of the list, and those of a list say its members.
-use Rattle.vers_sorted.proofs.Names.{◌≡◌, ℕ, zero, suc, ◌+◌, ◌-◌, ◌*◌, ◌/◌, ◌^◌, ◌<◌, ◌≤◌, Bool, true, false, List, [], length, take, drop, refl, sym, ap, subst, ◌∙◌, inl, inr, arith, slice_index, map, range_with_len, IsNonDecreasing, cases_lt, eq-eqb, eqb-true, ne_eqb, le-leb, leb-true, lt-ltb, ltb-true, div-mul-add, mod-mul-add, mul_comm, length-map-range_with_len, get_or-map-range_with_len, get_or_default, same_number_lists, same_lists, number, select, count, places, length-places, first_of, last_of, low_width, width, high_of, low_of, high_length, high_place, high_parts, low_parts, low_count, high_count, member, members, ArePartsOf, IsPacked, each_next, order_of}
+use Rattle.vers_sorted.proofs.Names.{◌≡◌, ℕ, zero, suc, ◌+◌, ◌-◌, ◌*◌, ◌/◌, ◌^◌, ◌<◌, ◌≤◌, Bool, true, false, List, [], length, take, drop, refl, sym, ap, subst, ◌∙◌, inl, inr, arith, slice_index, map, range_with_len, IsNonDecreasing, cases_lt, eq-eqb, eqb-true, ne_eqb, le-leb, leb-true, lt-ltb, ltb-true, div-mul-add, mod-mul-add, mul_comm, length-map-range_with_len, get_or-map-range_with_len, get_or_default, same_number_lists, same_lists, number, select, count, positions, length-positions, first_of, last_of, low_width, width, high_of, low_of, high_length, high_position, high_parts, low_parts, low_count, high_count, member, members, ArePartsOf, IsPacked, each_next, order_of}
 use Rattle.vers_bits.proofs.PublicLaws.{number_below}
 use Rattle.std.proofs.lemmas.List.{length-take}
 use Rattle.vers_sorted.specs.inside.Decoding.{AreDecodable, IsDecodable, IsNear, above, follows}
@@ -75,8 +75,8 @@ module _ (rising : Bool) (high low : List Bool) (first span w n : ℕ) (some : 0
   unfolding low_of
   low_decoded i h = rw (offset i h, width_decoded) (mod-mul-add (select true high i - i - 1) (2 ^ w) (number (take w (drop (w * i) low))) (part_small i))
 
-  place_decoded : (i : ℕ) → i < n → high_place decoded_list i ≡ select true high i
-  place_decoded i h = omega (arith, high_decoded i h, (decoded.each i h).near.zero)
+  position_decoded : (i : ℕ) → i < n → high_position decoded_list i ≡ select true high i
+  position_decoded i h = omega (arith, high_decoded i h, (decoded.each i h).near.zero)
 
   total_decoded : high_length decoded_list ≡ length high
   unfolding high_of
@@ -85,18 +85,18 @@ module _ (rising : Bool) (high low : List Bool) (first span w n : ℕ) (some : 0
       let top : high_of decoded_list (last_of decoded_list) ≡ span / 2 ^ w = ap (λ k. k / 2 ^ low_width decoded_list) back ∙ ap (λ k. span / 2 ^ k) width_decoded in
       omega (arith, high_zeros decoded_list (omega (arith, many)), top, many, long_high)
 
-  places_decoded : places true high ≡ map (high_place decoded_list) (range_with_len 0 (length decoded_list))
+  positions_decoded : positions true high ≡ map (high_position decoded_list) (range_with_len 0 (length decoded_list))
   unfolding select
-  places_decoded =
-      let count_is : length (places true high) ≡ n = length-places true high ∙ ones in
-      same_number_lists _ _ (count_is ∙ sym (length-map-range_with_len (high_place decoded_list) 0 (length decoded_list) ∙ many)) (λ k h.
+  positions_decoded =
+      let count_is : length (positions true high) ≡ n = length-positions true high ∙ ones in
+      same_number_lists _ _ (count_is ∙ sym (length-map-range_with_len (high_position decoded_list) 0 (length decoded_list) ∙ many)) (λ k h.
       let inside : k < n = omega (arith, count_is) in
-      get_or_default (places true high) k 0 (length high) h ∙ sym (place_decoded k inside)
-      ∙ sym (get_or-map-range_with_len (high_place decoded_list) 0 (length decoded_list) k k 0 (omega (arith, many)) (omega arith)))
+      get_or_default (positions true high) k 0 (length high) h ∙ sym (position_decoded k inside)
+      ∙ sym (get_or-map-range_with_len (high_position decoded_list) 0 (length decoded_list) k k 0 (omega (arith, many)) (omega arith)))
 
   high_whole : high ≡ high_parts decoded_list
   unfolding high_parts
-  high_whole = Ones.ones_at-same high (high_length decoded_list) (map (high_place decoded_list) (range_with_len 0 (length decoded_list))) (sym total_decoded) places_decoded
+  high_whole = Ones.ones_at-same high (high_length decoded_list) (map (high_position decoded_list) (range_with_len 0 (length decoded_list))) (sym total_decoded) positions_decoded
 
   low_whole : low ≡ low_parts decoded_list
   low_whole = low_held decoded_list low (record {
@@ -123,7 +123,7 @@ module _ (rising : Bool) (s : List ℕ) (h : each_next (order_of rising) s ≡ t
 
   above_is : (i : ℕ) → i < length s → above (high_parts s) (low_parts s) (low_width s) i ≡ slice_index s i - first_of s
   above_is i within =
-      let q : select true (high_parts s) i - i - 1 ≡ high_of s (slice_index s i) = omega (arith, (hold_high s up).place i within) in
+      let q : select true (high_parts s) i - i - 1 ≡ high_of s (slice_index s i) = omega (arith, (hold_high s up).position i within) in
       rw (q, (hold_low s).part i within) (omega (arith, parts_sum s (slice_index s i) (member_from s i up within), mul_comm (2 ^ low_width s) (high_of s (slice_index s i))))
 
   next_decoded : (i : ℕ) → i < length s → follows rising i (above (high_parts s) (low_parts s) (low_width s) (i - 1)) (above (high_parts s) (low_parts s) (low_width s) i) ≡ true
@@ -137,9 +137,9 @@ module _ (rising : Bool) (s : List ℕ) (h : each_next (order_of rising) s ≡ t
   near_decoded : (i : ℕ) → i < length s → IsNear (last_of s - first_of s) (low_width s) i (select true (high_parts s) i)
   unfolding high_of
   near_decoded i within =
-      let place = (hold_high s up).place i within in
+      let position = (hold_high s up).position i within in
       let top : high_of s (slice_index s i) ≤ high_of s (last_of s) = high_up s (slice_index s i) (last_of s) (up i (length s - 1) 0 (omega arith) (omega arith)) (member_from s i up within) in
-      record { zero = omega (arith, place); few = omega (arith, place, top) }
+      record { zero = omega (arith, position); few = omega (arith, position, top) }
 
   pub parts_decoded : 0 < length s → AreDecodable rising (high_parts s) (low_parts s) (last_of s - first_of s) (low_width s) (length s)
   parts_decoded some = record {

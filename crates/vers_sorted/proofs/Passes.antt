@@ -25,10 +25,10 @@ module _ (s : List ℕ) (i : ℕ) (a : Ahead) (up : IsNonDecreasing s) (read : H
   -- it is a member
   pub read_within : i < length s
   read_within =
-      let found = lowest (high_parts s) a.place a.len read.within read.few (omega (arith, read.bits)) in
-      let t : ℕ = trailing_zeros w64 (number (take a.len (drop a.place (high_parts s)))) in
-      let here : a.place + t < length (high_parts s) = omega (arith, found.0, read.within) in
-      omega (arith, found.2, read.before, count_more_yes true (high_parts s) (a.place + t) here found.1, count_up true (high_parts s) (a.place + t + 1) (length (high_parts s)) (omega arith), (hold_high s up).ones)
+      let found = lowest (high_parts s) a.position a.len read.within read.few (omega (arith, read.bits)) in
+      let t : ℕ = trailing_zeros w64 (number (take a.len (drop a.position (high_parts s)))) in
+      let here : a.position + t < length (high_parts s) = omega (arith, found.0, read.within) in
+      omega (arith, found.2, read.before, count_more_yes true (high_parts s) (a.position + t) here found.1, count_up true (high_parts s) (a.position + t + 1) (length (high_parts s)) (omega arith), (hold_high s up).ones)
 
 -- ---- the ones of a part
 
@@ -72,38 +72,38 @@ succ_found s v i up h before above =
 
 module _ (s : List ℕ) (p : Passed) (read : HasRead s p.next p.ahead) (used : p.ahead.word ≡ 0) where
   -- where it holds none, no one more is counted up to its end
-  pub count_used : count true (high_parts s) (p.ahead.place + p.ahead.len) ≡ p.next
-  count_used = omega (arith, count_part (high_parts s) p.ahead.place p.ahead.len read.few, ap count_ones read.bits, ap count_ones used, ones_of_none, read.before)
+  pub count_used : count true (high_parts s) (p.ahead.position + p.ahead.len) ≡ p.next
+  count_used = omega (arith, count_part (high_parts s) p.ahead.position p.ahead.len read.few, ap count_ones read.bits, ap count_ones used, ones_of_none, read.before)
 
 module _ (s : List ℕ) (i : ℕ) (a : Ahead) (read : HasRead s i a) where
   -- up to its end are the ones of all members before it and in it
-  pub count_word : count true (high_parts s) (a.place + a.len) ≡ i + count_ones a.word
-  count_word = omega (arith, count_part (high_parts s) a.place a.len read.few, ap count_ones read.bits, read.before)
+  pub count_word : count true (high_parts s) (a.position + a.len) ≡ i + count_ones a.word
+  count_word = omega (arith, count_part (high_parts s) a.position a.len read.few, ap count_ones read.bits, read.before)
 
-  pub word_fits : (i + count_ones a.word ≤ a.place + a.len) × (a.place + a.len ≤ length (high_parts s))
-  word_fits = (omega (arith, count_word, (count_le true (high_parts s) (a.place + a.len)).0), read.within)
+  pub word_fits : (i + count_ones a.word ≤ a.position + a.len) × (a.position + a.len ≤ length (high_parts s))
+  word_fits = (omega (arith, count_word, (count_le true (high_parts s) (a.position + a.len)).0), read.within)
 
   -- where so few zeros stand up to its end, all these members have a lesser high part than v, and are below v
-  pub word_passed : (v : ℕ) → IsNonDecreasing s → first_of s ≤ v → i ≤ below s v → a.place + a.len - (i + count_ones a.word) ≤ high_of s v → i + count_ones a.word ≤ below s v
+  pub word_passed : (v : ℕ) → IsNonDecreasing s → first_of s ≤ v → i ≤ below s v → a.position + a.len - (i + count_ones a.word) ≤ high_of s v → i + count_ones a.word ≤ below s v
   word_passed v up from before few = elim (cases_lt i (i + count_ones a.word)) [
     | inl more ↦
         let j : ℕ = i + count_ones a.word - 1 in
-        let short : j < length s = omega (arith, count_word, more, (hold_high s up).ones, count_up true (high_parts s) (a.place + a.len) (length (high_parts s)) read.within) in
-        let place : select true (high_parts s) j < a.place + a.len = select_below true (high_parts s) j (a.place + a.len) (omega (arith, count_word, more)) in
-        omega (arith, more, lesser_below s v j up from short (omega (arith, place, (hold_high s up).place j short, few, more)))
+        let short : j < length s = omega (arith, count_word, more, (hold_high s up).ones, count_up true (high_parts s) (a.position + a.len) (length (high_parts s)) read.within) in
+        let position : select true (high_parts s) j < a.position + a.len = select_below true (high_parts s) j (a.position + a.len) (omega (arith, count_word, more)) in
+        omega (arith, more, lesser_below s v j up from short (omega (arith, position, (hold_high s up).position j short, few, more)))
     | inr none ↦ omega (arith, none, before)
   ]
 
-  pub word_read : HasRead s (i + count_ones a.word) (record { place = a.place + a.len; len = 0; word = 0 })
+  pub word_read : HasRead s (i + count_ones a.word) (record { position = a.position + a.len; len = 0; word = 0 })
   word_read = record { before = count_word; within = omega (arith, read.within); few = omega arith; bits = refl }
 
 -- ---- what is read of the high parts
 
 module _ {s : List ℕ} {high low : List Bool} {first last width : ℕ} (packed : IsPacked s high low first last width) where
-  pub place_within : (p : ℕ) → p ≤ length (high_parts s) → p ≤ length high
-  place_within p within = rw (high_same packed) within
+  pub position_within : (p : ℕ) → p ≤ length (high_parts s) → p ≤ length high
+  position_within p within = rw (high_same packed) within
 
-  pub bits_read : (i p n w : ℕ) → count true (high_parts s) p ≡ i → part_number_or_zero high p n ≡ Some w → HasRead s i (record { place = p; len = n; word = w })
+  pub bits_read : (i p n w : ℕ) → count true (high_parts s) p ≡ i → part_number_or_zero high p n ≡ Some w → HasRead s i (record { position = p; len = n; word = w })
   bits_read i p n w before read = grind (arith, high_same, part_of)
 
   -- past the one of a member
@@ -113,23 +113,23 @@ module _ {s : List ℕ} {high low : List Bool} {first last width : ℕ} (packed 
       let here : p ≡ select true (high_parts s) i = e ∙ ap (λ l. select true l i) (high_same packed) in
       (omega (arith, select_within true (high_parts s) i p counted here), counted_past true (high_parts s) i p counted here)
 
-  -- the high part of a member, by the place of its one
+  -- the high part of a member, by the position of its one
   pub part_at : (i p : ℕ) → i < length s → p ≡ select true high i → p ≡ high_of s (slice_index s i) + i + 1
   part_at i p h e = e ∙ high_at i packed h
 
 -- ---- the walk
 
-pub none_passed : (s : List ℕ) (n : ℕ) → HasPassed s n (record { next = 0; ahead = record { place = 0; len = 0; word = 0 } })
+pub none_passed : (s : List ℕ) (n : ℕ) → HasPassed s n (record { next = 0; ahead = record { position = 0; len = 0; word = 0 } })
 none_passed s n = record { few = omega arith; read = record { before = count_none true (high_parts s); within = omega arith; few = omega arith; bits = refl } }
 
 -- a number that isn't above the successor of a lesser one has it too
 pub found_again : (s : List ℕ) (from v x : ℕ) → IsNonDecreasing s → Some x ≡ least_not_below s from → from ≤ v → v ≤ x → least_not_below s v ≡ Some x
 found_again s from v x up found above within =
-    let place : ℕ = below s from in
-    let short : place < length s = slice_get_within s place x (sym (succ_is s from up) ∙ sym found) in
-    let here : slice_index s place ≡ x = get_or_from_slice_get s place x 0 (sym (succ_is s from up) ∙ sym found) in
-    let same : place ≡ below s v = omega (arith, below_up s from v above, below_to s v place up short (omega (arith, here, within))) in
-    succ_at s v place up same short ∙ ap Some here
+    let position : ℕ = below s from in
+    let short : position < length s = slice_get_within s position x (sym (succ_is s from up) ∙ sym found) in
+    let here : slice_index s position ≡ x = get_or_from_slice_get s position x 0 (sym (succ_is s from up) ∙ sym found) in
+    let same : position ≡ below s v = omega (arith, below_up s from v above, below_to s v position up short (omega (arith, here, within))) in
+    succ_at s v position up same short ∙ ap Some here
 
 -- and where there is none, neither has a greater one
 pub none_again : (s : List ℕ) (from v : ℕ) → IsNonDecreasing s → None ≡ least_not_below s from → from ≤ v → least_not_below s v ≡ None
@@ -141,7 +141,7 @@ none_again s from v up none above = elim (cases_lt (below s from) (length s)) [
 -- a number above the successor of a lesser one has more members below it
 pub more_below : (s : List ℕ) (from v x : ℕ) → IsNonDecreasing s → Some x ≡ least_not_below s from → x < v → below s from + 1 ≤ below s v
 more_below s from v x up found above =
-    let place : ℕ = below s from in
-    let short : place < length s = slice_get_within s place x (sym (succ_is s from up) ∙ sym found) in
-    let here : slice_index s place ≡ x = get_or_from_slice_get s place x 0 (sym (succ_is s from up) ∙ sym found) in
-    below_from s v place up short (omega (arith, here, above))
+    let position : ℕ = below s from in
+    let short : position < length s = slice_get_within s position x (sym (succ_is s from up) ∙ sym found) in
+    let here : slice_index s position ≡ x = get_or_from_slice_get s position x 0 (sym (succ_is s from up) ∙ sym found) in
+    below_from s v position up short (omega (arith, here, above))

@@ -1,5 +1,5 @@
 -- The laws that proofs of other crates may cite. A crate above imports this file and no other of this folder.
-use Rattle.vers_sorted.proofs.Names.{◌≡◌, ℕ, ◌+◌, ◌-◌, ◌<◌, ◌≤◌, Bool, true, false, List, [], ◌∷◌, ◌++◌, length, slice_get, None, refl, ◌↔◌, IsTrue, slice_index, map, nat_le, nat_lt, IsNonDecreasing, IsStrictlyIncreasing, ArePartsOf, first_of, high_count, high_parts, low_count, low_parts, low_width, members, order_of, is_bit, places, ones_at, each_next, below, eqb, greatest_not_above, is_member, least_not_below}
+use Rattle.vers_sorted.proofs.Names.{◌≡◌, ℕ, ◌+◌, ◌-◌, ◌<◌, ◌≤◌, Bool, true, false, List, [], ◌∷◌, ◌++◌, length, slice_get, None, refl, ◌↔◌, IsTrue, slice_index, map, nat_le, nat_lt, IsNonDecreasing, IsStrictlyIncreasing, ArePartsOf, first_of, high_count, high_parts, low_count, low_parts, low_width, members, order_of, is_bit, positions, ones_at, each_next, below, eqb, greatest_not_above, is_member, least_not_below}
 use Rattle.std.specs.Prelude.{◌||◌}
 use Rattle.vers_sorted.proofs.Below as Below
 use Rattle.vers_sorted.proofs.Membership as Membership
@@ -21,7 +21,7 @@ each_next-ascending numbers = Orders.ascending_is numbers (each_next nat_le numb
 
 -- ---- members
 
--- a list has the member at each place, and no other
+-- a list has the member at each position, and no other
 pub member_at : (members : List ℕ) (v i : ℕ) → i < length members → slice_index members i ≡ v → is_member members v ≡ true
 member_at = Membership.member_at
 
@@ -50,7 +50,7 @@ below_le = Below.below_le
 pub below_up : (members : List ℕ) (v w : ℕ) → v ≤ w → below members v ≤ below members w
 below_up = Below.below_up
 
--- of an ascending list, the members before place `below members v` are below v, and those from it on are not
+-- of an ascending list, the members before position `below members v` are below v, and those from it on are not
 pub below_before : (members : List ℕ) (v i : ℕ) → IsNonDecreasing members → i < below members v → slice_index members i < v
 below_before = Below.below_before
 
@@ -59,7 +59,7 @@ below_after = Below.below_after
 
 -- ---- neighbours of a number
 
--- the least member that is not below v stands at place `below members v`, or there is none
+-- the least member that is not below v stands at position `below members v`, or there is none
 pub least_not_below_is : (members : List ℕ) (v : ℕ) → IsNonDecreasing members → least_not_below members v ≡ slice_get members (below members v)
 least_not_below_is = Neighbours.succ_is
 
@@ -70,14 +70,14 @@ greatest_not_above_some = Neighbours.pred_some
 pub greatest_not_above_none : (members : List ℕ) (v : ℕ) → IsNonDecreasing members → below members (v + 1) ≡ 0 → greatest_not_above members v ≡ None
 greatest_not_above_none = Neighbours.pred_none
 
--- ---- bits by their places
+-- ---- bits by their positions
 
--- the list whose ones stand at the places of a bit has a one wherever a list holds this bit
-pub ones_at-places : (bit : Bool) (bits : List Bool) → ones_at (places bit bits) (length bits) ≡ map (is_bit bit) bits
-ones_at-places = Ones.ones_at-places
+-- the list whose ones stand at the positions of a bit has a one wherever a list holds this bit
+pub ones_at-positions : (bit : Bool) (bits : List Bool) → ones_at (positions bit bits) (length bits) ≡ map (is_bit bit) bits
+ones_at-positions = Ones.ones_at-positions
 
--- the list of so many bits whose ones stand at these places is one
-pub ones_at-same : (bits : List Bool) (n : ℕ) (ones : List ℕ) → length bits ≡ n → places true bits ≡ ones → bits ≡ ones_at ones n
+-- the list of so many bits whose ones stand at these positions is one
+pub ones_at-same : (bits : List Bool) (n : ℕ) (ones : List ℕ) → length bits ≡ n → positions true bits ≡ ones → bits ≡ ones_at ones n
 ones_at-same = Ones.ones_at-same
 
 -- ---- parts

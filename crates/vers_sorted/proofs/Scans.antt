@@ -1,7 +1,7 @@
 -- The next zero or one, by the number of the bits that follow.
 use Rattle.vers_sorted.proofs.Names.{◌≡◌, ℕ, zero, suc, ◌+◌, ◌<◌, ◌≤◌, Bool, false, List, length, take, drop, get_or, sym, ap, ◌∙◌, arith, Some, w64, trailing_ones, leb-true, and_parts, cond_some, bit_at-trailing_ones, is_bit, number, count, select, count_le, select_at, count_at_select, count_more_no, part_bit, value_none, value_one, part_number_or_zero}
 
--- where no place of a stretch holds the bit, the count stays
+-- where no position of a stretch holds the bit, the count stays
 pub count_stays : (b : Bool) (l : List Bool) (p d : ℕ) → p + d ≤ length l → ((i : ℕ) → i < d → is_bit b (get_or l (p + i) false) ≡ false) → count b l (p + d) ≡ count b l p
 count_stays b l p zero h off = grind arith
 count_stays b l p (suc d) h off =

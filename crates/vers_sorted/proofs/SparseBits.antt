@@ -1,15 +1,15 @@
--- The queries of a sparse list of bits, by those of the list of its ones' places.
-use Rattle.vers_sorted.proofs.Names.{◌≡◌, ℕ, ◌+◌, ◌-◌, ◌<◌, ◌≤◌, Bool, true, false, List, [], ◌∷◌, length, drop, get_or, eqb, refl, sym, ap, subst, ◌∙◌, arith, min, Some, None, zero, suc, slice_index, slice_get, map, IsNonDecreasing, eq-eqb, ne_eqb, get_or_default, map-id, drop-drop, drop_all, get_or-drop, length-drop, slice_get-get_or, slice_get_past, slice_get_within, get_or_from_slice_get, is_bit, count, places, count_at_select, count_none, count_both, count_past, count_up, select_at, select_past, length-places, count_more_yes, below, least_not_below, ones_at, AreSparse, TakesFirst, last_of, select}
+-- The queries of a sparse list of bits, by those of the list of its ones' positions.
+use Rattle.vers_sorted.proofs.Names.{◌≡◌, ℕ, ◌+◌, ◌-◌, ◌<◌, ◌≤◌, Bool, true, false, List, [], ◌∷◌, length, drop, get_or, eqb, refl, sym, ap, subst, ◌∙◌, arith, min, Some, None, zero, suc, slice_index, slice_get, map, IsNonDecreasing, eq-eqb, ne_eqb, get_or_default, map-id, drop-drop, drop_all, get_or-drop, length-drop, slice_get-get_or, slice_get_past, slice_get_within, get_or_from_slice_get, is_bit, count, positions, count_at_select, count_none, count_both, count_past, count_up, select_at, select_past, length-positions, count_more_yes, below, least_not_below, ones_at, AreSparse, TakesFirst, last_of, select}
 use Rattle.vers_sorted.proofs.Below.{below_le, below_from, below_to, below_after, all_below}
 use Rattle.vers_sorted.proofs.Neighbours.{succ_is}
-use Rattle.vers_sorted.proofs.Ones.{length-ones_at, get_or-ones_at, member_test, ascends, below_member, count-ones_at, select-ones_at, all_ones, places-ones_at, places_rise, places_within, ones_at-places}
+use Rattle.vers_sorted.proofs.Ones.{length-ones_at, get_or-ones_at, member_test, ascends, below_member, count-ones_at, select-ones_at, all_ones, positions-ones_at, positions_rise, positions_within, ones_at-positions}
 
 module _ {s : List ℕ} {n : ℕ} (sparse : AreSparse s n) where
   last_within : 0 < length s → slice_index s (length s - 1) < n
   last_within some = sparse.within (length s - 1) 0 (omega arith)
 
-  pub places_are : places true (ones_at s n) ≡ s
-  places_are = places-ones_at s sparse.rising n last_within
+  pub positions_are : positions true (ones_at s n) ≡ s
+  positions_are = positions-ones_at s sparse.rising n last_within
 
   pub count_is : (i : ℕ) → count true (ones_at s n) i ≡ below s i
   count_is i = grind (arith, count-ones_at, all_below, ascends, last_within, below_le, count_past, length-ones_at, all_ones)
@@ -22,7 +22,7 @@ module _ {s : List ℕ} {n : ℕ} (sparse : AreSparse s n) where
       let all = all_ones s sparse.rising n last_within in
       grind (arith, slice_get-get_or s r 0, select_past, length-ones_at)
 
-  -- the bit at a place, by the least member that is not below it
+  -- the bit at a position, by the least member that is not below it
   pub bit_some : (p v : ℕ) → p < n → least_not_below s p ≡ Some v → get_or (ones_at s n) p false ≡ eqb v p
   bit_some p v within e =
       let up : IsNonDecreasing s = ascends s sparse.rising in
@@ -36,44 +36,44 @@ module _ {s : List ℕ} {n : ℕ} (sparse : AreSparse s n) where
       let at : slice_get s (below s p) ≡ None = grind (arith, succ_is, ascends) in
       get_or-ones_at s n p false within ∙ grind (arith, slice_get-get_or s (below s p) 0, below_le s (p + 1), member_test)
 
--- the list has no fewer bits than ones, and each member is one of its places
+-- the list has no fewer bits than ones, and each member is one of its positions
 pub members_few : {s : List ℕ} {n : ℕ} → AreSparse s n → length s ≤ length (ones_at s n)
 members_few {s} {n} sparse = omega (arith, all_ones s sparse.rising n (last_within sparse), count_both (ones_at s n) (length (ones_at s n)))
 
--- ---- from the places of a list's bits
+-- ---- from the positions of a list's bits
 
-pub sparse_places : (b : Bool) (l : List Bool) → AreSparse (places b l) (length l)
-sparse_places b l = record {
-  rising = places_rise b l;
-  within = λ k d h. omega (arith, places_within b l k h, get_or_default (places b l) k d 0 h);
+pub sparse_positions : (b : Bool) (l : List Bool) → AreSparse (positions b l) (length l)
+sparse_positions b l = record {
+  rising = positions_rise b l;
+  within = λ k d h. omega (arith, positions_within b l k h, get_or_default (positions b l) k d 0 h);
 }
 
-pub places_ascend : (b : Bool) (l : List Bool) → IsNonDecreasing (places b l)
-places_ascend b l = ascends (places b l) (places_rise b l)
+pub positions_ascend : (b : Bool) (l : List Bool) → IsNonDecreasing (positions b l)
+positions_ascend b l = ascends (positions b l) (positions_rise b l)
 
 pub map_ones : (l : List Bool) → map (is_bit true) l ≡ l
 map_ones l = map-id l
 
--- ---- the places from a place on
+-- ---- the positions from a position on
 
--- a place of the bit is the first from p on if no place between them is one
-pub place_at : (b : Bool) (l : List Bool) (p q : ℕ) → q < length l → is_bit b (get_or l q false) ≡ true → count b l q ≡ count b l p → slice_get (places b l) (count b l p) ≡ Some q
+-- a position of the bit is the first from p on if no position between them is one
+pub position_at : (b : Bool) (l : List Bool) (p q : ℕ) → q < length l → is_bit b (get_or l q false) ≡ true → count b l q ≡ count b l p → slice_get (positions b l) (count b l p) ≡ Some q
 unfolding select
-place_at b l p q h on same =
+position_at b l p q h on same =
     let more : count b l (q + 1) ≡ count b l q + 1 = count_more_yes b l q h on in
-    let few : count b l p < length (places b l) = omega (arith, more, same, length-places b l, count_up b l (q + 1) (length l) (omega arith)) in
-    slice_get-get_or (places b l) (count b l p) (length l) few ∙ ap Some (select_at b l (count b l p) q h on same)
+    let few : count b l p < length (positions b l) = omega (arith, more, same, length-positions b l, count_up b l (q + 1) (length l) (omega arith)) in
+    slice_get-get_or (positions b l) (count b l p) (length l) few ∙ ap Some (select_at b l (count b l p) q h on same)
 
--- past the last place there is none
-pub no_place : (b : Bool) (l : List Bool) (p : ℕ) → length l ≤ p → slice_get (places b l) (count b l p) ≡ None
-no_place b l p past = slice_get_past (places b l) (count b l p) (omega (arith, length-places b l, count_past b l p past))
+-- past the last position there is none
+pub no_position : (b : Bool) (l : List Bool) (p : ℕ) → length l ≤ p → slice_get (positions b l) (count b l p) ≡ None
+no_position b l p past = slice_get_past (positions b l) (count b l p) (omega (arith, length-positions b l, count_past b l p past))
 
--- a place is within the list, and past it one place more is passed
-pub past_place : (b : Bool) (l : List Bool) (c p : ℕ) → slice_get (places b l) c ≡ Some p → (p < length l) × (count b l (p + 1) ≡ c + 1)
+-- a position is within the list, and past it one position more is passed
+pub past_position : (b : Bool) (l : List Bool) (c p : ℕ) → slice_get (positions b l) c ≡ Some p → (p < length l) × (count b l (p + 1) ≡ c + 1)
 unfolding select
-past_place b l c p e =
-    let at : select b l c ≡ p = get_or_from_slice_get (places b l) c p (length l) e in
-    let counted = count_at_select b l c (omega (arith, slice_get_within (places b l) c p e, length-places b l)) in
+past_position b l c p e =
+    let at : select b l c ≡ p = get_or_from_slice_get (positions b l) c p (length l) e in
+    let counted = count_at_select b l c (omega (arith, slice_get_within (positions b l) c p e, length-positions b l)) in
     let P : ℕ → Type 0 = λ q. (q < length l) × (count b l (q + 1) ≡ c + 1) in
     subst P at (counted.0, counted.2)
 
@@ -82,26 +82,26 @@ first_is s zero = refl
 first_is [] (suc c) = refl
 first_is (x ∷ s) (suc c) = first_is s c
 
--- the places left are taken one by one
-pub place_taken : (b : Bool) (l : List Bool) (c p : ℕ) → slice_get (places b l) c ≡ Some p → TakesFirst (drop c (places b l)) (Some p) (drop (count b l (p + 1)) (places b l))
-place_taken b l c p e = record {
-  given = sym (first_is (places b l) c ∙ e);
-  left = ap (λ n. drop n (places b l)) (past_place b l c p e).1 ∙ sym (drop-drop 1 c (places b l));
+-- the positions left are taken one by one
+pub position_taken : (b : Bool) (l : List Bool) (c p : ℕ) → slice_get (positions b l) c ≡ Some p → TakesFirst (drop c (positions b l)) (Some p) (drop (count b l (p + 1)) (positions b l))
+position_taken b l c p e = record {
+  given = sym (first_is (positions b l) c ∙ e);
+  left = ap (λ n. drop n (positions b l)) (past_position b l c p e).1 ∙ sym (drop-drop 1 c (positions b l));
 }
 
-pub all_places_taken : (b : Bool) (l : List Bool) (c : ℕ) → slice_get (places b l) c ≡ None → TakesFirst (drop c (places b l)) None (drop c (places b l))
-all_places_taken b l c e =
-    let past : length (places b l) ≤ c = grind (arith, slice_get-get_or (places b l) c 0) in
+pub all_positions_taken : (b : Bool) (l : List Bool) (c : ℕ) → slice_get (positions b l) c ≡ None → TakesFirst (drop c (positions b l)) None (drop c (positions b l))
+all_positions_taken b l c e =
+    let past : length (positions b l) ≤ c = grind (arith, slice_get-get_or (positions b l) c 0) in
     record {
-      given = sym (first_is (places b l) c ∙ e);
-      left = drop_all c (places b l) past ∙ sym (drop-drop 1 c (places b l) ∙ drop_all (c + 1) (places b l) (omega (arith, past)));
+      given = sym (first_is (positions b l) c ∙ e);
+      left = drop_all c (positions b l) past ∙ sym (drop-drop 1 c (positions b l) ∙ drop_all (c + 1) (positions b l) (omega (arith, past)));
     }
 
--- all places are those from 0 on
-pub from_start : (b : Bool) (l : List Bool) → drop (count b l 0) (places b l) ≡ places b l
-from_start b l = ap (λ n. drop n (places b l)) (count_none b l)
+-- all positions are those from 0 on
+pub from_start : (b : Bool) (l : List Bool) → drop (count b l 0) (positions b l) ≡ positions b l
+from_start b l = ap (λ n. drop n (positions b l)) (count_none b l)
 
--- those from a place on end as all do, if there are any
+-- those from a position on end as all do, if there are any
 pub last_from : (s : List ℕ) (c p : ℕ) → slice_get s c ≡ Some p → last_of (drop c s) ≡ last_of s
 last_from s c p e =
     let at : c + (length (drop c s) - 1) ≡ length s - 1 = omega (arith, slice_get_within s c p e, length-drop c s) in
@@ -113,11 +113,11 @@ zeros_are l i = omega (arith, count_both l i)
 pub ones_few : (l : List Bool) (i : ℕ) → count true l i ≤ min i (length l)
 ones_few l i = omega (arith, count_both l i)
 
-pub ruleset sparse = (length-ones_at, get_or-ones_at, members_few, places_are, count_is, select_some, select_none, bit_some, bit_none, ascends, map_ones)
+pub ruleset sparse = (length-ones_at, get_or-ones_at, members_few, positions_are, count_is, select_some, select_none, bit_some, bit_none, ascends, map_ones)
 
-pub ruleset from_places = (sparse_places, places_ascend, ones_at-places)
+pub ruleset from_positions = (sparse_positions, positions_ascend, ones_at-positions)
 
-pub ruleset walking = (past_place, place_taken, all_places_taken)
+pub ruleset walking = (past_position, position_taken, all_positions_taken)
 
 pub ruleset lasts = (from_start, last_from)
 

@@ -4,7 +4,7 @@ use Rattle.std.proofs.lemmas.Bool.{false≢true, le-ltb}
 use Rattle.std.proofs.lemmas.List.{length-take}
 use Rattle.vers_bits.proofs.PublicLaws.{number_below}
 use Rattle.vers_sorted.specs.declared.elias_fano.parts.Walk.{Walk}
-use Rattle.vers_sorted.specs.inside.Decoding.{AreDecodable, AreReadAhead, HasRead, IsNear, StepsUp, above, follows, least_low, low_at, place_ahead, place_before}
+use Rattle.vers_sorted.specs.inside.Decoding.{AreDecodable, AreReadAhead, HasRead, IsNear, StepsUp, above, follows, least_low, low_at, position_ahead, position_before}
 use Rattle.vers_sorted.proofs.Parted.{follows_next}
 
 -- ---- one member and the next
@@ -59,7 +59,7 @@ module _ (rising : Bool) (w p q i a b : ℕ) (zero_before : i + 1 ≤ p) (past :
 
 -- ---- the member before
 
-pub before_next : (high : List Bool) (i : ℕ) → place_before high (i + 1) ≡ select true high i
+pub before_next : (high : List Bool) (i : ℕ) → position_before high (i + 1) ≡ select true high i
 before_next high i = let back : i + 1 - 1 ≡ i = omega arith in rw (ne_eqb (i + 1) 0 (λ e. absurd (omega (arith, e)))) (ap (select true high) back)
 
 pub least_next : (rising : Bool) (low : List Bool) (w i : ℕ) → least_low rising low w (i + 1) ≡ low_at low w i + bit_value rising
@@ -68,32 +68,32 @@ least_next rising low w i = let back : i + 1 - 1 ≡ i = omega arith in rw (ne_e
 pub low_small : (low : List Bool) (w i : ℕ) → low_at low w i < 2 ^ w
 low_small low w i = number_below (take w (drop (w * i) low)) w (omega (arith, length-take w (drop (w * i) low)))
 
-pub before_within : (high : List Bool) (i : ℕ) → i ≤ count true high (length high) → place_before high i ≤ length high
+pub before_within : (high : List Bool) (i : ℕ) → i ≤ count true high (length high) → position_before high i ≤ length high
 before_within high zero h = omega arith
 before_within high (suc i) h =
     let e : i + 1 ≡ suc i = omega arith in
-    omega (arith, (count_at_select true high i (omega arith)).0, sym (ap (place_before high) e) ∙ before_next high i)
+    omega (arith, (count_at_select true high i (omega arith)).0, sym (ap (position_before high) e) ∙ before_next high i)
 
 -- ---- a walk reads one more member
 
-module _ (rising : Bool) (high low : List Bool) (w i : ℕ) (walk : Walk) (place : ℕ) (read : HasRead rising high low w i walk) (here : select true high i ≡ place) where
-  part_is : number (take w (drop (place_ahead walk.lows) low)) ≡ low_at low w i
+module _ (rising : Bool) (high low : List Bool) (w i : ℕ) (walk : Walk) (position : ℕ) (read : HasRead rising high low w i walk) (here : select true high i ≡ position) where
+  part_is : number (take w (drop (position_ahead walk.lows) low)) ≡ low_at low w i
   part_is = ap (λ p. number (take w (drop p low))) read.part
 
-  test_is : (result : Bool) → result ≡ nat_lt (walk.place + bit_value (nat_lt (number (take w (drop (place_ahead walk.lows) low))) walk.least)) place
-      → result ≡ nat_lt (place_before high i + bit_value (nat_lt (low_at low w i) (least_low rising low w i))) (select true high i)
-  test_is result is = is ∙ rw (read.place, part_is, read.least, here) refl
+  test_is : (result : Bool) → result ≡ nat_lt (walk.position + bit_value (nat_lt (number (take w (drop (position_ahead walk.lows) low))) walk.least)) position
+      → result ≡ nat_lt (position_before high i + bit_value (nat_lt (low_at low w i) (least_low rising low w i))) (select true high i)
+  test_is result is = is ∙ rw (read.position, part_is, read.least, here) refl
 
-  pub passed : (result : Bool) → result ≡ nat_lt (walk.place + bit_value (nat_lt (number (take w (drop (place_ahead walk.lows) low))) walk.least)) place → result ≡ true → StepsUp rising high low w i
-  passed result is held = ltb-true (place_before high i + bit_value (nat_lt (low_at low w i) (least_low rising low w i))) (select true high i) (sym (test_is result is) ∙ held)
+  pub passed : (result : Bool) → result ≡ nat_lt (walk.position + bit_value (nat_lt (number (take w (drop (position_ahead walk.lows) low))) walk.least)) position → result ≡ true → StepsUp rising high low w i
+  passed result is held = ltb-true (position_before high i + bit_value (nat_lt (low_at low w i) (least_low rising low w i))) (select true high i) (sym (test_is result is) ∙ held)
 
-  pub failed : (result : Bool) → result ≡ nat_lt (walk.place + bit_value (nat_lt (number (take w (drop (place_ahead walk.lows) low))) walk.least)) place → result ≡ false → StepsUp rising high low w i → ⊥
-  failed result is broken steps = false≢true (sym broken ∙ test_is result is ∙ lt-ltb (place_before high i + bit_value (nat_lt (low_at low w i) (least_low rising low w i))) (select true high i) steps)
+  pub failed : (result : Bool) → result ≡ nat_lt (walk.position + bit_value (nat_lt (number (take w (drop (position_ahead walk.lows) low))) walk.least)) position → result ≡ false → StepsUp rising high low w i → ⊥
+  failed result is broken steps = false≢true (sym broken ∙ test_is result is ∙ lt-ltb (position_before high i + bit_value (nat_lt (low_at low w i) (least_low rising low w i))) (select true high i) steps)
 
-  pub one_read : (next : Walk) → StepsUp rising high low w i → next.place ≡ place → next.least ≡ number (take w (drop (place_ahead walk.lows) low)) + bit_value rising → place_ahead next.lows ≡ place_ahead walk.lows + w → AreReadAhead low next.lows
+  pub one_read : (next : Walk) → StepsUp rising high low w i → next.position ≡ position → next.least ≡ number (take w (drop (position_ahead walk.lows) low)) + bit_value rising → position_ahead next.lows ≡ position_ahead walk.lows + w → AreReadAhead low next.lows
       → HasRead rising high low w (i + 1) next
   one_read next steps at least part ahead = record {
-    place = at ∙ sym here ∙ sym (before_next high i);
+    position = at ∙ sym here ∙ sym (before_next high i);
     least = least ∙ ap (λ n. n + bit_value rising) part_is ∙ sym (least_next rising low w i);
     part = omega (arith, part, read.part);
     ahead = ahead;
@@ -105,9 +105,9 @@ module _ (rising : Bool) (high low : List Bool) (w i : ℕ) (walk : Walk) (place
 
 -- ---- a walk before the first member, and past the last
 
-pub none_read : (rising : Bool) (high low : List Bool) (w : ℕ) → HasRead rising high low w 0 (record { lows = record { limbs = 0; len = 0; word = 0 }; place = 0; least = 0 })
+pub none_read : (rising : Bool) (high low : List Bool) (w : ℕ) → HasRead rising high low w 0 (record { lows = record { limbs = 0; len = 0; word = 0 }; position = 0; least = 0 })
 none_read rising high low w = record {
-  place = refl;
+  position = refl;
   least = refl;
   part = omega arith;
   ahead = record { few = omega arith; read = refl };
@@ -115,10 +115,10 @@ none_read rising high low w = record {
 }
 
 pub last_read : (rising : Bool) (high low : List Bool) (w n : ℕ) (walk : Walk) → 0 < n → HasRead rising high low w n walk
-    → (walk.place ≡ select true high (n - 1)) × (walk.least ≡ low_at low w (n - 1) + bit_value rising)
+    → (walk.position ≡ select true high (n - 1)) × (walk.least ≡ low_at low w (n - 1) + bit_value rising)
 last_read rising high low w n walk some read =
     let e : n ≡ n - 1 + 1 = omega arith in
-    (read.place ∙ ap (place_before high) e ∙ before_next high (n - 1), read.least ∙ ap (least_low rising low w) e ∙ least_next rising low w (n - 1))
+    (read.position ∙ ap (position_before high) e ∙ before_next high (n - 1), read.least ∙ ap (least_low rising low w) e ∙ least_next rising low w (n - 1))
 
 -- ---- all members
 
@@ -133,8 +133,8 @@ module _ (rising : Bool) (high low : List Bool) (span w n : ℕ) (some : 0 < n) 
     first_zero : above high low w 0 ≡ 0
     first_zero = eqb-true (above high low w 0) 0 ((decoded.each 0 some).next)
 
-    pub first_place : select true high 0 ≡ 1
-    first_place = elim (cases_lt 1 (select true high 0)) [
+    pub first_position : select true high 0 ≡ 1
+    first_position = elim (cases_lt 1 (select true high 0)) [
       | inl late ↦ absurd (omega (arith, first_zero, pow_pos w, mul-le-mul_left {m = 1} {n = select true high 0 - 0 - 1} (2 ^ w) (omega arith)))
       | inr early ↦ omega (arith, (decoded.each 0 some).near.zero)
     ]
@@ -143,7 +143,7 @@ module _ (rising : Bool) (high low : List Bool) (span w n : ℕ) (some : 0 < n) 
     first_low = let at : w * 0 ≡ 0 = omega arith in ap (λ p. number (take w (drop p low))) (sym at) ∙ omega (arith, first_zero)
 
     pub decoded_steps : (i : ℕ) → i < n → StepsUp rising high low w i
-    decoded_steps zero h = omega (arith, first_place, behind (low_at low w 0) 0)
+    decoded_steps zero h = omega (arith, first_position, behind (low_at low w 0) 0)
     decoded_steps (suc i) h =
         let e : suc i ≡ i + 1 = omega arith in
         let back : suc i - 1 ≡ i = omega arith in

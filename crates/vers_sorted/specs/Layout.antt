@@ -36,12 +36,12 @@ unfoldable pub high_length : List ℕ → ℕ
 high_length members = if length members == 0 then 0 else 2 + length members + high_of members (last_of members)
 
 -- the position of the one of element i in the high parts
-abbrev pub high_place : List ℕ → ℕ → ℕ
-high_place members i = high_of members (slice_index members i) + i + 1
+abbrev pub high_position : List ℕ → ℕ → ℕ
+high_position members i = high_of members (slice_index members i) + i + 1
 
 -- the high parts: a one for each element
 unfoldable pub high_parts : List ℕ → List Bool
-high_parts members = ones_at (map (high_place members) (range_with_len 0 (length members))) (high_length members)
+high_parts members = ones_at (map (high_position members) (range_with_len 0 (length members))) (high_length members)
 
 -- the low parts, one after another: the low digits of each element less the first
 unfoldable pub low_parts : List ℕ → List Bool

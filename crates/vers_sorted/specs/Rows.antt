@@ -1,6 +1,6 @@
 -- Worked rows of the definitions, which compute.
 use Rattle.std.specs.Prelude.{◌≡◌, ℕ, false, true, List, [], ◌∷◌, Some, None, nat_le, nat_lt, refl}
-use Rattle.vers_bits.specs.Bits.{count, low_bits, places, select}
+use Rattle.vers_bits.specs.Bits.{count, low_bits, positions, select}
 use Rattle.vers_tally.specs.Reads.{digits}
 use Rattle.vers_sorted.specs.Sorted.{each_next, is_member, below, greatest_not_above, least_not_below, delta}
 use Rattle.vers_sorted.specs.Ones.{ones_at}
@@ -76,7 +76,7 @@ pub low_width-0147 : low_width members_0147 ≡ 1
 unfolding low_width width digits
 low_width-0147 = refl
 
--- nine bits with ones at the places 1, 2, 5 and 7
+-- nine bits with ones at the positions 1, 2, 5 and 7
 pub high_parts-0147 : high_parts members_0147 ≡ false ∷ true ∷ true ∷ false ∷ false ∷ true ∷ false ∷ true ∷ false ∷ []
 unfolding high_parts high_length high_of ones_at is_member low_width width digits
 high_parts-0147 = refl
@@ -91,7 +91,7 @@ heap_size-0147 = refl
 
 -- which say the members
 pub members-0147 : members (false ∷ true ∷ true ∷ false ∷ false ∷ true ∷ false ∷ true ∷ false ∷ []) (false ∷ true ∷ false ∷ true ∷ []) 0 1 4 ≡ members_0147
-unfolding members select places
+unfolding members select positions
 members-0147 = refl
 
 pub low_count-0147 : low_count 4 7 ≡ 4

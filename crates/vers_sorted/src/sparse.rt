@@ -1,7 +1,7 @@
 //! Lists of bits with few ones.
 ghost use Rattle.std.specs.Prelude.{◌≡◌, ◌+◌, ◌*◌, ◌/◌, ◌<◌, ◌≤◌, ◌↔◌, [], All, not, length, drop, map, slice_index_or, slice_get, option_map, IsTrue, IfOk, IfSome, Some, None, true, false};
 ghost use Rattle.std.specs.List.Sorted.{IsStrictlyIncreasing};
-ghost use Rattle.vers_bits.specs.Bits.{bit_value, count, is_bit, places, select};
+ghost use Rattle.vers_bits.specs.Bits.{bit_value, count, is_bit, positions, select};
 ghost use Rattle.vers_tally.specs.Reads.{AddsAtMost};
 ghost use Rattle.vers_sorted.specs.Layout.{heap_size_of, last_of, member_reads, search_reads};
 ghost use Rattle.vers_sorted.specs.Ones.{AreMarked};
@@ -50,9 +50,9 @@ impl<A: Allocator + Copy> SparseRSVec<A> {
     /// are below `len`. Errors: `AllocError` only if the allocator refuses a request.
     pub fn new(alloc: A, ones: &[u64], len: u64) -> Result<Self, AllocError>
         requires rising { IsStrictlyIncreasing ones.now }
-        requires within { All (λ place. place < len) ones.now }
+        requires within { All (λ position. position < len) ones.now }
         ensures length { IfOk result (λ v. length v ≡ len) }
-        ensures places { IfOk result (λ v. places true v ≡ ones.now) }
+        ensures positions { IfOk result (λ v. positions true v ≡ ones.now) }
     {
         Ok(SparseRSVec::from_sorted(EliasFanoVec::from_slice(alloc, ones)?, len))
     }
@@ -61,9 +61,9 @@ impl<A: Allocator + Copy> SparseRSVec<A> {
     /// and are below `len`.
     pub fn from_sorted(ones: EliasFanoVec<A>, len: u64) -> Self
         requires rising { IsStrictlyIncreasing ones }
-        requires within { All (λ place. place < len) ones }
+        requires within { All (λ position. position < len) ones }
         ensures length { length result ≡ len }
-        ensures places { places true result ≡ ones }
+        ensures positions { positions true result ≡ ones }
     {
         SparseRSVec { ones, len }
     }
@@ -72,7 +72,7 @@ impl<A: Allocator + Copy> SparseRSVec<A> {
     pub fn from_bitvec(bits: &BitVec<A>) -> Result<Self, AllocError>
         ensures { IfOk result (λ v. v ≡ bits.now) }
     {
-        SparseRSVec::from_places(bits, true)
+        SparseRSVec::from_positions(bits, true)
     }
 
     /// Returns the bits of another list with ones and zeros exchanged. Errors: `AllocError` only if the
@@ -80,12 +80,12 @@ impl<A: Allocator + Copy> SparseRSVec<A> {
     pub fn from_bitvec_inverted(bits: &BitVec<A>) -> Result<Self, AllocError>
         ensures { IfOk result (λ v. v ≡ map not bits.now) }
     {
-        SparseRSVec::from_places(bits, false)
+        SparseRSVec::from_positions(bits, false)
     }
 
     // Returns the list with ones where another has `bit`.
-    #[tactic(auto, using(crate::proofs::SparseBits::from_places))]
-    fn from_places(bits: &BitVec<A>, bit: bool) -> Result<Self, AllocError>
+    #[tactic(auto, using(crate::proofs::SparseBits::from_positions))]
+    fn from_positions(bits: &BitVec<A>, bit: bool) -> Result<Self, AllocError>
         ensures { IfOk result (λ v. v ≡ map (is_bit bit) bits.now) }
     {
         let len = count_of(bits, bit);
@@ -93,11 +93,11 @@ impl<A: Allocator + Copy> SparseRSVec<A> {
         if len > MAX_LEN {
             return Err(AllocError);
         }
-        let places = Places { bits, bit, from: 0 };
+        let positions = Positions { bits, bit, from: 0 };
         let from = last_start(bits, bit);
-        let last = last_left(Places { bits, bit, from });
+        let last = last_left(Positions { bits, bit, from });
         Ok(SparseRSVec {
-            ones: EliasFanoVec::from_numbers(bits.allocator(), places, len, last)?,
+            ones: EliasFanoVec::from_numbers(bits.allocator(), positions, len, last)?,
             len: bits.len() as u64,
         })
     }
@@ -120,82 +120,82 @@ impl<A: Allocator + Copy> SparseRSVec<A> {
 
     /// Returns the number of bytes that the list of the ones' positions takes.
     pub fn heap_size(&self) -> usize
-        ensures { result ≡ heap_size_of (places true self.now) }
+        ensures { result ≡ heap_size_of (positions true self.now) }
     {
         let _ = &self.len;
         self.ones.heap_size()
     }
 
-    /// Returns true if the bit at `place` is a one, or `None` if `place` is out of bounds.
+    /// Returns true if the bit at `position` is a one, or `None` if `position` is out of bounds.
     #[inline]
-    pub fn is_set(&self, place: u64) -> Option<bool>
-        ensures { result ≡ slice_get self.now place }
+    pub fn is_set(&self, position: u64) -> Option<bool>
+        ensures { result ≡ slice_get self.now position }
     {
         let mut tally = Tally::new();
-        self.is_set_counted(place, &mut tally)
+        self.is_set_counted(position, &mut tally)
     }
 
-    /// Returns `is_set(place)`. Reads at most what one search among the positions of the ones does.
+    /// Returns `is_set(position)`. Reads at most what one search among the positions of the ones does.
     #[inline(always)]
-    pub fn is_set_counted(&self, place: u64, tally: &mut Tally) -> Option<bool>
-        ensures value { result ≡ slice_get self.now place }
-        ensures adds { AddsAtMost tally.old tally.new (search_reads (places true self.now)) }
+    pub fn is_set_counted(&self, position: u64, tally: &mut Tally) -> Option<bool>
+        ensures value { result ≡ slice_get self.now position }
+        ensures adds { AddsAtMost tally.old tally.new (search_reads (positions true self.now)) }
     {
-        if place >= self.len() {
+        if position >= self.len() {
             return None;
         }
-        Some(self.holds_one(place, tally))
+        Some(self.holds_one(position, tally))
     }
 
-    // Returns true if the bit at `place` is a one. Precondition: `place` is below the length.
+    // Returns true if the bit at `position` is a one. Precondition: `position` is below the length.
     #[inline(always)]
-    fn holds_one(&self, place: u64, tally: &mut Tally) -> bool
-        requires { place < length self.now }
-        ensures value { result ≡ slice_index_or self.now place false }
-        ensures adds { AddsAtMost tally.old tally.new (search_reads (places true self.now)) }
+    fn holds_one(&self, position: u64, tally: &mut Tally) -> bool
+        requires { position < length self.now }
+        ensures value { result ≡ slice_index_or self.now position false }
+        ensures adds { AddsAtMost tally.old tally.new (search_reads (positions true self.now)) }
     {
         let _ = &self.len;
-        self.ones.has_counted(place, tally)
+        self.ones.has_counted(position, tally)
     }
 
-    /// Returns true if the bit at `place` is a one. Precondition: `place` is below the length.
+    /// Returns true if the bit at `position` is a one. Precondition: `position` is below the length.
     #[inline]
-    pub fn is_set_unchecked(&self, place: u64) -> bool
-        requires { place < length self.now }
-        ensures { result ≡ slice_index_or self.now place false }
+    pub fn is_set_unchecked(&self, position: u64) -> bool
+        requires { position < length self.now }
+        ensures { result ≡ slice_index_or self.now position false }
     {
         let mut tally = Tally::new();
-        self.holds_one(place, &mut tally)
+        self.holds_one(position, &mut tally)
     }
 
-    /// Returns the bit at `place`, 1 or 0, or `None` if `place` is out of bounds.
+    /// Returns the bit at `position`, 1 or 0, or `None` if `position` is out of bounds.
     #[inline]
-    pub fn get(&self, place: u64) -> Option<u64>
-        ensures { result ≡ option_map bit_value (slice_get self.now place) }
+    pub fn get(&self, position: u64) -> Option<u64>
+        ensures { result ≡ option_map bit_value (slice_get self.now position) }
     {
         let mut tally = Tally::new();
-        self.get_counted(place, &mut tally)
+        self.get_counted(position, &mut tally)
     }
 
-    /// Returns `get(place)`. Reads at most what one search among the positions of the ones does.
+    /// Returns `get(position)`. Reads at most what one search among the positions of the ones does.
     #[inline(always)]
-    pub fn get_counted(&self, place: u64, tally: &mut Tally) -> Option<u64>
-        ensures value { result ≡ option_map bit_value (slice_get self.now place) }
-        ensures adds { AddsAtMost tally.old tally.new (search_reads (places true self.now)) }
+    pub fn get_counted(&self, position: u64, tally: &mut Tally) -> Option<u64>
+        ensures value { result ≡ option_map bit_value (slice_get self.now position) }
+        ensures adds { AddsAtMost tally.old tally.new (search_reads (positions true self.now)) }
     {
-        if place >= self.len() {
+        if position >= self.len() {
             return None;
         }
-        Some(u64::from(self.holds_one(place, tally)))
+        Some(u64::from(self.holds_one(position, tally)))
     }
 
-    /// Returns the bit at `place`, 1 or 0. Precondition: `place` is below the length.
+    /// Returns the bit at `position`, 1 or 0. Precondition: `position` is below the length.
     #[inline]
-    pub fn get_unchecked(&self, place: u64) -> u64
-        requires { place < length self.now }
-        ensures { result ≡ bit_value (slice_index_or self.now place false) }
+    pub fn get_unchecked(&self, position: u64) -> u64
+        requires { position < length self.now }
+        ensures { result ≡ bit_value (slice_index_or self.now position false) }
     {
-        u64::from(self.is_set_unchecked(place))
+        u64::from(self.is_set_unchecked(position))
     }
 
     /// Returns the position of one `r` (from 0), or the length if there are fewer.
@@ -213,61 +213,61 @@ impl<A: Allocator + Copy> SparseRSVec<A> {
     pub fn select1_counted(&self, r: usize, tally: &mut Tally) -> u64
         ensures value { result ≡ select true self.now r }
         ensures within { result ≤ length self.now }
-        ensures adds { AddsAtMost tally.old tally.new (member_reads (places true self.now)) }
+        ensures adds { AddsAtMost tally.old tally.new (member_reads (positions true self.now)) }
     {
         let _ = &self.len;
         match self.ones.get_counted(r, tally) {
-            Some(place) => place,
+            Some(position) => position,
             None => self.len,
         }
     }
 
-    /// Returns the number of ones below `place`.
+    /// Returns the number of ones below `position`.
     #[inline]
-    pub fn rank1(&self, place: u64) -> u64
-        ensures value { result ≡ count true self.now place }
+    pub fn rank1(&self, position: u64) -> u64
+        ensures value { result ≡ count true self.now position }
         ensures within { result ≤ length self.now }
     {
         let mut tally = Tally::new();
-        self.rank1_counted(place, &mut tally)
+        self.rank1_counted(position, &mut tally)
     }
 
-    /// Returns `rank1(place)`. Reads at most what one search among the positions of the ones does.
+    /// Returns `rank1(position)`. Reads at most what one search among the positions of the ones does.
     #[inline(always)]
-    pub fn rank1_counted(&self, place: u64, tally: &mut Tally) -> u64
-        ensures value { result ≡ count true self.now place }
+    pub fn rank1_counted(&self, position: u64, tally: &mut Tally) -> u64
+        ensures value { result ≡ count true self.now position }
         ensures within { result ≤ length self.now }
-        ensures adds { AddsAtMost tally.old tally.new (search_reads (places true self.now)) }
+        ensures adds { AddsAtMost tally.old tally.new (search_reads (positions true self.now)) }
     {
         let _ = &self.len;
-        self.ones.rank_counted(place, tally)
+        self.ones.rank_counted(position, tally)
     }
 
-    /// Returns the number of zeros below `place`.
+    /// Returns the number of zeros below `position`.
     #[inline]
-    pub fn rank0(&self, place: u64) -> u64
-        ensures value { result ≡ count false self.now place }
+    pub fn rank0(&self, position: u64) -> u64
+        ensures value { result ≡ count false self.now position }
         ensures within { result ≤ length self.now }
     {
         let mut tally = Tally::new();
-        self.rank0_counted(place, &mut tally)
+        self.rank0_counted(position, &mut tally)
     }
 
-    /// Returns `rank0(place)`. Reads at most what one search among the positions of the ones does.
+    /// Returns `rank0(position)`. Reads at most what one search among the positions of the ones does.
     #[inline(always)]
     #[tactic(auto, using(crate::proofs::SparseBits::zeros))]
-    pub fn rank0_counted(&self, place: u64, tally: &mut Tally) -> u64
-        ensures value { result ≡ count false self.now place }
+    pub fn rank0_counted(&self, position: u64, tally: &mut Tally) -> u64
+        ensures value { result ≡ count false self.now position }
         ensures within { result ≤ length self.now }
-        ensures adds { AddsAtMost tally.old tally.new (search_reads (places true self.now)) }
+        ensures adds { AddsAtMost tally.old tally.new (search_reads (positions true self.now)) }
     {
-        let ones = self.rank1_counted(place, tally);
-        place.min(self.len()) - ones
+        let ones = self.rank1_counted(position, tally);
+        position.min(self.len()) - ones
     }
 
     /// Returns the positions of the ones, an ascending list.
     pub fn ones(&self) -> &EliasFanoVec<A>
-        ensures { result.now ≡ places true self.now }
+        ensures { result.now ≡ positions true self.now }
     {
         let _ = &self.len;
         &self.ones
@@ -276,8 +276,8 @@ impl<A: Allocator + Copy> SparseRSVec<A> {
     /// Returns an iterator over the positions of the ones.
     pub fn iter1(&self) -> EliasFanoRefIter<'_, A>
         ensures { result ≡ record {
-          left = places true self.now;
-          step = member_reads (places true self.now);
+          left = positions true self.now;
+          step = member_reads (positions true self.now);
         } }
     {
         let _ = &self.len;
@@ -287,22 +287,22 @@ impl<A: Allocator + Copy> SparseRSVec<A> {
 
 // The positions of the ones or the zeros of a list, from position `from` on.
 #[derive(Clone, Copy, Drop)]
-struct Places<'a, A: Allocator + Copy> {
+struct Positions<'a, A: Allocator + Copy> {
     bits: &'a BitVec<A>,
     bit: bool,
     from: usize,
 }
 
 #[tactic(auto, using(crate::proofs::SparseBits::walking))]
-impl<A: Allocator + Copy> Numbers for Places<'_, A> {
-    ghost left = { λ walk. drop (count walk.bit walk.bits.now walk.from) (places walk.bit walk.bits.now) };
+impl<A: Allocator + Copy> Numbers for Positions<'_, A> {
+    ghost left = { λ walk. drop (count walk.bit walk.bits.now walk.from) (positions walk.bit walk.bits.now) };
 
     #[inline(always)]
     fn next(&mut self) -> Option<u64> {
         let _ = self.bits.len();
-        let place = place_from(self.bits, self.bit, self.from)?;
-        self.from = place + 1;
-        Some(place as u64)
+        let position = position_from(self.bits, self.bit, self.from)?;
+        self.from = position + 1;
+        Some(position as u64)
     }
 }
 
@@ -320,31 +320,36 @@ fn count_of<A: Allocator + Copy>(bits: &BitVec<A>, bit: bool) -> usize
 // Returns the first position from `from` on of a one or a zero. `None` if there is none.
 #[inline(always)]
 #[tactic(auto, using(crate::proofs::Marks::walking))]
-fn place_from<A: Allocator + Copy>(bits: &BitVec<A>, bit: bool, from: usize) -> Option<usize>
-    ensures { result ≡ slice_get (places bit bits.now) (count bit bits.now from) }
+fn position_from<A: Allocator + Copy>(bits: &BitVec<A>, bit: bool, from: usize) -> Option<usize>
+    ensures { result ≡ slice_get (positions bit bits.now) (count bit bits.now from) }
 {
-    let mut place = from;
-    while place < bits.len() {
-        if let Some(found) = place_in_limb(bits, bit, place) {
+    let mut position = from;
+    while position < bits.len() {
+        if let Some(found) = position_in_limb(bits, bit, position) {
             return Some(found);
         }
-        place = 64 * (place / 64) + 64;
+        position = 64 * (position / 64) + 64;
     }
     None
 }
 
-// Returns the first position from `place` on in its limb of a one or a zero. `None` if there is none.
+// Returns the first position from `position` on in its limb of a one or a zero. `None` if there is none.
 #[inline(always)]
 #[tactic(auto, using(crate::proofs::Marks::walking))]
-fn place_in_limb<A: Allocator + Copy>(bits: &BitVec<A>, bit: bool, place: usize) -> Option<usize>
-    requires { place < length bits.now }
-    ensures some { IfSome result (λ found. slice_get (places bit bits.now) (count bit bits.now place) ≡ Some found) }
-    ensures none { result ≡ None → count bit bits.now (64 * (place / 64) + 64) ≡ count bit bits.now place }
+fn position_in_limb<A: Allocator + Copy>(
+    bits: &BitVec<A>,
+    bit: bool,
+    position: usize,
+) -> Option<usize>
+    requires { position < length bits.now }
+    ensures some { IfSome result
+        (λ found. slice_get (positions bit bits.now) (count bit bits.now position) ≡ Some found) }
+    ensures none { result ≡ None → count bit bits.now (64 * (position / 64) + 64) ≡ count bit bits.now position }
 {
-    let word = marks_of(bits, bit, place / 64) >> (place % 64);
+    let word = marks_of(bits, bit, position / 64) >> (position % 64);
     let skip = word.trailing_zeros() as usize;
-    if skip < (bits.len() - place).min(64 - place % 64) {
-        return Some(place + skip);
+    if skip < (bits.len() - position).min(64 - position % 64) {
+        return Some(position + skip);
     }
     None
 }
@@ -352,12 +357,12 @@ fn place_in_limb<A: Allocator + Copy>(bits: &BitVec<A>, bit: bool, place: usize)
 // Returns the start of the last limb that has a one or a zero, or 0 if none has.
 #[tactic(auto, using(crate::proofs::SparseBits::lasts))]
 fn last_start<A: Allocator + Copy>(bits: &BitVec<A>, bit: bool) -> usize
-    ensures { last_of (drop (count bit bits.now result) (places bit bits.now)) ≡ last_of (places bit bits.now) }
+    ensures { last_of (drop (count bit bits.now result) (positions bit bits.now)) ≡ last_of (positions bit bits.now) }
 {
     let mut k = bits.len().div_ceil(64);
     while k > 0 {
         k -= 1;
-        if place_in_limb(bits, bit, 64 * k).is_some() {
+        if position_in_limb(bits, bit, 64 * k).is_some() {
             return 64 * k;
         }
     }

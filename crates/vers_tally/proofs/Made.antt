@@ -4,7 +4,7 @@ use Rattle.std.specs.Iterator.{MakesProgress, item_count}
 use Rattle.vers_bits.specs.declared.walk.Span.{Span}
 use Rattle.vers_bits.specs.Walk.{TakesNth, TakesNthBack, items_in}
 
--- the item at a place
+-- the item at a position
 item_there : {X : Type 0} (xs : List X) (p : ℕ) → p < length xs → (x : X) × (slice_get xs p ≡ Some x)
 item_there (x ∷ xs) zero h = (x, refl)
 item_there (x ∷ xs) (suc p) h = item_there xs p (omega arith)

@@ -10,18 +10,18 @@ first_member xs m e = (0, slice_get_within xs 0 m (sym e), get_or_from_slice_get
 first_least : (xs : List ℕ) (m : ℕ) → IsNonDecreasing xs → Some m ≡ slice_get xs 0 → All (λ x. m ≤ x) xs
 first_least xs m up e k d h = omega (arith, up 0 k d (omega arith) h, get_or_from_slice_get xs 0 m d (sym e))
 
-last_place : (xs : List ℕ) (m d : ℕ) → Some m ≡ slice_get (reverse xs) 0 → (0 < length xs) × (get_or xs (length xs - 1) d ≡ m)
-last_place xs m d e =
+last_position : (xs : List ℕ) (m d : ℕ) → Some m ≡ slice_get (reverse xs) 0 → (0 < length xs) × (get_or xs (length xs - 1) d ≡ m)
+last_position xs m d e =
     let inside : 0 < length (reverse xs) = slice_get_within (reverse xs) 0 m (sym e) in
     let some : 0 < length xs = omega (arith, length-reverse xs) in
     let z : length xs - 1 - 0 ≡ length xs - 1 = omega arith in
     (some, ap (λ k. get_or xs k d) (sym z) ∙ sym (get_or-reverse xs 0 d some) ∙ get_or_from_slice_get (reverse xs) 0 m d (sym e))
 
 pub last_member : (xs : List ℕ) (m : ℕ) → Some m ≡ slice_get (reverse xs) 0 → Contains xs m
-last_member xs m e = (length xs - 1, omega (arith, (last_place xs m m e).0), (last_place xs m m e).1)
+last_member xs m e = (length xs - 1, omega (arith, (last_position xs m m e).0), (last_position xs m m e).1)
 
 last_greatest : (xs : List ℕ) (m : ℕ) → IsNonDecreasing xs → Some m ≡ slice_get (reverse xs) 0 → All (λ x. x ≤ m) xs
-last_greatest xs m up e k d h = omega (arith, up k (length xs - 1) d (omega arith) (omega (arith, (last_place xs m d e).0)), (last_place xs m d e).1)
+last_greatest xs m up e k d h = omega (arith, up k (length xs - 1) d (omega arith) (omega (arith, (last_position xs m d e).0)), (last_position xs m d e).1)
 
 pub first_none : (xs : List ℕ) → None ≡ slice_get xs 0 → xs ≡ []
 first_none [] e = refl

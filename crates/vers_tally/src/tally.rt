@@ -251,28 +251,28 @@ impl<A: Allocator + Copy> CountedBits<A> {
         block
     }
 
-    /// Returns the bit at `place`, 1 or 0. Reads one data word. `None`, and reads nothing, if `place` is out of
+    /// Returns the bit at `position`, 1 or 0. Reads one data word. `None`, and reads nothing, if `position` is out of
     /// bounds.
     #[inline]
-    pub fn get(&self, place: usize, tally: &mut Tally) -> Option<u64>
-        ensures value { result ≡ option_map bit_value (slice_get self.now place) }
-        ensures inside { place < length self.now
+    pub fn get(&self, position: usize, tally: &mut Tally) -> Option<u64>
+        ensures value { result ≡ option_map bit_value (slice_get self.now position) }
+        ensures inside { position < length self.now
             → tally.new ≡ record tally.old { data_words = one_more tally.old.data_words } }
-        ensures past { length self.now ≤ place → tally.new ≡ tally.old }
+        ensures past { length self.now ≤ position → tally.new ≡ tally.old }
         ensures adds { AddsAtMost tally.old tally.new (only_data_words 1) }
     {
-        if place < self.bits.len() {
+        if position < self.bits.len() {
             tally.data_words = tally.data_words.saturating_add(1);
         }
-        self.bits.get(place)
+        self.bits.get(position)
     }
 
-    /// Returns true if the bit at `place` is a one. Reads one data word. Precondition: `place` is below the
+    /// Returns true if the bit at `position` is a one. Reads one data word. Precondition: `position` is below the
     /// length.
     #[inline]
-    pub fn is_one(&self, place: usize, tally: &mut Tally) -> bool
-        requires { place < length self.now }
-        ensures value { result ≡ slice_index_or self.now place false }
+    pub fn is_one(&self, position: usize, tally: &mut Tally) -> bool
+        requires { position < length self.now }
+        ensures value { result ≡ slice_index_or self.now position false }
         ensures exact { tally.new ≡ record tally.old {
           data_words = one_more
               tally.old.data_words;
@@ -280,40 +280,40 @@ impl<A: Allocator + Copy> CountedBits<A> {
         ensures adds { AddsAtMost tally.old tally.new (only_data_words 1) }
     {
         tally.data_words = tally.data_words.saturating_add(1);
-        self.bits.is_bit_set(place).unwrap()
+        self.bits.is_bit_set(position).unwrap()
     }
 
-    /// Returns the `n` bits from position `place` as a number. Reads two data words, the limb of the first bit
+    /// Returns the `n` bits from `position` on as a number. Reads two data words, the limb of the first bit
     /// and that of the last: bits of one limb are read from it twice, and both reads count. `None`, and reads
     /// nothing, if there are fewer bits, or `n` is 0 or above 64.
     #[inline(always)]
-    pub fn get_bits(&self, place: usize, n: usize, tally: &mut Tally) -> Option<u64>
-        ensures value { result ≡ part_number self.now place n }
+    pub fn get_bits(&self, position: usize, n: usize, tally: &mut Tally) -> Option<u64>
+        ensures value { result ≡ part_number self.now position n }
         ensures both { OnSome result (
             tally.new ≡ record tally.old { data_words = one_more (one_more tally.old.data_words) }
             ) }
         ensures none { IfNone result (tally.new ≡ tally.old) }
         ensures adds { AddsAtMost tally.old tally.new (only_data_words 2) }
     {
-        let number = self.bits.get_bits(place, n);
+        let number = self.bits.get_bits(position, n);
         // No branch: some of it would remain if the count is unused.
         let reads = 2 * u64::from(number.is_some());
         tally.data_words = tally.data_words.saturating_add(reads);
         number
     }
 
-    /// Returns the `n` bits from position `place` as a number, 0 if `n` is 0. Reads one low part, however many
-    /// limbs it spans, also if `n` is 0. Precondition: `n` is at most 64, and `place + n` at most the length.
+    /// Returns the `n` bits from `position` on as a number, 0 if `n` is 0. Reads one low part, however many
+    /// limbs it spans, also if `n` is 0. Precondition: `n` is at most 64, and `position + n` at most the length.
     #[inline(always)]
-    pub fn low_part(&self, place: usize, n: usize, tally: &mut Tally) -> u64
+    pub fn low_part(&self, position: usize, n: usize, tally: &mut Tally) -> u64
         requires few { n ≤ 64 }
-        requires within { place + n ≤ length self.now }
-        ensures value { result ≡ number (part self.now place n) }
+        requires within { position + n ≤ length self.now }
+        ensures value { result ≡ number (part self.now position n) }
         ensures exact { tally.new ≡ record tally.old { low_parts = one_more tally.old.low_parts } }
         ensures adds { AddsAtMost tally.old tally.new (only_low_parts 1) }
     {
         tally.low_parts = tally.low_parts.saturating_add(1);
-        self.bits.get_bits_unchecked(place, n)
+        self.bits.get_bits_unchecked(position, n)
     }
 }
 

@@ -1,7 +1,7 @@
 -- Worked rows of the definitions, which compute.
 use Rattle.std.specs.Prelude.{◌≡◌, ℕ, ◌++◌, List, [], ◌∷◌, codes, Option, Some, None, refl}
 use Rattle.std.specs.Fmt.{digits}
-use Rattle.text_index.specs.Texts.{begins_with, below, by_suffix, comes_before, occurs_at, places_in_order, places_of}
+use Rattle.text_index.specs.Texts.{begins_with, below, by_suffix, comes_before, occurs_at, positions_in_order, positions_of}
 use Rattle.vers_words.specs.Patterns.{gone_on, pattern_of, pattern_text}
 use Rattle.vers_words.specs.Text.{number_of}
 use Rattle.vers_engine.specs.Lines.{lines_of}
@@ -74,43 +74,43 @@ pub answer-text_x : answer_to held_21212 (codes "text 2 1 x") ≡ ended (codes "
 unfolding answer_to_parts number_of
 answer-text_x = refl
 
--- how many places a pattern has, and where they are; they may overlap
+-- how many positions a pattern has, and where they are; they may overlap
 pub answer-count_2_1 : answer_to held_21212 (codes "count 2 1") ≡ ended (codes "2")
-unfolding answer_to_parts number_of places_of occurs_at begins_with digits
+unfolding answer_to_parts number_of positions_of occurs_at begins_with digits
 answer-count_2_1 = refl
 
-pub answer-places_2_1_2 : answer_to held_21212 (codes "places 2 1 2") ≡ ended (codes "0 2")
-unfolding answer_to_parts number_of places_of occurs_at begins_with digits
-answer-places_2_1_2 = refl
+pub answer-positions_2_1_2 : answer_to held_21212 (codes "places 2 1 2") ≡ ended (codes "0 2")
+unfolding answer_to_parts number_of positions_of occurs_at begins_with digits
+answer-positions_2_1_2 = refl
 
 -- the empty pattern occurs at the text's end too, and a symbol that is too wide does not occur
-pub answer-places_of_none : answer_to held_21212 (codes "places") ≡ ended (codes "0 1 2 3 4 5")
-unfolding answer_to_parts places_of occurs_at begins_with digits
-answer-places_of_none = refl
+pub answer-positions_of_none : answer_to held_21212 (codes "places") ≡ ended (codes "0 1 2 3 4 5")
+unfolding answer_to_parts positions_of occurs_at begins_with digits
+answer-positions_of_none = refl
 
 pub answer-count_9 : answer_to held_21212 (codes "count 9") ≡ ended (codes "0")
-unfolding answer_to_parts number_of places_of occurs_at begins_with digits
+unfolding answer_to_parts number_of positions_of occurs_at begins_with digits
 answer-count_9 = refl
 
-pub answer-places_9 : answer_to held_21212 (codes "places 9") ≡ ended []
-unfolding answer_to_parts number_of places_of occurs_at begins_with
-answer-places_9 = refl
+pub answer-positions_9 : answer_to held_21212 (codes "places 9") ≡ ended []
+unfolding answer_to_parts number_of positions_of occurs_at begins_with
+answer-positions_9 = refl
 
 -- the first two in the order of the suffixes
 pub answer-first_2 : answer_to held_21212 (codes "first 2 2") ≡ ended (codes "4 2")
-unfolding answer_to_parts number_of places_in_order by_suffix below comes_before occurs_at begins_with digits
+unfolding answer_to_parts number_of positions_in_order by_suffix below comes_before occurs_at begins_with digits
 answer-first_2 = refl
 
 -- a text in quotes is its bytes
 pub answer-quoted : answer_to (Some (codes "to be")) (codes "places \"o b\"") ≡ ended (codes "1")
-unfolding answer_to_parts places_of occurs_at begins_with digits
+unfolding answer_to_parts positions_of occurs_at begins_with digits
 answer-quoted = refl
 
 pub answer-open_quote : answer_to (Some (codes "to be")) (codes "count \"o b") ≡ ended (codes "bad line")
 unfolding answer_to_parts
 answer-open_quote = refl
 
--- a piece from a place on, before another; one that ends before it starts, and one past the end
+-- a piece from a position on, before another; one that ends before it starts, and one past the end
 pub answer-extract_1_4 : answer_to held_21212 (codes "extract 1 4") ≡ ended (codes "1 2 1")
 unfolding answer_to_parts number_of digits
 answer-extract_1_4 = refl
@@ -150,7 +150,7 @@ input = ended (codes "text 2 2 1 2 1 2") ++ ended (codes "count 2 1 2") ++ ended
 
 pub answers-input : answers_to None (lines_of input)
     ≡ ended (codes "5") ++ ended (codes "2") ++ ended (codes "refused") ++ ended (codes "5")
-unfolding answer_to_parts holding_after_parts number_of places_of occurs_at begins_with digits
+unfolding answer_to_parts holding_after_parts number_of positions_of occurs_at begins_with digits
 answers-input = refl
 
 -- ---- FASTA files
@@ -187,12 +187,12 @@ fasta_fault-no_name = refl
 
 -- occurrences by the names of their sequences
 pub answer-sites_TA : answer_to (Some text_of_two) (codes "sites \"TA\"") ≡ ended (codes "ch 3 d 1")
-unfolding answer_to_parts places_of occurs_at begins_with digits
+unfolding answer_to_parts positions_of occurs_at begins_with digits
 answer-sites_TA = refl
 
 -- a pattern doesn't occur across two sequences, and one with another byte is refused
 pub answer-sites_AG : answer_to (Some text_of_two) (codes "sites \"AG\"") ≡ ended []
-unfolding answer_to_parts places_of occurs_at begins_with
+unfolding answer_to_parts positions_of occurs_at begins_with
 answer-sites_AG = refl
 
 pub answer-sites_10 : answer_to (Some text_of_two) (codes "sites 10") ≡ ended (codes "refused")
@@ -201,16 +201,16 @@ answer-sites_10 = refl
 
 -- a text without names
 pub answer-sites_of_none : answer_to (Some (codes "GATTA")) (codes "sites \"T\"") ≡ ended (codes "refused")
-unfolding answer_to_parts places_of occurs_at begins_with
+unfolding answer_to_parts positions_of occurs_at begins_with
 answer-sites_of_none = refl
 
 -- a text with an unpaired line feed, and one with other bytes between two of them
 pub answer-sites_of_lines : answer_to (Some (ended (codes "a") ++ ended (codes "bc") ++ ended (codes "GATTA"))) (codes "sites \"TA\"") ≡ ended (codes "refused")
-unfolding answer_to_parts places_of occurs_at begins_with
+unfolding answer_to_parts positions_of occurs_at begins_with
 answer-sites_of_lines = refl
 
 pub answer-sites_of_no_name : answer_to (Some (ended [] ++ ended (codes "bc") ++ codes "GATTA")) (codes "sites \"TA\"") ≡ ended (codes "refused")
-unfolding answer_to_parts places_of occurs_at begins_with
+unfolding answer_to_parts positions_of occurs_at begins_with
 answer-sites_of_no_name = refl
 
 -- a piece as a pattern, which reads back

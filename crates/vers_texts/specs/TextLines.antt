@@ -1,13 +1,13 @@
 -- The lines of a text.
 use Rattle.std.specs.Prelude.{ℕ, ◌&&◌, nat_le, List, length, slice_range, take, Option, Some, None, if◌then◌else◌}
-use Rattle.text_index.specs.Texts.{places_in_order, places_of}
+use Rattle.text_index.specs.Texts.{positions_in_order, positions_of}
 use Rattle.text_index.specs.Makers.{is_text}
 use Rattle.vers_words.specs.Arguments.{no_arguments, two_numbers}
 use Rattle.vers_words.specs.Patterns.{number_and_pattern, pattern_of, pattern_text}
 use Rattle.vers_words.specs.Text.{words_in}
 use Rattle.vers_words.specs.Reply.{PlainReply, BadLine, Refused, Number, Absent, Numbers, Text, if_well_formed}
 use Rattle.vers_texts.specs.declared.name.Query.{Query}
-use Rattle.vers_texts.specs.declared.name.Query.TheVariants.{Len, Count, Places, First, Extract, Piece, Sites}
+use Rattle.vers_texts.specs.declared.name.Query.TheVariants.{Len, Count, Positions, First, Extract, Piece, Sites}
 use Rattle.vers_texts.specs.Sites.{sites_reply}
 
 -- the reply of the load line `text K PATTERN`, for its width and its symbols: how many symbols the text has
@@ -31,9 +31,9 @@ pattern_reply text from to = if nat_le from to && nat_le to (length text) then T
 -- the reply to a query line for this text, by the text after its first word
 abbrev pub query_reply : List ℕ → Query → List ℕ → PlainReply
 query_reply text Len arguments = if_well_formed (no_arguments (words_in arguments)) (λ nothing. Number (length text))
-query_reply text Count arguments = if_well_formed (pattern_of arguments) (λ pattern. Number (length (places_of text pattern)))
-query_reply text Places arguments = if_well_formed (pattern_of arguments) (λ pattern. Numbers (places_of text pattern))
-query_reply text First arguments = if_well_formed (number_and_pattern arguments) (λ both. Numbers (take both.0 (places_in_order text both.1)))
+query_reply text Count arguments = if_well_formed (pattern_of arguments) (λ pattern. Number (length (positions_of text pattern)))
+query_reply text Positions arguments = if_well_formed (pattern_of arguments) (λ pattern. Numbers (positions_of text pattern))
+query_reply text First arguments = if_well_formed (number_and_pattern arguments) (λ both. Numbers (take both.0 (positions_in_order text both.1)))
 query_reply text Extract arguments = if_well_formed (two_numbers (words_in arguments)) (λ range. piece_reply text range.0 range.1)
 query_reply text Piece arguments = if_well_formed (two_numbers (words_in arguments)) (λ range. pattern_reply text range.0 range.1)
 query_reply text Sites arguments = if_well_formed (pattern_of arguments) (λ pattern. sites_reply text pattern)

@@ -4,7 +4,7 @@ ghost use Rattle.std.specs.List.{list_all};
 ghost use Rattle.vers_texts.specs.Fasta.{IsNoFasta, fasta_fault, fasta_text as text_of_fasta, is_line as are_line, is_name as are_name, is_residue, is_visible, lines_in, name_in as name_in_line, symbols_of};
 
 use std::alloc::{AllocError, Allocator};
-use vers_words::text::{place_of, without_return};
+use vers_words::text::{position_of, without_return};
 
 /// Why a FASTA file has no text.
 #[derive(Clone, Copy, PartialEq, Eq, Debug, Drop)]
@@ -76,7 +76,7 @@ fn split_line(text: &[u8]) -> (&[u8], Option<&[u8]>)
         (λ others. lines_in text.now ≡ result.0.now ∷ lines_in others.now) }
     ensures shorter { IfSome result.1 (λ others. length others.now < length text.now) }
 {
-    match place_of(b'\n', text) {
+    match position_of(b'\n', text) {
         Some(end) => (without_return(&text[..end]), Some(&text[end + 1..])),
         None => (without_return(text), None),
     }

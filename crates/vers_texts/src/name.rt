@@ -8,7 +8,7 @@ use vers_words::names::named;
 pub enum Query {
     Len,
     Count,
-    Places,
+    Positions,
     First,
     Extract,
     Piece,
@@ -27,7 +27,7 @@ pub const NAMES: [(&[u8], Name); 8] = [
     (b"text", Name::Text),
     (b"len", Name::Query(Query::Len)),
     (b"count", Name::Query(Query::Count)),
-    (b"places", Name::Query(Query::Places)),
+    (b"places", Name::Query(Query::Positions)),
     (b"first", Name::Query(Query::First)),
     (b"extract", Name::Query(Query::Extract)),
     (b"piece", Name::Query(Query::Piece)),

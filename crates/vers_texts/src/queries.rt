@@ -1,7 +1,7 @@
 //! The query lines of a text.
 ghost use Rattle.std.specs.Prelude.{◌≡◌, IfOk, take};
 ghost use Rattle.vers_words.specs.Reply.{plain_reply, Numbers};
-ghost use Rattle.text_index.specs.Texts.{places_in_order, places_of};
+ghost use Rattle.text_index.specs.Texts.{positions_in_order, positions_of};
 ghost use Rattle.vers_texts.specs.TextLines.{query_reply, pattern_reply as reply_of_pattern, piece_reply as reply_of_piece};
 
 use crate::name::Query;
@@ -31,9 +31,9 @@ pub fn reply<A: Allocator + Copy>(
             None => Ok(Reply::BadLine),
             Some(pattern) => Ok(Reply::Number(text.count(pattern.as_slice()) as u64)),
         },
-        Query::Places => match pattern(alloc, arguments)? {
+        Query::Positions => match pattern(alloc, arguments)? {
             None => Ok(Reply::BadLine),
-            Some(pattern) => places_reply(alloc, text, pattern.as_slice()),
+            Some(pattern) => positions_reply(alloc, text, pattern.as_slice()),
         },
         Query::First => match number_and_pattern(alloc, arguments)? {
             None => Ok(Reply::BadLine),
@@ -55,16 +55,16 @@ pub fn reply<A: Allocator + Copy>(
 }
 
 // Returns the reply with the positions of a pattern, ascending.
-fn places_reply<A: Allocator + Copy>(
+fn positions_reply<A: Allocator + Copy>(
     alloc: A,
     text: &TextIndex<A>,
     pattern: &[u64],
 ) -> Result<Reply<A>, AllocError>
     ensures { IfOk result (λ reply.
-        plain_reply reply ≡ Numbers (places_of text.now.items pattern.now)) }
+        plain_reply reply ≡ Numbers (positions_of text.now.items pattern.now)) }
 {
-    let places = text.places_ascending(pattern)?;
-    Ok(Reply::Numbers(numbers_of(alloc, places.as_slice())?))
+    let positions = text.places_ascending(pattern)?;
+    Ok(Reply::Numbers(numbers_of(alloc, positions.as_slice())?))
 }
 
 // Returns the reply with the first positions of a pattern in suffix-array order, at most `limit`.
@@ -75,19 +75,19 @@ fn first_reply<A: Allocator + Copy>(
     pattern: &[u64],
 ) -> Result<Reply<A>, AllocError>
     ensures { IfOk result (λ reply.
-        plain_reply reply ≡ Numbers (take limit (places_in_order text.now.items pattern.now))) }
+        plain_reply reply ≡ Numbers (take limit (positions_in_order text.now.items pattern.now))) }
 {
-    let places = text.first_places(pattern, limit)?;
-    Ok(Reply::Numbers(numbers_of(alloc, places.as_slice())?))
+    let positions = text.first_places(pattern, limit)?;
+    Ok(Reply::Numbers(numbers_of(alloc, positions.as_slice())?))
 }
 
 // Returns positions as numbers of 64 bits.
-fn numbers_of<A: Allocator>(alloc: A, places: &[usize]) -> Result<Vec<u64, A>, AllocError>
-    ensures { IfOk result (λ numbers. numbers.items ≡ places.now) }
+fn numbers_of<A: Allocator>(alloc: A, positions: &[usize]) -> Result<Vec<u64, A>, AllocError>
+    ensures { IfOk result (λ numbers. numbers.items ≡ positions.now) }
 {
-    let mut numbers = Vec::with_capacity(alloc, places.len())?;
-    for place in places {
-        numbers.push(*place as u64)?;
+    let mut numbers = Vec::with_capacity(alloc, positions.len())?;
+    for position in positions {
+        numbers.push(*position as u64)?;
     }
     Ok(numbers)
 }

@@ -42,14 +42,14 @@ fn assert_answered(rt: &impl Abort, alloc: Global, name: &str, rows: &[&str]) ->
 
 const CASES: [Case; 17] = [
     (
-        "a genome, its pieces and their places",
+        "a genome, its pieces and their positions",
         &[
             "text 2 0 1 2 3 0 1 2 0 1 2 3 3 -> 12; count 0 1 2 -> 3; places 0 1 2 -> 0 4 7; places 2 3 -> 2 9",
             "extract 3 8 -> 3 0 1 2 0; len -> 12",
         ],
     ),
     (
-        "the pattern without symbols occurs at each place and at the end",
+        "the pattern without symbols occurs at each position and at the end",
         &["text 4 9 9 -> 2; count -> 3; places -> 0 1 2"],
     ),
     (
@@ -186,7 +186,7 @@ fn assert_exact(rt: &impl Abort, alloc: Global, case: &ExactCase) -> Result<(), 
 const EXACT_CASES: [ExactCase; 4] = [
     ("no input, no answer", &[(b"", b"")]),
     (
-        "places overlap",
+        "occurrences overlap",
         &[
             (b"text 1 1 1 1 1\n", b"4\n"),
             (b"count 1 1\n", b"3\n"),

@@ -44,8 +44,8 @@ const RULES: [Rule; 4] = [
 fn text_of(alloc: Global, rule: Rule) -> Result<Vec<u64>, AllocError> {
     let mut symbols = Vec::new(alloc);
     let mut state = 12345u64;
-    for place in 0..rule.len {
-        if rule.period != 0 && place % rule.period == 0 {
+    for position in 0..rule.len {
+        if rule.period != 0 && position % rule.period == 0 {
             state = 12345;
         }
         state = state
@@ -94,14 +94,18 @@ fn push_answer(text: &mut Vec<u8>, numbers: &[u64]) -> Result<(), AllocError> {
 }
 
 // Returns the positions of a pattern, by testing each.
-fn places_by_scan(alloc: Global, symbols: &[u64], pattern: &[u64]) -> Result<Vec<u64>, AllocError> {
-    let mut places = Vec::new(alloc);
-    for place in 0..symbols.len() + 1 {
-        if symbols[place..].starts_with(pattern) {
-            places.push(place as u64)?;
+fn positions_by_scan(
+    alloc: Global,
+    symbols: &[u64],
+    pattern: &[u64],
+) -> Result<Vec<u64>, AllocError> {
+    let mut positions = Vec::new(alloc);
+    for position in 0..symbols.len() + 1 {
+        if symbols[position..].starts_with(pattern) {
+            positions.push(position as u64)?;
         }
     }
-    Ok(places)
+    Ok(positions)
 }
 
 // Lines, and the answers that a plain scan finds.
@@ -114,11 +118,11 @@ struct Asked {
 impl Asked {
     // Appends a query for the positions of a pattern, and one for their number, and the answers.
     fn ask(&mut self, alloc: Global, symbols: &[u64], pattern: &[u64]) -> Result<(), AllocError> {
-        let places = places_by_scan(alloc, symbols, pattern)?;
+        let positions = positions_by_scan(alloc, symbols, pattern)?;
         push_line(&mut self.input, b"count", pattern)?;
-        push_answer(&mut self.output, &[places.len() as u64])?;
+        push_answer(&mut self.output, &[positions.len() as u64])?;
         push_line(&mut self.input, b"places", pattern)?;
-        push_answer(&mut self.output, places.as_slice())
+        push_answer(&mut self.output, positions.as_slice())
     }
 
     // Appends queries for every other piece of a length as a pattern, by itself, and followed by another symbol.

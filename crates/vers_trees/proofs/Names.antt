@@ -21,9 +21,9 @@ pub use Rattle.std.specs.Int.Signed.{lt_z}
 pub use Rattle.std.specs.List.{last_or, range_with_len}
 pub use Rattle.std.specs.Option.{option_eq}
 pub use Rattle.std.specs.Result.{result_ok}
-pub use Rattle.vers_bits.proofs.PublicLaws.{length-places, find_is, none_passing, last_passing_is, count_near, count_up, bit_value_le, byte_value, count_both, count_le, number_below, number-drop, count_limb, count_none, number-take, bit_at-number}
+pub use Rattle.vers_bits.proofs.PublicLaws.{length-positions, find_is, none_passing, last_passing_is, count_near, count_up, bit_value_le, byte_value, count_both, count_le, number_below, number-drop, count_limb, count_none, number-take, bit_at-number}
 pub use Rattle.vers_bits.specs.Bits.{bit_value, is_bit, number, part}
-unfoldable pub use Rattle.vers_bits.specs.Bits.{count, places, select, limb}
+unfoldable pub use Rattle.vers_bits.specs.Bits.{count, positions, select, limb}
 pub use Rattle.vers_bits.specs.Walk.{TakesFirst}
 pub use Rattle.vers_rank.specs.Queries.{superblock_count, get_reads, rank_reads, select_reads, get_bits_reads}
 unfoldable pub use Rattle.vers_rank.specs.Queries.{part_number_or_zero}
@@ -32,7 +32,7 @@ pub use Rattle.vers_tally.specs.Ends.{Walking}
 pub use Rattle.vers_tally.specs.Reads.{Reads, AddsAtMost, IsWithin, only_nodes}
 unfoldable pub use Rattle.vers_tally.specs.Reads.{digits}
 pub use Rattle.vers_trees.specs.Balance.{are_balanced, closes}
-pub use Rattle.vers_trees.specs.Bytes.{IsByte, IsEntry, sum_along, place_along, place_in, least_in, greatest_in}
+pub use Rattle.vers_trees.specs.Bytes.{IsByte, IsEntry, sum_along, position_along, position_in, least_in, greatest_in}
 pub use Rattle.vers_trees.specs.Excess.{bit_step}
 unfoldable pub use Rattle.vers_trees.specs.Excess.{enclosing, excess, last_rise_before, first_rise_after}
 pub use Rattle.vers_trees.specs.Forest.{Forest, text, pairs, IsBalanced, none, tree, parse, moved}
@@ -53,7 +53,7 @@ pub use Rattle.vers_trees.specs.declared.trees.bp.min_max.Node.{Node}
 pub use Rattle.vers_trees.specs.inside.Bytes.{octal, AreEntries, HasMet, step_along}
 pub use Rattle.vers_trees.specs.inside.Closed.{closed_by}
 pub use Rattle.vers_trees.specs.inside.Index.{IsIndexed, IsBuilding, IsWidth, IsGrowing, AreFirstBlocks, IsTreeOf, IsPassed, past_reads}
-pub use Rattle.vers_trees.specs.inside.MinMax.{empty_node, IsPart, combined, SumsFit, IsNumberAt, IsLevel, IsInRange, IsInRangeOrStart, start_of, Covers, IsAbove, CoveredFrom, AreLeaves, IsMinMax, Sought, sought, target, IsAfter, Passed, HasNone, HasPlace, IsAhead, BeginsAt, LeadsTo, PassedTo, IsOddPart, IsBeside, near_child, far_child, ComesTo, IsMet, left_past}
+pub use Rattle.vers_trees.specs.inside.MinMax.{empty_node, IsPart, combined, SumsFit, IsNumberAt, IsLevel, IsInRange, IsInRangeOrStart, start_of, Covers, IsAbove, CoveredFrom, AreLeaves, IsMinMax, Sought, sought, target, IsAfter, Passed, HasNone, HasPosition, IsAhead, BeginsAt, LeadsTo, PassedTo, IsOddPart, IsBeside, near_child, far_child, ComesTo, IsMet, left_past}
 pub use Rattle.vers_trees.specs.inside.Scans.{sum_past, edge, IsBetween, up_to, IsRise, HasNoRise, scan_reads, block_reads, falls, is_not_closed, rises}
 pub use lib.Count.{ones_step, ones-ones}
 pub use mir.Val.{bool_byte}

@@ -16,20 +16,20 @@ use Rattle.vers_trees.proofs.kin.Partners.{after_from_closes, closes_from_after,
 
 -- ---- nodes
 
--- in a balanced list a node opens at each place that holds a one, where a place past the end counts as a zero, and nowhere else
+-- in a balanced list a node opens at each position that holds a one, where a position past the end counts as a zero, and nowhere else
 pub node_iff_bit : (bits : List Bool) (v : ℕ) → IsBalanced bits → IsNode (forest_of bits) v ↔ (get_or bits v false ≡ true)
 node_iff_bit bits v b = (
   λ n. opens bits v (node_pair bits b v n),
   λ e. contains_map (λ (q : ℕ × ℕ). q.0) (pairs (forest_of bits)) (v, closing (forest_of bits) v) (one_pair bits b v (bit_inside bits v e) e).is_pair,
 )
 
--- the same, by what stands at the place
+-- the same, by what stands at the position
 pub node_iff_one : (bits : List Bool) (v : ℕ) → IsBalanced bits → IsNode (forest_of bits) v ↔ (slice_get bits v ≡ Some true)
 node_iff_one bits v b = grind (arith, ints, slice_get-get_or, bit_inside, get_or_from_slice_get, node_iff_bit bits v b)
 
 -- ---- pairs
 
--- what a list has at a place
+-- what a list has at a position
 has_bit : (l : List Bool) (i : ℕ) (b : Bool) → slice_get l i ≡ Some b → (i < length l) × (get_or l i false ≡ b)
 has_bit l i b e = (slice_get_within l i b e, get_or_from_slice_get l i b false e)
 
@@ -56,7 +56,7 @@ pub found_at_close : (l : List Bool) (v c : ℕ) → Closes l v c → (o : Optio
 found_at_close l v c q None e = none_before l c (negsuc 1) (λ k x h. let b = before_pair l v c q k x h in before_none l v (negsuc 0) (omega arith) e k b.0 b.1)
 found_at_close l v c q (Some p) e = search (rules, before_is, enclose_at_close, before_some)
 
--- of both places of a pair, the nearest pair around it opens at the parent of its node
+-- of both positions of a pair, the nearest pair around it opens at the parent of its node
 pub enclosed_by_parent : (F : Forest) (v c : ℕ) → Contains (pairs F) (v, c) → (enclosing (text F) v ≡ parent F v) × (enclosing (text F) c ≡ parent F v)
 enclosed_by_parent F v c k =
     let q = paired_closes F v c (paired_from_contains F (v, c) k) in let opens = closes_rises (text F) v c false q in
@@ -122,37 +122,37 @@ levels_are_parts F d = omega (arith, length-filter_both (λ v. eqb (depth F v) d
 
 -- ---- walks along a level by handles: what a loop by `level_leftmost` and `level_next` keeps
 
-member_met : {H : Type 0} {place : H → ℕ} {F : Forest} {d : ℕ} {met : List H} {next : Option H} {v : H} → IsAlongLevel place F d met next → next ≡ Some v → slice_get (level F d) (length met) ≡ Some (place v)
-member_met {place = place} h e = sym h.then ∙ ap (option_map place) e
+member_met : {H : Type 0} {position : H → ℕ} {F : Forest} {d : ℕ} {met : List H} {next : Option H} {v : H} → IsAlongLevel position F d met next → next ≡ Some v → slice_get (level F d) (length met) ≡ Some (position v)
+member_met {position = position} h e = sym h.then ∙ ap (option_map position) e
 
 -- from the first node of the level
-pub walk_begins : {H : Type 0} {place : H → ℕ} {F : Forest} {d : ℕ} {next : Option H} → option_map place next ≡ first_of (level F d) → IsAlongLevel place F d [] next
+pub walk_begins : {H : Type 0} {position : H → ℕ} {F : Forest} {d : ℕ} {next : Option H} → option_map position next ≡ first_of (level F d) → IsAlongLevel position F d [] next
 walk_begins e = record { first = refl; then = e }
 
 -- the handle that comes next names a node
-pub walk_meets_nodes : {H : Type 0} {place : H → ℕ} {F : Forest} {d : ℕ} {met : List H} {next : Option H} {v : H} → IsAlongLevel place F d met next → next ≡ Some v → IsNode F (place v)
-walk_meets_nodes {place = place} {F = F} {d = d} {met = met} {v = v} h e = (levels_go_on F d (length met) (place v) (member_met h e)).0
+pub walk_meets_nodes : {H : Type 0} {position : H → ℕ} {F : Forest} {d : ℕ} {met : List H} {next : Option H} {v : H} → IsAlongLevel position F d met next → next ≡ Some v → IsNode F (position v)
+walk_meets_nodes {position = position} {F = F} {d = d} {met = met} {v = v} h e = (levels_go_on F d (length met) (position v) (member_met h e)).0
 
 -- it is met, and the next node of its depth comes next
-pub walk_goes_on : {H : Type 0} {place : H → ℕ} {F : Forest} {d : ℕ} {met all : List H} {next after : Option H} {v : H} → IsAlongLevel place F d met next → next ≡ Some v
-    → all ≡ met ++ v ∷ [] → option_map place after ≡ next_of (level F (depth F (place v))) (place v) → IsAlongLevel place F d all after
-walk_goes_on {place = place} {F = F} {d = d} {met = met} {all = all} {v = v} h e a n =
-    let m = member_met h e in let g = levels_go_on F d (length met) (place v) m in
+pub walk_goes_on : {H : Type 0} {position : H → ℕ} {F : Forest} {d : ℕ} {met all : List H} {next after : Option H} {v : H} → IsAlongLevel position F d met next → next ≡ Some v
+    → all ≡ met ++ v ∷ [] → option_map position after ≡ next_of (level F (depth F (position v))) (position v) → IsAlongLevel position F d all after
+walk_goes_on {position = position} {F = F} {d = d} {met = met} {all = all} {v = v} h e a n =
+    let m = member_met h e in let g = levels_go_on F d (length met) (position v) m in
     let long : length all ≡ length met + 1 = ap (λ (vs : List _). length vs) a ∙ length_push met v in
     record {
-      first = ap (map place) a ∙ map-append place met (v ∷ []) ∙ ap (λ (vs : List ℕ). vs ++ place v ∷ []) h.first ∙ sym (take_more (level F d) (length met) 0 (slice_get_within (level F d) (length met) (place v) m) ∙ ap (λ (y : ℕ). take (length met) (level F d) ++ y ∷ []) (get_or_from_slice_get (level F d) (length met) (place v) 0 m)) ∙ ap (λ (k : ℕ). take k (level F d)) (sym long);
-      then = n ∙ ap (λ (k : ℕ). next_of (level F k) (place v)) g.1 ∙ g.2 ∙ ap (slice_get (level F d)) (sym long);
+      first = ap (map position) a ∙ map-append position met (v ∷ []) ∙ ap (λ (vs : List ℕ). vs ++ position v ∷ []) h.first ∙ sym (take_more (level F d) (length met) 0 (slice_get_within (level F d) (length met) (position v) m) ∙ ap (λ (y : ℕ). take (length met) (level F d) ++ y ∷ []) (get_or_from_slice_get (level F d) (length met) (position v) 0 m)) ∙ ap (λ (k : ℕ). take k (level F d)) (sym long);
+      then = n ∙ ap (λ (k : ℕ). next_of (level F k) (position v)) g.1 ∙ g.2 ∙ ap (slice_get (level F d)) (sym long);
     }
 
 -- fewer are still to be met
-pub walk_comes_nearer : {H : Type 0} {place : H → ℕ} {F : Forest} {d : ℕ} {met all : List H} {next : Option H} {v : H} → IsAlongLevel place F d met next → next ≡ Some v
+pub walk_comes_nearer : {H : Type 0} {position : H → ℕ} {F : Forest} {d : ℕ} {met all : List H} {next : Option H} {v : H} → IsAlongLevel position F d met next → next ≡ Some v
     → all ≡ met ++ v ∷ [] → length (level F d) - length all < length (level F d) - length met
-walk_comes_nearer {place = place} {F = F} {d = d} {met = met} {all = all} {v = v} h e a = grind (arith, slice_get_within, length_push)
+walk_comes_nearer {position = position} {F = F} {d = d} {met = met} {all = all} {v = v} h e a = grind (arith, slice_get_within, length_push)
 
 -- where none comes next, all of the level were met
-pub walk_ends : {H : Type 0} {place : H → ℕ} {F : Forest} {d : ℕ} {met : List H} {next : Option H} → IsAlongLevel place F d met next → next ≡ None → map place met ≡ level F d
-walk_ends {place = place} {F = F} {d = d} {met = met} h e =
-    let past = ⊎_elim (λ (i : length met < length (level F d)). let f = sym (slice_get-get_or (level F d) (length met) 0 i) ∙ sym h.then ∙ ap (option_map place) e in absurd (cc)) (λ (i : length (level F d) ≤ length met). i) (cases_lt (length met) (length (level F d))) in
+pub walk_ends : {H : Type 0} {position : H → ℕ} {F : Forest} {d : ℕ} {met : List H} {next : Option H} → IsAlongLevel position F d met next → next ≡ None → map position met ≡ level F d
+walk_ends {position = position} {F = F} {d = d} {met = met} h e =
+    let past = ⊎_elim (λ (i : length met < length (level F d)). let f = sym (slice_get-get_or (level F d) (length met) 0 i) ∙ sym h.then ∙ ap (option_map position) e in absurd (cc)) (λ (i : length (level F d) ≤ length met). i) (cases_lt (length met) (length (level F d))) in
     h.first ∙ take_all (length met) (level F d) past
 
 -- ---- what calls read

@@ -14,9 +14,9 @@ sum_along false bits n = excess bits n
 sum_along true bits n = excess bits (8 - n) -ℤ excess bits 8
 
 -- the position of the bit of a step
-abbrev pub place_along : (from_end : Bool) → ℕ → ℕ
-place_along false step = step
-place_along true step = 7 - step
+abbrev pub position_along : (from_end : Bool) → ℕ → ℕ
+position_along false step = step
+position_along true step = 7 - step
 
 -- an entry's greatest sum and its least, each plus 8
 abbrev pub greatest_in : ℕ → ℕ
@@ -26,8 +26,8 @@ abbrev pub least_in : ℕ → ℕ
 least_in entry = entry / 32 % 32
 
 -- the position that an entry has for the sum that is x, plus 8
-abbrev pub place_in : ℕ → ℕ → ℕ
-place_in entry x = entry / 2 ^ (10 + 3 * x) % 8
+abbrev pub position_in : ℕ → ℕ → ℕ
+position_in entry x = entry / 2 ^ (10 + 3 * x) % 8
 
 -- p is the first position, within n steps, past which the sum, plus 8, is x
 pub record IsFirstMet (from_end : Bool) (bits : List Bool) (n x p : ℕ) : Type 0 where
@@ -35,12 +35,12 @@ pub record IsFirstMet (from_end : Bool) (bits : List Bool) (n x p : ℕ) : Type 
   pub within : step < n
   pub sum : sum_along from_end bits (step + 1) +ℤ pos 8 ≡ pos x
   pub first : (k : ℕ) → k < step → sum_along from_end bits (k + 1) +ℤ pos 8 ≢ pos x
-  pub place : p ≡ place_along from_end step
+  pub position : p ≡ position_along from_end step
 
 -- a table entry of eight bits: the greatest and the least excess along them, each plus 8, and for each excess between these the first position that reaches it, 7 for all others
 pub record IsEntry (from_end : Bool) (bits : List Bool) (entry : ℕ) : Type 0 where
   pub bounded : greatest_in entry ≤ 16
   pub high : (k : ℕ) → k < 8 → (sum_along from_end bits (k + 1) +ℤ pos 8) ≤ℤ pos (greatest_in entry)
   pub low : (k : ℕ) → k < 8 → pos (least_in entry) ≤ℤ (sum_along from_end bits (k + 1) +ℤ pos 8)
-  pub met : (x : ℕ) → least_in entry ≤ x → x ≤ greatest_in entry → IsFirstMet from_end bits 8 x (place_in entry x)
-  pub absent : (x : ℕ) → x ≤ 16 → (x < least_in entry) ⊎ (greatest_in entry < x) → place_in entry x ≡ 7
+  pub met : (x : ℕ) → least_in entry ≤ x → x ≤ greatest_in entry → IsFirstMet from_end bits 8 x (position_in entry x)
+  pub absent : (x : ℕ) → x ≤ 16 → (x < least_in entry) ⊎ (greatest_in entry < x) → position_in entry x ≡ 7

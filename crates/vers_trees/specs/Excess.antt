@@ -14,12 +14,12 @@ first_rise_after bits i r =
     find (λ j. int_eq (excess bits (j + 1)) (excess bits (i + 1) +ℤ r)) (range_with_len (i + 1) (length bits - (i + 1)))
 
 -- the positions before i, and none if the list has no position i
-abbrev pub places_below : List Bool → ℕ → List ℕ
-places_below bits i = if nat_lt i (length bits) then range_with_len 0 i else []
+abbrev pub positions_below : List Bool → ℕ → List ℕ
+positions_below bits i = if nat_lt i (length bits) then range_with_len 0 i else []
 
 -- the last position before i before which the excess is r more than before i
 unfoldable pub last_rise_before : List Bool → ℕ → ℤ → Option ℕ
-last_rise_before bits i r = last_or None (filter (λ j. int_eq (excess bits j) (excess bits i +ℤ r)) (places_below bits i))
+last_rise_before bits i r = last_or None (filter (λ j. int_eq (excess bits j) (excess bits i +ℤ r)) (positions_below bits i))
 
 -- the position that opens the nearest pair around the bit at i, in a balanced list
 unfoldable pub enclosing : List Bool → ℕ → Option ℕ

@@ -72,22 +72,22 @@ impl<A: Allocator + Copy> Genome<A> {
     /// Returns the position of G or C number `number` (from 0), or `None` if there are fewer.
     pub fn nth_gc(&self, number: usize) -> Option<usize>
         ensures some { IsSome result ↔ (number < count true self.now (length self.now)) }
-        ensures one { IfSome result (λ place. slice_get self.now place ≡ Some true) }
-        ensures before { IfSome result (λ place. count true self.now place ≡ number) }
+        ensures one { IfSome result (λ position. slice_get self.now position ≡ Some true) }
+        ensures before { IfSome result (λ position. count true self.now position ≡ number) }
     {
         select_finds_number();
         select_past_last_is_length();
-        let place = self.gc.select1(number);
-        (place < self.gc.len()).then_some(place)
+        let position = self.gc.select1(number);
+        (position < self.gc.len()).then_some(position)
     }
 
     /// Returns the position of the next G or C after a position, or `None` if there is none.
-    pub fn next_gc(&self, place: usize) -> Option<u64>
-        ensures found { IfSome result (λ next. (place < next) × HoldsAt true self.now next
-            × NoneFrom true self.now (place + 1) next) }
-        ensures none { IsNone result → NoneFrom true self.now (place + 1) (length self.now) }
+    pub fn next_gc(&self, position: usize) -> Option<u64>
+        ensures found { IfSome result (λ next. (position < next) × HoldsAt true self.now next
+            × NoneFrom true self.now (position + 1) next) }
+        ensures none { IsNone result → NoneFrom true self.now (position + 1) (length self.now) }
     {
         none_up_to_neighbour();
-        self.gc.successor1(place)
+        self.gc.successor1(position)
     }
 }

@@ -35,7 +35,7 @@ where
     T::NodeHandle: Copy,
     requires balanced { T.is_forest tree.now }
     ensures { IfOk result
-        (λ nodes. map (T.place tree.now) nodes.items ≡ level (T.forest tree.now) depth) }
+        (λ nodes. map (T.position tree.now) nodes.items ≡ level (T.forest tree.now) depth) }
 {
     let mut nodes = Vec::new(alloc);
     let mut next = tree.level_leftmost(depth);

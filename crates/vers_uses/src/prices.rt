@@ -1,6 +1,6 @@
 //! Prices by the day, and the cheapest of several days.
 ghost use Rattle.std.specs.Prelude.{◌≡◌, ◌-◌, ◌<◌, ◌≤◌, ◌↔◌, length, IfOk, IfSome, IsSome};
-ghost use Rattle.vers_vecs.specs.Minima.{least_place};
+ghost use Rattle.vers_vecs.specs.Minima.{least_position};
 
 use std::alloc::{AllocError, Allocator};
 use std::marker::Model;
@@ -37,7 +37,7 @@ impl<A: Allocator + Copy> Prices<A> {
     /// or they extend past the last.
     pub fn cheapest(&self, from: usize, to: usize) -> Option<usize>
         ensures some { IsSome result ↔ ((from < to) × (to ≤ length self.now)) }
-        ensures least { IfSome result (λ day. day ≡ least_place self.now from (to - 1)) }
+        ensures least { IfSome result (λ day. day ≡ least_position self.now from (to - 1)) }
     {
         if from >= to || to > self.by_day.len() {
             return None;

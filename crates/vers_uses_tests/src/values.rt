@@ -47,7 +47,9 @@ const BASES: [u8; 8] = *b"ACGTGGCA";
 
 // Returns the number of Gs and Cs of a range, the positions of two of them, and those of the next after two
 // positions.
-fn told<A: Allocator + Copy>(genome: &Genome<A>) -> (usize, [Option<usize>; 2], [Option<u64>; 2]) {
+fn answers_of<A: Allocator + Copy>(
+    genome: &Genome<A>,
+) -> (usize, [Option<usize>; 2], [Option<u64>; 2]) {
     (
         genome.gc_between(1, 5),
         [genome.nth_gc(4), genome.nth_gc(5)],
@@ -58,7 +60,7 @@ fn told<A: Allocator + Copy>(genome: &Genome<A>) -> (usize, [Option<usize>; 2], 
 #[test]
 fn bases_of_a_genome(rt: HostRuntime) -> Result<(), Fail> {
     let genome = Genome::from_bases(rt.alloc(), &BASES);
-    let answers = asked(genome, told::<Global>)?;
+    let answers = asked(genome, answers_of::<Global>)?;
     assert_eq!(rt; answers, (3, [Some(6), None], [Some(4), None]));
     Ok(())
 }
@@ -127,20 +129,20 @@ fn built<B: TreeBuilder + Drop>(mut builder: B) -> Result<B::Tree, BuildError> {
 }
 
 // Returns true if the nodes of a depth are at these positions. Only balanced parentheses have levels.
-fn has_level(alloc: Global, tree: &BpTree<8, Global>, depth: u64, places: &[usize]) -> bool {
+fn has_level(alloc: Global, tree: &BpTree<8, Global>, depth: u64, positions: &[usize]) -> bool {
     if !tree.is_balanced() {
         return false;
     }
     match nodes_on_level(alloc, tree, depth) {
-        Ok(nodes) => nodes.as_slice() == places,
+        Ok(nodes) => nodes.as_slice() == positions,
         Err(_) => false,
     }
 }
 
 // Returns the first depth whose nodes are elsewhere.
 fn wrong_depth(alloc: Global, tree: &BpTree<8, Global>) -> Option<u64> {
-    for (depth, places) in LEVELS.iter() {
-        if !has_level(alloc, tree, *depth, places) {
+    for (depth, positions) in LEVELS.iter() {
+        if !has_level(alloc, tree, *depth, positions) {
             return Some(*depth);
         }
     }

@@ -11,7 +11,7 @@ pub mod bit_vec {
     /// Lists of bits with rank and select.
     pub mod fast_rs_vec {
         pub use vers_rank::fast_rs_vec::{
-            BitSetIter, PlacePair, RankedBit, RsVec, RsVecIter, RsVecRefIter, SelectIntoIter,
+            BitSetIter, PositionPair, RankedBit, RsVec, RsVecIter, RsVecRefIter, SelectIntoIter,
             SelectIter,
         };
     }

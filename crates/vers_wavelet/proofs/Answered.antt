@@ -1,4 +1,4 @@
--- What is found in a range, by the relations over the members at its places.
+-- What is found in a range, by the relations over the members at its positions.
 use Rattle.vers_wavelet.proofs.Names.{◌≡◌, ℕ, ◌+◌, ◌<◌, ◌≤◌, List, [], length, Option, Some, None, refl, sym, ap, ◌∙◌, subst, arith, ◌↔◌, slice_range, IsSome, IfSome, Any, range_members, kth_by_size, greatest_up_to, least_from, IsKth, IsPredecessor, IsSuccessor}
 use Rattle.vers_wavelet.proofs.Members.{never, not_lt}
 use Rattle.vers_wavelet.proofs.BySize.{kth_none, kth_is}

@@ -51,7 +51,7 @@ not_above_first xs s i inside =
     passes_first (λ y. leb y s) (by_size xs) (λ j k d before within low. le-leb _ _ (omega (arith, by_size_ascends xs j k d (omega arith) within, leb-true _ _ low))) i (omega (arith, length-by_size xs))
     ∙ ap (ltb i) (count_by_size (λ y. leb y s) xs)
 
--- member i by size stands at place i in ascending order
+-- member i by size stands at position i in ascending order
 pub kth_at : (xs : List ℕ) (i x : ℕ) → i < length xs → IsKth xs i x → get_or (by_size xs) i 0 ≡ x
 kth_at xs i x h kth =
     omega (arith, ltb-false _ _ (below_first xs x i h ∙ le-ltb _ _ kth.less), leb-true _ _ (not_above_first xs x i h ∙ lt-ltb _ _ kth.more))
@@ -69,12 +69,12 @@ at_kth xs i h =
 kth_within : (xs : List ℕ) (i x : ℕ) → IsKth xs i x → i < length xs
 kth_within xs i x kth = omega (arith, kth.more, count_by-le-length (λ z. leb z x) xs)
 
-pub kth_place : (xs : List ℕ) (i x : ℕ) → IsKth xs i x → x ≡ get_or (by_size xs) i 0
-kth_place xs i x kth = sym (kth_at xs i x (kth_within xs i x kth) kth)
+pub kth_position : (xs : List ℕ) (i x : ℕ) → IsKth xs i x → x ≡ get_or (by_size xs) i 0
+kth_position xs i x kth = sym (kth_at xs i x (kth_within xs i x kth) kth)
 
 -- a list has one member of each number by size
 pub one_kth : (xs : List ℕ) (i x y : ℕ) → IsKth xs i x → IsKth xs i y → x ≡ y
-one_kth xs i x y k m = kth_place xs i x k ∙ sym (kth_place xs i y m)
+one_kth xs i x y k m = kth_position xs i x k ∙ sym (kth_position xs i y m)
 
 -- a list of the members by size is the list in ascending order
 pub quantiles_ascend : (numbers quantiles : List ℕ) → length quantiles ≡ length numbers → ((i : ℕ) → i < length numbers → IsKth numbers i (get_or quantiles i 0)) → quantiles ≡ by_size numbers
@@ -102,5 +102,5 @@ kth_is xs i x = (
   λ is.
       let inside : i < length xs = omega (arith, slice_get_within (by_size xs) i x is, length-by_size xs) in
       subst (IsKth xs i) (get_or_from_slice_get (by_size xs) i x 0 is) (at_kth xs i inside),
-  λ kth. kth_some xs i x (kth_within xs i x kth) (kth_place xs i x kth),
+  λ kth. kth_some xs i x (kth_within xs i x kth) (kth_position xs i x kth),
 )

@@ -1,5 +1,5 @@
 -- The final position of a symbol: after the symbols whose digits from the lowest to the highest make a lesser number, and the equal ones before it.
-use Rattle.vers_wavelet.proofs.Names.{◌≡◌, ℕ, zero, suc, ◌+◌, ◌*◌, ◌%◌, ◌^◌, ◌<◌, ◌≤◌, Bool, true, false, cond, ltb, eqb, List, [], ◌∷◌, length, get_or, refl, sym, ap, ◌∙◌, arith, cases_Bool, add-one, mod-lt, mod-one, mod-eq_of_lt, slice_get, leb, ◌&&◌, if◌then◌else◌, None, Some, count_by, nat_tests, take_all, pow_pos, bit_value, start, next, value, values, count_positions, count_equal, final_place, digit, AllHaveLength, AreLevels, reversed_digits, gathered}
+use Rattle.vers_wavelet.proofs.Names.{◌≡◌, ℕ, zero, suc, ◌+◌, ◌*◌, ◌%◌, ◌^◌, ◌<◌, ◌≤◌, Bool, true, false, cond, ltb, eqb, List, [], ◌∷◌, length, get_or, refl, sym, ap, ◌∙◌, arith, cases_Bool, add-one, mod-lt, mod-one, mod-eq_of_lt, slice_get, leb, ◌&&◌, if◌then◌else◌, None, Some, count_by, nat_tests, take_all, pow_pos, bit_value, start, next, value, values, count_positions, count_equal, final_position, digit, AllHaveLength, AreLevels, reversed_digits, gathered}
 use Rattle.vers_wavelet.proofs.Answering.{get_begins, if_both}
 use Rattle.vers_wavelet.proofs.Counting.{split_apart}
 use Rattle.vers_wavelet.proofs.Digits.{digit_value, top_digit, one_split}
@@ -45,9 +45,9 @@ reversed_value l ls p b is =
 last_test : (b bit : Bool) (a t : ℕ) → ltb (2 * a + bit_value b) (2 * t + bit_value bit) ≡ ltb a (cond b t (t + bit_value bit))
 last_test b bit a t = grind (arith, nat_tests, cases_Bool b, cases_Bool bit)
 
--- ---- counts over the places of a level
+-- ---- counts over the positions of a level
 
--- whether a place holds a symbol whose digits make a number below t from the lowest to the highest
+-- whether a position holds a symbol whose digits make a number below t from the lowest to the highest
 abbrev lies_before : List (List Bool) → ℕ → ℕ → Bool
 lies_before ls t p = ltb (reversed_digits (length ls) (value ls p)) t
 
@@ -70,7 +70,7 @@ none_before : (s n : ℕ) → count_positions (lies_before [] (reversed_digits 0
 unfolding reversed_digits
 none_before s n = counts_all _ false n (λ p. refl)
 
-final_first : (ls : List (List Bool)) (n : ℕ) → AllHaveLength ls n → (s : ℕ) → final_place ls s 0 ≡ count_positions (lies_before ls (reversed_digits (length ls) s)) n
+final_first : (ls : List (List Bool)) (n : ℕ) → AllHaveLength ls n → (s : ℕ) → final_position ls s 0 ≡ count_positions (lies_before ls (reversed_digits (length ls) s)) n
 final_first [] n even s = final_none s 0 ∙ sym (none_before s n)
 final_first (l ∷ ls) n even s =
     let k : ℕ = length ls in
@@ -84,10 +84,10 @@ final_first (l ∷ ls) n even s =
     (λ p off. test p false off ∙ last_test false bit (reversed_digits k (value ls (next false l p))) t)
     (λ p on. test p true on ∙ last_test true bit (reversed_digits k (value ls (next true l p))) t) n long in
     let equals = final_equal ls n rest s (start bit l) (omega (arith, start_le bit l, long)) in
-    omega (arith, parts, with_zeros bit l ls s, final_first ls n rest s, equals, final_is l ls s 0, ap (final_place ls s) (next_none bit l))
+    omega (arith, parts, with_zeros bit l ls s, final_first ls n rest s, equals, final_is l ls s 0, ap (final_position ls s) (next_none bit l))
 
--- the final position of a symbol from a place on
-pub gathered_is : {ls : List (List Bool)} {n : ℕ} → AreLevels ls n → (s p to : ℕ) → p ≤ n → to ≡ final_place ls s p
+-- the final position of a symbol from a position on
+pub gathered_is : {ls : List (List Bool)} {n : ℕ} → AreLevels ls n → (s p to : ℕ) → p ≤ n → to ≡ final_position ls s p
     → to ≡ gathered (record { width = length ls; items = values ls n }) p (s % 2 ^ length ls)
 gathered_is {ls} {n} levels s p to within leads =
     let k : ℕ = length ls in
@@ -96,16 +96,16 @@ gathered_is {ls} {n} levels s p to within leads =
     let same : t ≡ reversed_digits k s = reversed_same k c s (mod-eq_of_lt (mod-lt s (pow_pos k))) in
     let counted : count_by (λ y. ltb (reversed_digits k y) t) (values ls n) ≡ count_positions (lies_before ls t) n =
     ap (λ (l : List ℕ). count_by (λ y. ltb (reversed_digits k y) t) l) (sym (take_all n (values ls n) (omega (arith, length-values ls n)))) ∙ first_counts (λ y. ltb (reversed_digits k y) t) ls n n (omega arith) in
-    let first : final_place ls s 0 ≡ count_positions (lies_before ls t) n = final_first ls n levels.even s ∙ ap (λ x. count_positions (lies_before ls x) n) (sym same) in
-    omega (arith, leads, counted, first, count_is levels s 0 p (final_place ls s 0) (final_place ls s p) (omega arith) within (omega arith), final-up ls s 0 p (omega arith))
+    let first : final_position ls s 0 ≡ count_positions (lies_before ls t) n = final_first ls n levels.even s ∙ ap (λ x. count_positions (lies_before ls x) n) (sym same) in
+    omega (arith, leads, counted, first, count_is levels s 0 p (final_position ls s 0) (final_position ls s p) (omega arith) within (omega arith), final-up ls s 0 p (omega arith))
 
 pub gathered_begins : {ls : List (List Bool)} {n : ℕ} → AreLevels ls n → (s p : ℕ) → length ls ≤ 64 → p ≤ n
-    → Some (final_place ls s p) ≡ (if leb (length ls) 64 && leb p (length (values ls n)) then Some (gathered (record { width = length ls; items = values ls n }) p (s % 2 ^ length ls)) else None)
+    → Some (final_position ls s p) ≡ (if leb (length ls) 64 && leb p (length (values ls n)) then Some (gathered (record { width = length ls; items = values ls n }) p (s % 2 ^ length ls)) else None)
 gathered_begins {ls} {n} levels s p few within =
     ap Some (gathered_is levels s p _ within refl) ∙ if_both (length ls) 64 p (length (values ls n)) _ few (omega (arith, length-values ls n))
 
--- the same of the symbol at the place
-pub gathered_here : {ls : List (List Bool)} {n : ℕ} → AreLevels ls n → (p to c : ℕ) → p < n → to ≡ final_place ls (value ls p) p → c ≡ 0 + value ls p
+-- the same of the symbol at the position
+pub gathered_here : {ls : List (List Bool)} {n : ℕ} → AreLevels ls n → (p to c : ℕ) → p < n → to ≡ final_position ls (value ls p) p → c ≡ 0 + value ls p
     → (slice_get (values ls n) p ≡ Some c) × (to ≡ gathered (record { width = length ls; items = values ls n }) p c)
 gathered_here {ls} {n} levels p to c within leads is = (
   sym (ap Some is ∙ get_begins ls n p within),

@@ -1,5 +1,5 @@
 -- Groups of queries that ask a level together.
-use Rattle.vers_wavelet.proofs.Names.{◌≡◌, ◌≢◌, ℕ, ◌+◌, ◌-◌, ◌<◌, ◌≤◌, Bool, List, length, get_or, set, get_or-set_same, get_or-set_other, length-set, ◌∙◌, arith, Some, inl, inr, cases_lt, any_default, each_at, select, start, digit, Become, HasPlace, asked}
+use Rattle.vers_wavelet.proofs.Names.{◌≡◌, ◌≢◌, ℕ, ◌+◌, ◌-◌, ◌<◌, ◌≤◌, Bool, List, length, get_or, set, get_or-set_same, get_or-set_other, length-set, ◌∙◌, arith, Some, inl, inr, cases_lt, any_default, each_at, select, start, digit, Become, HasPosition, asked}
 use Rattle.vers_rank.specs.Batches.{Changed}
 use Rattle.vers_wavelet.specs.declared.wavelet.batch.select.SelectQuery.{SelectQuery}
 use Rattle.vers_wavelet.specs.declared.wavelet.batch.group.Group.{Group}
@@ -12,10 +12,10 @@ become_changed {Q} {d} {R} {n} {xs} {ys} is all = record {
 }
 
 -- what was found for a query
-pub place_above : {v w : List Bool} {i j : ℕ} {q : SelectQuery} {group : Group} (above p : ℕ) (bit : Bool) → w ≡ v → HasPlace v i q j group
+pub position_above : {v w : List Bool} {i j : ℕ} {q : SelectQuery} {group : Group} (above p : ℕ) (bit : Bool) → w ≡ v → HasPosition v i q j group
     → above ≡ get_or (asked bit group).numbers (get_or group.slots j 0) 0 → bit ≡ digit q.symbol i → q.answer ≡ Some p → start (digit q.symbol i) w ≤ p
     → above ≡ select (digit q.symbol i) w (p - start (digit q.symbol i) w)
-place_above {v} {w} {i} {j} {q} {group} above p bit same has at e some from = grind (arith, asked)
+position_above {v} {w} {i} {j} {q} {group} above p bit same has at e some from = grind (arith, asked)
 
 -- one item more has changed
 pub changed_item : {Q : Type 0} {d : Q} {R : Q → Q → Type 0} {from n : ℕ} {xs ys : List Q} → Changed d R from n xs ys → from + n < length xs → (y : Q) → R (get_or ys (from + n) d) y

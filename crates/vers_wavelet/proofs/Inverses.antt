@@ -64,8 +64,8 @@ module _ (l : List Bool) (ls : List (List Bool)) (n : ℕ) (long : length l ≡ 
       let is : get_or all i 0 ≡ value (l ∷ ls) i = get_or-values (l ∷ ls) n i 0 inside in
       let parts = value_parts l ls i b refl in
       let on = goes_on top all i 0 (omega (arith, inside, length-values (l ∷ ls) n)) b (ap top is ∙ parts.0) in
-      let place : next b (map top all) i ≡ p = ap (λ v. next b v i) (first_level l ls n long) ∙ above.2 in
-      ap (λ q. low (get_or (sorted_by top all) q 0)) (sym place) ∙ ap low (on.1 ∙ is) ∙ parts.1 ∙ ap (value ls) above.2
+      let position : next b (map top all) i ≡ p = ap (λ v. next b v i) (first_level l ls n long) ∙ above.2 in
+      ap (λ q. low (get_or (sorted_by top all) q 0)) (sym position) ∙ ap low (on.1 ∙ is) ∙ parts.1 ∙ ap (value ls) above.2
 
   sorted_below : map low (sorted_by top all) ≡ values ls n
   sorted_below =

@@ -3,7 +3,7 @@ use Rattle.vers_wavelet.proofs.Names.{◌≡◌, ℕ, ◌-◌, ◌<◌, Bool, tr
 use Rattle.vers_wavelet.proofs.Digits.{list_digit, whole_symbol}
 use Rattle.vers_wavelet.proofs.BySize.{length-by_size}
 
--- the range of all places
+-- the range of all positions
 pub whole_range : (xs : List ℕ) → slice_range xs 0 (length xs) ≡ xs
 whole_range xs = take_all (length xs - 0) xs (omega arith)
 

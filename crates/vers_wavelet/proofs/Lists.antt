@@ -1,5 +1,5 @@
--- What places and counts of the levels say of the list of symbols.
-use Rattle.vers_wavelet.proofs.Names.{◌≡◌, ℕ, zero, suc, ◌+◌, ◌-◌, ◌%◌, ◌^◌, ◌<◌, ◌≤◌, Bool, true, cond, ltb, leb, eqb, List, ◌∷◌, ◌++◌, length, get_or, take, drop, refl, sym, ap, ◌∙◌, arith, add-one, filter, slice_range, slice_get, Option, Some, None, IsSome, IfSome, All, ◌↔◌, count_by, range_with_len, take-add, drop-cons, drop_more, eq-eqb, nat_tests, map-id, get_or_at, take-append-drop, length-append, length-take, length-drop, filter-append, length-filter, sum_by-append, sum_by-cons, sum_by_more, length-range_with_len, get_or-range_with_len, length-map-range_with_len, get_or-map-range_with_len, take-map-range_with_len, slice_get-get_or, slice_get_past, value, values, count_positions, count_below, count_equal, final_place, AreLevels, IsKthInRange, occurrences, IsKth}
+-- What positions and counts of the levels say of the list of symbols.
+use Rattle.vers_wavelet.proofs.Names.{◌≡◌, ℕ, zero, suc, ◌+◌, ◌-◌, ◌%◌, ◌^◌, ◌<◌, ◌≤◌, Bool, true, cond, ltb, leb, eqb, List, ◌∷◌, ◌++◌, length, get_or, take, drop, refl, sym, ap, ◌∙◌, arith, add-one, filter, slice_range, slice_get, Option, Some, None, IsSome, IfSome, All, ◌↔◌, count_by, range_with_len, take-add, drop-cons, drop_more, eq-eqb, nat_tests, map-id, get_or_at, take-append-drop, length-append, length-take, length-drop, filter-append, length-filter, sum_by-append, sum_by-cons, sum_by_more, length-range_with_len, get_or-range_with_len, length-map-range_with_len, get_or-map-range_with_len, take-map-range_with_len, slice_get-get_or, slice_get_past, value, values, count_positions, count_below, count_equal, final_position, AreLevels, IsKthInRange, occurrences, IsKth}
 use Rattle.vers_wavelet.proofs.Values.{final-up, equal_below, value-lt, counts_more, counts_same}
 use Rattle.vers_wavelet.proofs.Members.{never, not_lt}
 use Rattle.vers_wavelet.proofs.Steps.{final_equal, final_more, final_parts}
@@ -16,7 +16,7 @@ get_or-values ls n p d h = get_or-map-range_with_len (value ls) 0 n p p d h (ome
 pub values_fit : (ls : List (List Bool)) (n : ℕ) → All (λ y. y < 2 ^ length ls) (values ls n)
 values_fit ls n = λ k d h. omega (arith, get_or-values ls n k d (omega (arith, h, length-values ls n)), value-lt ls k)
 
--- ---- counts over a range of places
+-- ---- counts over a range of positions
 
 -- a count over the first items of a list
 pub taken_counts : {X : Type 0} (t : X → Bool) (xs : List X) (d : X) (i : ℕ) → i ≤ length xs → count_by t (take i xs) ≡ count_positions (λ p. t (get_or xs p d)) i
@@ -57,16 +57,16 @@ unfolding occurrences
 occurrences_are_counted items a b s within =
     length-filter (λ p. eqb (get_or items p 0) s) (range_with_len a (b - a)) ∙ counted_from items s a (b - a) (omega arith)
 
--- a range that ends before it begins has no places
-pub no_places : (items : List ℕ) (a b s : ℕ) → b ≤ a → length (occurrences items a b s) ≡ 0
+-- a range that ends before it begins has no positions
+pub no_positions : (items : List ℕ) (a b s : ℕ) → b ≤ a → length (occurrences items a b s) ≡ 0
 unfolding occurrences
-no_places items a b s past = let none : b - a ≡ 0 = omega arith in rw none
+no_positions items a b s past = let none : b - a ≡ 0 = omega arith in rw none
 
 occurrences_are : (ls : List (List Bool)) (n a b s : ℕ) → a ≤ b → b ≤ n → length (occurrences (values ls n) a b s) + count_equal ls s a ≡ count_equal ls s b
 unfolding count_equal
 occurrences_are ls n a b s order within = grind (arith, occurrences_are_counted, length-values, over_members)
 
-pub count_is : {ls : List (List Bool)} {n : ℕ} → AreLevels ls n → (s a b from to : ℕ) → a ≤ b → b ≤ n → from + final_place ls s b ≡ to + final_place ls s a
+pub count_is : {ls : List (List Bool)} {n : ℕ} → AreLevels ls n → (s a b from to : ℕ) → a ≤ b → b ≤ n → from + final_position ls s b ≡ to + final_position ls s a
     → to - from ≡ length (occurrences (values ls n) a b (s % 2 ^ length ls))
 count_is {ls} {n} levels s a b from to order within e =
     omega (arith, e, occurrences_are ls n a b (s % 2 ^ length ls) order within, final_parts levels s a b order within, final-up ls s a b order)
@@ -83,7 +83,7 @@ filter_at p ys i d h on =
       rw made (get_or_at (filter p (take i ys)) (get_or ys i d) (filter p (drop (suc i) ys)) d _ before),
     )
 
--- the places of a range that pass a test: number r of them is the one before which r of them stand
+-- the positions of a range that pass a test: number r of them is the one before which r of them stand
 nth_passing : (q : ℕ → Bool) (a m p d r : ℕ) → a ≤ p → p < a + m → q p ≡ true → count_by q (range_with_len a (p - a)) ≡ r → get_or (filter q (range_with_len a m)) r d ≡ p
 nth_passing q a m p d r low high on e =
     let i : ℕ = p - a in
@@ -92,9 +92,9 @@ nth_passing q a m p d r low high on e =
     let found = filter_at q (range_with_len a m) i d (omega (arith, length-range_with_len a m)) (ap q at ∙ on) in
     ap (λ n. get_or (filter q (range_with_len a m)) n d) (sym (ap (count_by q) taken ∙ e)) ∙ found.1 ∙ at
 
--- the place whose final position is r past that of a is occurrence r from a on
-pub found_is : {ls : List (List Bool)} {n : ℕ} → AreLevels ls n → (s a r from to p : ℕ) → a ≤ n → from ≡ final_place ls s a → to ≡ final_place ls s n → r < to - from
-    → p < n → value ls p ≡ s % 2 ^ length ls → final_place ls s p ≡ from + r
+-- the position whose final position is r past that of a is occurrence r from a on
+pub found_is : {ls : List (List Bool)} {n : ℕ} → AreLevels ls n → (s a r from to p : ℕ) → a ≤ n → from ≡ final_position ls s a → to ≡ final_position ls s n → r < to - from
+    → p < n → value ls p ≡ s % 2 ^ length ls → final_position ls s p ≡ from + r
     → Some p ≡ slice_get (occurrences (values ls n) a n (s % 2 ^ length ls)) r
 unfolding occurrences
 found_is {ls} {n} levels s a r from to p start e f few within holds leads =
@@ -109,16 +109,16 @@ found_is {ls} {n} levels s a r from to p start e f few within holds leads =
     nth_passing q a (n - a) p p r order (omega arith) (ap (λ x. eqb x v) (get_or-values ls n p 0 within) ∙ eq-eqb (value ls p) v holds) before in
     sym (slice_get-get_or (occurrences (values ls n) a n v) r p (omega arith) ∙ ap Some at)
 
-pub found_none : {ls : List (List Bool)} {n : ℕ} → AreLevels ls n → (s a r from to : ℕ) → a ≤ n → from ≡ final_place ls s a → to ≡ final_place ls s n → to - from ≤ r
+pub found_none : {ls : List (List Bool)} {n : ℕ} → AreLevels ls n → (s a r from to : ℕ) → a ≤ n → from ≡ final_position ls s a → to ≡ final_position ls s n → to - from ≤ r
     → None ≡ slice_get (occurrences (values ls n) a n (s % 2 ^ length ls)) r
 found_none {ls} {n} levels s a r from to start e f past = grind (arith, slice_get_past, count_is)
 
--- what the way back up gives of a place that may be one of another symbol
-pub found_or_none : {ls : List (List Bool)} {n : ℕ} → AreLevels ls n → (s a r from : ℕ) (o : Option ℕ) → a ≤ n → from ≡ final_place ls s a → IfSome o (λ p. p < n)
-    → IfSome o (λ p. value ls p ≡ s % 2 ^ length ls) → IfSome o (λ p. final_place ls s p ≡ from + r) → (IsSome o → from + r < final_place ls s n) × (from + r < final_place ls s n → IsSome o)
+-- what the way back up gives of a position that may be one of another symbol
+pub found_or_none : {ls : List (List Bool)} {n : ℕ} → AreLevels ls n → (s a r from : ℕ) (o : Option ℕ) → a ≤ n → from ≡ final_position ls s a → IfSome o (λ p. p < n)
+    → IfSome o (λ p. value ls p ≡ s % 2 ^ length ls) → IfSome o (λ p. final_position ls s p ≡ from + r) → (IsSome o → from + r < final_position ls s n) × (from + r < final_position ls s n → IsSome o)
     → o ≡ slice_get (occurrences (values ls n) a n (s % 2 ^ length ls)) r
 found_or_none {ls} {n} levels s a r from None start e within holds leads some =
-    found_none levels s a r from (final_place ls s n) start e refl (omega (arith, not_lt {a = from + r} {b = final_place ls s n} (λ inside. never (some.1 inside))))
+    found_none levels s a r from (final_position ls s n) start e refl (omega (arith, not_lt {a = from + r} {b = final_position ls s n} (λ inside. never (some.1 inside))))
 found_or_none {ls} {n} levels s a r from (Some p) start e within holds leads some = grind (arith, found_is)
 
 -- ---- members by size
@@ -131,7 +131,7 @@ pub below_is : (ls : List (List Bool)) (n a b s less : ℕ) → a ≤ b → b �
 unfolding count_below
 below_is ls n a b s less order within e = omega (arith, over_members (λ v. ltb v s) ls n a b order within)
 
--- member i by size, by counts over the places and over the members
+-- member i by size, by counts over the positions and over the members
 pub kth_is : (ls : List (List Bool)) (n a b i x : ℕ) → a ≤ b → b ≤ n → IsKthInRange ls a b i x ↔ IsKth (slice_range (values ls n) a b) i x
 unfolding count_below
 kth_is ls n a b i x order within =
@@ -141,7 +141,7 @@ kth_is ls n a b i x order within =
       λ kth. record { less = omega (arith, below, kth.less); more = omega (arith, not_above, kth.more, leb_counts ls x a, leb_counts ls x b) },
     )
 
-pub not_above_is : {ls : List (List Bool)} {n : ℕ} → AreLevels ls n → (s a b less from to : ℕ) → a ≤ b → b ≤ n → from + final_place ls s b ≡ to + final_place ls s a
+pub not_above_is : {ls : List (List Bool)} {n : ℕ} → AreLevels ls n → (s a b less from to : ℕ) → a ≤ b → b ≤ n → from + final_position ls s b ≡ to + final_position ls s a
     → less + count_below ls (s % 2 ^ length ls) a ≡ count_below ls (s % 2 ^ length ls) b
     → less + (to - from) ≡ count_by (λ y. leb y (s % 2 ^ length ls)) (slice_range (values ls n) a b)
 not_above_is {ls} {n} levels s a b less from to order within e g =

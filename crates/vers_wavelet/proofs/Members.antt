@@ -96,7 +96,7 @@ some_not_below xs n s e any =
     let at : s ≤ get_or xs any.0 0 = omega (arith, any_default xs any.0 any.1 0 any.2, any.3, any.4) in
     omega (arith, all_count true xs, less_between (λ y. ltb y s) (λ y. true) (λ y t. refl) xs any.0 any.2 (le-ltb _ s at) refl)
 
--- a range that ends within the list has as many members as places
+-- a range that ends within the list has as many members as positions
 pub part_length : (xs : List ℕ) (a b : ℕ) → b ≤ length xs → length (slice_range xs a b) ≡ b - a
 part_length xs a b within = omega (arith, length-take (b - a) (drop a xs), length-drop a xs)
 

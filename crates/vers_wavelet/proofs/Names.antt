@@ -32,13 +32,13 @@ pub use Rattle.vers_wavelet.specs.Makers.{AllHaveLength, digit}
 unfoldable pub use Rattle.vers_wavelet.specs.Makers.{levels_of, low_symbols, packed_symbols, sorted_by, symbol_levels}
 pub use Rattle.vers_wavelet.specs.Symbols.{IsKth, IsPredecessor, IsSuccessor, Symbols, by_size, digit_list, gathered, in_bits, ordered, placed}
 unfoldable pub use Rattle.vers_wavelet.specs.Symbols.{as_word, greatest_up_to, kth_by_size, least_from, occurrences, range_members, reversed_digits}
-pub use Rattle.vers_wavelet.specs.inside.Batches.{Changed, HasNumber, HasPlace, IsClimbing, asked, no_query}
+pub use Rattle.vers_wavelet.specs.inside.Batches.{Changed, HasNumber, HasPosition, IsClimbing, asked, no_query}
 pub use Rattle.vers_wavelet.specs.inside.Counts.{IsKthInRange, count_positions}
 unfoldable pub use Rattle.vers_wavelet.specs.inside.Counts.{count_below, count_equal, kth_symbol}
 pub use Rattle.vers_wavelet.specs.inside.Levels.{AreLevels, start}
-unfoldable pub use Rattle.vers_wavelet.specs.inside.Levels.{final_place, next, value, values}
+unfoldable pub use Rattle.vers_wavelet.specs.inside.Levels.{final_position, next, value, values}
 pub use Rattle.vers_wavelet.specs.inside.Makers.{AreClassStarts, AreNextStarts, HasWritten, Splits}
-unfoldable pub use Rattle.vers_wavelet.specs.inside.Makers.{class_place, count_class, level_order, prefix}
+unfoldable pub use Rattle.vers_wavelet.specs.inside.Makers.{class_position, count_class, level_order, prefix}
 pub use Rattle.vers_wavelet.specs.inside.Nearest.{HasBeside, IsTrail, nearest}
 pub use Rattle.vers_wavelet.specs.inside.Walks.{HasClimbed, HasRoom, LeadsTo, Narrowed, ReducesKth}
 pub use Rattle.vers_wavelet.specs.inside.Ways.{IsNode, IsWay}

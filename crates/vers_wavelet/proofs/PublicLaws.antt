@@ -22,7 +22,7 @@ count_by_size = BySize.count_by_size
 pub length-by_size : (xs : List ℕ) → length (by_size xs) ≡ length xs
 length-by_size = BySize.length-by_size
 
--- member i by size stands at place i in ascending order, and is one number
+-- member i by size stands at position i in ascending order, and is one number
 pub kth_at : (xs : List ℕ) (i x : ℕ) → i < length xs → IsKth xs i x → get_or (by_size xs) i 0 ≡ x
 kth_at = BySize.kth_at
 
@@ -66,11 +66,11 @@ small_numbers_stay = Makes.small_numbers_stay
 pub occurrences_are_counted : (numbers : List ℕ) (a b s : ℕ) → b ≤ length numbers → length (occurrences numbers a b s) ≡ count_by (λ y. eqb y s) (slice_range numbers a b)
 occurrences_are_counted = Lists.occurrences_are_counted
 
--- the range of all places is the list
+-- the range of all positions is the list
 pub whole_range : (xs : List ℕ) → slice_range xs 0 (length xs) ≡ xs
 whole_range = Items.whole_range
 
--- a range that ends within the list has as many members as places
+-- a range that ends within the list has as many members as positions
 pub part_length : (xs : List ℕ) (a b : ℕ) → b ≤ length xs → length (slice_range xs a b) ≡ b - a
 part_length = Members.part_length
 

@@ -35,7 +35,7 @@ kth_past items a b i past = kth_none (range_members items a b) i (omega (arith, 
 pub kth_few : (items : List ℕ) (a b i : ℕ) → b ≤ a + i → kth_by_size (range_members items a b) i ≡ None
 kth_few items a b i few = kth_none (range_members items a b) i (omega (arith, few_members items a b))
 
--- a range has a member of a number where it ends within the list and has so many places
+-- a range has a member of a number where it ends within the list and has so many positions
 pub range_has_kth : (items : List ℕ) (a b i : ℕ) → IsSome (kth_by_size (range_members items a b) i) ↔ (b ≤ length items) × (a + i < b)
 range_has_kth items a b i = (
   λ some.

@@ -4,7 +4,7 @@ use Rattle.vers_wavelet.proofs.Values.{counts_same, split_all, value_is}
 use Rattle.vers_wavelet.proofs.Steps.{value_parts, even_first, even_rest}
 use Rattle.vers_wavelet.proofs.Lists.{length-values, get_or-values, taken_counts}
 
--- the places of a level take all places of the next, each once
+-- the positions of a level take all positions of the next, each once
 all_moved : (g : ℕ → Bool) (l : List Bool) (n : ℕ) → length l ≡ n → count_positions (λ p. g (next (get_or l p false) l p)) n ≡ count_positions g n
 all_moved g l n long =
     let same = λ (b : Bool) (p : ℕ) (is : get_or l p false ≡ b). ap (λ c. g (next c l p)) is in

@@ -30,8 +30,8 @@ packed_prefix bits w n e h =
 pub packed_inside : (n w e : ℕ) → 0 < w → e < n / w → e * w + w ≤ n
 packed_inside n w e some h = omega (arith, row_fits e w (n / w) w h (omega arith), div-mul-le_self n w)
 
-pub place_item : (n i : ℕ) → i < length (range_with_len 0 n) → slice_get (range_with_len 0 n) i ≡ Some i
-place_item n i h = slice_get-get_or (range_with_len 0 n) i i h ∙ ap Some (get_or-range_with_len 0 n i i (omega (arith, length-range_with_len 0 n)) ∙ (let none : 0 + i ≡ i = omega arith in none))
+pub position_item : (n i : ℕ) → i < length (range_with_len 0 n) → slice_get (range_with_len 0 n) i ≡ Some i
+position_item n i h = slice_get-get_or (range_with_len 0 n) i i h ∙ ap Some (get_or-range_with_len 0 n i i (omega (arith, length-range_with_len 0 n)) ∙ (let none : 0 + i ≡ i = omega arith in none))
 
 -- the first n of the numbers of k bits each that bits encode
 abbrev pub first_numbers : List Bool → ℕ → ℕ → List ℕ
@@ -52,6 +52,6 @@ fits_in bits k e most few =
 
 pub ruleset words = (word_prefix, one_fits)
 
-pub ruleset packed = (packed_digit, packed_prefix, packed_inside, div-le_self, length-range_with_len, place_item)
+pub ruleset packed = (packed_digit, packed_prefix, packed_inside, div-le_self, length-range_with_len, position_item)
 
 pub ruleset unpacking = (more_numbers, all_numbers, packed_inside, fits_in, map-append)

@@ -1,12 +1,12 @@
 -- One level of a search.
-use Rattle.vers_wavelet.proofs.Names.{◌≡◌, ℕ, zero, suc, ◌+◌, ◌-◌, ◌*◌, ◌%◌, ◌^◌, ◌<◌, ◌≤◌, Bool, false, cond, List, [], ◌∷◌, length, take, drop, get_or, refl, sym, ap, ◌∙◌, subst, arith, add-one, drop-cons, pow-suc, mod-lt, mod-eq_of_lt, mul-le-mul_right, mod-one, pow_pos, length-drop, drop_all, take_all, bit_value, bit_value_le, count, select, select_holds, Reads, IsWithin, times, start, next, value, count_below, count_equal, final_place, digit, AllHaveLength, AreLevels, Narrowed, IsKthInRange, HasRoom, ReducesKth, LeadsTo}
+use Rattle.vers_wavelet.proofs.Names.{◌≡◌, ℕ, zero, suc, ◌+◌, ◌-◌, ◌*◌, ◌%◌, ◌^◌, ◌<◌, ◌≤◌, Bool, false, cond, List, [], ◌∷◌, length, take, drop, get_or, refl, sym, ap, ◌∙◌, subst, arith, add-one, drop-cons, pow-suc, mod-lt, mod-eq_of_lt, mul-le-mul_right, mod-one, pow_pos, length-drop, drop_all, take_all, bit_value, bit_value_le, count, select, select_holds, Reads, IsWithin, times, start, next, value, count_below, count_equal, final_position, digit, AllHaveLength, AreLevels, Narrowed, IsKthInRange, HasRoom, ReducesKth, LeadsTo}
 use Rattle.vers_wavelet.proofs.Digits.{top_digit, one_split}
 use Rattle.vers_wavelet.proofs.Values.{same_bit, value-lt, below_all, below_step, equal_below, next_none, next-up, next-le, none_below, all_equal, value_is, value_none, final_none, final_is, final-up, equal_more}
 
 cond_gap : (bit : Bool) (a b : ℕ) → a ≤ b → cond bit b 0 ≡ cond bit a 0 + cond bit (b - a) 0
 cond_gap bit a b order = grind arith
 
--- of the places that go on with the bit, member j by size makes member i of all
+-- of the positions that go on with the bit, member j by size makes member i of all
 pub kth_step : (bit : Bool) (l : List Bool) (ls : List (List Bool)) (a b i j x : ℕ) → a ≤ b → b ≤ length l → x < 2 ^ length ls
     → j + cond bit (next false l b - next false l a) 0 ≡ i
     → IsKthInRange ls (next bit l a) (next bit l b) j x → IsKthInRange (l ∷ ls) a b i (bit_value bit * 2 ^ length ls + x)
@@ -32,7 +32,7 @@ pub digit_from : (s m k : ℕ) → k < m → s % 2 ^ (m - k) ≡ bit_value (digi
 digit_from s m k h =
     let e : m - k ≡ m - (k + 1) + 1 = omega arith in rw e (top_digit s (m - (k + 1)))
 
--- the digits of a symbol from a level on: the bit at its place, and the others
+-- the digits of a symbol from a level on: the bit at its position, and the others
 pub value_parts : (l : List Bool) (ls : List (List Bool)) (p : ℕ) (b : Bool) → get_or l p false ≡ b → (digit (value (l ∷ ls) p) (length ls) ≡ b) × (value (l ∷ ls) p % 2 ^ length ls ≡ value ls (next b l p))
 value_parts l ls p b is =
     let k : ℕ = length ls in
@@ -51,8 +51,8 @@ even_first l ls n even = even zero l (omega arith)
 pub start_le : (bit : Bool) (l : List Bool) → start bit l ≤ length l
 start_le bit l = omega (arith, next_none bit l, next-le bit l 0)
 
--- the places that hold s before a place are as far apart below the last level
-pub final_equal : (ls : List (List Bool)) (n : ℕ) → AllHaveLength ls n → (s i : ℕ) → i ≤ n → count_equal ls (s % 2 ^ length ls) i + final_place ls s 0 ≡ final_place ls s i
+-- the positions that hold s before a position are as far apart below the last level
+pub final_equal : (ls : List (List Bool)) (n : ℕ) → AllHaveLength ls n → (s i : ℕ) → i ≤ n → count_equal ls (s % 2 ^ length ls) i + final_position ls s 0 ≡ final_position ls s i
 final_equal [] n even s i h =
     let none : s % 2 ^ 0 ≡ 0 = omega arith in
     omega (arith, ap (λ y. count_equal [] y i) none, all_equal i, final_none s 0, final_none s i)
@@ -67,14 +67,14 @@ final_equal (l ∷ ls) n even s i h =
     let inside : i ≤ length l = omega (arith, even_first l ls n even) in
     let below = below_step bit l ls r y i whole (omega arith) inside in
     let not_above = below_step bit l ls (r + 1) (y + 1) i (omega (arith, whole)) (omega arith) inside in
-    omega (arith, below, not_above, equal_below (l ∷ ls) y i, equal_below ls r (start bit l), equal_below ls r (next bit l i), here, first, final_is l ls s i, final_is l ls s 0, ap (final_place ls s) (next_none bit l))
+    omega (arith, below, not_above, equal_below (l ∷ ls) y i, equal_below ls r (start bit l), equal_below ls r (next bit l i), here, first, final_is l ls s i, final_is l ls s 0, ap (final_position ls s) (next_none bit l))
 
--- a place that holds s has a place of its own there
-pub final_more : (ls : List (List Bool)) (n : ℕ) → AllHaveLength ls n → (s i : ℕ) → i < n → value ls i ≡ s % 2 ^ length ls → final_place ls s (i + 1) ≡ final_place ls s i + 1
+-- a position that holds s has a position of its own there
+pub final_more : (ls : List (List Bool)) (n : ℕ) → AllHaveLength ls n → (s i : ℕ) → i < n → value ls i ≡ s % 2 ^ length ls → final_position ls s (i + 1) ≡ final_position ls s i + 1
 final_more ls n even s i h e = omega (arith, final_equal ls n even s i (omega arith), final_equal ls n even s (i + 1) (omega arith), equal_more ls (s % 2 ^ length ls) i e)
 
--- the places that hold s lie between those of a level below
-pub final_between : (ls : List (List Bool)) (n : ℕ) → AllHaveLength ls n → (s k : ℕ) → (final_place (drop k ls) s 0 ≤ final_place ls s 0) × (final_place ls s n ≤ final_place (drop k ls) s n)
+-- the positions that hold s lie between those of a level below
+pub final_between : (ls : List (List Bool)) (n : ℕ) → AllHaveLength ls n → (s k : ℕ) → (final_position (drop k ls) s 0 ≤ final_position ls s 0) × (final_position ls s n ≤ final_position (drop k ls) s n)
 final_between ls n even s zero = (omega arith, omega arith)
 final_between [] n even s (suc k) = (omega arith, omega arith)
 final_between (l ∷ ls) n even s (suc k) =
@@ -106,7 +106,7 @@ module _ (ls : List (List Bool)) (s k : ℕ) (h : k < length ls) (v : List Bool)
       ≡ cond bit (next false v i) 0 + count_below lower rest (next bit v i)
   below_at i within = rw (level_at ls k h v at) (below_step bit v lower rest _ i whole (omega (arith, small)) within)
 
-  pub final_down : (i : ℕ) → final_place (drop k ls) s i ≡ final_place lower s (next bit v i)
+  pub final_down : (i : ℕ) → final_position (drop k ls) s i ≡ final_position lower s (next bit v i)
   final_down i = rw (level_at ls k h v at, final_is v lower s i, length-drop (k + 1) ls, ← is)
 
   -- the two ends of a range, one level down
@@ -125,12 +125,12 @@ module _ (ls : List (List Bool)) (s k : ℕ) (h : k < length ls) (v : List Bool)
     long = ap length at ∙ even k v h
 
     -- what leads to a symbol that is s is among those of its digit
-    pub rise_inside : final_place ls s 0 ≤ target → target < final_place ls s n → (start bit v ≤ q) × (q < next bit v (length v))
+    pub rise_inside : final_position ls s 0 ≤ target → target < final_position ls s n → (start bit v ≤ q) × (q < next bit v (length v))
     rise_inside low high =
         let more = final_more lower n (even_drop ls n even (k + 1)) s q up.within (up.holds ∙ ap (λ m. s % 2 ^ m) (sym (length-drop (k + 1) ls))) in
         let between = final_between ls n even s k in (
-          grind (arith, up.leads, more, final-up lower s (q + 1) (start bit v), final_down 0, ap (final_place lower s) (next_none bit v), between.0),
-          grind (arith, up.leads, final-up lower s (next bit v (length v)) q, final_down (length v), ap (final_place (drop k ls) s) long, between.1),
+          grind (arith, up.leads, more, final-up lower s (q + 1) (start bit v), final_down 0, ap (final_position lower s) (next_none bit v), between.0),
+          grind (arith, up.leads, final-up lower s (next bit v (length v)) q, final_down (length v), ap (final_position (drop k ls) s) long, between.1),
         )
 
     pub rise_to : start bit v ≤ q → q < next bit v (length v) → LeadsTo ls n s target k (select bit v (q - start bit v))
@@ -158,7 +158,7 @@ module _ (ls : List (List Bool)) (k : ℕ) (h : k < length ls) (v : List Bool) (
   abbrev weight : ℕ
   weight = 2 ^ (length ls - (k + 1))
 
-  -- the members by size of a range, by those of the places that go on with the bit
+  -- the members by size of a range, by those of the positions that go on with the bit
   pub reduces_more : (bit : Bool) {from to a b c d number made : ℕ} (th more : ℕ) → a ≤ b → b ≤ length v → c ≡ next bit v a → d ≡ next bit v b
       → more ≡ th + cond bit (next false v b - next false v a) 0 → made ≡ number + bit_value bit * weight
       → ((j : ℕ) → ReducesKth ls from to (th + j) k a b j number)
@@ -213,38 +213,38 @@ narrowed_none ls s from to =
     record { less_is = ap (λ n. 0 + count_below ls (s % 2 ^ n) to + count_below ls (s % 2 ^ length ls) from) e ∙ omega arith ∙ ap (λ n. count_below ls (s % 2 ^ n) from + count_below ls (s % 2 ^ length ls) to) (sym e); from_is = refl; to_is = refl }
 
 pub narrowed_all : {ls : List (List Bool)} {s from to k a b less : ℕ} → k ≡ length ls → Narrowed ls s from to k a b less
-    → (less + count_below ls (s % 2 ^ length ls) from ≡ count_below ls (s % 2 ^ length ls) to) × (a ≡ final_place ls s from) × (a + final_place ls s to ≡ b + final_place ls s from)
+    → (less + count_below ls (s % 2 ^ length ls) from ≡ count_below ls (s % 2 ^ length ls) to) × (a ≡ final_position ls s from) × (a + final_position ls s to ≡ b + final_position ls s from)
 narrowed_all {ls} {s} {from} {to} {k} {a} {b} {less} e n =
     let none : drop k ls ≡ [] = drop_all k ls (omega arith) in
     let z : length ls - k ≡ 0 = omega arith in
     let first = sym (final_none s a) ∙ rw none at n.from_is in
     (omega (arith, rw (none, z, mod-one s) at n.less_is, none_below a, none_below b), first, omega (arith, first, final_none s b, rw none at n.to_is))
 
--- the final position of a place, after all levels
-pub final_all : (ls : List (List Bool)) (s k p from : ℕ) → k ≡ length ls → final_place (drop k ls) s p ≡ final_place ls s from → p ≡ final_place ls s from
-final_all ls s k p from e w = sym (final_none s p) ∙ ap (λ m. final_place m s p) (sym (drop_all k ls (omega arith))) ∙ w
+-- the final position of a position, after all levels
+pub final_all : (ls : List (List Bool)) (s k p from : ℕ) → k ≡ length ls → final_position (drop k ls) s p ≡ final_position ls s from → p ≡ final_position ls s from
+final_all ls s k p from e w = sym (final_none s p) ∙ ap (λ m. final_position m s p) (sym (drop_all k ls (omega arith))) ∙ w
 
 -- the occurrences of s in a range, by the final positions of its ends
-pub final_parts : {ls : List (List Bool)} {n : ℕ} → AreLevels ls n → (s a b : ℕ) → a ≤ b → b ≤ n → final_place ls s b - final_place ls s a + count_equal ls (s % 2 ^ length ls) a ≡ count_equal ls (s % 2 ^ length ls) b
+pub final_parts : {ls : List (List Bool)} {n : ℕ} → AreLevels ls n → (s a b : ℕ) → a ≤ b → b ≤ n → final_position ls s b - final_position ls s a + count_equal ls (s % 2 ^ length ls) a ≡ count_equal ls (s % 2 ^ length ls) b
 final_parts {ls} {n} levels s a b order within = omega (arith, final_equal ls n levels.even s a (omega arith), final_equal ls n levels.even s b within, final-up ls s a b order)
 
 pub ruleset narrowing = (next-le, next-up, narrowed_none)
 
 pub ruleset searching = (reduces_none, next-le, next-up)
 
-pub final_within : {ls : List (List Bool)} {n : ℕ} → AreLevels ls n → (s : ℕ) → final_place ls s n ≤ n
-final_within {ls} {n} levels s = omega (arith, (final_between ls n levels.even s (length ls)).1, ap (λ m. final_place m s n) (drop_all (length ls) ls (omega arith)) ∙ final_none s n)
+pub final_within : {ls : List (List Bool)} {n : ℕ} → AreLevels ls n → (s : ℕ) → final_position ls s n ≤ n
+final_within {ls} {n} levels s = omega (arith, (final_between ls n levels.even s (length ls)).1, ap (λ m. final_position m s n) (drop_all (length ls) ls (omega arith)) ∙ final_none s n)
 
 pub rise_at : {ls : List (List Bool)} {n s target m q : ℕ} (k : ℕ) → m ≡ k + 1 → LeadsTo ls n s target m q → LeadsTo ls n s target (k + 1) q
 rise_at k e up = rw e at up
 
-pub rise_all : {ls : List (List Bool)} {n s target k q : ℕ} → k ≡ 0 → LeadsTo ls n s target k q → (value ls q ≡ s % 2 ^ length ls) × (final_place ls s q ≡ target)
+pub rise_all : {ls : List (List Bool)} {n s target k q : ℕ} → k ≡ 0 → LeadsTo ls n s target k q → (value ls q ≡ s % 2 ^ length ls) × (final_position ls s q ≡ target)
 rise_all {ls} e up =
     let none : length ls - 0 ≡ length ls = omega arith in
     (rw (e, none) at up.holds, rw e at up.leads)
 
--- the place it leads to is one of those that hold s
-pub rise_below : {ls : List (List Bool)} {n s target k q : ℕ} → AreLevels ls n → k ≡ 0 → LeadsTo ls n s target k q → target < final_place ls s n
+-- the position it leads to is one of those that hold s
+pub rise_below : {ls : List (List Bool)} {n s target k q : ℕ} → AreLevels ls n → k ≡ 0 → LeadsTo ls n s target k q → target < final_position ls s n
 rise_below {ls} {n} {s} {target} {k} {q} levels e up =
     let top = rise_all e up in
     omega (arith, top.1, final_more ls n levels.even s q up.within top.0, final-up ls s (q + 1) n (omega (arith, up.within)))

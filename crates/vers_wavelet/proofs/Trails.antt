@@ -1,9 +1,9 @@
 -- The way down to a nearest symbol, level by level, and what it finds.
-use Rattle.vers_wavelet.proofs.Names.{◌≡◌, ℕ, ◌+◌, ◌-◌, ◌*◌, ◌%◌, ◌^◌, ◌<◌, ◌≤◌, Bool, true, false, not, cases_Bool, cond, leb, ltb, List, length, get_or, drop, refl, sym, ap, subst, ◌∙◌, arith, beq, slice_range, Some, None, count_by, length-drop, count_by-le-length, bit_value, next, count_below, final_place, values, digit, AreLevels, IsKthInRange, HasBeside, IsTrail, nearest}
+use Rattle.vers_wavelet.proofs.Names.{◌≡◌, ℕ, ◌+◌, ◌-◌, ◌*◌, ◌%◌, ◌^◌, ◌<◌, ◌≤◌, Bool, true, false, not, cases_Bool, cond, leb, ltb, List, length, get_or, drop, refl, sym, ap, subst, ◌∙◌, arith, beq, slice_range, Some, None, count_by, length-drop, count_by-le-length, bit_value, next, count_below, final_position, values, digit, AreLevels, IsKthInRange, HasBeside, IsTrail, nearest}
 use Rattle.vers_wavelet.specs.declared.wavelet.nearest.Trail.{Trail}
 use Rattle.vers_wavelet.proofs.Values.{next_both, next-le, next-up}
 use Rattle.vers_wavelet.proofs.Steps.{digit_from, narrowed_more, reduces_more, narrowed_none, reduces_none, kth-lt}
-use Rattle.vers_wavelet.proofs.BySize.{kth_place}
+use Rattle.vers_wavelet.proofs.BySize.{kth_position}
 use Rattle.vers_wavelet.proofs.Lists.{length-part, below_is, not_above_is, kth_is}
 use Rattle.vers_wavelet.proofs.Nearest.{nearest_same, nearest_is, nearest_none}
 
@@ -51,7 +51,7 @@ module _ (ls : List (List Bool)) (n s from to k : ℕ) (h : k < length ls) (v : 
       let passed : cond up (u.part.less + (u.part.end - u.part.start)) u.part.less ≡ cond up (t.part.less + (b - a)) t.part.less = grind (arith, first, last, less, empty, next_both v a b f.order, next-up true v a b f.order, next-up false v a b f.order, f.within, long) in
       leaves_as up ls n s from to t u same passed f.leaves
 
-  -- the other places were left beside
+  -- the other positions were left beside
   pub leaves_new : (up : Bool) (t u : Trail) → IsTrail up ls n s from to k t → u.part.start ≡ next bit v t.part.start → u.part.end ≡ next bit v t.part.end
       → u.part.less ≡ t.part.less + cond bit (next false v t.part.end - next false v t.part.start) 0
       → u.beside.level ≡ k + 1 → u.beside.start ≡ next up v t.part.start → u.beside.end ≡ next up v t.part.end → bit ≡ not up
@@ -93,14 +93,14 @@ follows_none up ls n s from to order within =
 -- ---- what is found
 
 -- the symbol itself
-pub found_same : {ls : List (List Bool)} {n : ℕ} → AreLevels ls n → (up : Bool) (s from to a b less x : ℕ) → from ≤ to → to ≤ n → a < b → a + final_place ls s to ≡ b + final_place ls s from
+pub found_same : {ls : List (List Bool)} {n : ℕ} → AreLevels ls n → (up : Bool) (s from to a b less x : ℕ) → from ≤ to → to ≤ n → a < b → a + final_position ls s to ≡ b + final_position ls s from
     → less + count_below ls (s % 2 ^ length ls) from ≡ count_below ls (s % 2 ^ length ls) to → x + s % 2 ^ 0 ≡ s % 2 ^ length ls → nearest up (slice_range (values ls n) from to) (s % 2 ^ length ls) ≡ Some x
 found_same {ls} {n} levels up s from to a b less x order within some kept e is =
     let none : s % 2 ^ 0 ≡ 0 = omega arith in
     nearest_same up (slice_range (values ls n) from to) less (b - a) (s % 2 ^ length ls) x (below_is ls n from to (s % 2 ^ length ls) less order within e)
     (not_above_is levels s from to less a b order within kept e) (omega arith) (omega (arith, none))
 
-module _ {ls : List (List Bool)} {n : ℕ} (levels : AreLevels ls n) (s from to : ℕ) (t : Trail) (order : from ≤ to) (within : to ≤ n) (last : t.part.end ≤ t.part.start) (sorted : t.part.start ≤ t.part.end) (kept : t.part.start + final_place ls s to ≡ t.part.end + final_place ls s from)
+module _ {ls : List (List Bool)} {n : ℕ} (levels : AreLevels ls n) (s from to : ℕ) (t : Trail) (order : from ≤ to) (within : to ≤ n) (last : t.part.end ≤ t.part.start) (sorted : t.part.start ≤ t.part.end) (kept : t.part.start + final_position ls s to ≡ t.part.end + final_position ls s from)
     (e : t.part.less + count_below ls (s % 2 ^ length ls) from ≡ count_below ls (s % 2 ^ length ls) to) where
   abbrev xs : List ℕ
   xs = slice_range (values ls n) from to
@@ -124,4 +124,4 @@ module _ {ls : List (List Bool)} {n : ℕ} (levels : AreLevels ls n) (s from to 
       let small : x < 2 ^ (length ls - t.beside.level) = subst (λ (i : ℕ). x < 2 ^ i) (length-drop t.beside.level ls) (kth-lt (drop t.beside.level ls) _ _ _ x kth inside) in
       let member = (kth_is ls n from to _ _ order within).0 ((l.found some number is).each x small kth) in
       let many = count_by-le-length (λ y. leb y (number + bit_value up * 2 ^ (length ls - t.beside.level) + x)) xs in
-      nearest_is up xs t.part.less (s % 2 ^ length ls) _ _ low (omega (arith, high, last)) (λ q. grind (arith, q, last, member.more, many)) (λ q. grind (arith, q, (l.some some).2)) (grind (arith, last, cases_Bool up)) (kth_place _ _ _ member)
+      nearest_is up xs t.part.less (s % 2 ^ length ls) _ _ low (omega (arith, high, last)) (λ q. grind (arith, q, last, member.more, many)) (λ q. grind (arith, q, (l.some some).2)) (grind (arith, last, cases_Bool up)) (kth_position _ _ _ member)

@@ -1,5 +1,5 @@
--- How places and counts of symbols go from one level to the next.
-use Rattle.vers_wavelet.proofs.Names.{◌≡◌, ℕ, zero, suc, ◌+◌, ◌-◌, ◌*◌, ◌^◌, ◌<◌, ◌≤◌, Bool, true, false, cond, ltb, leb, List, [], ◌∷◌, length, get_or, refl, ap, ◌∙◌, arith, add-one, add-zero, inl, inr, pow-suc, mul-le-mul_right, cases_Bool, cases_lt, lt-ltb, le-ltb, le-leb, leb-true, ltb-true, eq-eqb, nat_tests, bit_value, bit_value_le, count_positions, is_bit, count, count_le, count_up, count_near, count_both, count_past, count_more_yes, count_more_no, select, select_holds, start, next, value, count_below, count_equal, final_place, digit}
+-- How positions and counts of symbols go from one level to the next.
+use Rattle.vers_wavelet.proofs.Names.{◌≡◌, ℕ, zero, suc, ◌+◌, ◌-◌, ◌*◌, ◌^◌, ◌<◌, ◌≤◌, Bool, true, false, cond, ltb, leb, List, [], ◌∷◌, length, get_or, refl, ap, ◌∙◌, arith, add-one, add-zero, inl, inr, pow-suc, mul-le-mul_right, cases_Bool, cases_lt, lt-ltb, le-ltb, le-leb, leb-true, ltb-true, eq-eqb, nat_tests, bit_value, bit_value_le, count_positions, is_bit, count, count_le, count_up, count_near, count_both, count_past, count_more_yes, count_more_no, select, select_holds, start, next, value, count_below, count_equal, final_position, digit}
 
 pub next_none : (b : Bool) (l : List Bool) → next b l 0 ≡ start b l
 unfolding next count
@@ -26,7 +26,7 @@ value-lt (l ∷ ls) i =
 ltb_shift : (h a b y : ℕ) → y ≡ h + b → ltb (h + a) y ≡ ltb a b
 ltb_shift h a b y e = grind (arith, nat_tests)
 
--- ---- counts over the places of a level
+-- ---- counts over the positions of a level
 
 pub counts_more : (q : ℕ → Bool) (n : ℕ) → count_positions q (n + 1) ≡ count_positions q n + cond (q n) 1 0
 counts_more q n = rw add-one refl
@@ -35,12 +35,12 @@ pub counts_same : (q r : ℕ → Bool) (n : ℕ) → ((p : ℕ) → p < n → q 
 counts_same q r zero h = refl
 counts_same q r (suc n) h = omega (arith, counts_same q r n (λ p k. h p (omega arith)), ap {B = ℕ} (λ t. cond t 1 0) (h n (omega arith)))
 
--- a test that all places pass, or none
+-- a test that all positions pass, or none
 pub counts_all : (q : ℕ → Bool) (b : Bool) (n : ℕ) → ((p : ℕ) → q p ≡ b) → count_positions q n ≡ cond b n 0
 counts_all q b zero h = grind (arith, cases_Bool b)
 counts_all q b (suc n) h = grind (arith, cases_Bool b, counts_all q b n h, h n)
 
--- the zeros and the ones of a level go to places of their own in the next
+-- the zeros and the ones of a level go to positions of their own in the next
 pub split_counts : (l : List Bool) (h f g : ℕ → Bool) → ((p : ℕ) → get_or l p false ≡ false → h p ≡ f (next false l p))
     → ((p : ℕ) → get_or l p false ≡ true → h p ≡ g (next true l p))
     → (i : ℕ) → i ≤ length l → count_positions h i + count_positions g (start true l) ≡ count_positions f (next false l i) + count_positions g (next true l i)
@@ -99,13 +99,13 @@ next_both l a b order within = omega (arith, count_both l a, count_both l b, cou
 
 pub ruleset parts = (next_both, next-le, next-up)
 
--- the zeros of a range of one place
+-- the zeros of a range of one position
 pub next_single : (l : List Bool) (i j : ℕ) (b : Bool) → j ≡ i + 1 → i < length l → b ≡ get_or l i false → next false l j ≡ cond b (next false l i) (next false l i + 1)
 next_single l i j b e h is = grind (arith, cases_Bool b, next_more false l i h)
 
-pub next_up_to_place : (l : List Bool) (i : ℕ) → next false l i ≤ i
+pub next_up_to_position : (l : List Bool) (i : ℕ) → next false l i ≤ i
 unfolding next
-next_up_to_place l i = omega (arith, count_le false l i)
+next_up_to_position l i = omega (arith, count_le false l i)
 
 pub none_below : (i : ℕ) → count_below [] 0 i ≡ 0
 unfolding count_below
@@ -119,14 +119,14 @@ pub next_near : (b : Bool) (l : List Bool) (i j : ℕ) → i ≤ j → next b l 
 unfolding next
 next_near b l i j h = omega (arith, count_near b l i j h)
 
--- the place in the part of the ones, from that in the part of the zeros
+-- the position in the part of the ones, from that in the part of the zeros
 pub next_other : (l : List Bool) (i : ℕ) → i ≤ length l → next true l i + next false l i ≡ count false l (length l) + i
 unfolding next
 next_other l i h = omega (arith, count_both l i)
 
 pub ruleset others = (next_other, next-le)
 
--- the places of the next level from the first of the ones on are those of the ones, and those before it those of the zeros
+-- the positions of the next level from the first of the ones on are those of the ones, and those before it those of the zeros
 pub next_true_all : (l : List Bool) → next true l (length l) ≡ length l
 unfolding next
 next_true_all l = omega (arith, count_both l (length l))
@@ -135,7 +135,7 @@ pub next_false_all : (l : List Bool) → next false l (length l) ≡ count false
 unfolding next
 next_false_all l = omega arith
 
--- the places of a level take all places of the next, each once
+-- the positions of a level take all positions of the next, each once
 pub split_all : (l : List Bool) (h f g : ℕ → Bool) → ((p : ℕ) → get_or l p false ≡ false → h p ≡ f (next false l p))
     → ((p : ℕ) → get_or l p false ≡ true → h p ≡ g (next true l p))
     → (n : ℕ) → length l ≡ n → count_positions h n + count_positions g (start true l) ≡ count_positions f (start true l) + count_positions g n
@@ -147,11 +147,11 @@ pub of_kind : (bit : Bool) (l : List Bool) (z p : ℕ) → z ≡ count false l (
 of_kind true l z p zeros h = (λ t. (omega (arith, zeros, leb-true z p t), omega (arith, h, next_true_all l)), λ t. le-leb z p (omega (arith, zeros, t.0)))
 of_kind false l z p zeros h = (λ t. (omega arith, omega (arith, zeros, next_false_all l, ltb-true p z t)), λ t. lt-ltb p z (omega (arith, zeros, next_false_all l, t.1)))
 
--- a place that holds the bit has its own place in the next level
+-- a position that holds the bit has its own position in the next level
 pub next-lt : (b : Bool) (l : List Bool) (i : ℕ) → i < length l → get_or l i false ≡ b → next b l i < length l
 next-lt b l i h e = grind (arith, cases_Bool b, next-le b l (i + 1), next_more b l i h)
 
--- each place of a level is where a place of the level above goes on
+-- each position of a level is where a position of the level above goes on
 of_bit : (b : Bool) (l : List Bool) (r : ℕ) → r < count b l (length l) → (i : ℕ) × (i < length l) × (next (get_or l i false) l i ≡ start b l + r)
 unfolding next
 of_bit b l r h =
@@ -169,15 +169,15 @@ from_above l p h =
 
 -- ---- final positions
 
-pub final_none : (s i : ℕ) → final_place [] s i ≡ i
-unfolding final_place
+pub final_none : (s i : ℕ) → final_position [] s i ≡ i
+unfolding final_position
 final_none s i = refl
 
-pub final_is : (l : List Bool) (ls : List (List Bool)) (s i : ℕ) → final_place (l ∷ ls) s i ≡ final_place ls s (next (digit s (length ls)) l i)
-unfolding final_place
+pub final_is : (l : List Bool) (ls : List (List Bool)) (s i : ℕ) → final_position (l ∷ ls) s i ≡ final_position ls s (next (digit s (length ls)) l i)
+unfolding final_position
 final_is l ls s i = refl
 
-pub final-up : (ls : List (List Bool)) (s i j : ℕ) → i ≤ j → final_place ls s i ≤ final_place ls s j
+pub final-up : (ls : List (List Bool)) (s i j : ℕ) → i ≤ j → final_position ls s i ≤ final_position ls s j
 final-up [] s i j h = omega (arith, final_none s i, final_none s j)
 final-up (l ∷ ls) s i j h =
     let bit : Bool = digit s (length ls) in

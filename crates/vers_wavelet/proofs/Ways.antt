@@ -6,7 +6,7 @@ use Rattle.vers_wavelet.proofs.Digits.{room_none}
 use Rattle.vers_wavelet.proofs.Values.{from_above}
 use Rattle.vers_wavelet.proofs.Steps.{value_parts, even_first, even_rest, reduces_none}
 use Rattle.vers_wavelet.proofs.Lists.{length-values, get_or-values, kth_is}
-use Rattle.vers_wavelet.proofs.BySize.{kth_place}
+use Rattle.vers_wavelet.proofs.BySize.{kth_position}
 use Rattle.vers_wavelet.proofs.Items.{sorted_member}
 
 -- ---- one list of levels
@@ -75,4 +75,4 @@ nodes_set ls n k nodes node inside each is j d h =
 pub sorted_kth : (ls : List (List Bool)) (n i x : ℕ) → IsKthInRange ls 0 n i x → x ≡ get_or (by_size (values ls n)) i 0
 sorted_kth ls n i x kth =
     sorted_member (values ls n) i x n (sym (length-values ls n))
-    (kth_place (slice_range (values ls n) 0 n) i x ((kth_is ls n 0 n i x (omega arith) (omega arith)).0 kth))
+    (kth_position (slice_range (values ls n) 0 n) i x ((kth_is ls n 0 n i x (omega arith) (omega arith)).0 kth))

@@ -26,7 +26,7 @@ gathered_before symbols s = count_by (λ y. nat_lt (reversed_digits symbols.widt
 
 -- the index in bit-reversed order of the first s from a position; equal symbols keep the order of their positions
 abbrev pub gathered : Symbols → ℕ → ℕ → ℕ
-gathered symbols place s = gathered_before symbols s + length (occurrences symbols.items 0 place s)
+gathered symbols position s = gathered_before symbols s + length (occurrences symbols.items 0 position s)
 
 -- a is a position of the list, and b is from a to the length of the list
 abbrev pub BeginsInside : ℕ → ℕ → List ℕ → Type 0

@@ -1,6 +1,6 @@
 pub mod Imports
 pub mod Tables
-pub mod Places
+pub mod Positions
 pub mod Words
 pub mod Numbers
 pub mod Quotes

@@ -1,17 +1,17 @@
 -- The laws that proofs of other crates may cite. A crate above imports this file and no other of this folder.
 use Rattle.vers_words.proofs.Imports.{◌≡◌, ◌==◌, ◌+◌, ℕ, false, List, [], ◌∷◌, ◌++◌, take, Some, None, All, position}
-use Rattle.vers_words.proofs.Places as Places
+use Rattle.vers_words.proofs.Positions as Positions
 
 -- ---- where a byte stands first
 
 -- a text in which it stands nowhere lacks it
 pub lacks : (c : ℕ) (text : List ℕ) → position (λ b. b == c) text ≡ None → All (λ b. (b == c) ≡ false) text
-lacks = Places.lacks
+lacks = Positions.lacks
 
 -- what stands before it lacks it
 pub lacks_before : (c : ℕ) (text : List ℕ) (i : ℕ) → position (λ b. b == c) text ≡ Some i → All (λ b. (b == c) ≡ false) (take i text)
-lacks_before = Places.lacks_before
+lacks_before = Positions.lacks_before
 
 -- the text up to it ends with it
 pub through_byte : (c : ℕ) (text : List ℕ) (i : ℕ) → position (λ b. b == c) text ≡ Some i → take (i + 1) text ≡ take i text ++ c ∷ []
-through_byte = Places.through_byte
+through_byte = Positions.through_byte

@@ -2,7 +2,7 @@
 use Rattle.vers_words.proofs.Imports.{◌≡◌, ◌==◌, ◌+◌, ℕ, true, false, List, [], ◌∷◌, ◌++◌, append_assoc, append-nil, take, drop, Option, Some, None, refl, sym, ap, ◌∙◌, position, slice_split, take-append-drop, words_in}
 use Rattle.std.specs.Option.{is_some, MatchOption}
 use Rattle.std.proofs.lemmas.List.Splits.{slice_split_at, slice_split_none}
-use Rattle.vers_words.proofs.Places.{lacks, lacks_before, from_byte}
+use Rattle.vers_words.proofs.Positions.{lacks, lacks_before, from_byte}
 use Rattle.vers_words.specs.Patterns.{from_words, hex_byte, hex_bytes, joined, pattern_of, words_symbols}
 
 pub joined-nil : (other : Option (List ℕ)) → joined (Some []) other ≡ other

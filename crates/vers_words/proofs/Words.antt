@@ -2,7 +2,7 @@
 use Rattle.vers_words.proofs.Imports.{◌≡◌, ◌==◌, ◌+◌, ◌<◌, ◌≤◌, ℕ, zero, suc, Bool, true, not, List, [], ◌∷◌, ◌++◌, length, take, drop, get_or, Option, Some, None, unwrap_or, inl, inr, refl, sym, ap, ◌∙◌, arith, position, position_or_len, slice_split, filter, ne_eqb, eqb_tells, drop_all, take_all, take-append-drop, length-take, length-drop, position-Some, after_spaces, first_word, has_bytes, split_at_space, words_in, ints}
 use Rattle.std.proofs.lemmas.Option.{cond_some}
 use Rattle.std.proofs.lemmas.List.Splits.{slice_split_at, slice_split_none}
-use Rattle.vers_words.proofs.Places.{position-None, lacks, lacks_before, byte_at, from_byte}
+use Rattle.vers_words.proofs.Positions.{position-None, lacks, lacks_before, byte_at, from_byte}
 
 abbrev pub is_other : ℕ → Bool
 is_other b = not (b == 32)
@@ -46,7 +46,7 @@ above_zero t zero h other = let space = byte_at 32 t 0 h in cc (rw space at othe
 above_zero t (suc n) h other = omega arith
 
 -- a text that begins with no space begins with a word, up to the first space or the end
-pub words_in-first : (t : List ℕ) (place : Option ℕ) (n : ℕ) → position (λ b. b == 32) t ≡ place → n ≡ unwrap_or place (length t)
+pub words_in-first : (t : List ℕ) (found : Option ℕ) (n : ℕ) → position (λ b. b == 32) t ≡ found → n ≡ unwrap_or found (length t)
     → 0 < length t → is_other (get_or t 0 0) ≡ true → (0 < n) × (words_in t ≡ take n t ∷ words_in (drop n t))
 words_in-first t None n h e some other =
     let all : length t ≤ length t = omega arith in
@@ -55,7 +55,7 @@ words_in-first t (Some m) n h e some other =
     let first = above_zero t m h other in rw e (first, words_in-word t m first h)
 
 -- a text is split at its first space, or at its end
-split_there : (t : List ℕ) (place : Option ℕ) (n : ℕ) → position (λ b. b == 32) t ≡ place → n ≡ unwrap_or place (length t) → split_at_space t ≡ (take n t, drop n t)
+split_there : (t : List ℕ) (found : Option ℕ) (n : ℕ) → position (λ b. b == 32) t ≡ found → n ≡ unwrap_or found (length t) → split_at_space t ≡ (take n t, drop n t)
 split_there t None n h e =
     let far = position-None (λ b. b == 32) t h in
     let all : length t ≤ length t = omega arith in
@@ -63,11 +63,11 @@ split_there t None n h e =
 split_there t (Some m) n h e = rw (e, (cond_some _ _ _ h).1) refl
 
 -- the first word begins with the first byte that is no space
-pub first_word-from : (t : List ℕ) (i : ℕ) (place : Option ℕ) (n : ℕ) → position is_other t ≡ Some i → position (λ b. b == 32) (drop i t) ≡ place → n ≡ unwrap_or place (length (drop i t))
+pub first_word-from : (t : List ℕ) (i : ℕ) (found : Option ℕ) (n : ℕ) → position is_other t ≡ Some i → position (λ b. b == 32) (drop i t) ≡ found → n ≡ unwrap_or found (length (drop i t))
     → Some (take n (drop i t), drop n (drop i t)) ≡ first_word t
-first_word-from t i place n from h e =
+first_word-from t i found n from h e =
     let within : i < length t = (position-Some is_other t i 0 from).0 in
     let some : 0 < length (drop i t) = omega (arith, length-drop i t) in
     let start : after_spaces t ≡ drop i t = rw (cond_some _ _ _ from).1 refl in
     let bytes : has_bytes (drop i t) ≡ true = rw (ne_eqb (length (drop i t)) 0 (λ z. omega arith)) refl in
-    sym (rw (start, bytes, split_there (drop i t) place n h e) refl)
+    sym (rw (start, bytes, split_there (drop i t) found n h e) refl)

@@ -4,7 +4,7 @@ ghost use Rattle.vers_words.specs.Text.{words_in};
 ghost use Rattle.vers_words.specs.Patterns.{hex_byte as byte_of_digits, hex_bytes, hex_digit as value_of_digit, begun_with, digit_of, end_of_text, gone_on_with, is_plain as are_plain, joined, number_and_pattern as number_then_pattern, pattern_of, pattern_text, symbol_word, word_symbols, words_symbols};
 
 use crate::reply::append_number;
-use crate::text::{number, place_of, split_first_word};
+use crate::text::{number, position_of, split_first_word};
 use std::alloc::{AllocError, Allocator};
 
 /// Returns the symbols of a pattern. A word is a number below 2^64 in decimal digits, or bytes as `0x` and two
@@ -19,9 +19,9 @@ pub fn pattern<A: Allocator>(alloc: A, text: &[u8]) -> Result<Option<Vec<u64, A>
 {
     let mut symbols = Vec::with_capacity(alloc, room_for(text))?;
     let mut rest = text;
-    while let Some(start) = place_of(b'"', rest) {
+    while let Some(start) = position_of(b'"', rest) {
         let quoted = &rest[start + 1..];
-        let Some(end) = place_of(b'"', quoted) else {
+        let Some(end) = position_of(b'"', quoted) else {
             return Ok(None);
         };
         if append_words(&mut symbols, &rest[..start])?.is_none() {
@@ -64,7 +64,7 @@ pub fn number_and_pattern<A: Allocator>(
 // Returns the number of symbols to reserve memory for: at least as many as a pattern of decimal numbers has, or as
 // its bytes if it has quotes.
 fn room_for(text: &[u8]) -> usize {
-    if place_of(b'"', text).is_some() {
+    if position_of(b'"', text).is_some() {
         return text.len();
     }
     let mut words = 1usize;

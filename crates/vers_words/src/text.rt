@@ -4,7 +4,7 @@ ghost use Rattle.std.specs.Io.BufRead.{strip_last};
 ghost use Rattle.vers_words.specs.Text.{first_word, words_in, number_of, signed_number_of};
 
 /// Returns the first position of a byte in a text, or `None` if there is none.
-pub fn place_of(byte: u8, text: &[u8]) -> Option<usize>
+pub fn position_of(byte: u8, text: &[u8]) -> Option<usize>
     ensures { result ≡ position (λ b. b == byte) text.now }
 {
     text.iter().position(|other| *other == byte)
@@ -25,7 +25,7 @@ pub fn split_first_word(text: &[u8]) -> Option<(&[u8], &[u8])>
     ensures shorter { IfSome result (λ parts. length parts.1.now < length text.now) }
 {
     let from_word = &text[first_of_word(text)?..];
-    let len = place_of(b' ', from_word).unwrap_or(from_word.len());
+    let len = position_of(b' ', from_word).unwrap_or(from_word.len());
     Some((&from_word[..len], &from_word[len..]))
 }
 

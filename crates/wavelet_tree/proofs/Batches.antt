@@ -1,5 +1,5 @@
 -- Queries that go through a tree together: each moves from state to state, and so do all.
-use Rattle.wavelet_tree.proofs.Names.{◌≡◌, ◌≢◌, ℕ, zero, suc, ◌+◌, ◌-◌, ◌^◌, ◌%◌, ◌<◌, ◌≤◌, Bool, true, false, ◌||◌, true≢false, leb, List, [], ◌∷◌, map, length, set, get_or, refl, sym, ap, subst, ◌∙◌, arith, inl, inr, rules, ◌⊎◌, cond, eqb, cases_eq, cases_lt, ne_eqb, eq-eqb, false≢true, get_or_default, get_or-set_same, get_or-set_other, get_or-map, length-map, length-set, count, count_le, Reads, AddsAtMost, IsWithin, no_reads, only_items, only_nodes, plus, times, adds_nothing, adds_then, adds_weaker, within_itself, Symbols, tree_of, depth, sorted_place, word_rank_reads, fork_reads, IsTreeOf, Walks, weight, Become, Node, LEAVES, RangeQuery, IsSortedRange, query_reads, sum_reads, AreUpTo, HasRanks, HasTurned, IsAnswered, IsAsked, IsAtRoot, first_reads}
+use Rattle.wavelet_tree.proofs.Names.{◌≡◌, ◌≢◌, ℕ, zero, suc, ◌+◌, ◌-◌, ◌^◌, ◌%◌, ◌<◌, ◌≤◌, Bool, true, false, ◌||◌, true≢false, leb, List, [], ◌∷◌, map, length, set, get_or, refl, sym, ap, subst, ◌∙◌, arith, inl, inr, rules, ◌⊎◌, cond, eqb, cases_eq, cases_lt, ne_eqb, eq-eqb, false≢true, get_or_default, get_or-set_same, get_or-set_other, get_or-map, length-map, length-set, count, count_le, Reads, AddsAtMost, IsWithin, no_reads, only_items, only_nodes, plus, times, adds_nothing, adds_then, adds_weaker, within_itself, Symbols, tree_of, depth, sorted_position, word_rank_reads, fork_reads, IsTreeOf, Walks, weight, Become, Node, LEAVES, RangeQuery, IsSortedRange, query_reads, sum_reads, AreUpTo, HasRanks, HasTurned, IsAnswered, IsAsked, IsAtRoot, first_reads}
 use Rattle.wavelet_tree.proofs.Walking.{walk_on, walk_inside, walk_ends}
 use Rattle.wavelet_tree.proofs.Beginning.{walk_begins, bits_fit}
 
@@ -164,7 +164,7 @@ module _ {symbols : Symbols} {starts : List ℕ} {nodes : List Node} {bits : Lis
   -- a walk at a leaf is answered
   walk_answers : (a c : RangeQuery) (own : Reads) → LEAVES ≤ c.link → c.symbol ≡ a.symbol → a.start ≢ a.end
       → Walks starts nodes bits (weight (tree_of symbols) symbols.items) false fork_reads a.symbol (depth (tree_of symbols) a.symbol)
-      (sorted_place symbols.items a.start a.symbol) (sorted_place symbols.items a.end a.symbol) (only_items 2) own c.link c.start c.end → IsAnswered symbols a c own
+      (sorted_position symbols.items a.start a.symbol) (sorted_position symbols.items a.end a.symbol) (only_items 2) own c.link c.start c.end → IsAnswered symbols a c own
   walk_answers a c own leaf symbol some walks =
       let ends = walk_ends starts nodes bits (weight (tree_of symbols) symbols.items) (bits_fit is) false fork_reads a.symbol _ _ _ (only_items 2) leaf walks in
       record {
@@ -198,7 +198,7 @@ module _ {symbols : Symbols} {starts : List ℕ} {nodes : List Node} {bits : Lis
       at_root : IsAtRoot symbols.items root a c → HasTurned symbols starts nodes bits 0 a c (only_items 2)
       at_root at =
           let W : ℕ → ℕ → ℕ → Type 0 = Walks starts nodes bits (weight (tree_of symbols) symbols.items) false fork_reads a.symbol (depth (tree_of symbols) a.symbol)
-          (sorted_place symbols.items a.start a.symbol) (sorted_place symbols.items a.end a.symbol) (only_items 2) (only_items 2) in
+          (sorted_position symbols.items a.start a.symbol) (sorted_position symbols.items a.end a.symbol) (only_items 2) (only_items 2) in
           let begun : W root a.start a.end = walk_begins is false fork_reads a.symbol a.start a.end (only_items 2) at.occurs (omega (arith, order, within)) within (λ never. absurd (false≢true never)) in
           let walks : W c.link c.start c.end =
           subst (λ (n : ℕ). W n c.start c.end) (sym at.link) (subst (λ (n : ℕ). W root n c.end) (sym at.start) (subst (λ (n : ℕ). W root a.start n) (sym at.end) begun)) in

@@ -1,5 +1,5 @@
 -- The whole tree of a list: where walks begin, and which symbols its bits lead to.
-use Rattle.wavelet_tree.proofs.Names.{◌≡◌, ℕ, ◌+◌, ◌*◌, ◌^◌, ◌/◌, ◌<◌, ◌≤◌, Bool, true, cond, ltb, eqb, List, map, length, take, get_or, refl, sym, ap, ◌∙◌, subst, arith, inl, inr, count_by, All, div-eq_of_lt, lt-div-mul-add, pow-le-pow_right, pow_pos, cases_lt, cases_eq, eq-eqb, ne_eqb, count_by-le-length, false≢true, get_or_default, get_or-map-range_with_len, length-map-range_with_len, same_lists, range_with_len, sum_by-take-le, take-take, take_all, Reads, AddsAtMost, Symbols, Tree, leaf, fork, depth, forks, lesser, starts_of, tree_of, occurring, sorted_place, link, entry, weight, Stands, led, symbols_in, IsTreeOf, Walks, CountsWithin, AreForks, balanced, Node, LEAVES, times, rules}
+use Rattle.wavelet_tree.proofs.Names.{◌≡◌, ℕ, ◌+◌, ◌*◌, ◌^◌, ◌/◌, ◌<◌, ◌≤◌, Bool, true, cond, ltb, eqb, List, map, length, take, get_or, refl, sym, ap, ◌∙◌, subst, arith, inl, inr, count_by, All, div-eq_of_lt, lt-div-mul-add, pow-le-pow_right, pow_pos, cases_lt, cases_eq, eq-eqb, ne_eqb, count_by-le-length, false≢true, get_or_default, get_or-map-range_with_len, length-map-range_with_len, same_lists, range_with_len, sum_by-take-le, take-take, take_all, Reads, AddsAtMost, Symbols, Tree, leaf, fork, depth, forks, lesser, starts_of, tree_of, occurring, sorted_position, link, entry, weight, Stands, led, symbols_in, IsTreeOf, Walks, CountsWithin, AreForks, balanced, Node, LEAVES, times, rules}
 use Rattle.wavelet_tree.proofs.Lists.{count_none, none_counted}
 use Rattle.wavelet_tree.proofs.Splits.{lesser_none}
 use Rattle.wavelet_tree.proofs.Lesser.{lesser_next, lesser_zero}
@@ -31,7 +31,7 @@ no_fork each old = search rules
 pub walk_begins : {symbols : Symbols} {starts : List ℕ} {nodes : List Node} {bits : List Bool} {root width len : ℕ} → IsTreeOf symbols starts nodes bits root width len
     → (here : Bool) (each : Reads) (s i j : ℕ) (old : Reads) → 0 < count_by (λ x. eqb x s) symbols.items → i ≤ length symbols.items → j ≤ length symbols.items
     → (here ≡ true → (i < length symbols.items) × (get_or symbols.items i 0 ≡ s))
-    → Walks starts nodes bits (weight (tree_of symbols) symbols.items) here each s (depth (tree_of symbols) s) (sorted_place symbols.items i s) (sorted_place symbols.items j s) old old root i j
+    → Walks starts nodes bits (weight (tree_of symbols) symbols.items) here each s (depth (tree_of symbols) s) (sorted_position symbols.items i s) (sorted_position symbols.items j s) old old root i j
 walk_begins {symbols} {starts} {nodes} {bits} is here each s i j old occurs i_within j_within found =
     let some : 0 < length symbols.items = omega (arith, occurs, count_by-le-length (λ x. eqb x s) symbols.items) in
     let small : s < 2 ^ symbols.width = occurs_small symbols.items s (2 ^ symbols.width) (rw (is.same_width) is.small) occurs in

@@ -33,19 +33,19 @@ starts_more xs starts number before narrow is upto = (
 )
 
 -- one symbol more is counted
-pub counted_more : (xs counts : List ℕ) (place symbol : ℕ) → place < length xs → symbol ≡ get_or xs place 0 → symbol < length counts
-    → ((c : ℕ) → c < length counts → get_or counts c 0 ≡ count_by (λ s. eqb s c) (take place xs))
-    → (c : ℕ) → c < length (set counts symbol (get_or counts symbol 0 + 1)) → get_or (set counts symbol (get_or counts symbol 0 + 1)) c 0 ≡ count_by (λ s. eqb s c) (take (place + 1) xs)
-counted_more xs counts place symbol inside is narrow before c within =
-    let more = sum_by_more (λ s. one (eqb s c)) xs place 0 inside in
+pub counted_more : (xs counts : List ℕ) (position symbol : ℕ) → position < length xs → symbol ≡ get_or xs position 0 → symbol < length counts
+    → ((c : ℕ) → c < length counts → get_or counts c 0 ≡ count_by (λ s. eqb s c) (take position xs))
+    → (c : ℕ) → c < length (set counts symbol (get_or counts symbol 0 + 1)) → get_or (set counts symbol (get_or counts symbol 0 + 1)) c 0 ≡ count_by (λ s. eqb s c) (take (position + 1) xs)
+counted_more xs counts position symbol inside is narrow before c within =
+    let more = sum_by_more (λ s. one (eqb s c)) xs position 0 inside in
     elim (cases_eq c symbol) [
       | inl same ↦
-          rw same (get_or-set_same counts symbol (get_or counts symbol 0 + 1) 0 narrow ∙ omega (arith, before symbol narrow, sum_by_more (λ s. one (eqb s symbol)) xs place 0 inside, ap one (eq-eqb (get_or xs place 0) symbol (sym is))))
+          rw same (get_or-set_same counts symbol (get_or counts symbol 0 + 1) 0 narrow ∙ omega (arith, before symbol narrow, sum_by_more (λ s. one (eqb s symbol)) xs position 0 inside, ap one (eq-eqb (get_or xs position 0) symbol (sym is))))
       | inr other ↦
           get_or-set_other counts symbol c (get_or counts symbol 0 + 1) 0 other
-          ∙ omega (arith, before c (omega (arith, within, length-set counts symbol (get_or counts symbol 0 + 1))), more, ap one (ne_eqb (get_or xs place 0) c (λ same. other (sym same ∙ sym is))))
+          ∙ omega (arith, before c (omega (arith, within, length-set counts symbol (get_or counts symbol 0 + 1))), more, ap one (ne_eqb (get_or xs position 0) c (λ same. other (sym same ∙ sym is))))
     ]
 
 -- a symbol occurs at most as often as there are positions before
-pub counted_few : (xs : List ℕ) (place c : ℕ) → count_by (λ s. eqb s c) (take place xs) ≤ place
-counted_few xs place c = omega (arith, count_by-le-length (λ s. eqb s c) (take place xs), length-take place xs)
+pub counted_few : (xs : List ℕ) (position c : ℕ) → count_by (λ s. eqb s c) (take position xs) ≤ position
+counted_few xs position c = omega (arith, count_by-le-length (λ s. eqb s c) (take position xs), length-take position xs)

@@ -24,7 +24,7 @@ pub use Rattle.vers_wavelet.specs.Symbols.{Symbols}
 pub use Rattle.wavelet_tree.specs.Trees.{HasParts, Tree, bits_of, lesser, starts_of, nearer, tree_of}
 unfoldable pub use Rattle.wavelet_tree.specs.Trees.{half_from, split, balanced, depth, forks, height, tree_bits}
 pub use Rattle.wavelet_tree.specs.Trees.Tree.{leaf, fork}
-pub use Rattle.wavelet_tree.specs.Queries.{access_fork_reads, access_reads, symbol_rank_reads, fork_reads, occurring, sorted_place, walk_reads, bit_count, tree_size, IsSortedRange, query_reads}
+pub use Rattle.wavelet_tree.specs.Queries.{access_fork_reads, access_reads, symbol_rank_reads, fork_reads, occurring, sorted_position, walk_reads, bit_count, tree_size, IsSortedRange, query_reads}
 unfoldable pub use Rattle.wavelet_tree.specs.Queries.{sum_reads}
 pub use Rattle.wavelet_tree.specs.inside.Nodes.{shift, link, entry, lows, highs, weight, IsFork, Stands, no_node, symbols_in, IsTreeOf, Walks, WalksIn}
 unfoldable pub use Rattle.wavelet_tree.specs.inside.Nodes.{led}

@@ -17,42 +17,42 @@ bit_of_part bits start n k word inside is =
     let bit = part_bit bits start n k inside in
     rw (is, shr_and_one, bit) (grind (arith, cases_Bool (get_or bits (start + k) false)))
 
-pub own_more : (bits : List Bool) (start place : ℕ) → start + place < length bits → own_ones bits start (place + 1) ≡ own_ones bits start place + bit_value (get_or bits (start + place) false)
-own_more bits start place inside =
-    let up = count_up true bits start (start + place) (omega arith) in
-    let next : start + (place + 1) ≡ start + place + 1 = omega arith in
-    elim (cases_Bool (get_or bits (start + place) false)) [
-      | inl on ↦ rw (next, count_more_yes true bits (start + place) inside on, on) (omega arith)
-      | inr off ↦ rw (next, count_more_no true bits (start + place) inside off, off) (omega arith)
+pub own_more : (bits : List Bool) (start position : ℕ) → start + position < length bits → own_ones bits start (position + 1) ≡ own_ones bits start position + bit_value (get_or bits (start + position) false)
+own_more bits start position inside =
+    let up = count_up true bits start (start + position) (omega arith) in
+    let next : start + (position + 1) ≡ start + position + 1 = omega arith in
+    elim (cases_Bool (get_or bits (start + position) false)) [
+      | inl on ↦ rw (next, count_more_yes true bits (start + position) inside on, on) (omega arith)
+      | inr off ↦ rw (next, count_more_no true bits (start + position) inside off, off) (omega arith)
     ]
 
-pub own_less : (bits : List Bool) (start place : ℕ) → own_ones bits start place ≤ place
-own_less bits start place = omega (arith, count_near true bits start (start + place) (omega arith))
+pub own_less : (bits : List Bool) (start position : ℕ) → own_ones bits start position ≤ position
+own_less bits start position = omega (arith, count_near true bits start (start + position) (omega arith))
 
 -- ---- the merge
 
 -- the next elements of both sides, before an element of a fork
-pub record NextAt (bits : List Bool) (start low_len place low high : ℕ) : Type 0 where
-  pub low_is : low + own_ones bits start place ≡ place
-  pub high_is : high ≡ low_len + own_ones bits start place
+pub record NextAt (bits : List Bool) (start low_len position low high : ℕ) : Type 0 where
+  pub low_is : low + own_ones bits start position ≡ position
+  pub high_is : high ≡ low_len + own_ones bits start position
 
 -- the element is one of them, and what is next after it
-pub record Comes (bits : List Bool) (start low_len many place low high : ℕ) (is_one : Bool) : Type 0 where
-  pub bit : is_one ≡ get_or bits (start + place) false
+pub record Comes (bits : List Bool) (start low_len many position low high : ℕ) (is_one : Bool) : Type 0 where
+  pub bit : is_one ≡ get_or bits (start + position) false
   pub inside : next_source is_one low high < many
   pub high_within : high + bit_value is_one ≤ many
   pub low_within : low + bit_value (not is_one) ≤ many
-  pub after : NextAt bits start low_len (place + 1) (low + bit_value (not is_one)) (high + bit_value is_one)
+  pub after : NextAt bits start low_len (position + 1) (low + bit_value (not is_one)) (high + bit_value is_one)
 
-comes : (bits : List Bool) (start low_len many place low high : ℕ) (is_one : Bool) → start + many ≤ length bits → low_len + own_ones bits start many ≡ many → place < many
-    → is_one ≡ get_or bits (start + place) false → NextAt bits start low_len place low high → Comes bits start low_len many place low high is_one
-comes bits start low_len many place low high is_one within all inside bit next =
-    let more = own_more bits start place (omega arith) in
-    let value : bit_value is_one ≡ bit_value (get_or bits (start + place) false) = ap (λ b. bit_value b) bit in
-    let first = count_up true bits start (start + place) (omega arith) in
-    let up = count_up true bits (start + (place + 1)) (start + many) (omega arith) in
-    let near = count_near true bits (start + (place + 1)) (start + many) (omega arith) in
-    let less = own_less bits start place in
+comes : (bits : List Bool) (start low_len many position low high : ℕ) (is_one : Bool) → start + many ≤ length bits → low_len + own_ones bits start many ≡ many → position < many
+    → is_one ≡ get_or bits (start + position) false → NextAt bits start low_len position low high → Comes bits start low_len many position low high is_one
+comes bits start low_len many position low high is_one within all inside bit next =
+    let more = own_more bits start position (omega arith) in
+    let value : bit_value is_one ≡ bit_value (get_or bits (start + position) false) = ap (λ b. bit_value b) bit in
+    let first = count_up true bits start (start + position) (omega arith) in
+    let up = count_up true bits (start + (position + 1)) (start + many) (omega arith) in
+    let near = count_near true bits (start + (position + 1)) (start + many) (omega arith) in
+    let less = own_less bits start position in
     elim (cases_Bool is_one) [
       | inl on ↦
           let one : bit_value is_one ≡ 1 = rw on refl in
@@ -77,23 +77,23 @@ comes bits start low_len many place low high is_one within all inside bit next =
     ]
 
 -- that of the next bit of a word
-pub comes_next : (bits : List Bool) (start low_len many place n k low high word : ℕ) → start + many ≤ length bits → low_len + own_ones bits start many ≡ many → place + k < many → k < n
-    → word ≡ number (part bits (start + place) n) → NextAt bits start low_len (place + k) low high → Comes bits start low_len many (place + k) low high (eqb (bit_and (word / 2 ^ k) 1) 1)
-comes_next bits start low_len many place n k low high word within all inside less is next =
-    let there : start + place + k ≡ start + (place + k) = omega arith in
-    comes bits start low_len many (place + k) low high _ within all inside (bit_of_part bits (start + place) n k word less is ∙ ap (λ p. get_or bits p false) there) next
+pub comes_next : (bits : List Bool) (start low_len many position n k low high word : ℕ) → start + many ≤ length bits → low_len + own_ones bits start many ≡ many → position + k < many → k < n
+    → word ≡ number (part bits (start + position) n) → NextAt bits start low_len (position + k) low high → Comes bits start low_len many (position + k) low high (eqb (bit_and (word / 2 ^ k) 1) 1)
+comes_next bits start low_len many position n k low high word within all inside less is next =
+    let there : start + position + k ≡ start + (position + k) = omega arith in
+    comes bits start low_len many (position + k) low high _ within all inside (bit_of_part bits (start + position) n k word less is ∙ ap (λ p. get_or bits p false) there) next
 
-pub merged_more : {X : Type 0} (bits : List Bool) (start low_len many : ℕ) (parts merged : List X) (place low high from : ℕ) (is_one : Bool) (x : X) → place < length merged → length parts ≡ many → NextAt bits start low_len place low high
-    → Comes bits start low_len many place low high is_one → from ≡ next_source is_one low high → x ≡ get_or parts from x → Merges bits start low_len parts merged place → Merges bits start low_len parts (set merged place x) (place + 1)
-merged_more bits start low_len many parts merged place low high from is_one x inside long next comes from_is read before =
+pub merged_more : {X : Type 0} (bits : List Bool) (start low_len many : ℕ) (parts merged : List X) (position low high from : ℕ) (is_one : Bool) (x : X) → position < length merged → length parts ≡ many → NextAt bits start low_len position low high
+    → Comes bits start low_len many position low high is_one → from ≡ next_source is_one low high → x ≡ get_or parts from x → Merges bits start low_len parts merged position → Merges bits start low_len parts (set merged position x) (position + 1)
+merged_more bits start low_len many parts merged position low high from is_one x inside long next comes from_is read before =
     let within : from < length parts = omega (arith, from_is, comes.inside, long) in
-    let low_there : low ≡ place - own_ones bits start place = omega (arith, next.low_is) in
-    let there : from ≡ next_source (get_or bits (start + place) false) (place - own_ones bits start place) (low_len + own_ones bits start place) =
-    from_is ∙ ap (λ (b : Bool). next_source b low high) comes.bit ∙ ap (λ n. next_source (get_or bits (start + place) false) n high) low_there ∙ ap (λ n. next_source (get_or bits (start + place) false) (place - own_ones bits start place) n) next.high_is in
+    let low_there : low ≡ position - own_ones bits start position = omega (arith, next.low_is) in
+    let there : from ≡ next_source (get_or bits (start + position) false) (position - own_ones bits start position) (low_len + own_ones bits start position) =
+    from_is ∙ ap (λ (b : Bool). next_source b low high) comes.bit ∙ ap (λ n. next_source (get_or bits (start + position) false) n high) low_there ∙ ap (λ n. next_source (get_or bits (start + position) false) (position - own_ones bits start position) n) next.high_is in
     record {
-      are = λ k d less. elim (cases_eq k place) [
-        | inl same ↦ rw same (get_or-set_same merged place x d inside ∙ read ∙ get_or_default parts from x d within ∙ ap (λ n. get_or parts n d) there)
-        | inr other ↦ get_or-set_other merged place k x d other ∙ before.are k d (omega (arith, less, other))
+      are = λ k d less. elim (cases_eq k position) [
+        | inl same ↦ rw same (get_or-set_same merged position x d inside ∙ read ∙ get_or_default parts from x d within ∙ ap (λ n. get_or parts n d) there)
+        | inr other ↦ get_or-set_other merged position k x d other ∙ before.are k d (omega (arith, less, other))
       ];
     }
 
@@ -247,8 +247,8 @@ merged_all value m l r xs nodes bits to start node lefts rights merged f left_is
           let i : ℕ = count_by (λ y. ltb y m) (take k xs) in
           let low : ltb (get_or xs k 0) m ≡ true = lt-ltb _ m (leb-false m _ off) in
           let inside_low : i < length lefts = omega (arith, kept_inside (λ y. ltb y m) xs k 0 within low, ap length left_is, length-map lefts value) in
-          let place : k - own_ones bits start k ≡ i = omega (arith, ones, count_first_sides m xs k (omega (arith, within))) in
-          ap value (first ∙ ap (λ (b : Bool). get_or (lefts ++ rights) (next_source b (k - own_ones bits start k) (length lefts + own_ones bits start k)) x) bit ∙ ap (λ n. get_or (lefts ++ rights) n x) place ∙ get_or_append_left lefts rights x i inside_low)
+          let position : k - own_ones bits start k ≡ i = omega (arith, ones, count_first_sides m xs k (omega (arith, within))) in
+          ap value (first ∙ ap (λ (b : Bool). get_or (lefts ++ rights) (next_source b (k - own_ones bits start k) (length lefts + own_ones bits start k)) x) bit ∙ ap (λ n. get_or (lefts ++ rights) n x) position ∙ get_or_append_left lefts rights x i inside_low)
           ∙ sym (get_or-map value lefts i x 0 inside_low)
           ∙ ap (λ (l : List ℕ). get_or l i 0) left_is
           ∙ kept_at (λ y. ltb y m) xs k 0 within low

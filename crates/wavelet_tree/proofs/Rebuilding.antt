@@ -98,7 +98,7 @@ counts_sides starts low end m xs left right = record {
   ];
 }
 
--- the ones up to a place, and those of the bits from there on
+-- the ones up to a position, and those of the bits from there on
 pub count_part : (bits : List Bool) (start n : ℕ) → count true bits (start + n) ≡ count true bits start + count_by (is_bit true) (part bits start n)
 unfolding count
 count_part bits start n =
@@ -173,10 +173,10 @@ same_elements (suc n) starts low end bits start xs ys enough one two first secon
           same_elements n starts low m bits (start + length xs) (lows m xs) (lows m ys) (omega (arith, enough, past)) low_one low_two a.left (subst (λ k. BitsAt (balanced starts n low m) (lows m ys) bits (start + k)) long b.left) in
           let high_one = high_counts starts low end m xs one divides past in
           let high_two = high_counts starts low end m ys two divides past in
-          let place : start + length ys + weight (balanced starts n low m) (lows m ys) ≡ start + length xs + weight (balanced starts n low m) (lows m xs) =
+          let position : start + length ys + weight (balanced starts n low m) (lows m ys) ≡ start + length xs + weight (balanced starts n low m) (lows m xs) =
           omega (arith, long, ap (weight (balanced starts n low m)) left) in
           let right : highs m xs ≡ highs m ys =
-          same_elements n starts m end bits _ (highs m xs) (highs m ys) (omega (arith, enough, divides.from)) high_one high_two a.right (subst (λ k. BitsAt (balanced starts n m end) (highs m ys) bits k) place b.right) in
+          same_elements n starts m end bits _ (highs m xs) (highs m ys) (omega (arith, enough, divides.from)) high_one high_two a.right (subst (λ k. BitsAt (balanced starts n m end) (highs m ys) bits k) position b.right) in
           same_merged m xs ys (sym a.own ∙ ap (λ k. part bits start k) (sym long) ∙ b.own) left right
     ]
 
@@ -357,19 +357,19 @@ fork_fits starts low end m xs bits start elements high counts sides elements_are
 pub left_bits : (starts : List ℕ) (low end m : ℕ) (xs : List ℕ) (bits : List Bool) (start middle elements : ℕ) → CountsWithin starts low end xs → SideBits starts low end m xs bits start
     → elements ≡ get_or starts end 0 - get_or starts low 0 → middle ≡ start + elements → HasBitsAt starts low m (lows m xs) bits middle
 left_bits starts low end m xs bits start middle elements counts sides elements_are middle_is =
-    let place : start + length xs ≡ middle = omega (arith, middle_is, elements_are, counts_length xs counts) in
-    record { steps = sides.steps; enough = sides.low_enough; tree = subst (λ n. BitsAt (balanced starts sides.steps low m) (lows m xs) bits n) place sides.fork.left }
+    let position : start + length xs ≡ middle = omega (arith, middle_is, elements_are, counts_length xs counts) in
+    record { steps = sides.steps; enough = sides.low_enough; tree = subst (λ n. BitsAt (balanced starts sides.steps low m) (lows m xs) bits n) position sides.fork.left }
 
 pub right_bits : (starts : List ℕ) (low end m : ℕ) (xs : List ℕ) (bits : List Bool) (start middle elements : ℕ) {nodes more_nodes : List Node} {next to from : ℕ} → CountsWithin starts low end xs → SideBits starts low end m xs bits start
     → elements ≡ get_or starts end 0 - get_or starts low 0 → middle ≡ start + elements → Rebuilds starts low m nodes more_nodes bits middle next to from → HasBitsAt starts m end (highs m xs) bits next
 right_bits starts low end m xs bits start middle elements {next = next} counts sides elements_are middle_is left =
-    let place : start + length xs ≡ middle = omega (arith, middle_is, elements_are, counts_length xs counts) in
+    let position : start + length xs ≡ middle = omega (arith, middle_is, elements_are, counts_length xs counts) in
     let t : Tree = balanced starts sides.steps low m in
     let made = left.tree sides.steps sides.low_enough in
     let same : left.xs ≡ lows m xs =
     same_elements sides.steps starts low m bits middle left.xs (lows m xs) sides.low_enough left.counts (low_counts starts low end m xs counts sides.divides) (rebuilt_bits made left.within)
-    (subst (λ n. BitsAt t (lows m xs) bits n) place sides.fork.left) in
-    let there : start + length xs + weight t (lows m xs) ≡ next = omega (arith, made.next_is, place, ap (weight t) same) in
+    (subst (λ n. BitsAt t (lows m xs) bits n) position sides.fork.left) in
+    let there : start + length xs + weight t (lows m xs) ≡ next = omega (arith, made.next_is, position, ap (weight t) same) in
     record { steps = sides.steps; enough = sides.high_enough; tree = subst (λ n. BitsAt (balanced starts sides.steps m end) (highs m xs) bits n) there sides.fork.right }
 
 -- ---- a whole tree

@@ -23,14 +23,14 @@ take_add zero b xs = let none : 0 + b ≡ b = omega arith in rw none refl
 take_add (suc a) b [] = let more : suc a + b ≡ suc (a + b) = omega arith in rw more (sym (take_none b))
 take_add (suc a) b (x ∷ xs) = let more : suc a + b ≡ suc (a + b) = omega arith in rw more (ap (λ (l : List _). x ∷ l) (take_add a b xs))
 
-pub part_add : (bits : List Bool) (place a b : ℕ) → part bits place (a + b) ≡ part bits place a ++ part bits (place + a) b
-part_add bits place a b = take_add a b (drop place bits) ∙ ap (λ (l : List Bool). take a (drop place bits) ++ take b l) (drop-drop a place bits)
+pub part_add : (bits : List Bool) (position a b : ℕ) → part bits position (a + b) ≡ part bits position a ++ part bits (position + a) b
+part_add bits position a b = take_add a b (drop position bits) ∙ ap (λ (l : List Bool). take a (drop position bits) ++ take b l) (drop-drop a position bits)
 
-pub length_part : (bits : List Bool) (place n : ℕ) → place + n ≤ length bits → length (part bits place n) ≡ n
-length_part bits place n within = omega (arith, length-take n (drop place bits), length-drop place bits, within)
+pub length_part : (bits : List Bool) (position n : ℕ) → position + n ≤ length bits → length (part bits position n) ≡ n
+length_part bits position n within = omega (arith, length-take n (drop position bits), length-drop position bits, within)
 
-pub get_part : (bits : List Bool) (place n k : ℕ) (d : Bool) → k < n → get_or (part bits place n) k d ≡ get_or bits (place + k) d
-get_part bits place n k d inside = get_or-take n (drop place bits) k d inside ∙ get_or-drop place bits k d
+pub get_part : (bits : List Bool) (position n k : ℕ) (d : Bool) → k < n → get_or (part bits position n) k d ≡ get_or bits (position + k) d
+get_part bits position n k d inside = get_or-take n (drop position bits) k d inside ∙ get_or-drop position bits k d
 
 -- ---- the bits of a stored tree
 

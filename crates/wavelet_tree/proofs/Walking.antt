@@ -19,35 +19,35 @@ is_high : (m s x : ℕ) → m ≤ s → eqb x s ≡ true → leb m x ≡ true
 is_high m s x more same = le-leb m x (omega (arith, more, eqb-true x s same))
 
 module _ (starts : List ℕ) (nodes : List Node) (bits : List Bool) (used : ℕ) (fits : used < 2 ^ 64) where
-  -- the places of a tree are machine words
-  place_fits : (t : Tree) (first start : ℕ) (xs : List ℕ) → Stands t starts nodes bits used first start xs → entry t starts start + length xs < 2 ^ 64
-  place_fits (leaf c) first start xs stands = stands.1
-  place_fits (fork m l r) first start xs stands = omega (arith, stands.0.within, fits)
+  -- the positions of a tree are machine words
+  position_fits : (t : Tree) (first start : ℕ) (xs : List ℕ) → Stands t starts nodes bits used first start xs → entry t starts start + length xs < 2 ^ 64
+  position_fits (leaf c) first start xs stands = stands.1
+  position_fits (fork m l r) first start xs stands = omega (arith, stands.0.within, fits)
 
   -- ---- one fork
 
   module _ (m : ℕ) (l r : Tree) (first start : ℕ) (xs : List ℕ) (stands : Stands (fork m l r) starts nodes bits used first start xs)
       (node : Node) (read : node ≡ get_or nodes (first + forks l + forks r) node) (i ones : ℕ) (within : i ≤ length xs) (ranked : ones ≡ count true bits (start + i)) where
-    low_place : (start + i - ones + node.low) % 2 ^ 64 ≡ entry l starts (start + length xs) + count_by (λ x. ltb x m) (take i xs)
-    low_place =
+    low_position : (start + i - ones + node.low) % 2 ^ 64 ≡ entry l starts (start + length xs) + count_by (λ x. ltb x m) (take i xs)
+    low_position =
         let before : ℕ = count true bits start in
         let some = count_le true bits start in
         let all = stands.0.ones i within in
         let both = count_first_sides m xs i within in
         let few = few_kept (λ x. ltb x m) xs i in
-        let room = place_fits l first (start + length xs) (lows m xs) stands.1 in
+        let room = position_fits l first (start + length xs) (lows m xs) stands.1 in
         let shift_is : node.low ≡ shift (entry l starts (start + length xs)) (start - before) = ap (λ (n : Node). n.low) read ∙ stands.0.low node in
         rw shift_is (shifted (entry l starts (start + length xs)) (start - before) (start + i - ones) (omega (arith, some.0, all, ranked, both)) (omega (arith, room)) (omega (arith, stands.0.within, fits))
         (omega (arith, some.0, all, ranked, both, few, room))
         ∙ omega (arith, some.0, all, ranked, both))
 
-    high_place : (ones + node.high) % 2 ^ 64 ≡ entry r starts (start + length xs + weight l (lows m xs)) + count_by (λ x. leb m x) (take i xs)
-    high_place =
+    high_position : (ones + node.high) % 2 ^ 64 ≡ entry r starts (start + length xs + weight l (lows m xs)) + count_by (λ x. leb m x) (take i xs)
+    high_position =
         let before : ℕ = count true bits start in
         let some = count_le true bits start in
         let all = stands.0.ones i within in
         let few = few_kept (λ x. leb m x) xs i in
-        let room = place_fits r (first + forks l) (start + length xs + weight l (lows m xs)) (highs m xs) stands.2 in
+        let room = position_fits r (first + forks l) (start + length xs + weight l (lows m xs)) (highs m xs) stands.2 in
         let shift_is : node.high ≡ shift (entry r starts (start + length xs + weight l (lows m xs))) before = ap (λ (n : Node). n.high) read ∙ stands.0.high node in
         rw shift_is (shifted (entry r starts (start + length xs + weight l (lows m xs))) before ones (omega (arith, all, ranked)) (omega (arith, room)) (omega (arith, some.0, stands.0.within, fits))
         (omega (arith, all, ranked, few, room))
@@ -81,8 +81,8 @@ module _ (starts : List ℕ) (nodes : List Node) (bits : List Bool) (used : ℕ)
     unfolding depth
     goes_low m l r {node = node} {ones_a = ones_a} {ones_b = ones_b} less is_low_side w step =
         let at_node : node ≡ get_or nodes (w.first + forks l + forks r) node = step.read ∙ ap (λ n. get_or nodes n node) w.link_is in
-        let place_a = low_place m l r w.first w.start w.xs w.stands node at_node w.i ones_a w.i_within (step.ranked_a ∙ ap (λ n. count true bits n) w.a_is) in
-        let place_b = low_place m l r w.first w.start w.xs w.stands node at_node w.j ones_b w.j_within (step.ranked_b ∙ ap (λ n. count true bits n) w.b_is) in
+        let position_a = low_position m l r w.first w.start w.xs w.stands node at_node w.i ones_a w.i_within (step.ranked_a ∙ ap (λ n. count true bits n) w.a_is) in
+        let position_b = low_position m l r w.first w.start w.xs w.stands node at_node w.j ones_b w.j_within (step.ranked_b ∙ ap (λ n. count true bits n) w.b_is) in
         let deep : depth (fork m l r) s ≡ 1 + depth l s = rw (lt-ltb s m less) refl in
         record {
           first = w.first;
@@ -93,8 +93,8 @@ module _ (starts : List ℕ) (nodes : List Node) (bits : List Bool) (used : ℕ)
           steps = w.steps + 1;
           stands = w.stands.1;
           link_is = step.low_link is_low_side ∙ ap (λ (n : Node). n.low_link) at_node ∙ w.stands.0.low_link node;
-          a_is = step.low_a is_low_side ∙ ap (λ n. (n - ones_a + node.low) % 2 ^ 64) w.a_is ∙ place_a;
-          b_is = step.low_b is_low_side ∙ ap (λ n. (n - ones_b + node.low) % 2 ^ 64) w.b_is ∙ place_b;
+          a_is = step.low_a is_low_side ∙ ap (λ n. (n - ones_a + node.low) % 2 ^ 64) w.a_is ∙ position_a;
+          b_is = step.low_b is_low_side ∙ ap (λ n. (n - ones_b + node.low) % 2 ^ 64) w.b_is ∙ position_b;
           i_within = few_kept (λ x. ltb x m) w.xs w.i;
           j_within = few_kept (λ x. ltb x m) w.xs w.j;
           occurs = omega (arith, w.occurs, count_kept (λ x. ltb x m) (λ x. eqb x s) (λ x same. is_low m s x less same) w.xs);
@@ -113,8 +113,8 @@ module _ (starts : List ℕ) (nodes : List Node) (bits : List Bool) (used : ℕ)
     unfolding depth
     goes_high m l r {node = node} {ones_a = ones_a} {ones_b = ones_b} more is_high_side w step =
         let at_node : node ≡ get_or nodes (w.first + forks l + forks r) node = step.read ∙ ap (λ n. get_or nodes n node) w.link_is in
-        let place_a = high_place m l r w.first w.start w.xs w.stands node at_node w.i ones_a w.i_within (step.ranked_a ∙ ap (λ n. count true bits n) w.a_is) in
-        let place_b = high_place m l r w.first w.start w.xs w.stands node at_node w.j ones_b w.j_within (step.ranked_b ∙ ap (λ n. count true bits n) w.b_is) in
+        let position_a = high_position m l r w.first w.start w.xs w.stands node at_node w.i ones_a w.i_within (step.ranked_a ∙ ap (λ n. count true bits n) w.a_is) in
+        let position_b = high_position m l r w.first w.start w.xs w.stands node at_node w.j ones_b w.j_within (step.ranked_b ∙ ap (λ n. count true bits n) w.b_is) in
         let deep : depth (fork m l r) s ≡ 1 + depth r s = rw (le-ltb s m more) refl in
         record {
           first = w.first + forks l;
@@ -125,8 +125,8 @@ module _ (starts : List ℕ) (nodes : List Node) (bits : List Bool) (used : ℕ)
           steps = w.steps + 1;
           stands = w.stands.2;
           link_is = step.high_link is_high_side ∙ ap (λ (n : Node). n.high_link) at_node ∙ w.stands.0.high_link node;
-          a_is = step.high_a is_high_side ∙ place_a;
-          b_is = step.high_b is_high_side ∙ place_b;
+          a_is = step.high_a is_high_side ∙ position_a;
+          b_is = step.high_b is_high_side ∙ position_b;
           i_within = few_kept (λ x. leb m x) w.xs w.i;
           j_within = few_kept (λ x. leb m x) w.xs w.j;
           occurs = omega (arith, w.occurs, count_kept (λ x. leb m x) (λ x. eqb x s) (λ x same. is_high m s x more same) w.xs);
@@ -171,11 +171,11 @@ module _ (starts : List ℕ) (nodes : List Node) (bits : List Bool) (used : ℕ)
     inside_in (leaf c) few w = absurd (omega (arith, few, w.link_is))
     inside_in (fork m l r) few w = (omega (arith, w.link_is, w.stands.0.inside), omega (arith, w.a_is, w.i_within, w.stands.0.within), omega (arith, w.b_is, w.j_within, w.stands.0.within))
 
-    -- there is a node, and the places are among the bits
+    -- there is a node, and the positions are among the bits
     pub walk_inside : {new : Reads} {at a b : ℕ} → at < LEAVES → Walks starts nodes bits used here each s all goal other old new at a b → (at < length nodes) × (a ≤ used) × (b ≤ used)
     walk_inside few w = inside_in w.0 few w.1
 
-    -- the bit at a place tells on which side of a fork the symbol is
+    -- the bit at a position tells on which side of a fork the symbol is
     side_in : (tree : Tree) {new : Reads} {at a b : ℕ} (node : Node) → at < LEAVES → WalksIn tree starts nodes bits used here each s all goal other old new at a b → here ≡ true
         → node ≡ get_or nodes at node → get_or bits a false ≡ leb node.split s
     side_in (leaf c) node few w asked read = absurd (omega (arith, few, w.link_is))
@@ -189,7 +189,7 @@ module _ (starts : List ℕ) (nodes : List Node) (bits : List Bool) (used : ℕ)
         → node ≡ get_or nodes at node → get_or bits a false ≡ leb node.split s
     walk_side node few w asked read = side_in w.0 node few w.1 asked read
 
-    -- at a leaf the places are the goals
+    -- at a leaf the positions are the goals
     pub record Ends (new : Reads) (at a b : ℕ) : Type 0 where
       pub a_is : a ≡ goal
       pub b_is : b ≡ other
@@ -214,7 +214,7 @@ module _ (starts : List ℕ) (nodes : List Node) (bits : List Bool) (used : ℕ)
     pub walk_ends : {new : Reads} {at a b : ℕ} → LEAVES ≤ at → Walks starts nodes bits used here each s all goal other old new at a b → Ends new at a b
     walk_ends many w = ends_in w.0 many w.1
 
-  -- ---- the symbol at a place
+  -- ---- the symbol at a position
 
   pub led_at : (n : ℕ) (t : Tree) (first start : ℕ) (xs : List ℕ) (i : ℕ) → forks t ≤ n → Stands t starts nodes bits used first start xs → i < length xs → led n nodes bits (link t first) (entry t starts start + i) ≡ get_or xs i 0
   unfolding led forks
@@ -232,15 +232,15 @@ module _ (starts : List ℕ) (nodes : List Node) (bits : List Bool) (used : ℕ)
         | inl less ↦
             let bit = stands.0.bit i inside ∙ lt-leb m (get_or xs i 0) less in
             let passes = lt-ltb (get_or xs i 0) m less in
-            let place = low_place m l r first start xs stands node read i ones within refl in
-            rw (inner, bit, place, stands.0.low_link no_node)
+            let position = low_position m l r first start xs stands node read i ones within refl in
+            rw (inner, bit, position, stands.0.low_link no_node)
             (led_at n l first (start + length xs) (lows m xs) (count_by (λ x. ltb x m) (take i xs)) (omega (arith, few)) stands.1 (kept_inside (λ x. ltb x m) xs i 0 inside passes)
             ∙ kept_at (λ x. ltb x m) xs i 0 inside passes)
         | inr more ↦
             let bit = stands.0.bit i inside ∙ le-leb m (get_or xs i 0) more in
             let passes = le-leb m (get_or xs i 0) more in
-            let place = high_place m l r first start xs stands node read i ones within refl in
-            rw (inner, bit, place, stands.0.high_link no_node)
+            let position = high_position m l r first start xs stands node read i ones within refl in
+            rw (inner, bit, position, stands.0.high_link no_node)
             (led_at n r (first + forks l) (start + length xs + weight l (lows m xs)) (highs m xs) (count_by (λ x. leb m x) (take i xs)) (omega (arith, few)) stands.2 (kept_inside (λ x. leb m x) xs i 0 inside passes)
             ∙ kept_at (λ x. leb m x) xs i 0 inside passes)
       ]

@@ -9,11 +9,11 @@ use Rattle.wavelet_tree.specs.declared.batch.RangeQuery.{RangeQuery}
 
 -- how many of the first elements are a symbol
 abbrev pub occurring : List ℕ → ℕ → ℕ → ℕ
-occurring items place s = count_by (λ y. y == s) (take place items)
+occurring items position s = count_by (λ y. y == s) (take position items)
 
 -- the sorted position of the first occurrence of a symbol from a position on: its index when all elements are sorted, and equal ones keep their order
-abbrev pub sorted_place : List ℕ → ℕ → ℕ → ℕ
-sorted_place items place s = lesser items s + occurring items place s
+abbrev pub sorted_position : List ℕ → ℕ → ℕ → ℕ
+sorted_position items position s = lesser items s + occurring items position s
 
 -- bound on one fork of a walk with one position: its node, and a rank
 abbrev pub access_fork_reads : Reads
@@ -38,8 +38,8 @@ walk_reads symbols s = plus (only_items 2) (times (depth (tree_of symbols) s) fo
 -- an answer to a query: the sorted positions of the symbol's occurrences in the range, which is empty if there are none
 pub record IsSortedRange (items : List ℕ) (asked answer : RangeQuery) : Type 0 where
   pub symbol : answer.symbol ≡ asked.symbol
-  pub start : occurring items asked.start asked.symbol < occurring items asked.end asked.symbol → answer.start ≡ sorted_place items asked.start asked.symbol
-  pub end : occurring items asked.start asked.symbol < occurring items asked.end asked.symbol → answer.end ≡ sorted_place items asked.end asked.symbol
+  pub start : occurring items asked.start asked.symbol < occurring items asked.end asked.symbol → answer.start ≡ sorted_position items asked.start asked.symbol
+  pub end : occurring items asked.start asked.symbol < occurring items asked.end asked.symbol → answer.end ≡ sorted_position items asked.end asked.symbol
   pub none : occurring items asked.start asked.symbol ≡ occurring items asked.end asked.symbol → answer.start ≡ answer.end
 
 -- bound on one query of many: nothing for an empty range, and a walk otherwise

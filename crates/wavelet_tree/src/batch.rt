@@ -88,8 +88,8 @@ impl RangeQuery {
         ensures low_link { nat_le node.split self.symbol ≡ false → result.link ≡ node.low_link }
     {
         let is_high = self.symbol >= u64::from(node.split);
-        let start = node.place_below(is_high, self.start, self.start_ones);
-        let end = node.place_below(is_high, self.end, self.end_ones);
+        let start = node.position_below(is_high, self.start, self.start_ones);
+        let end = node.position_below(is_high, self.end, self.end_ones);
         RangeQuery::at(node.link_below(is_high), start..end, self.symbol)
     }
 }

@@ -18,15 +18,15 @@ pub(crate) struct Node {
 impl Node {
     // Returns the position of a subtree to which a position leads. It has `ones` ones before it.
     #[inline(always)]
-    pub(crate) fn place_below(self, is_high: bool, place: usize, ones: usize) -> usize
-        requires { ones ≤ place }
+    pub(crate) fn position_below(self, is_high: bool, position: usize, ones: usize) -> usize
+        requires { ones ≤ position }
         ensures high { is_high ≡ true → result ≡ (ones + self.high) % 2 ^ 64 }
-        ensures low { is_high ≡ false → result ≡ (place - ones + self.low) % 2 ^ 64 }
+        ensures low { is_high ≡ false → result ≡ (position - ones + self.low) % 2 ^ 64 }
     {
         let (before, shift) = if is_high {
             (ones, self.high)
         } else {
-            (place - ones, self.low)
+            (position - ones, self.low)
         };
         before.wrapping_add(shift as usize)
     }

@@ -115,17 +115,17 @@ fn merge<T: Integer, A: Allocator + Copy>(
 {
     let mut low = 0;
     let mut high = low_len;
-    let mut place = 0;
-    while place < merged.len() {
-        let many = (merged.len() - place).min(64);
-        let word = bits.get_bits_unchecked(start + place, many);
+    let mut position = 0;
+    while position < merged.len() {
+        let many = (merged.len() - position).min(64);
+        let word = bits.get_bits_unchecked(start + position, many);
         for k in 0..many {
             let is_one = word >> k & 1 == 1;
-            merged[place + k] = parts[source(is_one, low, high)];
+            merged[position + k] = parts[source(is_one, low, high)];
             high += usize::from(is_one);
             low += usize::from(!is_one);
         }
-        place += many;
+        position += many;
     }
 }
 

@@ -79,16 +79,16 @@ fn count_symbols<T: Integer>(items: &[T], counts: &mut [u64])
 {
     counts.fill(0);
     let len = T::len_of(items);
-    for place in 0..len {
-        counts[number_at(items, place)] += 1;
+    for position in 0..len {
+        counts[number_at(items, position)] += 1;
     }
 }
 
 // Returns the number at a position.
 #[inline(always)]
-fn number_at<T: Integer>(items: &[T], place: usize) -> usize
-    requires { place < length items.now }
-    ensures { result ≡ slice_index (map T.value items.now) place }
+fn number_at<T: Integer>(items: &[T], position: usize) -> usize
+    requires { position < length items.now }
+    ensures { result ≡ slice_index (map T.value items.now) position }
 {
-    items[place].number()
+    items[position].number()
 }

@@ -2,7 +2,7 @@
 ghost use Rattle.std.specs.Prelude.{◌≡◌, ℕ, ◌+◌, ◌-◌, ◌^◌, ◌<◌, ◌≤◌, ◌==◌, ◌↔◌, length, slice_index, count_by, IfSome, IsSome};
 ghost use Rattle.vers_tally.specs.Reads.{AddsAtMost, only_items, plus, times};
 ghost use Rattle.wavelet_tree.specs.Trees.{depth, lesser, tree_of};
-ghost use Rattle.wavelet_tree.specs.Queries.{access_reads, fork_reads, occurring, sorted_place, symbol_rank_reads, walk_reads};
+ghost use Rattle.wavelet_tree.specs.Queries.{access_reads, fork_reads, occurring, sorted_position, symbol_rank_reads, walk_reads};
 
 use crate::node::LEAVES;
 use crate::tree::WaveletTree;
@@ -13,11 +13,11 @@ use vers_tally::tally::Tally;
 /// The symbol at a position, and its sorted position: its index when all elements are sorted, and equal ones keep their
 /// order.
 #[derive(Clone, Copy, PartialEq, Eq, Debug, Drop)]
-pub struct SortedPlace {
+pub struct SortedPosition {
     /// The symbol.
     pub symbol: u64,
     /// The sorted position.
-    pub place: usize,
+    pub position: usize,
 }
 
 impl<A: Allocator + Copy> WaveletTree<A> {
@@ -28,8 +28,8 @@ impl<A: Allocator + Copy> WaveletTree<A> {
     pub fn sorted_range(&self, range: Range<usize>, symbol: u64) -> Option<Range<usize>>
         requires order { range.start ≤ range.end }
         requires within { range.end ≤ length self.now.items }
-        ensures start { IfSome result (λ r. r.start ≡ sorted_place self.now.items range.start symbol) }
-        ensures end { IfSome result (λ r. r.end ≡ sorted_place self.now.items range.end symbol) }
+        ensures start { IfSome result (λ r. r.start ≡ sorted_position self.now.items range.start symbol) }
+        ensures end { IfSome result (λ r. r.end ≡ sorted_position self.now.items range.end symbol) }
         ensures answered { IsSome result ↔ (occurring self.now.items range.start symbol
             < occurring self.now.items range.end symbol) }
     {
@@ -48,8 +48,8 @@ impl<A: Allocator + Copy> WaveletTree<A> {
     ) -> Option<Range<usize>>
         requires order { range.start ≤ range.end }
         requires within { range.end ≤ length self.now.items }
-        ensures start { IfSome result (λ r. r.start ≡ sorted_place self.now.items range.start symbol) }
-        ensures end { IfSome result (λ r. r.end ≡ sorted_place self.now.items range.end symbol) }
+        ensures start { IfSome result (λ r. r.start ≡ sorted_position self.now.items range.start symbol) }
+        ensures end { IfSome result (λ r. r.end ≡ sorted_position self.now.items range.end symbol) }
         ensures answered { IsSome result ↔ (occurring self.now.items range.start symbol
             < occurring self.now.items range.end symbol) }
         ensures adds { AddsAtMost tally.old tally.new (walk_reads self.now symbol) }
@@ -69,30 +69,30 @@ impl<A: Allocator + Copy> WaveletTree<A> {
         Some(found)
     }
 
-    /// Returns the number of occurrences of a symbol in the first `place` positions. Precondition: `place` is at most
+    /// Returns the number of occurrences of a symbol before `position`. Precondition: `position` is at most
     /// the length.
     #[inline(always)]
-    pub fn rank(&self, place: usize, symbol: u64) -> usize
-        requires { place ≤ length self.now.items }
-        ensures { result ≡ occurring self.now.items place symbol }
+    pub fn rank(&self, position: usize, symbol: u64) -> usize
+        requires { position ≤ length self.now.items }
+        ensures { result ≡ occurring self.now.items position symbol }
     {
         let mut tally = Tally::new();
-        self.rank_counted(place, symbol, &mut tally)
+        self.rank_counted(position, symbol, &mut tally)
     }
 
     /// Returns `rank(..)`. Reads two numbers of lesser elements, and at most a node and a rank for each fork that leads
     /// to the symbol.
     #[inline(always)]
-    pub fn rank_counted(&self, place: usize, symbol: u64, tally: &mut Tally) -> usize
-        requires { place ≤ length self.now.items }
-        ensures value { result ≡ occurring self.now.items place symbol }
+    pub fn rank_counted(&self, position: usize, symbol: u64, tally: &mut Tally) -> usize
+        requires { position ≤ length self.now.items }
+        ensures value { result ≡ occurring self.now.items position symbol }
         ensures adds { AddsAtMost tally.old tally.new (symbol_rank_reads self.now symbol) }
     {
         let all = self.sorted_all(symbol, tally);
         if all.start == all.end {
             return 0;
         }
-        self.descend_from(place, symbol, tally) - all.start
+        self.descend_from(position, symbol, tally) - all.start
     }
 
     // Returns the sorted positions of all occurrences of a symbol.
@@ -117,8 +117,8 @@ impl<A: Allocator + Copy> WaveletTree<A> {
         requires start { start ≤ length self.now.items }
         requires end { end ≤ length self.now.items }
         requires occurs { 0 < count_by (λ y. y == symbol) self.now.items }
-        ensures start { result.start ≡ sorted_place self.now.items start symbol }
-        ensures end { result.end ≡ sorted_place self.now.items end symbol }
+        ensures start { result.start ≡ sorted_position self.now.items start symbol }
+        ensures end { result.end ≡ sorted_position self.now.items end symbol }
         ensures adds { AddsAtMost tally.old tally.new
             (times (depth (tree_of self.now) symbol) fork_reads) }
     {
@@ -130,73 +130,73 @@ impl<A: Allocator + Copy> WaveletTree<A> {
             let is_high = symbol >= u64::from(node.split);
             let from_ones = self.bits.get_and_rank1_counted(from, tally).ones;
             let to_ones = self.bits.get_and_rank1_counted(to, tally).ones;
-            from = node.place_below(is_high, from, from_ones);
-            to = node.place_below(is_high, to, to_ones);
+            from = node.position_below(is_high, from, from_ones);
+            to = node.position_below(is_high, to, to_ones);
             link = node.link_below(is_high);
         }
         from..to
     }
 
-    // Returns the sorted position of the first occurrence of a symbol from `place` on. Precondition: the symbol occurs.
+    // Returns the sorted position of the first occurrence of a symbol from `position` on. Precondition: there is one.
     #[inline(always)]
-    fn descend_from(&self, place: usize, symbol: u64, tally: &mut Tally) -> usize
-        requires within { place ≤ length self.now.items }
+    fn descend_from(&self, position: usize, symbol: u64, tally: &mut Tally) -> usize
+        requires within { position ≤ length self.now.items }
         requires occurs { 0 < count_by (λ y. y == symbol) self.now.items }
-        ensures value { result ≡ sorted_place self.now.items place symbol }
+        ensures value { result ≡ sorted_position self.now.items position symbol }
         ensures adds { AddsAtMost tally.old tally.new (access_reads self.now symbol) }
     {
         let mut link = self.root;
-        let mut at = place;
+        let mut at = position;
         while link < LEAVES {
             let node = self.nodes.read(link as usize, tally);
             let is_high = symbol >= u64::from(node.split);
             let ones = self.bits.get_and_rank1_counted(at, tally).ones;
-            at = node.place_below(is_high, at, ones);
+            at = node.position_below(is_high, at, ones);
             link = node.link_below(is_high);
         }
         at
     }
 
-    /// Returns the symbol at a position. Precondition: `place` is below the length.
+    /// Returns the symbol at a position. Precondition: `position` is below the length.
     #[inline(always)]
-    pub fn get(&self, place: usize) -> u64
-        requires { place < length self.now.items }
-        ensures { result ≡ slice_index self.now.items place }
+    pub fn get(&self, position: usize) -> u64
+        requires { position < length self.now.items }
+        ensures { result ≡ slice_index self.now.items position }
     {
-        self.get_sorted(place).symbol
+        self.get_sorted(position).symbol
     }
 
     /// Returns the symbol at a position, and its sorted position: its index when all elements are sorted, and equal
-    /// ones keep their order. Precondition: `place` is below the length.
+    /// ones keep their order. Precondition: `position` is below the length.
     #[inline(always)]
-    pub fn get_sorted(&self, place: usize) -> SortedPlace
-        requires { place < length self.now.items }
-        ensures symbol { result.symbol ≡ slice_index self.now.items place }
-        ensures place { result.place ≡ sorted_place self.now.items place result.symbol }
+    pub fn get_sorted(&self, position: usize) -> SortedPosition
+        requires { position < length self.now.items }
+        ensures symbol { result.symbol ≡ slice_index self.now.items position }
+        ensures position { result.position ≡ sorted_position self.now.items position result.symbol }
     {
         let mut tally = Tally::new();
-        self.get_sorted_counted(place, &mut tally)
+        self.get_sorted_counted(position, &mut tally)
     }
 
-    /// Returns `get_sorted(place)`. Reads at most a node and a rank for each fork that leads to the symbol.
+    /// Returns `get_sorted(position)`. Reads at most a node and a rank for each fork that leads to the symbol.
     #[inline(always)]
-    pub fn get_sorted_counted(&self, place: usize, tally: &mut Tally) -> SortedPlace
-        requires { place < length self.now.items }
-        ensures symbol { result.symbol ≡ slice_index self.now.items place }
-        ensures place { result.place ≡ sorted_place self.now.items place result.symbol }
+    pub fn get_sorted_counted(&self, position: usize, tally: &mut Tally) -> SortedPosition
+        requires { position < length self.now.items }
+        ensures symbol { result.symbol ≡ slice_index self.now.items position }
+        ensures position { result.position ≡ sorted_position self.now.items position result.symbol }
         ensures adds { AddsAtMost tally.old tally.new (access_reads self.now result.symbol) }
     {
         let mut link = self.root;
-        let mut at = place;
+        let mut at = position;
         while link < LEAVES {
             let node = self.nodes.read(link as usize, tally);
             let found = self.bits.get_and_rank1_counted(at, tally);
-            at = node.place_below(found.is_one, at, found.ones);
+            at = node.position_below(found.is_one, at, found.ones);
             link = node.link_below(found.is_one);
         }
-        SortedPlace {
+        SortedPosition {
             symbol: u64::from(link - LEAVES),
-            place: at,
+            position: at,
         }
     }
 }

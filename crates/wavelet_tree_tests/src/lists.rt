@@ -21,11 +21,11 @@ pub enum Look {
 pub const LOOKS: [Look; 4] = [Look::Equal, Look::Turning, Look::Skewed, Look::Sparse];
 
 /// Returns the symbol at a position.
-pub fn symbol_of(look: Look, place: usize) -> u8 {
-    let mixed = (place as u64).wrapping_mul(0x9E37_79B9_7F4A_7C15) >> 20;
+pub fn symbol_of(look: Look, position: usize) -> u8 {
+    let mixed = (position as u64).wrapping_mul(0x9E37_79B9_7F4A_7C15) >> 20;
     match look {
         Look::Equal => 7,
-        Look::Turning => (place % 19) as u8,
+        Look::Turning => (position % 19) as u8,
         Look::Skewed => mixed.trailing_ones() as u8,
         Look::Sparse => (mixed % 3) as u8 * 100,
     }
@@ -38,8 +38,8 @@ pub fn symbols_of<A: Allocator + Copy>(
     len: usize,
 ) -> Result<Vec<u8, A>, AllocError> {
     let mut symbols = Vec::with_capacity(alloc, len)?;
-    for place in 0..len {
-        symbols.push(symbol_of(look, place))?;
+    for position in 0..len {
+        symbols.push(symbol_of(look, position))?;
     }
     Ok(symbols)
 }
@@ -85,10 +85,10 @@ pub fn narrow_tree_of<A: Allocator + Copy>(
     WaveletTree::from_integers(alloc, numbers, width)
 }
 
-/// Returns the number of occurrences of a symbol in the first `place` positions.
-pub fn rank_of(symbols: &[u8], place: usize, symbol: u64) -> usize {
+/// Returns the number of occurrences of a symbol before `position`.
+pub fn rank_of(symbols: &[u8], position: usize, symbol: u64) -> usize {
     let mut count: usize = 0;
-    for it in &symbols[..place.min(symbols.len())] {
+    for it in &symbols[..position.min(symbols.len())] {
         count = count.wrapping_add(usize::from(u64::from(*it) == symbol));
     }
     count

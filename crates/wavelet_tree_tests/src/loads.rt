@@ -153,8 +153,8 @@ fn has_parts(tree: &WaveletTree<Global>, starts: &[u64], bits: &[u8]) -> bool {
             return false;
         }
     }
-    for place in 0..bits.len().min(tree.tree_bit_count()) {
-        if tree.tree_limb(place / 64) >> (place % 64) & 1 != u64::from(bits[place]) {
+    for position in 0..bits.len().min(tree.tree_bit_count()) {
+        if tree.tree_limb(position / 64) >> (position % 64) & 1 != u64::from(bits[position]) {
             return false;
         }
     }
@@ -163,10 +163,10 @@ fn has_parts(tree: &WaveletTree<Global>, starts: &[u64], bits: &[u8]) -> bool {
 
 // Returns true if a tree of bytes has these symbols.
 fn has_symbols(tree: &WaveletTree<Global>, symbols: &[u8]) -> bool {
-    for place in 0..tree.len().min(symbols.len()) {
-        let symbol = u64::from(symbols[place]);
-        let found = tree.get_sorted(place);
-        if found.symbol != symbol || tree.rank(place, symbol) > found.place {
+    for position in 0..tree.len().min(symbols.len()) {
+        let symbol = u64::from(symbols[position]);
+        let found = tree.get_sorted(position);
+        if found.symbol != symbol || tree.rank(position, symbol) > found.position {
             return false;
         }
     }

@@ -22,8 +22,8 @@ struct Indexing<'a, A: Allocator + Copy> {
 
 // Returns true if a tree has these symbols.
 fn has_symbols<A: Allocator + Copy>(tree: &WaveletTree<A>, symbols: &[u8]) -> bool {
-    for place in 0..tree.len().min(symbols.len()) {
-        if tree.get(place) != u64::from(symbols[place]) {
+    for position in 0..tree.len().min(symbols.len()) {
+        if tree.get(position) != u64::from(symbols[position]) {
             return false;
         }
     }

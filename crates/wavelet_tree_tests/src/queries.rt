@@ -11,14 +11,14 @@ use wavelet_tree::{RangeQuery, WaveletTree};
 fn is_counted<A: Allocator + Copy>(
     tree: &WaveletTree<A>,
     symbol: u64,
-    place: usize,
+    position: usize,
     wanted: usize,
 ) -> bool {
-    if place > tree.len() {
+    if position > tree.len() {
         return false;
     }
     let mut tally = Tally::new();
-    tree.rank_counted(place, symbol, &mut tally) == wanted
+    tree.rank_counted(position, symbol, &mut tally) == wanted
         && tally.nodes() == tally.data_words()
         && tally.items() <= 2
 }
@@ -52,18 +52,18 @@ fn is_ranked<A: Allocator + Copy>(
 }
 
 // Returns true if the symbol at a position, and its sorted position, are right.
-fn is_read<A: Allocator + Copy>(tree: &WaveletTree<A>, symbols: &[u8], place: usize) -> bool {
-    if place >= tree.len() || place >= symbols.len() {
+fn is_read<A: Allocator + Copy>(tree: &WaveletTree<A>, symbols: &[u8], position: usize) -> bool {
+    if position >= tree.len() || position >= symbols.len() {
         return tree.len() == symbols.len();
     }
-    let symbol = u64::from(symbols[place]);
-    let sorted = lesser_than(symbols, symbol).wrapping_add(rank_of(symbols, place, symbol));
+    let symbol = u64::from(symbols[position]);
+    let sorted = lesser_than(symbols, symbol).wrapping_add(rank_of(symbols, position, symbol));
     let mut tally = Tally::new();
-    let found = tree.get_sorted_counted(place, &mut tally);
-    tree.get(place) == symbol
-        && tree.get_sorted(place) == found
+    let found = tree.get_sorted_counted(position, &mut tally);
+    tree.get(position) == symbol
+        && tree.get_sorted(position) == found
         && found.symbol == symbol
-        && found.place == sorted
+        && found.position == sorted
         && tally.nodes() == tally.data_words()
         && tally.items() == 0
 }
@@ -99,18 +99,18 @@ fn are_ranked_together<A: Allocator + Copy>(
 
 // Returns true if a tree answers as its list.
 fn is_right<A: Allocator + Copy>(tree: &WaveletTree<A>, symbols: &[u8]) -> bool {
-    for place in 0..symbols.len().saturating_add(1) {
-        let end = place.saturating_add(place % 5).min(symbols.len());
-        if !is_read(tree, symbols, place)
-            || !are_ranked_together(tree, symbols, 0..place)
-            || !are_ranked_together(tree, symbols, place..end)
+    for position in 0..symbols.len().saturating_add(1) {
+        let end = position.saturating_add(position % 5).min(symbols.len());
+        if !is_read(tree, symbols, position)
+            || !are_ranked_together(tree, symbols, 0..position)
+            || !are_ranked_together(tree, symbols, position..end)
         {
             return false;
         }
         for symbol in ASKED {
-            if !is_ranked(tree, symbols, symbol, 0..place)
-                || !is_ranked(tree, symbols, symbol, place..end)
-                || !is_ranked(tree, symbols, symbol, place..symbols.len())
+            if !is_ranked(tree, symbols, symbol, 0..position)
+                || !is_ranked(tree, symbols, symbol, position..end)
+                || !is_ranked(tree, symbols, symbol, position..symbols.len())
             {
                 return false;
             }
@@ -144,9 +144,9 @@ fn answers_are_those_of_lists(rt: HostRuntime) -> Result<(), Fail> {
 
 // Returns true if a tree of all numbers of 16 bits reads each of them.
 fn are_all_read(tree: &WaveletTree<Global>) -> bool {
-    for place in 0..tree.len() {
-        let found = tree.get_sorted(place);
-        if found.symbol != place as u64 || found.place != place {
+    for position in 0..tree.len() {
+        let found = tree.get_sorted(position);
+        if found.symbol != position as u64 || found.position != position {
             return false;
         }
     }
@@ -169,8 +169,8 @@ fn all_numbers_of_16_bits(rt: HostRuntime) -> Result<(), Fail> {
 
 // Returns true if a long list of a look is read back.
 fn is_read_back(tree: &WaveletTree<Global>, symbols: &[u8]) -> bool {
-    for place in 0..tree.len().min(symbols.len()) {
-        if tree.get(place) != u64::from(symbols[place]) {
+    for position in 0..tree.len().min(symbols.len()) {
+        if tree.get(position) != u64::from(symbols[position]) {
             return false;
         }
     }

@@ -39,8 +39,8 @@ fn mixed_symbols<A: Allocator + Copy>(
     kinds: u64,
 ) -> Result<Vec<u16, A>, AllocError> {
     let mut symbols = Vec::with_capacity(alloc, len)?;
-    for place in 0..len as u64 {
-        let mixed = place.wrapping_mul(0x9E37_79B9_7F4A_7C15) >> 40;
+    for position in 0..len as u64 {
+        let mixed = position.wrapping_mul(0x9E37_79B9_7F4A_7C15) >> 40;
         let kind = mixed.checked_rem(kinds).unwrap_or(0);
         symbols.push(least.wrapping_add((kind % 65_536) as u16))?;
     }
@@ -49,8 +49,8 @@ fn mixed_symbols<A: Allocator + Copy>(
 
 // Returns true if these are the symbols.
 fn are_symbols<T: Integer>(numbers: &[T], symbols: &[u16]) -> bool {
-    for place in 0..numbers.len().min(symbols.len()) {
-        if numbers[place].number() != usize::from(symbols[place]) {
+    for position in 0..numbers.len().min(symbols.len()) {
+        if numbers[position].number() != usize::from(symbols[position]) {
             return false;
         }
     }

@@ -20,14 +20,14 @@ const SHAPES: [(&[u8], &[u64], usize); 7] = [
 
 // Returns true if each element of a tree is as deep as that, and the tree as large.
 fn has_shape(tree: &WaveletTree<Global>, depths: &[u64], bytes: usize) -> bool {
-    for place in 0..tree.len().min(depths.len()) {
+    for position in 0..tree.len().min(depths.len()) {
         let mut tally = Tally::new();
-        let found = tree.get_sorted_counted(place, &mut tally);
+        let found = tree.get_sorted_counted(position, &mut tally);
         let mut again = Tally::new();
-        tree.rank_counted(place, found.symbol, &mut again);
-        if tally.nodes() != depths[place]
-            || again.nodes() != depths[place]
-            || again.data_words() > 2u64.wrapping_mul(depths[place])
+        tree.rank_counted(position, found.symbol, &mut again);
+        if tally.nodes() != depths[position]
+            || again.nodes() != depths[position]
+            || again.data_words() > 2u64.wrapping_mul(depths[position])
             || again.items() != 2
         {
             return false;

@@ -13,11 +13,11 @@ counts_add {bits} {words} {superblocks} k has within =
 pub word_part : (w i : ℕ) → count_ones (bit_and w (1 * 2 ^ (i % 64) % 18446744073709551616 - 1)) ≡ count_ones (w % 2 ^ (i % 64))
 word_part w i = rw (one_shl (i % 64) 64 (omega arith), and_mask) refl
 
--- the ones before a place, by its word
+-- the ones before a position, by its word
 pub limb_part : (l : List Bool) (i : ℕ) → count true l (64 * (i / 64)) + count_ones (limb l (i / 64) % 2 ^ (i % 64)) ≡ count true l i
 limb_part l i =
-    let place : 64 * (i / 64) + i % 64 ≡ i = omega arith in
-    rw (← count_limb l (i / 64) (i % 64) (omega arith), place) refl
+    let position : 64 * (i / 64) + i % 64 ≡ i = omega arith in
+    rw (← count_limb l (i / 64) (i % 64) (omega arith), position) refl
 
 -- a word whole
 pub limb_whole : (l : List Bool) (k : ℕ) → count true l (64 * (k + 1)) ≡ count true l (64 * k) + count_ones (limb l k)
@@ -26,8 +26,8 @@ limb_whole l k = let e : 64 * (k + 1) ≡ 64 * k + 64 = omega arith in ap (count
 -- a bit of a word
 pub bit_of_limb : (l : List Bool) (i : ℕ) → eqb (bit_and (limb l (i / 64) / 2 ^ (i % 64)) 1) 1 ≡ get_or l i false
 bit_of_limb l i =
-    let place : 64 * (i / 64) + i % 64 ≡ i = omega arith in
-    let bit = rw place at (limb_bit l (i / 64) (i % 64) (omega arith)) in
+    let position : 64 * (i / 64) + i % 64 ≡ i = omega arith in
+    let bit = rw position at (limb_bit l (i / 64) (i % 64) (omega arith)) in
     rw (shr_and_one, bit) (grind (arith, cases_Bool (get_or l i false)))
 
 -- the ones of a superblock before a word

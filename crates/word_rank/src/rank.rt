@@ -120,41 +120,41 @@ impl<A: Allocator + Copy> WordRank<A> {
         8 * self.bits.len().div_ceil(WORD) + 2 * self.words.len() + 8 * self.superblocks.len()
     }
 
-    /// Returns true if the bit at `place` is a one. Precondition: `place` is below the length.
+    /// Returns true if the bit at `position` is a one. Precondition: `position` is below the length.
     #[inline(always)]
-    pub fn is_one(&self, place: usize) -> bool
-        requires { place < length self.now }
-        ensures { result ≡ slice_index_or self.now place false }
+    pub fn is_one(&self, position: usize) -> bool
+        requires { position < length self.now }
+        ensures { result ≡ slice_index_or self.now position false }
     {
         let mut tally = Tally::new();
-        self.is_one_counted(place, &mut tally)
+        self.is_one_counted(position, &mut tally)
     }
 
-    /// Returns `is_one(place)`. Reads one data word. Precondition: `place` is below the length.
+    /// Returns `is_one(position)`. Reads one data word. Precondition: `position` is below the length.
     #[inline(always)]
-    pub fn is_one_counted(&self, place: usize, tally: &mut Tally) -> bool
-        requires { place < length self.now }
-        ensures value { result ≡ slice_index_or self.now place false }
+    pub fn is_one_counted(&self, position: usize, tally: &mut Tally) -> bool
+        requires { position < length self.now }
+        ensures value { result ≡ slice_index_or self.now position false }
         ensures adds { AddsAtMost tally.old tally.new (only_data_words 1) }
     {
-        self.bits.is_one(place, tally)
+        self.bits.is_one(position, tally)
     }
 
-    /// Returns the number of ones below `place`; all ones if `place` is past the end.
+    /// Returns the number of ones below `position`; all ones if `position` is past the end.
     #[inline(always)]
-    pub fn rank1(&self, place: usize) -> usize
-        ensures value { result ≡ count true self.now place }
+    pub fn rank1(&self, position: usize) -> usize
+        ensures value { result ≡ count true self.now position }
         ensures within { result ≤ length self.now }
     {
         let mut tally = Tally::new();
-        self.rank1_counted(place, &mut tally)
+        self.rank1_counted(position, &mut tally)
     }
 
-    /// Returns `rank1(place)`. Reads at most one data word, one block entry and one superblock entry.
+    /// Returns `rank1(position)`. Reads at most one data word, one block entry and one superblock entry.
     #[inline(always)]
     #[tactic(auto, using(crate::proofs::Counts::ranks))]
-    pub fn rank1_counted(&self, place: usize, tally: &mut Tally) -> usize
-        ensures value { result ≡ count true self.now place }
+    pub fn rank1_counted(&self, position: usize, tally: &mut Tally) -> usize
+        ensures value { result ≡ count true self.now position }
         ensures within { result ≤ length self.now }
         ensures adds { AddsAtMost tally.old tally.new word_rank_reads }
     {
@@ -164,37 +164,37 @@ impl<A: Allocator + Copy> WordRank<A> {
         }
         // Past the end the last bit counts too. No branch depends on the position.
         let last = len - 1;
-        let below = self.get_and_rank1_counted(place.min(last), tally);
-        below.ones + usize::from(below.is_one & (place > last))
+        let below = self.get_and_rank1_counted(position.min(last), tally);
+        below.ones + usize::from(below.is_one & (position > last))
     }
 
-    /// Returns the bit at `place`, and the number of ones below `place`. Precondition: `place` is below the
+    /// Returns the bit at `position`, and the number of ones below `position`. Precondition: `position` is below the
     /// length.
     #[inline(always)]
-    pub fn get_and_rank1(&self, place: usize) -> BitAndRank
-        requires { place < length self.now }
-        ensures bit { result.is_one ≡ slice_index_or self.now place false }
-        ensures ones { result.ones ≡ count true self.now place }
+    pub fn get_and_rank1(&self, position: usize) -> BitAndRank
+        requires { position < length self.now }
+        ensures bit { result.is_one ≡ slice_index_or self.now position false }
+        ensures ones { result.ones ≡ count true self.now position }
     {
         let mut tally = Tally::new();
-        self.get_and_rank1_counted(place, &mut tally)
+        self.get_and_rank1_counted(position, &mut tally)
     }
 
-    /// Returns `get_and_rank1(place)`. Reads one data word, one block entry and one superblock entry.
-    /// Precondition: `place` is below the length.
+    /// Returns `get_and_rank1(position)`. Reads one data word, one block entry and one superblock entry.
+    /// Precondition: `position` is below the length.
     #[inline(always)]
     #[tactic(auto, using(crate::proofs::Counts::ranks))]
-    pub fn get_and_rank1_counted(&self, place: usize, tally: &mut Tally) -> BitAndRank
-        requires { place < length self.now }
-        ensures bit { result.is_one ≡ slice_index_or self.now place false }
-        ensures ones { result.ones ≡ count true self.now place }
+    pub fn get_and_rank1_counted(&self, position: usize, tally: &mut Tally) -> BitAndRank
+        requires { position < length self.now }
+        ensures bit { result.is_one ≡ slice_index_or self.now position false }
+        ensures ones { result.ones ≡ count true self.now position }
         ensures adds { AddsAtMost tally.old tally.new word_rank_reads }
     {
-        let word = place / WORD;
+        let word = position / WORD;
         let limb = self.bits.limb(word, tally);
         BitAndRank {
-            is_one: limb >> (place % WORD) & 1 == 1,
-            ones: self.ones_before(word, tally) + ones_of_part(limb, place),
+            is_one: limb >> (position % WORD) & 1 == 1,
+            ones: self.ones_before(word, tally) + ones_of_part(limb, position),
         }
     }
 
@@ -214,9 +214,9 @@ impl<A: Allocator + Copy> WordRank<A> {
 // Returns the number of ones in a word below a position in it.
 #[inline(always)]
 #[tactic(auto, using(crate::proofs::Counts::words))]
-fn ones_of_part(word: u64, place: usize) -> usize
-    ensures value { result ≡ count_ones (word % 2 ^ (place % 64)) }
+fn ones_of_part(word: u64, position: usize) -> usize
+    ensures value { result ≡ count_ones (word % 2 ^ (position % 64)) }
     ensures few { result ≤ 64 }
 {
-    (word & ((1 << (place % WORD)) - 1)).count_ones() as usize
+    (word & ((1 << (position % WORD)) - 1)).count_ones() as usize
 }

@@ -43,8 +43,8 @@ pub fn bits_of<A: Allocator + Copy>(
     len: usize,
 ) -> Result<BitVec<A>, GrowError> {
     let mut bits = BitVec::new(alloc);
-    for place in 0..len {
-        bits.append(bit_of(look, place))?;
+    for position in 0..len {
+        bits.append(bit_of(look, position))?;
     }
     Ok(bits)
 }

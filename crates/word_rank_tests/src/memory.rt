@@ -18,9 +18,9 @@ struct ListOf {
 // Returns true if a list has the bits of a look, and their ranks.
 fn has_bits<A: Allocator + Copy>(list: &WordRank<A>, wanted: &ListOf) -> bool {
     let mut ones: usize = 0;
-    for place in 0..list.len() {
-        let is_one = bit_of(wanted.look, place);
-        let found = list.get_and_rank1(place);
+    for position in 0..list.len() {
+        let is_one = bit_of(wanted.look, position);
+        let found = list.get_and_rank1(position);
         if found.is_one != is_one || found.ones != ones {
             return false;
         }

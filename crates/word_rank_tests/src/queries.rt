@@ -24,12 +24,14 @@ fn answer<A: Allocator + Copy>(list: &WordRank<A>, query: Query) -> u64 {
         Query::Len => list.len() as u64,
         Query::IsEmpty => u64::from(list.is_empty()),
         Query::HeapSize => list.heap_size() as u64,
-        Query::Rank(place) => list.rank1(place) as u64,
-        Query::IsOne(place) if place < list.len() => u64::from(list.is_one(place)),
-        Query::BitThere(place) if place < list.len() => {
-            u64::from(list.get_and_rank1(place).is_one)
+        Query::Rank(position) => list.rank1(position) as u64,
+        Query::IsOne(position) if position < list.len() => u64::from(list.is_one(position)),
+        Query::BitThere(position) if position < list.len() => {
+            u64::from(list.get_and_rank1(position).is_one)
         }
-        Query::OnesBefore(place) if place < list.len() => list.get_and_rank1(place).ones as u64,
+        Query::OnesBefore(position) if position < list.len() => list
+            .get_and_rank1(position)
+            .ones as u64,
         _ => u64::MAX,
     }
 }
@@ -37,13 +39,15 @@ fn answer<A: Allocator + Copy>(list: &WordRank<A>, query: Query) -> u64 {
 // Returns the answer of a query in its counted form.
 fn counted<A: Allocator + Copy>(list: &WordRank<A>, query: Query, tally: &mut Tally) -> u64 {
     match query {
-        Query::Rank(place) => list.rank1_counted(place, tally) as u64,
-        Query::IsOne(place) if place < list.len() => u64::from(list.is_one_counted(place, tally)),
-        Query::BitThere(place) if place < list.len() => {
-            u64::from(list.get_and_rank1_counted(place, tally).is_one)
+        Query::Rank(position) => list.rank1_counted(position, tally) as u64,
+        Query::IsOne(position) if position < list.len() => u64::from(list.is_one_counted(
+            position, tally,
+        )),
+        Query::BitThere(position) if position < list.len() => {
+            u64::from(list.get_and_rank1_counted(position, tally).is_one)
         }
-        Query::OnesBefore(place) if place < list.len() => {
-            list.get_and_rank1_counted(place, tally).ones as u64
+        Query::OnesBefore(position) if position < list.len() => {
+            list.get_and_rank1_counted(position, tally).ones as u64
         }
         _ => answer(list, query),
     }
@@ -184,22 +188,22 @@ fn queries_and_their_answers(rt: HostRuntime) -> Result<(), Fail> {
 }
 
 // Returns the first position whose rank or bit is not that of a count, up to two past the end.
-fn first_wrong_place<A: Allocator + Copy>(list: &WordRank<A>, look: Look) -> Option<usize> {
+fn first_wrong_position<A: Allocator + Copy>(list: &WordRank<A>, look: Look) -> Option<usize> {
     let mut ones: u64 = 0;
-    for place in 0..list.len() {
-        let is_one = u64::from(bit_of(look, place));
-        if !is_right(list, Query::Rank(place), ones)
-            || !is_right(list, Query::OnesBefore(place), ones)
-            || !is_right(list, Query::BitThere(place), is_one)
-            || !is_right(list, Query::IsOne(place), is_one)
+    for position in 0..list.len() {
+        let is_one = u64::from(bit_of(look, position));
+        if !is_right(list, Query::Rank(position), ones)
+            || !is_right(list, Query::OnesBefore(position), ones)
+            || !is_right(list, Query::BitThere(position), is_one)
+            || !is_right(list, Query::IsOne(position), is_one)
         {
-            return Some(place);
+            return Some(position);
         }
         ones = ones.wrapping_add(is_one);
     }
-    for place in [list.len(), list.len().saturating_add(1), usize::MAX] {
-        if !is_right(list, Query::Rank(place), ones) {
-            return Some(place);
+    for position in [list.len(), list.len().saturating_add(1), usize::MAX] {
+        if !is_right(list, Query::Rank(position), ones) {
+            return Some(position);
         }
     }
     None
@@ -213,8 +217,8 @@ fn first_wrong_count(alloc: Global) -> Result<Option<(usize, usize)>, AllocError
     for look in LOOKS {
         for len in LENGTHS {
             let list = ranked(bits_of(alloc, look, len));
-            if let Some(place) = asked(list, |list| first_wrong_place(list, look))? {
-                return Ok(Some((len, place)));
+            if let Some(position) = asked(list, |list| first_wrong_position(list, look))? {
+                return Ok(Some((len, position)));
             }
         }
     }

@@ -40,7 +40,7 @@ where
         }
         left -= taken;
     }
-    let n = random.place(left);
+    let n = random.position(left);
     match random.below(8) {
         0 => ask!(log, &format!("{name}.count"), [left], items.count()),
         1 => ask!(log, &format!("{name}.last"), [left, len], items.last()),
@@ -59,7 +59,7 @@ where
     I: DoubleEndedIterator + ExactSizeIterator,
     I::Item: Shown,
 {
-    let n = if random.below(6) == 0 { random.place(left) } else { random.below(left.min(600) + 1) };
+    let n = if random.below(6) == 0 { random.position(left) } else { random.below(left.min(600) + 1) };
     match random.below(6) {
         0 => ask!(log, &format!("{name}.next"), [left], items.next()),
         1 => ask!(log, &format!("{name}.next_back"), [left], items.next_back()),
@@ -81,7 +81,7 @@ where
     I: Iterator,
     I::Item: Shown,
 {
-    let n = random.place(40);
+    let n = random.position(40);
     match random.below(4) {
         0 => ask!(log, &format!("{name}.nth"), [n], make().nth(n)),
         1 => ask!(log, &format!("{name}.count"), [], make().count()),
@@ -197,23 +197,23 @@ fn append(log: &mut Log, random: &mut Random, list: &BitVec) {
 
 /// Changes a copy of a list otherwise.
 fn change(log: &mut Log, random: &mut Random, list: &BitVec) {
-    let (place, word) = (random.place(list.len()), random.next());
+    let (position, word) = (random.position(list.len()), random.next());
     let len = if random.below(2) == 0 { list.len() } else { random.length().min(300) };
     let mask = bits(random, len);
     match random.below(8) {
-        0 => ask!(log, "BitVec::drop_last", [place], changed(list, |it| it.drop_last(place))),
-        1 => ask!(log, "BitVec::flip_bit", [place], changed(list, |it| it.flip_bit(place))),
-        2 => ask!(log, "BitVec::flip_bit_unchecked", [place], changed(list, |it| it.flip_bit_unchecked(place))),
+        0 => ask!(log, "BitVec::drop_last", [position], changed(list, |it| it.drop_last(position))),
+        1 => ask!(log, "BitVec::flip_bit", [position], changed(list, |it| it.flip_bit(position))),
+        2 => ask!(log, "BitVec::flip_bit_unchecked", [position], changed(list, |it| it.flip_bit_unchecked(position))),
         3 => {
-            let call = |it: &mut BitVec| it.set(place, word).map_err(str::to_owned);
-            ask!(log, "BitVec::set", [place, word], changed(list, call))
+            let call = |it: &mut BitVec| it.set(position, word).map_err(str::to_owned);
+            ask!(log, "BitVec::set", [position, word], changed(list, call))
         }
-        4 => ask!(log, "BitVec::set_unchecked", [place, word], changed(list, |it| it.set_unchecked(place, word))),
-        5 => ask!(log, "BitVec::split_at", [place], list.clone().split_at(place)),
+        4 => ask!(log, "BitVec::set_unchecked", [position, word], changed(list, |it| it.set_unchecked(position, word))),
+        5 => ask!(log, "BitVec::split_at", [position], list.clone().split_at(position)),
         // Past the end the original requests more memory than there is, which stops the process.
         6 => {
-            let place = place.min(list.len());
-            ask!(log, "BitVec::split_at_unchecked", [place], list.clone().split_at_unchecked(place))
+            let position = position.min(list.len());
+            ask!(log, "BitVec::split_at_unchecked", [position], list.clone().split_at_unchecked(position))
         }
         _ => apply_masks(log, list, &mask),
     }
@@ -261,15 +261,15 @@ pub fn bit_vec(log: &mut Log, random: &mut Random) {
     ask!(log, "BitVec::count_zeros", [], list.count_zeros());
     ask!(log, "BitVec::heap_size", [], list.heap_size());
     for _ in 0..120 {
-        let (place, count) = (random.place(len), random.below(67));
-        let index = random.place(len / count.max(1));
+        let (position, count) = (random.position(len), random.below(67));
+        let index = random.position(len / count.max(1));
         match random.below(9) {
-            0 => ask!(log, "BitVec::get", [place], list.get(place)),
-            1 => ask!(log, "BitVec::get_unchecked", [place], list.get_unchecked(place)),
-            2 => ask!(log, "BitVec::is_bit_set", [place], list.is_bit_set(place)),
-            3 => ask!(log, "BitVec::is_bit_set_unchecked", [place], list.is_bit_set_unchecked(place)),
-            4 => ask!(log, "BitVec::get_bits", [place, count], list.get_bits(place, count)),
-            5 => ask!(log, "BitVec::get_bits_unchecked", [place, count], list.get_bits_unchecked(place, count)),
+            0 => ask!(log, "BitVec::get", [position], list.get(position)),
+            1 => ask!(log, "BitVec::get_unchecked", [position], list.get_unchecked(position)),
+            2 => ask!(log, "BitVec::is_bit_set", [position], list.is_bit_set(position)),
+            3 => ask!(log, "BitVec::is_bit_set_unchecked", [position], list.is_bit_set_unchecked(position)),
+            4 => ask!(log, "BitVec::get_bits", [position, count], list.get_bits(position, count)),
+            5 => ask!(log, "BitVec::get_bits_unchecked", [position, count], list.get_bits_unchecked(position, count)),
             6 => ask!(log, "BitVec::unpack_element", [index, count], list.unpack_element(index, count)),
             7 => {
                 let call = || list.unpack_element_unchecked(index, count);
@@ -289,10 +289,10 @@ pub fn bit_vec(log: &mut Log, random: &mut Random) {
 
 /// Compares a list with one that differs from it in one bit or none, or in its length.
 fn equality(log: &mut Log, random: &mut Random, list: &BitVec) {
-    let (mut other, place) = (list.clone(), random.below(list.len()));
+    let (mut other, position) = (list.clone(), random.below(list.len()));
     match random.below(3) {
-        0 if !list.is_empty() => other.flip_bit(place),
-        1 => other.drop_last(place),
+        0 if !list.is_empty() => other.flip_bit(position),
+        1 => other.drop_last(position),
         _ => {}
     }
     let both = (list.len() as u64, other.len() as u64);
@@ -327,14 +327,14 @@ fn ask_mask<F: Fn(u64, u64) -> u64>(log: &mut Log, random: &mut Random, len: usi
     ask!(log, "MaskedBitVec::count_zeros", [], list.count_zeros());
     ask!(log, "MaskedBitVec::to_bit_vec", [], list.to_bit_vec());
     for _ in 0..60 {
-        let (place, count) = (random.place(len), random.below(67));
+        let (position, count) = (random.position(len), random.below(67));
         match random.below(6) {
-            0 => ask!(log, "MaskedBitVec::get", [place], list.get(place)),
-            1 => ask!(log, "MaskedBitVec::get_unchecked", [place], list.get_unchecked(place)),
-            2 => ask!(log, "MaskedBitVec::is_bit_set", [place], list.is_bit_set(place)),
-            3 => ask!(log, "MaskedBitVec::is_bit_set_unchecked", [place], list.is_bit_set_unchecked(place)),
-            4 => ask!(log, "MaskedBitVec::get_bits", [place, count], list.get_bits(place, count)),
-            _ => ask!(log, "MaskedBitVec::get_bits_unchecked", [place, count], list.get_bits_unchecked(place, count)),
+            0 => ask!(log, "MaskedBitVec::get", [position], list.get(position)),
+            1 => ask!(log, "MaskedBitVec::get_unchecked", [position], list.get_unchecked(position)),
+            2 => ask!(log, "MaskedBitVec::is_bit_set", [position], list.is_bit_set(position)),
+            3 => ask!(log, "MaskedBitVec::is_bit_set_unchecked", [position], list.is_bit_set_unchecked(position)),
+            4 => ask!(log, "MaskedBitVec::get_bits", [position, count], list.get_bits(position, count)),
+            _ => ask!(log, "MaskedBitVec::get_bits_unchecked", [position, count], list.get_bits_unchecked(position, count)),
         }
     }
 }
@@ -351,20 +351,20 @@ pub fn rs_vec(log: &mut Log, random: &mut Random) {
     ask!(log, "RsVec::is_empty", [], list.is_empty());
     ask!(log, "RsVec::heap_size", [], list.heap_size());
     for _ in 0..250 {
-        let (place, count) = (random.place(len), random.below(67));
+        let (position, count) = (random.position(len), random.below(67));
         match random.below(12) {
-            0 => ask!(log, "RsVec::rank0", [place], list.rank0(place)),
-            1 => ask!(log, "RsVec::rank1", [place], list.rank1(place)),
-            2 => ask!(log, "RsVec::select0", [place], list.select0(place)),
-            3 => ask!(log, "RsVec::select1", [place], list.select1(place)),
-            4 => ask!(log, "RsVec::get", [place], list.get(place)),
-            5 => ask!(log, "RsVec::get_unchecked", [place], list.get_unchecked(place)),
-            6 => ask!(log, "RsVec::get_bits", [place, count], list.get_bits(place, count)),
-            7 => ask!(log, "RsVec::get_bits_unchecked", [place, count], list.get_bits_unchecked(place, count)),
-            8 => ask!(log, "RsVec::successor0", [place], list.successor0(place)),
-            9 => ask!(log, "RsVec::successor1", [place], list.successor1(place)),
-            10 => ask!(log, "RsVec::predecessor0", [place], list.predecessor0(place)),
-            _ => ask!(log, "RsVec::predecessor1", [place], list.predecessor1(place)),
+            0 => ask!(log, "RsVec::rank0", [position], list.rank0(position)),
+            1 => ask!(log, "RsVec::rank1", [position], list.rank1(position)),
+            2 => ask!(log, "RsVec::select0", [position], list.select0(position)),
+            3 => ask!(log, "RsVec::select1", [position], list.select1(position)),
+            4 => ask!(log, "RsVec::get", [position], list.get(position)),
+            5 => ask!(log, "RsVec::get_unchecked", [position], list.get_unchecked(position)),
+            6 => ask!(log, "RsVec::get_bits", [position, count], list.get_bits(position, count)),
+            7 => ask!(log, "RsVec::get_bits_unchecked", [position, count], list.get_bits_unchecked(position, count)),
+            8 => ask!(log, "RsVec::successor0", [position], list.successor0(position)),
+            9 => ask!(log, "RsVec::successor1", [position], list.successor1(position)),
+            10 => ask!(log, "RsVec::predecessor0", [position], list.predecessor0(position)),
+            _ => ask!(log, "RsVec::predecessor1", [position], list.predecessor1(position)),
         }
     }
     let ones = source.count_ones() as usize;
@@ -420,11 +420,11 @@ pub fn elias_fano(log: &mut Log, random: &mut Random) {
     let ends = [numbers.first(), numbers.last()].map(|it| it.copied().unwrap_or(0));
     let [least, most] = ends;
     for _ in 0..200 {
-        let (place, number) = (random.place(len), near(random, &numbers));
+        let (position, number) = (random.position(len), near(random, &numbers));
         match random.below(9) {
-            0 => ask!(log, "EliasFanoVec::get", [place], list.get(place)),
-            1 => ask!(log, "EliasFanoVec::select", [place], list.select(place)),
-            2 => ask!(log, "EliasFanoVec::get_unchecked", [place], list.get_unchecked(place)),
+            0 => ask!(log, "EliasFanoVec::get", [position], list.get(position)),
+            1 => ask!(log, "EliasFanoVec::select", [position], list.select(position)),
+            2 => ask!(log, "EliasFanoVec::get_unchecked", [position], list.get_unchecked(position)),
             3 => ask!(log, "EliasFanoVec::predecessor", [number, least], list.predecessor(number)),
             4 => {
                 let call = || list.predecessor_unchecked(number);
@@ -435,7 +435,7 @@ pub fn elias_fano(log: &mut Log, random: &mut Random) {
                 let call = || list.successor_unchecked(number);
                 ask!(log, "EliasFanoVec::successor_unchecked", [number, least, most], call())
             }
-            7 => ask!(log, "EliasFanoVec::delta", [place], list.delta(place)),
+            7 => ask!(log, "EliasFanoVec::delta", [position], list.delta(position)),
             _ => ask!(log, "EliasFanoVec::rank", [number, least], list.rank(number)),
         }
     }
@@ -463,11 +463,11 @@ pub fn sparse(log: &mut Log, random: &mut Random) {
     let few = random.length().min(3000);
     let list = bits(random, few);
     log.len = few;
-    let places = |wanted: u64| (0..few as u64).filter(|at| list.get(*at as usize) == Some(wanted)).collect::<Vec<_>>();
-    ask_sparse(log, random, "from_bitvec", &places(1), &SparseRSVec::from_bitvec(&list));
-    ask_sparse(log, random, "from_bitvec_inverted", &places(0), &SparseRSVec::from_bitvec_inverted(&list));
-    ask_sparse(log, random, "from", &places(0), &SparseRSVec::from(&list));
-    ask_sparse(log, random, "from", &places(0), &SparseRSVec::from(list.clone()));
+    let positions = |wanted: u64| (0..few as u64).filter(|at| list.get(*at as usize) == Some(wanted)).collect::<Vec<_>>();
+    ask_sparse(log, random, "from_bitvec", &positions(1), &SparseRSVec::from_bitvec(&list));
+    ask_sparse(log, random, "from_bitvec_inverted", &positions(0), &SparseRSVec::from_bitvec_inverted(&list));
+    ask_sparse(log, random, "from", &positions(0), &SparseRSVec::from(&list));
+    ask_sparse(log, random, "from", &positions(0), &SparseRSVec::from(list.clone()));
 }
 
 fn ask_sparse(log: &mut Log, random: &mut Random, maker: &str, ones: &[u64], list: &SparseRSVec) {
@@ -477,13 +477,13 @@ fn ask_sparse(log: &mut Log, random: &mut Random, maker: &str, ones: &[u64], lis
     ask!(log, "SparseRSVec::is_empty", [], list.is_empty());
     ask!(log, "SparseRSVec::heap_size", [], list.heap_size());
     for _ in 0..40 {
-        let (number, place) = (near(random, ones), random.place(ones.len()));
+        let (number, position) = (near(random, ones), random.position(ones.len()));
         match random.below(7) {
             0 => ask!(log, "SparseRSVec::is_set", [number, first], list.is_set(number)),
             1 => ask!(log, "SparseRSVec::is_set_unchecked", [number, first], list.is_set_unchecked(number)),
             2 => ask!(log, "SparseRSVec::get", [number, first], list.get(number)),
             3 => ask!(log, "SparseRSVec::get_unchecked", [number, first], list.get_unchecked(number)),
-            4 => ask!(log, "SparseRSVec::select1", [place, ones.len()], list.select1(place)),
+            4 => ask!(log, "SparseRSVec::select1", [position, ones.len()], list.select1(position)),
             5 => ask!(log, "SparseRSVec::rank1", [number, first], list.rank1(number)),
             _ => ask!(log, "SparseRSVec::rank0", [number, first], list.rank0(number)),
         }
@@ -491,9 +491,9 @@ fn ask_sparse(log: &mut Log, random: &mut Random, maker: &str, ones: &[u64], lis
     walk_on(log, "SparseRSVec::iter1", random, || list.iter1());
 }
 
-/// The place of a least value, and that value.
-fn minimum(values: &[u64], place: usize) -> (usize, u64) {
-    (place, values[place])
+/// The position of a least value, and that value.
+fn minimum(values: &[u64], position: usize) -> (usize, u64) {
+    (position, values[position])
 }
 
 macro_rules! minima {
@@ -510,10 +510,10 @@ macro_rules! minima {
             ask!(log, concat!($name, "::len"), [], list.len());
             ask!(log, concat!($name, "::is_empty"), [], list.is_empty());
             ask!(log, concat!($name, "::heap_size"), [], list.heap_size());
-            let least = |place| minimum(&values, place);
+            let least = |position| minimum(&values, position);
             let ranged = concat!($name, "::range_min_with_range");
             for _ in 0..150 {
-                let (a, b) = (random.place(len), random.place(len));
+                let (a, b) = (random.position(len), random.position(len));
                 let (a, b) = if random.below(8) > 0 { (a.min(b), a.max(b)) } else { (a, b) };
                 match random.below(10) {
                     0 => ask!(log, ranged, [0, a, b], least(list.range_min_with_range(a..b))),
@@ -626,12 +626,12 @@ impl Ord for Symbol {
 
 fn ask_symbol(log: &mut Log, random: &mut Random, list: &WaveletMatrix) {
     let (len, width) = (list.len(), list.bits_per_element());
-    let (place, other, range) = (random.place(len), random.place(len), random.range(len));
+    let (position, other, range) = (random.position(len), random.position(len), random.range(len));
     let symbol = match (random.below(2), len) {
         (0, 1..) => list.get_value(random.below(len)).unwrap(),
         _ => symbol(random, width),
     };
-    let about = [place as u64, range.start as u64, range.end as u64, symbol.len() as u64, width as u64];
+    let about = [position as u64, range.start as u64, range.end as u64, symbol.len() as u64, width as u64];
     let [a, s, e, l, w] = about;
     let b = other as u64;
     match random.below(12) {
@@ -645,31 +645,31 @@ fn ask_symbol(log: &mut Log, random: &mut Random, list: &WaveletMatrix) {
             let call = || list.rank_offset_unchecked(range.start, range.end, &symbol);
             ask!(log, "WaveletMatrix::rank_offset_unchecked", [s, e, l, w], call())
         }
-        4 => ask!(log, "WaveletMatrix::rank", [a, l, w], list.rank(place, &symbol)),
-        5 => ask!(log, "WaveletMatrix::rank_unchecked", [a, l, w], list.rank_unchecked(place, &symbol)),
-        6 => ask!(log, "WaveletMatrix::select_offset", [a, b, l, w], list.select_offset(place, other, &symbol)),
+        4 => ask!(log, "WaveletMatrix::rank", [a, l, w], list.rank(position, &symbol)),
+        5 => ask!(log, "WaveletMatrix::rank_unchecked", [a, l, w], list.rank_unchecked(position, &symbol)),
+        6 => ask!(log, "WaveletMatrix::select_offset", [a, b, l, w], list.select_offset(position, other, &symbol)),
         7 => {
-            let call = || list.select_offset_unchecked(place, other, &symbol);
+            let call = || list.select_offset_unchecked(position, other, &symbol);
             ask!(log, "WaveletMatrix::select_offset_unchecked", [a, b, l, w], call())
         }
-        8 => ask!(log, "WaveletMatrix::select", [a, l, w], list.select(place, &symbol)),
-        9 => ask!(log, "WaveletMatrix::select_unchecked", [a, l, w], list.select_unchecked(place, &symbol)),
+        8 => ask!(log, "WaveletMatrix::select", [a, l, w], list.select(position, &symbol)),
+        9 => ask!(log, "WaveletMatrix::select_unchecked", [a, l, w], list.select_unchecked(position, &symbol)),
         10 => ask!(log, "WaveletMatrix::predecessor", [s, e, l, w], list.predecessor(range.clone(), &symbol)),
         _ => ask!(log, "WaveletMatrix::successor", [s, e, l, w], list.successor(range.clone(), &symbol)),
     }
 }
 
 fn ask_member(log: &mut Log, random: &mut Random, list: &WaveletMatrix) {
-    let (place, range) = (random.place(list.len()), random.range(list.len()));
-    let k = random.place(range.end.saturating_sub(range.start).min(list.len()));
+    let (position, range) = (random.position(list.len()), random.range(list.len()));
+    let k = random.position(range.end.saturating_sub(range.start).min(list.len()));
     let (s, e, of) = (range.start, range.end, range.clone());
     match random.below(12) {
-        0 => ask!(log, "WaveletMatrix::get_value", [place], list.get_value(place)),
-        1 => ask!(log, "WaveletMatrix::get_value_unchecked", [place], list.get_value_unchecked(place)),
+        0 => ask!(log, "WaveletMatrix::get_value", [position], list.get_value(position)),
+        1 => ask!(log, "WaveletMatrix::get_value_unchecked", [position], list.get_value_unchecked(position)),
         2 => ask!(log, "WaveletMatrix::quantile", [s, e, k], list.quantile(of, k)),
         3 => ask!(log, "WaveletMatrix::quantile_unchecked", [s, e, k], list.quantile_unchecked(of, k)),
-        4 => ask!(log, "WaveletMatrix::get_sorted", [place], list.get_sorted(place)),
-        5 => ask!(log, "WaveletMatrix::get_sorted_unchecked", [place], list.get_sorted_unchecked(place)),
+        4 => ask!(log, "WaveletMatrix::get_sorted", [position], list.get_sorted(position)),
+        5 => ask!(log, "WaveletMatrix::get_sorted_unchecked", [position], list.get_sorted_unchecked(position)),
         6 => ask!(log, "WaveletMatrix::range_min", [s, e], list.range_min(of)),
         7 => ask!(log, "WaveletMatrix::range_min_unchecked", [s, e], list.range_min_unchecked(of)),
         8 => ask!(log, "WaveletMatrix::range_max", [s, e], list.range_max(of)),
@@ -702,7 +702,7 @@ fn ask_numbers(log: &mut Log, random: &mut Random, list: &WaveletMatrix, numbers
 
 fn ask_counts(log: &mut Log, random: &mut Random, list: &WaveletMatrix, n: u64) {
     let (len, w) = (list.len(), list.bits_per_element());
-    let (a, b, range) = (random.place(len), random.place(len), random.range(len));
+    let (a, b, range) = (random.position(len), random.position(len), random.range(len));
     let (s, e, of) = (range.start, range.end, range.clone());
     match random.below(10) {
         0 => ask!(log, "WaveletMatrix::rank_range_u64", [s, e, n, w], list.rank_range_u64(of, n)),
@@ -724,16 +724,16 @@ fn ask_counts(log: &mut Log, random: &mut Random, list: &WaveletMatrix, n: u64) 
 }
 
 fn ask_sizes(log: &mut Log, random: &mut Random, list: &WaveletMatrix, n: u64) {
-    let (place, range, w) = (random.place(list.len()), random.range(list.len()), list.bits_per_element());
-    let k = random.place(range.end.saturating_sub(range.start).min(list.len()));
+    let (position, range, w) = (random.position(list.len()), random.range(list.len()), list.bits_per_element());
+    let k = random.position(range.end.saturating_sub(range.start).min(list.len()));
     let (s, e, of) = (range.start, range.end, range.clone());
     match random.below(14) {
-        0 => ask!(log, "WaveletMatrix::get_u64", [place, w], list.get_u64(place)),
-        1 => ask!(log, "WaveletMatrix::get_u64_unchecked", [place, w], list.get_u64_unchecked(place)),
+        0 => ask!(log, "WaveletMatrix::get_u64", [position, w], list.get_u64(position)),
+        1 => ask!(log, "WaveletMatrix::get_u64_unchecked", [position, w], list.get_u64_unchecked(position)),
         2 => ask!(log, "WaveletMatrix::quantile_u64", [s, e, k, w], list.quantile_u64(of, k)),
         3 => ask!(log, "WaveletMatrix::quantile_u64_unchecked", [s, e, k, w], list.quantile_u64_unchecked(of, k)),
-        4 => ask!(log, "WaveletMatrix::get_sorted_u64", [place, w], list.get_sorted_u64(place)),
-        5 => ask!(log, "WaveletMatrix::get_sorted_u64_unchecked", [place, w], list.get_sorted_u64_unchecked(place)),
+        4 => ask!(log, "WaveletMatrix::get_sorted_u64", [position, w], list.get_sorted_u64(position)),
+        5 => ask!(log, "WaveletMatrix::get_sorted_u64_unchecked", [position, w], list.get_sorted_u64_unchecked(position)),
         6 => ask!(log, "WaveletMatrix::range_min_u64", [s, e, w], list.range_min_u64(of)),
         7 => ask!(log, "WaveletMatrix::range_min_u64_unchecked", [s, e, w], list.range_min_u64_unchecked(of)),
         8 => ask!(log, "WaveletMatrix::range_max_u64", [s, e, w], list.range_max_u64(of)),
@@ -805,16 +805,16 @@ fn ask_tree<const BLOCK_SIZE: usize>(log: &mut Log, random: &mut Random, list: &
 }
 
 fn ask_search<const BLOCK_SIZE: usize>(log: &mut Log, random: &mut Random, tree: &BpTree<BLOCK_SIZE>, len: usize) {
-    let place = random.place(len);
+    let position = random.position(len);
     let excess = random.of(&[0, 1, -1, 2, -2, 5, -5, 100, -100, i64::MAX, i64::MIN]);
     let level = random.of(&[0, 1, 2, 3, 10, 1000, u64::MAX, 1 << 63]);
     match random.below(10) {
-        0 | 1 => ask!(log, "BpTree::fwd_search", [place, excess], tree.fwd_search(place, excess)),
-        2 | 3 => ask!(log, "BpTree::bwd_search", [place, excess], tree.bwd_search(place, excess)),
-        4 => ask!(log, "BpTree::close", [place], tree.close(place)),
-        5 => ask!(log, "BpTree::open", [place], tree.open(place)),
-        6 => ask!(log, "BpTree::enclose", [place], tree.enclose(place)),
-        7 => ask!(log, "BpTree::excess", [place], tree.excess(place)),
+        0 | 1 => ask!(log, "BpTree::fwd_search", [position, excess], tree.fwd_search(position, excess)),
+        2 | 3 => ask!(log, "BpTree::bwd_search", [position, excess], tree.bwd_search(position, excess)),
+        4 => ask!(log, "BpTree::close", [position], tree.close(position)),
+        5 => ask!(log, "BpTree::open", [position], tree.open(position)),
+        6 => ask!(log, "BpTree::enclose", [position], tree.enclose(position)),
+        7 => ask!(log, "BpTree::excess", [position], tree.excess(position)),
         8 => ask!(log, "LevelTree::level_leftmost", [level], tree.level_leftmost(level)),
         _ => ask!(log, "LevelTree::level_rightmost", [level], tree.level_rightmost(level)),
     }
@@ -822,7 +822,7 @@ fn ask_search<const BLOCK_SIZE: usize>(log: &mut Log, random: &mut Random, tree:
 
 fn ask_node<const B: usize>(log: &mut Log, random: &mut Random, tree: &BpTree<B>, node: usize, other: usize) {
     let level = random.of(&[0, 1, 2, 3, 10, 1000, u64::MAX, 1 << 63]);
-    let index = random.place(tree.size());
+    let index = random.position(tree.size());
     match random.below(15) {
         0 => ask!(log, "Tree::parent", [node], tree.parent(node)),
         1 => ask!(log, "Tree::first_child", [node], tree.first_child(node)),

@@ -37,7 +37,7 @@ impl Random {
     }
 
     /// A position in a list of a length, at its borders, past its end or far from it.
-    pub fn place(&mut self, len: usize) -> usize {
+    pub fn position(&mut self, len: usize) -> usize {
         match self.below(12) {
             0 => self.of(&[0, 1, 63, 64, 65, 511, 512, 513, 8191, 8192]),
             1 => (len + self.below(3)).saturating_sub(1),
@@ -49,7 +49,7 @@ impl Random {
 
     /// A range in a list of a length: mostly within, seldom reversed or past the end.
     pub fn range(&mut self, len: usize) -> std::ops::Range<usize> {
-        let (a, b) = (self.place(len), self.place(len));
+        let (a, b) = (self.position(len), self.position(len));
         match self.below(8) {
             0 => a..b,
             _ => a.min(b)..a.max(b),

@@ -30,7 +30,7 @@ pub struct RsVec {
 /// The positions of two equal bits with no other between them. A position is the length of the list if there is no such
 /// bit.
 #[derive(Clone, Copy, PartialEq, Eq, Hash, Debug)]
-pub struct PlacePair {
+pub struct PositionPair {
     /// The position of the first bit.
     pub first: usize,
     /// The position of the second bit.
@@ -38,10 +38,10 @@ pub struct PlacePair {
 }
 
 #[doc(hidden)]
-impl From<proved::PlacePair> for PlacePair {
+impl From<proved::PositionPair> for PositionPair {
     #[inline]
-    fn from(pair: proved::PlacePair) -> PlacePair {
-        PlacePair { first: pair.first, second: pair.second }
+    fn from(pair: proved::PositionPair) -> PositionPair {
+        PositionPair { first: pair.first, second: pair.second }
     }
 }
 
@@ -79,20 +79,20 @@ impl RsVec {
 
 /// Queries.
 impl RsVec {
-    /// Returns the number of zeros before `place`, or in the whole list past the end, in O(1).
+    /// Returns the number of zeros before `position`, or in the whole list past the end, in O(1).
     #[doc = contract!(RsVec::rank0)]
     #[must_use]
     #[inline]
-    pub fn rank0(&self, place: usize) -> usize {
-        self.bits.rank0(place)
+    pub fn rank0(&self, position: usize) -> usize {
+        self.bits.rank0(position)
     }
 
-    /// Returns the number of ones before `place`, or in the whole list past the end, in O(1).
+    /// Returns the number of ones before `position`, or in the whole list past the end, in O(1).
     #[doc = contract!(RsVec::rank1)]
     #[must_use]
     #[inline]
-    pub fn rank1(&self, place: usize) -> usize {
-        self.bits.rank1(place)
+    pub fn rank1(&self, position: usize) -> usize {
+        self.bits.rank1(position)
     }
 
     /// Returns the position of the `r`-th zero, from 0, or the length if there is none. O(log `len`) at worst.
@@ -115,7 +115,7 @@ impl RsVec {
     #[doc = contract!(RsVec::select0_pair)]
     #[must_use]
     #[inline]
-    pub fn select0_pair(&self, r: usize) -> PlacePair {
+    pub fn select0_pair(&self, r: usize) -> PositionPair {
         self.bits.select0_pair(r).into()
     }
 
@@ -123,7 +123,7 @@ impl RsVec {
     #[doc = contract!(RsVec::select1_pair)]
     #[must_use]
     #[inline]
-    pub fn select1_pair(&self, r: usize) -> PlacePair {
+    pub fn select1_pair(&self, r: usize) -> PositionPair {
         self.bits.select1_pair(r).into()
     }
 
@@ -141,86 +141,86 @@ impl RsVec {
         self.bits.ones()
     }
 
-    /// Returns the first zero strictly above `place`. `None` if there is none, or `place` is past the end.
+    /// Returns the first zero strictly above `position`. `None` if there is none, or `position` is past the end.
     #[doc = contract!(RsVec::successor0)]
     #[must_use]
     #[inline]
-    pub fn successor0(&self, place: usize) -> Option<u64> {
-        self.bits.successor0(place)
+    pub fn successor0(&self, position: usize) -> Option<u64> {
+        self.bits.successor0(position)
     }
 
-    /// Returns the first one strictly above `place`. `None` if there is none, or `place` is past the end.
+    /// Returns the first one strictly above `position`. `None` if there is none, or `position` is past the end.
     #[doc = contract!(RsVec::successor1)]
     #[must_use]
     #[inline]
-    pub fn successor1(&self, place: usize) -> Option<u64> {
-        self.bits.successor1(place)
+    pub fn successor1(&self, position: usize) -> Option<u64> {
+        self.bits.successor1(position)
     }
 
-    /// Returns the last zero strictly below `place`, or `None` if there is none.
+    /// Returns the last zero strictly below `position`, or `None` if there is none.
     #[doc = contract!(RsVec::predecessor0)]
     #[must_use]
     #[inline]
-    pub fn predecessor0(&self, place: usize) -> Option<u64> {
-        self.bits.predecessor0(place)
+    pub fn predecessor0(&self, position: usize) -> Option<u64> {
+        self.bits.predecessor0(position)
     }
 
-    /// Returns the last one strictly below `place`, or `None` if there is none.
+    /// Returns the last one strictly below `position`, or `None` if there is none.
     #[doc = contract!(RsVec::predecessor1)]
     #[must_use]
     #[inline]
-    pub fn predecessor1(&self, place: usize) -> Option<u64> {
-        self.bits.predecessor1(place)
+    pub fn predecessor1(&self, position: usize) -> Option<u64> {
+        self.bits.predecessor1(position)
     }
 
-    /// Returns the bit at `place`, or `None` past the end, in O(1).
+    /// Returns the bit at `position`, or `None` past the end, in O(1).
     #[doc = contract!(RsVec::get)]
     #[must_use]
     #[inline]
-    pub fn get(&self, place: usize) -> Option<u64> {
-        self.bits.get(place)
+    pub fn get(&self, position: usize) -> Option<u64> {
+        self.bits.get(position)
     }
 
-    /// Returns the bit at `place`, in O(1).
+    /// Returns the bit at `position`, in O(1).
     ///
     /// # Panics
-    /// If `place` is past the end.
+    /// If `position` is past the end.
     #[doc = contract!(RsVec::get)]
     #[must_use]
     #[inline]
     #[track_caller]
-    pub fn get_unchecked(&self, place: usize) -> u64 {
-        match self.bits.get(place) {
+    pub fn get_unchecked(&self, position: usize) -> u64 {
+        match self.bits.get(position) {
             Some(found) => found,
-            None => no_bit(place),
+            None => no_bit(position),
         }
     }
 
-    /// Returns true if the bit at `place` is a one, and adds what is read to `tally`.
+    /// Returns true if the bit at `position` is a one, and adds what is read to `tally`.
     ///
     /// # Panics
-    /// If `place` is past the end.
+    /// If `position` is past the end.
     #[doc = contract!(RsVec::is_one_counted)]
     #[must_use]
     #[inline]
     #[track_caller]
-    pub fn is_one_counted(&self, place: usize, tally: &mut Tally) -> bool {
-        if place >= self.len() {
-            no_bit(place);
+    pub fn is_one_counted(&self, position: usize, tally: &mut Tally) -> bool {
+        if position >= self.len() {
+            no_bit(position);
         }
-        self.bits.is_one_counted(place, &mut tally.0)
+        self.bits.is_one_counted(position, &mut tally.0)
     }
 
-    /// Returns the `n` bits from `place` on as a number, the first bit lowest: 0 for no bits. `None` if the list has
+    /// Returns the `n` bits from `position` on as a number, the first bit lowest: 0 for no bits. `None` if the list has
     /// fewer, or `n` is above 64.
     #[doc = contract!(RsVec::get_bits)]
     #[must_use]
     #[inline]
-    pub fn get_bits(&self, place: usize, n: usize) -> Option<u64> {
-        self.bits.get_bits(place, n)
+    pub fn get_bits(&self, position: usize, n: usize) -> Option<u64> {
+        self.bits.get_bits(position, n)
     }
 
-    /// Returns the `n` bits from `place` on as a number, the first bit lowest: 0 for no bits.
+    /// Returns the `n` bits from `position` on as a number, the first bit lowest: 0 for no bits.
     ///
     /// # Panics
     /// If the list has fewer, or `n` is above 64.
@@ -228,10 +228,10 @@ impl RsVec {
     #[must_use]
     #[inline]
     #[track_caller]
-    pub fn get_bits_unchecked(&self, place: usize, n: usize) -> u64 {
-        match self.bits.get_bits(place, n) {
+    pub fn get_bits_unchecked(&self, position: usize, n: usize) -> u64 {
+        match self.bits.get_bits(position, n) {
             Some(found) => found,
-            None => no_bits(place, n),
+            None => no_bits(position, n),
         }
     }
 
@@ -254,13 +254,13 @@ impl RsVec {
 /// Many queries at once. Selects of a batch are answered faster than one by one.
 impl RsVec {
     /// Replaces each position by its `rank0`.
-    pub fn rank0_each(&self, places: &mut [usize]) {
-        places.iter_mut().for_each(|place| *place = self.rank0(*place));
+    pub fn rank0_each(&self, positions: &mut [usize]) {
+        positions.iter_mut().for_each(|position| *position = self.rank0(*position));
     }
 
     /// Replaces each position by its `rank1`.
-    pub fn rank1_each(&self, places: &mut [usize]) {
-        places.iter_mut().for_each(|place| *place = self.rank1(*place));
+    pub fn rank1_each(&self, positions: &mut [usize]) {
+        positions.iter_mut().for_each(|position| *position = self.rank1(*position));
     }
 
     /// Replaces each number by its `select0`.
@@ -286,18 +286,18 @@ impl RsVec {
 }
 
 counted! { RsVec, bits:
-    rank0_counted, rank0(place: usize) -> usize;
-    rank1_counted, rank1(place: usize) -> usize;
+    rank0_counted, rank0(position: usize) -> usize;
+    rank1_counted, rank1(position: usize) -> usize;
     select0_counted, select0(r: usize) -> usize;
     select1_counted, select1(r: usize) -> usize;
-    select0_pair_counted, select0_pair(r: usize) -> PlacePair => into;
-    select1_pair_counted, select1_pair(r: usize) -> PlacePair => into;
-    successor0_counted, successor0(place: usize) -> Option<u64>;
-    successor1_counted, successor1(place: usize) -> Option<u64>;
-    predecessor0_counted, predecessor0(place: usize) -> Option<u64>;
-    predecessor1_counted, predecessor1(place: usize) -> Option<u64>;
-    get_counted, get(place: usize) -> Option<u64>;
-    get_bits_counted, get_bits(place: usize, n: usize) -> Option<u64>;
+    select0_pair_counted, select0_pair(r: usize) -> PositionPair => into;
+    select1_pair_counted, select1_pair(r: usize) -> PositionPair => into;
+    successor0_counted, successor0(position: usize) -> Option<u64>;
+    successor1_counted, successor1(position: usize) -> Option<u64>;
+    predecessor0_counted, predecessor0(position: usize) -> Option<u64>;
+    predecessor1_counted, predecessor1(position: usize) -> Option<u64>;
+    get_counted, get(position: usize) -> Option<u64>;
+    get_bits_counted, get_bits(position: usize, n: usize) -> Option<u64>;
     select0_each_counted, select0_each(numbers: &mut [usize]);
     select1_each_counted, select1_each(numbers: &mut [usize]);
 }
@@ -424,8 +424,8 @@ impl Eq for RsVec {}
 impl std::hash::Hash for RsVec {
     fn hash<H: std::hash::Hasher>(&self, state: &mut H) {
         state.write_usize(self.len());
-        let word = |place: usize| self.bits.get_bits(place, (self.len() - place).min(64)).unwrap_or(0);
-        (0..self.len()).step_by(64).for_each(|place| state.write_u64(word(place)));
+        let word = |position: usize| self.bits.get_bits(position, (self.len() - position).min(64)).unwrap_or(0);
+        (0..self.len()).step_by(64).for_each(|position| state.write_u64(word(position)));
     }
 }
 

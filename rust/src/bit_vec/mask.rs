@@ -29,7 +29,7 @@ pub struct MaskedBitVec<'a, 'b, F: Fn(u64, u64) -> u64> {
 
 impl<F: Fn(u64, u64) -> u64> fmt::Debug for MaskedBitVec<'_, '_, F> {
     fn fmt(&self, f: &mut fmt::Formatter<'_>) -> fmt::Result {
-        let bits = (0..self.vec.len()).map(|place| self.get(place).unwrap_or(0));
+        let bits = (0..self.vec.len()).map(|position| self.get(position).unwrap_or(0));
         crate::items::show(f, "MaskedBitVec", "bits", self.vec.len() as u64, bits)
     }
 }
@@ -52,62 +52,62 @@ impl<'a, 'b, F: Fn(u64, u64) -> u64> MaskedBitVec<'a, 'b, F> {
         }
     }
 
-    /// Returns the bit at `place`, or `None` past the end.
+    /// Returns the bit at `position`, or `None` past the end.
     #[doc = contract!(MaskedBitVec::get)]
     #[must_use]
     #[inline]
-    pub fn get(&self, place: usize) -> Option<u64> {
-        self.masked().get(place)
+    pub fn get(&self, position: usize) -> Option<u64> {
+        self.masked().get(position)
     }
 
-    /// Returns the bit at `place`.
+    /// Returns the bit at `position`.
     ///
     /// # Panics
-    /// If `place` is past the end.
+    /// If `position` is past the end.
     #[doc = contract!(MaskedBitVec::get)]
     #[must_use]
     #[inline]
     #[track_caller]
-    pub fn get_unchecked(&self, place: usize) -> u64 {
-        match self.masked().get(place) {
+    pub fn get_unchecked(&self, position: usize) -> u64 {
+        match self.masked().get(position) {
             Some(found) => found,
-            None => no_bit(place),
+            None => no_bit(position),
         }
     }
 
-    /// Returns true if the bit at `place` is a one, or `None` past the end.
+    /// Returns true if the bit at `position` is a one, or `None` past the end.
     #[doc = contract!(MaskedBitVec::is_bit_set)]
     #[must_use]
     #[inline]
-    pub fn is_bit_set(&self, place: usize) -> Option<bool> {
-        self.masked().is_bit_set(place)
+    pub fn is_bit_set(&self, position: usize) -> Option<bool> {
+        self.masked().is_bit_set(position)
     }
 
-    /// Returns true if the bit at `place` is a one.
+    /// Returns true if the bit at `position` is a one.
     ///
     /// # Panics
-    /// If `place` is past the end.
+    /// If `position` is past the end.
     #[doc = contract!(MaskedBitVec::is_bit_set)]
     #[must_use]
     #[inline]
     #[track_caller]
-    pub fn is_bit_set_unchecked(&self, place: usize) -> bool {
-        match self.masked().is_bit_set(place) {
+    pub fn is_bit_set_unchecked(&self, position: usize) -> bool {
+        match self.masked().is_bit_set(position) {
             Some(found) => found,
-            None => no_bit(place),
+            None => no_bit(position),
         }
     }
 
-    /// Returns the `n` bits from `place` on as a number, the first bit lowest. `None` if the list has fewer, or `n` is
+    /// Returns the `n` bits from `position` on as a number, the first bit lowest. `None` if the list has fewer, or `n` is
     /// 0 or above 64.
     #[doc = contract!(MaskedBitVec::get_bits)]
     #[must_use]
     #[inline]
-    pub fn get_bits(&self, place: usize, n: usize) -> Option<u64> {
-        self.masked().get_bits(place, n)
+    pub fn get_bits(&self, position: usize, n: usize) -> Option<u64> {
+        self.masked().get_bits(position, n)
     }
 
-    /// Returns the `n` bits from `place` on as a number, the first bit lowest: 0 for no bits.
+    /// Returns the `n` bits from `position` on as a number, the first bit lowest: 0 for no bits.
     ///
     /// # Panics
     /// If the list has fewer, or `n` is above 64.
@@ -115,13 +115,13 @@ impl<'a, 'b, F: Fn(u64, u64) -> u64> MaskedBitVec<'a, 'b, F> {
     #[must_use]
     #[inline]
     #[track_caller]
-    pub fn get_bits_unchecked(&self, place: usize, n: usize) -> u64 {
+    pub fn get_bits_unchecked(&self, position: usize, n: usize) -> u64 {
         if n == 0 {
             return 0;
         }
-        match self.masked().get_bits(place, n) {
+        match self.masked().get_bits(position, n) {
             Some(found) => found,
-            None => no_bits(place, n),
+            None => no_bits(position, n),
         }
     }
 

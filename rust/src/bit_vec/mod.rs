@@ -302,54 +302,54 @@ impl BitVec {
         self.bits.drop_last(n);
     }
 
-    /// Inverts the bit at `place`.
+    /// Inverts the bit at `position`.
     ///
     /// # Panics
-    /// If `place` is past the end.
+    /// If `position` is past the end.
     #[doc = contract!(BitVec::flip_bit)]
     #[inline]
     #[track_caller]
-    pub fn flip_bit(&mut self, place: usize) {
-        if place >= self.len() {
-            no_bit(place);
+    pub fn flip_bit(&mut self, position: usize) {
+        if position >= self.len() {
+            no_bit(position);
         }
-        self.bits.flip_bit(place);
+        self.bits.flip_bit(position);
     }
 
-    /// Inverts the bit at `place`, or does nothing if `place` is past the end but in the last limb.
+    /// Inverts the bit at `position`, or does nothing if `position` is past the end but in the last limb.
     ///
     /// # Panics
     /// If no limb has the position.
     #[doc = contract!(BitVec::flip_bit_unchecked)]
     #[inline]
     #[track_caller]
-    pub fn flip_bit_unchecked(&mut self, place: usize) {
-        if place >= self.len() {
-            return self.expect_limb(place);
+    pub fn flip_bit_unchecked(&mut self, position: usize) {
+        if position >= self.len() {
+            return self.expect_limb(position);
         }
-        self.bits.flip_bit_unchecked(place);
+        self.bits.flip_bit_unchecked(position);
     }
 
-    /// Sets the bit at `place` to the lowest bit of `value`.
+    /// Sets the bit at `position` to the lowest bit of `value`.
     ///
     /// # Errors
-    /// If `place` is past the end; nothing changes then.
+    /// If `position` is past the end; nothing changes then.
     #[doc = contract!(BitVec::set)]
     #[inline]
-    pub fn set(&mut self, place: usize, value: u64) -> Result<(), &str> {
-        self.bits.set(place, value).map_err(|_| "out of range")
+    pub fn set(&mut self, position: usize, value: u64) -> Result<(), &str> {
+        self.bits.set(position, value).map_err(|_| "out of range")
     }
 
-    /// Sets the bit at `place` to the lowest bit of `value`, or does nothing if `place` is past the end but in the last
+    /// Sets the bit at `position` to the lowest bit of `value`, or does nothing if `position` is past the end but in the last
     /// limb.
     ///
     /// # Panics
     /// If no limb has the position.
     #[doc = contract!(BitVec::set)]
     #[track_caller]
-    pub fn set_unchecked(&mut self, place: usize, value: u64) {
-        if self.bits.set(place, value).is_err() {
-            self.expect_limb(place);
+    pub fn set_unchecked(&mut self, position: usize, value: u64) {
+        if self.bits.set(position, value).is_err() {
+            self.expect_limb(position);
         }
     }
 
@@ -388,20 +388,20 @@ impl BitVec {
     #[cold]
     #[inline(never)]
     #[track_caller]
-    fn expect_limb(&self, place: usize) {
+    fn expect_limb(&self, position: usize) {
         let limbs = (self.len() + WORD_SIZE - 1) / WORD_SIZE;
-        assert!(place / WORD_SIZE < limbs, "no word has a bit at {}", place);
+        assert!(position / WORD_SIZE < limbs, "no word has a bit at {}", position);
     }
 
-    /// Returns the bit at `place`, or `None` past the end.
+    /// Returns the bit at `position`, or `None` past the end.
     #[doc = contract!(BitVec::get)]
     #[must_use]
     #[inline]
-    pub fn get(&self, place: usize) -> Option<u64> {
-        self.bits.get(place)
+    pub fn get(&self, position: usize) -> Option<u64> {
+        self.bits.get(position)
     }
 
-    /// Returns the bit at `place`, or 0 past the end in the last limb.
+    /// Returns the bit at `position`, or 0 past the end in the last limb.
     ///
     /// # Panics
     /// If no limb has the position.
@@ -409,25 +409,25 @@ impl BitVec {
     #[must_use]
     #[inline]
     #[track_caller]
-    pub fn get_unchecked(&self, place: usize) -> u64 {
-        match self.bits.get(place) {
+    pub fn get_unchecked(&self, position: usize) -> u64 {
+        match self.bits.get(position) {
             Some(found) => found,
             None => {
-                self.expect_limb(place);
+                self.expect_limb(position);
                 0
             }
         }
     }
 
-    /// Returns true if the bit at `place` is a one, or `None` past the end.
+    /// Returns true if the bit at `position` is a one, or `None` past the end.
     #[doc = contract!(BitVec::is_bit_set)]
     #[must_use]
     #[inline]
-    pub fn is_bit_set(&self, place: usize) -> Option<bool> {
-        self.bits.is_bit_set(place)
+    pub fn is_bit_set(&self, position: usize) -> Option<bool> {
+        self.bits.is_bit_set(position)
     }
 
-    /// Returns true if the bit at `place` is a one, and false past the end in the last limb.
+    /// Returns true if the bit at `position` is a one, and false past the end in the last limb.
     ///
     /// # Panics
     /// If no limb has the position.
@@ -435,26 +435,26 @@ impl BitVec {
     #[must_use]
     #[inline]
     #[track_caller]
-    pub fn is_bit_set_unchecked(&self, place: usize) -> bool {
-        match self.bits.is_bit_set(place) {
+    pub fn is_bit_set_unchecked(&self, position: usize) -> bool {
+        match self.bits.is_bit_set(position) {
             Some(found) => found,
             None => {
-                self.expect_limb(place);
+                self.expect_limb(position);
                 false
             }
         }
     }
 
-    /// Returns the `n` bits from `place` on as a number, the first bit lowest. `None` if the list has fewer, or `n` is
+    /// Returns the `n` bits from `position` on as a number, the first bit lowest. `None` if the list has fewer, or `n` is
     /// 0 or above 64.
     #[doc = contract!(BitVec::get_bits)]
     #[must_use]
     #[inline]
-    pub fn get_bits(&self, place: usize, n: usize) -> Option<u64> {
-        self.bits.get_bits(place, n)
+    pub fn get_bits(&self, position: usize, n: usize) -> Option<u64> {
+        self.bits.get_bits(position, n)
     }
 
-    /// Returns the `n` bits from `place` on as a number, the first bit lowest: 0 for no bits, and zeros past the end in
+    /// Returns the `n` bits from `position` on as a number, the first bit lowest: 0 for no bits, and zeros past the end in
     /// the last limb.
     ///
     /// # Panics
@@ -463,10 +463,10 @@ impl BitVec {
     #[must_use]
     #[inline]
     #[track_caller]
-    pub fn get_bits_unchecked(&self, place: usize, n: usize) -> u64 {
-        match self.bits.get_bits(place, n) {
+    pub fn get_bits_unchecked(&self, position: usize, n: usize) -> u64 {
+        match self.bits.get_bits(position, n) {
             Some(found) => found,
-            None => self.partial_bits(place, n),
+            None => self.partial_bits(position, n),
         }
     }
 
@@ -474,13 +474,13 @@ impl BitVec {
     #[cold]
     #[inline(never)]
     #[track_caller]
-    fn partial_bits(&self, place: usize, n: usize) -> u64 {
+    fn partial_bits(&self, position: usize, n: usize) -> u64 {
         assert!(n <= WORD_SIZE, "at most 64 bits can be read at once");
         if n == 0 {
             return 0;
         }
-        self.expect_limb(place.saturating_add(n - 1));
-        self.bits.get_bits(place, self.len().saturating_sub(place)).unwrap_or(0)
+        self.expect_limb(position.saturating_add(n - 1));
+        self.bits.get_bits(position, self.len().saturating_sub(position)).unwrap_or(0)
     }
 
     /// Returns the `n` bits at position `index * n` as a number. `None` if the list has fewer, or `n` is 0 or above 64.

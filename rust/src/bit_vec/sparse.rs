@@ -57,7 +57,7 @@ impl SparseRSVec {
             return Ok(SparseRSVec { bits: proved::SparseRSVec::new(Global, ones, len)? });
         }
         check_ascending(ones, |one, next| one < next)?;
-        Err(BuildError::OutOfRange { position: ones.iter().take_while(|&&place| place < len).count() })
+        Err(BuildError::OutOfRange { position: ones.iter().take_while(|&&position| position < len).count() })
     }
 
     /// Copies the bits of a list.
@@ -79,35 +79,35 @@ impl SparseRSVec {
 
 /// Queries. A rank or a bit takes O(log `len`) at worst.
 impl SparseRSVec {
-    /// Returns true if the bit at `place` is a one, and false past the end.
+    /// Returns true if the bit at `position` is a one, and false past the end.
     #[doc = contract!(SparseRSVec::is_set)]
     #[must_use]
-    pub fn is_set_unchecked(&self, place: u64) -> bool {
-        self.bits.is_set(place).unwrap_or(false)
+    pub fn is_set_unchecked(&self, position: u64) -> bool {
+        self.bits.is_set(position).unwrap_or(false)
     }
 
-    /// Returns true if the bit at `place` is a one, or `None` past the end.
+    /// Returns true if the bit at `position` is a one, or `None` past the end.
     #[doc = contract!(SparseRSVec::is_set)]
     #[must_use]
     #[inline]
-    pub fn is_set(&self, place: u64) -> Option<bool> {
-        self.bits.is_set(place)
+    pub fn is_set(&self, position: u64) -> Option<bool> {
+        self.bits.is_set(position)
     }
 
-    /// Returns the bit at `place`, or 0 past the end.
+    /// Returns the bit at `position`, or 0 past the end.
     #[doc = contract!(SparseRSVec::get)]
     #[must_use]
     #[inline]
-    pub fn get_unchecked(&self, place: u64) -> u64 {
-        self.bits.get(place).unwrap_or(0)
+    pub fn get_unchecked(&self, position: u64) -> u64 {
+        self.bits.get(position).unwrap_or(0)
     }
 
-    /// Returns the bit at `place`, or `None` past the end.
+    /// Returns the bit at `position`, or `None` past the end.
     #[doc = contract!(SparseRSVec::get)]
     #[must_use]
     #[inline]
-    pub fn get(&self, place: u64) -> Option<u64> {
-        self.bits.get(place)
+    pub fn get(&self, position: u64) -> Option<u64> {
+        self.bits.get(position)
     }
 
     /// Returns the position of the `r`-th one, from 0, or the length if there is none.
@@ -118,20 +118,20 @@ impl SparseRSVec {
         self.bits.select1(r)
     }
 
-    /// Returns the number of ones before `place`.
+    /// Returns the number of ones before `position`.
     #[doc = contract!(SparseRSVec::rank1)]
     #[must_use]
     #[inline]
-    pub fn rank1(&self, place: u64) -> u64 {
-        self.bits.rank1(place)
+    pub fn rank1(&self, position: u64) -> u64 {
+        self.bits.rank1(position)
     }
 
-    /// Returns the number of zeros before `place`, or in the whole list past the end.
+    /// Returns the number of zeros before `position`, or in the whole list past the end.
     #[doc = contract!(SparseRSVec::rank0)]
     #[must_use]
     #[inline]
-    pub fn rank0(&self, place: u64) -> u64 {
-        self.bits.rank0(place)
+    pub fn rank0(&self, position: u64) -> u64 {
+        self.bits.rank0(position)
     }
 
     /// Iterates over the positions of the ones.
@@ -142,11 +142,11 @@ impl SparseRSVec {
 }
 
 counted! { SparseRSVec, bits:
-    is_set_counted, is_set(place: u64) -> Option<bool>;
-    get_counted, get(place: u64) -> Option<u64>;
+    is_set_counted, is_set(position: u64) -> Option<bool>;
+    get_counted, get(position: u64) -> Option<u64>;
     select1_counted, select1(r: usize) -> u64;
-    rank1_counted, rank1(place: u64) -> u64;
-    rank0_counted, rank0(place: u64) -> u64;
+    rank1_counted, rank1(position: u64) -> u64;
+    rank0_counted, rank0(position: u64) -> u64;
 }
 
 iterator! {

@@ -167,8 +167,8 @@ impl EliasFanoVec {
 impl EliasFanoVec {
     /// Replaces each index by its `get`, or by `other` if that is `None`.
     #[doc = contract!(EliasFanoVec::get_each)]
-    pub fn get_each(&self, places: &mut [u64], other: u64) {
-        answer_each(places, other, |group| self.numbers.get_each(group));
+    pub fn get_each(&self, positions: &mut [u64], other: u64) {
+        answer_each(positions, other, |group| self.numbers.get_each(group));
     }
 
     /// Replaces each value by its `rank`.
@@ -199,8 +199,8 @@ impl EliasFanoVec {
 
     /// Answers as [`get_each`](Self::get_each), and adds what is read to `tally`.
     #[doc = contract!(EliasFanoVec::get_each_counted)]
-    pub fn get_each_counted(&self, places: &mut [u64], other: u64, tally: &mut Tally) {
-        answer_each(places, other, |group| self.numbers.get_each_counted(group, &mut tally.0));
+    pub fn get_each_counted(&self, positions: &mut [u64], other: u64, tally: &mut Tally) {
+        answer_each(positions, other, |group| self.numbers.get_each_counted(group, &mut tally.0));
     }
 
     /// Answers as [`predecessor_each`](Self::predecessor_each), and adds what is read to `tally`.

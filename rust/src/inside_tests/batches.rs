@@ -9,7 +9,7 @@ type Plain<T> = std::vec::Vec<T>;
 
 /// The number of positions of a text, its end included, at which a pattern occurs.
 fn occurrences(symbols: &[u64], pattern: &[u64]) -> usize {
-    (0..=symbols.len()).filter(|place| symbols[*place..].starts_with(pattern)).count()
+    (0..=symbols.len()).filter(|position| symbols[*position..].starts_with(pattern)).count()
 }
 
 /// Patterns of 0 to 40 symbols: pieces of a text, pieces with another first symbol, and pieces that end with a symbol

@@ -36,17 +36,18 @@ fn masks_are_read_past_their_first_limb() {
     let both = list(&one.iter().zip(&other).map(|(a, b)| a & b).collect::<Plain<_>>());
     let Ok(kept) = left.mask_and(&right) else { panic!() };
     let Ok(custom) = left.mask_custom(&right, |a: u64, b: u64| a & b) else { panic!() };
-    for place in 0..200 {
-        let wanted = both.get(place);
-        assert!(kept.get(place) == wanted && kept.get_unchecked(place) == wanted.unwrap());
+    for position in 0..200 {
+        let wanted = both.get(position);
+        assert!(kept.get(position) == wanted && kept.get_unchecked(position) == wanted.unwrap());
         assert!(
-            kept.is_bit_set(place) == both.is_bit_set(place) && kept.is_bit_set_unchecked(place) == (wanted == Some(1))
+            kept.is_bit_set(position) == both.is_bit_set(position)
+                && kept.is_bit_set_unchecked(position) == (wanted == Some(1))
         );
-        assert!(custom.get(place) == wanted && custom.is_bit_set(place) == both.is_bit_set(place));
-        if place <= 136 {
+        assert!(custom.get(position) == wanted && custom.is_bit_set(position) == both.is_bit_set(position));
+        if position <= 136 {
             assert!(
-                kept.get_bits_unchecked(place, 64) == both.get_bits_unchecked(place, 64)
-                    && custom.get_bits(place, 64) == both.get_bits(place, 64)
+                kept.get_bits_unchecked(position, 64) == both.get_bits_unchecked(position, 64)
+                    && custom.get_bits(position, 64) == both.get_bits(position, 64)
             );
         }
     }
@@ -93,7 +94,7 @@ fn lengths_at_the_greatest_are_no_fault_of_length() {
 }
 
 #[test]
-fn equality_of_places_sees_the_length() {
+fn equality_of_positions_sees_the_length() {
     let mut bits = scattered(100, 9);
     bits[99] = true;
     let short = RsVec::from_bit_vec(list(&bits)).ok().unwrap();
@@ -251,9 +252,9 @@ fn words_of_no_parts() {
     let bytes: Plain<u8> = more.iter().flat_map(|it| it.to_le_bytes()).collect();
     assert!(load_from_slice::<EliasFanoVec<Global>, _>(Global, &bytes).err() == Some(LoadError::NotAscending));
     let equal = form_words(&EliasFanoVec::from_slice(Global, &[1, 1]).ok().unwrap());
-    let mut places = vec![MAGIC, 2, 4, 64, equal[4] + 1, 12];
-    places.extend(&equal[5..equal.len() - 1]);
-    let bytes: Plain<u8> = summed(places).iter().flat_map(|it| it.to_le_bytes()).collect();
+    let mut positions = vec![MAGIC, 2, 4, 64, equal[4] + 1, 12];
+    positions.extend(&equal[5..equal.len() - 1]);
+    let bytes: Plain<u8> = summed(positions).iter().flat_map(|it| it.to_le_bytes()).collect();
     assert!(load_from_slice::<SparseRSVec<Global>, _>(Global, &bytes).err() == Some(LoadError::NotAscending));
 }
 
@@ -302,24 +303,24 @@ fn forms_that_no_list_has_are_refused() {
 }
 
 #[test]
-fn a_text_keeps_a_place_of_each_32() {
+fn a_text_keeps_a_position_of_each_32() {
     assert!(TextIndex::from_slice(Global, &[1, 2, 3], 3).ok().unwrap().step() == DEFAULT_STEP);
 }
 
 #[test]
-fn ranks_and_bits_of_every_place() {
+fn ranks_and_bits_of_every_position() {
     for n in [1, 63, 64, 449, 500, 511, 512, 513, 1000, 8192 + 500] {
         let bits = scattered(n, n as u64);
         let Ok(index) = RsVec::from_bit_vec(list(&bits)) else { panic!() };
         let mut ones = 0;
-        for (place, bit) in bits.iter().enumerate() {
-            assert_eq!((index.rank1(place), index.rank0(place)), (ones, place - ones), "{place} of {n}");
-            let found = index.rank0_with_bit(place);
-            assert_eq!((found.zeros, found.is_one), (place - ones, *bit), "{place} of {n}");
+        for (position, bit) in bits.iter().enumerate() {
+            assert_eq!((index.rank1(position), index.rank0(position)), (ones, position - ones), "{position} of {n}");
+            let found = index.rank0_with_bit(position);
+            assert_eq!((found.zeros, found.is_one), (position - ones, *bit), "{position} of {n}");
             ones += usize::from(*bit);
         }
-        for place in [n, n + 1, n + 63, n + 511, usize::MAX] {
-            assert_eq!((index.rank1(place), index.rank0(place)), (ones, n - ones), "{place} of {n}");
+        for position in [n, n + 1, n + 63, n + 511, usize::MAX] {
+            assert_eq!((index.rank1(position), index.rank0(position)), (ones, n - ones), "{position} of {n}");
         }
     }
 }
@@ -338,8 +339,8 @@ fn a_pair_of_selects_counts_one_query() {
     for r in 0..ones.len() + 2 {
         let mut tally = Tally::new();
         let found = index.select1_pair_counted(r, &mut tally);
-        let place = |r: usize| *ones.get(r).unwrap_or(&1000);
-        assert_eq!((found.first, found.second, tally.rank_calls()), (place(r), place(r + 1), 1), "{r}");
+        let position = |r: usize| *ones.get(r).unwrap_or(&1000);
+        assert_eq!((found.first, found.second, tally.rank_calls()), (position(r), position(r + 1), 1), "{r}");
     }
 }
 
@@ -430,17 +431,17 @@ fn queries_of_symbols_ask_each_level_four_times() {
         call(&mut tally);
         assert!(tally.rank_calls() <= 4 * 5 && tally.data_words() <= 8 * 4 * 5, "{}", tally.data_words());
     };
-    for place in (0..5000).step_by(331) {
-        most(&|tally| assert_eq!(list.get_u64_counted(place, tally), Some(symbols[place])));
+    for position in (0..5000).step_by(331) {
+        most(&|tally| assert_eq!(list.get_u64_counted(position, tally), Some(symbols[position])));
         most(&|tally| {
-            let count = symbols[..place].iter().filter(|it| **it == 5).count();
-            assert_eq!(list.rank_u64_counted(place, 5, tally), Some(count));
+            let count = symbols[..position].iter().filter(|it| **it == 5).count();
+            assert_eq!(list.rank_u64_counted(position, 5, tally), Some(count));
         });
         most(&|tally| {
-            let range = || symbols[place..].iter().copied();
-            assert_eq!(list.range_min_u64_counted(place..5000, tally), range().min());
+            let range = || symbols[position..].iter().copied();
+            assert_eq!(list.range_min_u64_counted(position..5000, tally), range().min());
             let least = range().filter(|it| *it >= 6).min();
-            assert_eq!(list.successor_u64_counted(place..5000, 6, &mut Tally::new()), least);
+            assert_eq!(list.successor_u64_counted(position..5000, 6, &mut Tally::new()), least);
         });
     }
 }
@@ -450,9 +451,9 @@ fn a_select_bisects_superblocks() {
     let ones = [0, 100 * 8192 + 5, 150 * 8192 + 9];
     let bits: Plain<bool> = (0..160 * 8192).map(|it| ones.contains(&it)).collect();
     let index = RsVec::from_bit_vec(list(&bits)).ok().unwrap();
-    for (r, place) in ones.into_iter().enumerate() {
+    for (r, position) in ones.into_iter().enumerate() {
         let mut tally = Tally::new();
-        assert_eq!(index.select1_counted(r, &mut tally), place);
+        assert_eq!(index.select1_counted(r, &mut tally), position);
         // the digits of 160, and twelve
         assert!(tally.superblock_entries() <= 8 + 12, "{} for {r}", tally.superblock_entries());
     }

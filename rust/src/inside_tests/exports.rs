@@ -54,7 +54,7 @@ fn item(list: &[u64], at: u64) -> Option<u64> {
     list.get(usize::try_from(at).unwrap()).copied()
 }
 
-fn place(at: Option<usize>) -> Option<u64> {
+fn position(at: Option<usize>) -> Option<u64> {
     at.map(|it| it as u64)
 }
 
@@ -190,7 +190,7 @@ fn number(bits: &[bool]) -> u64 {
     bits.iter().rev().fold(0, |sum, it| 2 * sum + u64::from(*it))
 }
 
-/// The number of the `n` bits from a place on.
+/// The number of the `n` bits from a position on.
 fn part(bits: &[bool], at: u64, n: u64) -> Option<u64> {
     let end = at.checked_add(n).filter(|it| n <= 64 && *it <= bits.len() as u64)?;
     Some(number(&bits[at as usize..end as usize]))
@@ -200,10 +200,10 @@ fn count(bits: &[bool], bit: bool, at: u64) -> u64 {
     bits.iter().zip(0..at).filter(|it| *it.0 == bit).count() as u64
 }
 
-/// The place of a bit by its number, or the length.
+/// The position of a bit by its number, or the length.
 fn select(bits: &[bool], bit: bool, number: u64) -> u64 {
-    let mut places = (0..bits.len()).filter(|it| bits[*it] == bit);
-    place(places.nth(usize::try_from(number).unwrap())).unwrap_or(bits.len() as u64)
+    let mut positions = (0..bits.len()).filter(|it| bits[*it] == bit);
+    position(positions.nth(usize::try_from(number).unwrap())).unwrap_or(bits.len() as u64)
 }
 
 /// What lists of bits answer: which has selects of zeros, which parts as numbers, and whether an empty part is one.
@@ -279,7 +279,7 @@ fn symbols_answer_as_their_list() {
     let heap = heap_of(&mut handle);
     let items: Vec<u64> = numbers.iter().map(|it| it % 16).collect();
     let model = move |code, a: u64, b: u64, c: u64| {
-        let places = |from: u64, to: u64, symbol: u64| {
+        let positions = |from: u64, to: u64, symbol: u64| {
             (from..to).filter(|it| items[*it as usize] == symbol % 16).collect::<Vec<u64>>()
         };
         let mut range = if a <= b && b <= 20 { items[a as usize..b as usize].to_vec() } else { vec![] };
@@ -289,10 +289,10 @@ fn symbols_answer_as_their_list() {
             1 => found_if(item(&items, a)),
             3 => found(heap),
             13 => found(4),
-            14 => found_if((a <= 20).then(|| places(0, a, b).len() as u64)),
-            15 => found_if(item(&places(0, 20, b), a)),
-            16 => found_if((a < 20 && a <= b && b <= 20).then(|| places(a, b, c).len() as u64)),
-            17 => found_if(item(&places(a.min(20), 20, c), b)),
+            14 => found_if((a <= 20).then(|| positions(0, a, b).len() as u64)),
+            15 => found_if(item(&positions(0, 20, b), a)),
+            16 => found_if((a < 20 && a <= b && b <= 20).then(|| positions(a, b, c).len() as u64)),
+            17 => found_if(item(&positions(a.min(20), 20, c), b)),
             18 => found_if(item(&range, c)),
             19 => found_if(range.first().copied()),
             20 => found_if(range.last().copied()),
@@ -330,7 +330,7 @@ fn symbols_of_narrow_numbers_are_their_low_bits() {
 }
 
 #[test]
-fn texts_of_narrow_symbols_have_their_places() {
+fn texts_of_narrow_symbols_have_their_positions() {
     let (bytes, shorts) = ([3, 200, 3, 200, 3], [300, 7, 300, 65535]);
     let mut handle = made(|it| vers_text_build_bytes(Global, &bytes, 8, 2, it));
     assert_eq!((ask(&mut handle, 0, 0, 0, 0), ask(&mut handle, 13, 0, 0, 0)), (found(5), found(8)));
@@ -494,16 +494,16 @@ fn texts_answer_as_their_symbols() {
     };
     compare(&mut handle, &model, &[0, 1, 69, 70]);
     for pattern in [&[][..], &[1], &[2, 0], &[3], &[0, 2, 1], &[9]] {
-        let places: Vec<u64> =
+        let positions: Vec<u64> =
             (0..=70 - pattern.len()).filter(|it| symbols[*it..].starts_with(pattern)).map(|it| it as u64).collect();
         let answer = vers_count(Global, &mut handle, pattern);
-        assert_eq!((answer.status, answer.value), found(places.len() as u64), "{pattern:?}");
+        assert_eq!((answer.status, answer.value), found(positions.len() as u64), "{pattern:?}");
         let mut into = empty();
         assert_eq!(vers_places(Global, &mut handle, pattern, &mut into), DONE);
         assert_eq!(vers_places(Global, &mut handle, pattern, &mut into), OCCUPIED);
-        compare(&mut into, &numbers_model(places.clone()), &[0, 1, 5, 69, 70, 71]);
-        let mut order = places;
-        order.sort_by_key(|place| &symbols[*place as usize..]);
+        compare(&mut into, &numbers_model(positions.clone()), &[0, 1, 5, 69, 70, 71]);
+        let mut order = positions;
+        order.sort_by_key(|position| &symbols[*position as usize..]);
         for limit in [0, 1, 3, 71, usize::MAX] {
             let mut into = empty();
             let first = order.iter().copied().take(limit).collect();
@@ -546,8 +546,8 @@ fn many_patterns_are_counted_as_each_one_is() {
     let mut start = 0;
     for (end, count) in ends.iter().map(|it| *it as usize).zip(counts) {
         let pattern = &symbols[start..end];
-        let places = (0..=70 - pattern.len()).filter(|it| symbols[*it..].starts_with(pattern)).count();
-        assert_eq!(count, places as u64, "{pattern:?}");
+        let positions = (0..=70 - pattern.len()).filter(|it| symbols[*it..].starts_with(pattern)).count();
+        assert_eq!(count, positions as u64, "{pattern:?}");
         start = end;
     }
     for wrong in [[2, 1], [0, 71]] {
@@ -585,13 +585,13 @@ fn nodes_of(bits: &[bool]) -> Option<Vec<Node>> {
     open.is_empty().then_some(nodes)
 }
 
-/// Ones less zeros before a place.
+/// Ones less zeros before a position.
 fn excess(bits: &[bool], at: usize) -> i128 {
     bits[..at].iter().map(|it| if *it { 1 } else { -1 }).sum()
 }
 
 /// What parentheses answer that need not be balanced.
-fn any_tree_told(bits: &[bool], code: u32, a: u64, b: u64) -> Expected {
+fn any_tree_expected(bits: &[bool], code: u32, a: u64, b: u64) -> Expected {
     let at = usize::try_from(a).ok().filter(|it| *it < bits.len());
     let after =
         |rise: i128| at.and_then(|i| (i + 1..bits.len()).find(|j| excess(bits, j + 1) == excess(bits, i + 1) + rise));
@@ -600,17 +600,17 @@ fn any_tree_told(bits: &[bool], code: u32, a: u64, b: u64) -> Expected {
         24 => found(count(bits, true, u64::MAX)),
         25 => found(u64::from(nodes_of(bits).is_some())),
         26 => at.map_or((REFUSED, 0), |it| found(excess(bits, it + 1) as u64)),
-        27 => found_if(place(after(-1))),
-        28 => found_if(place(before(-1))),
-        29 => found_if(place(at.and_then(|it| before(if bits[it] { -1 } else { -2 })))),
+        27 => found_if(position(after(-1))),
+        28 => found_if(position(before(-1))),
+        29 => found_if(position(at.and_then(|it| before(if bits[it] { -1 } else { -2 })))),
         30 => found(select(bits, true, a)),
-        31 => found_if(place(after(i128::from(b as i64)))),
-        _ => found_if(place(before(i128::from(b as i64)))),
+        31 => found_if(position(after(i128::from(b as i64)))),
+        _ => found_if(position(before(i128::from(b as i64)))),
     }
 }
 
 /// What a node of a forest answers.
-fn node_told(nodes: &[Node], node: Node, code: u32, b: u64) -> Expected {
+fn node_expected(nodes: &[Node], node: Node, code: u32, b: u64) -> Expected {
     let opens = |it: &Node| it.open as u64;
     let is_in = |it: &&Node| node.open <= it.open && it.close <= node.close;
     let is_sibling = |it: &&Node| it.parent == node.parent;
@@ -622,7 +622,7 @@ fn node_told(nodes: &[Node], node: Node, code: u32, b: u64) -> Expected {
         found_if(nodes.iter().filter(of).filter(|it| it.open < node.open).last().map(opens))
     };
     match code {
-        33 => found_if(place(node.parent)),
+        33 => found_if(position(node.parent)),
         34 => found_if(nodes.iter().find(is_child).map(opens)),
         35 => found_if(nodes.iter().filter(is_child).last().map(opens)),
         36 => next(&is_sibling),
@@ -654,8 +654,8 @@ fn tree_model(bits: Vec<bool>, heap: u64) -> impl Fn(u32, u64, u64, u64) -> Expe
             0 => found(bits.len() as u64),
             1 => found_if(bits.get(a as usize).map(|it| u64::from(*it))),
             3 => found(heap),
-            24..=32 => any_tree_told(&bits, code, a, b),
-            33..=44 => at(a).map_or((REFUSED, 0), |it| node_told(nodes.as_ref().unwrap(), it, code, b)),
+            24..=32 => any_tree_expected(&bits, code, a, b),
+            33..=44 => at(a).map_or((REFUSED, 0), |it| node_expected(nodes.as_ref().unwrap(), it, code, b)),
             45 | 46 => nodes.as_ref().map_or((REFUSED, 0), |nodes| {
                 let mut level = nodes.iter().filter(|it| it.depth == a).map(|it| it.open as u64);
                 found_if(if code == 45 { level.next() } else { level.last() })
@@ -715,7 +715,7 @@ fn changes_are_those_of_the_list() {
     {
         let status = match (code, a, b) {
             (1, _, 65..) => REFUSED,
-            (2, place, _) if place >= bits.len() as u64 => REFUSED,
+            (2, position, _) if position >= bits.len() as u64 => REFUSED,
             _ => DONE,
         };
         assert_eq!(vers_change(Global, &mut handle, code, a, b), status, "change {k}");

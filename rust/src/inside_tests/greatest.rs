@@ -11,7 +11,7 @@ use crate::proved::vers_trees::trees::bp::{BpTree, MAX_LEN as MOST_PARENTHESES};
 use crate::rattle::mutants::lower;
 use crate::rattle::{Clone as _, Global, Vec};
 
-/// Ones at each third place.
+/// Ones at each third position.
 fn bits(n: usize) -> BitVec<Global> {
     BitVec::from_bools(Global, &(0..n).map(|k| k % 3 == 0).collect::<std::vec::Vec<_>>()).ok().unwrap()
 }

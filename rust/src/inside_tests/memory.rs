@@ -27,7 +27,7 @@ fn asks_at_most<R>(heap: &Counting, most: usize, call: impl FnOnce() -> R) -> R 
 }
 
 #[test]
-fn places_of_a_pattern_take_the_room_of_those_that_are_asked_for() {
+fn positions_of_a_pattern_take_the_room_of_those_that_are_asked_for() {
     let heap = Counting::default();
     let Ok(text) = TextIndex::from_slice(&heap, &[0; 5000], 1) else { panic!() };
     for limit in [0, 1, 10, 4999] {

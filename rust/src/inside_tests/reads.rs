@@ -3,7 +3,7 @@
 //!
 //! A read is sorted by the type of the entry and by the line that reads: the counted vectors read in a few lines of
 //! `vers_tally` and `vers_bits`, and all that is read elsewhere, or handed out as a whole slice, is wrong in a counted
-//! call. The counter leaves out range-minimum tables and masks, places in bytes, and the list of levels; a low part
+//! call. The counter leaves out range-minimum tables and masks, positions in bytes, and the list of levels; a low part
 //! counts one and takes two words, or none where its width is 0.
 
 use crate::proved::postings::Postings;
@@ -288,7 +288,7 @@ fn bits_of(n: usize, kind: usize) -> BitVec<Global> {
 }
 
 /// Places around the boundaries of a list of `n`, and past its end.
-fn places(n: usize) -> Plain<usize> {
+fn positions(n: usize) -> Plain<usize> {
     let mut found: Plain<usize> =
         [0, 1, 62, 63, 64, 65, 255, 256, 511, 512, 513, 700, 8191, 8192, 8193, 9000, 16383, 16384]
             .into_iter()
@@ -380,30 +380,30 @@ macro_rules! walked {
 
 fn ask_bits(book: &mut Book, list: &RsVec<Global>, about: &str) {
     let n = list.len();
-    for place in places(n) {
+    for position in positions(n) {
         asked!(
             book,
             "RsVec",
             list,
             about,
-            get_counted(place),
-            rank0_counted(place),
-            rank1_counted(place),
-            select0_counted(place),
-            select1_counted(place),
-            select0_pair_counted(place),
-            select1_pair_counted(place),
-            successor0_counted(place),
-            successor1_counted(place),
-            predecessor0_counted(place),
-            predecessor1_counted(place),
-            get_bits_counted(place, 0usize),
-            get_bits_counted(place, 1usize),
-            get_bits_counted(place, 64usize),
-            get_bits_counted(place, 65usize)
+            get_counted(position),
+            rank0_counted(position),
+            rank1_counted(position),
+            select0_counted(position),
+            select1_counted(position),
+            select0_pair_counted(position),
+            select1_pair_counted(position),
+            successor0_counted(position),
+            successor1_counted(position),
+            predecessor0_counted(position),
+            predecessor1_counted(position),
+            get_bits_counted(position, 0usize),
+            get_bits_counted(position, 1usize),
+            get_bits_counted(position, 64usize),
+            get_bits_counted(position, 65usize)
         );
-        if place < n {
-            asked!(book, "RsVec", list, about, is_one_counted(place));
+        if position < n {
+            asked!(book, "RsVec", list, about, is_one_counted(position));
         }
     }
     ask_bits_at_once(book, list, about);
@@ -413,7 +413,7 @@ fn ask_bits(book: &mut Book, list: &RsVec<Global>, about: &str) {
 fn ask_bits_at_once(book: &mut Book, list: &RsVec<Global>, about: &str) {
     let n = list.len();
     for bit in [false, true] {
-        let mut numbers: Plain<usize> = places(n).into_iter().chain(places(n / 2)).collect();
+        let mut numbers: Plain<usize> = positions(n).into_iter().chain(positions(n / 2)).collect();
         book.call(
             &format!("RsVec::select{}_each_counted", u8::from(bit)),
             || about.to_string(),
@@ -460,10 +460,10 @@ fn reads_of_counted_words_are_counted() {
         for kind in 0..5 {
             let list = WordRank::from_bit_vec(bits_of(n, kind)).ok().unwrap();
             let about = format!("{n} bits of kind {kind}");
-            for place in places(n) {
-                asked!(book, "WordRank", list, about, rank1_counted(place));
-                if place < n {
-                    asked!(book, "WordRank", list, about, is_one_counted(place), get_and_rank1_counted(place));
+            for position in positions(n) {
+                asked!(book, "WordRank", list, about, rank1_counted(position));
+                if position < n {
+                    asked!(book, "WordRank", list, about, is_one_counted(position), get_and_rank1_counted(position));
                 }
             }
         }
@@ -489,17 +489,25 @@ fn words_of_low_part(numbers: &[u64]) -> u64 {
     2 * u64::from(clog(u.max(2)).max(clog(n + 2)) > clog(n.max(2)))
 }
 
-/// Numbers around each of the members at some places, and around these places.
-fn numbers_near(numbers: &[u64], place: usize) -> impl Iterator<Item = u64> {
-    [numbers.get(place).copied().unwrap_or(u64::MAX), place as u64]
+/// Numbers around each of the members at some positions, and around these positions.
+fn numbers_near(numbers: &[u64], position: usize) -> impl Iterator<Item = u64> {
+    [numbers.get(position).copied().unwrap_or(u64::MAX), position as u64]
         .into_iter()
         .flat_map(|it| [it.saturating_sub(1), it, it.saturating_add(1)])
 }
 
 fn ask_members(book: &mut Book, list: &EliasFanoVec<Global>, numbers: &[u64], about: &str) {
-    for place in places(numbers.len()) {
-        asked!(book, "EliasFanoVec", list, about, get_counted(place), select_counted(place), delta_counted(place));
-        for v in numbers_near(numbers, place) {
+    for position in positions(numbers.len()) {
+        asked!(
+            book,
+            "EliasFanoVec",
+            list,
+            about,
+            get_counted(position),
+            select_counted(position),
+            delta_counted(position)
+        );
+        for v in numbers_near(numbers, position) {
             asked!(
                 book,
                 "EliasFanoVec",
@@ -514,11 +522,11 @@ fn ask_members(book: &mut Book, list: &EliasFanoVec<Global>, numbers: &[u64], ab
     }
 }
 
-/// Calls that answer many queries: at places, and at all of them in turn.
+/// Calls that answer many queries: at positions, and at all of them in turn.
 fn ask_members_at_once(book: &mut Book, list: &EliasFanoVec<Global>, numbers: &[u64], about: &str) {
     let n = numbers.len();
     let values: Plain<u64> =
-        places(n).into_iter().map(|it| numbers.get(it).copied().unwrap_or(it as u64).saturating_add(1)).collect();
+        positions(n).into_iter().map(|it| numbers.get(it).copied().unwrap_or(it as u64).saturating_add(1)).collect();
     let some: Plain<Option<u64>> = values.iter().copied().map(Some).collect();
     let about = || about.to_string();
     book.call("EliasFanoVec::predecessor_each_counted", about, |tally| {
@@ -528,16 +536,16 @@ fn ask_members_at_once(book: &mut Book, list: &EliasFanoVec<Global>, numbers: &[
         list.successor_each_counted(&mut some.clone(), tally)
     });
     book.call("EliasFanoVec::rank_each_counted", about, |tally| list.rank_each_counted(&mut values.clone(), tally));
-    for places in [places(n), (0..n).collect()] {
-        let mut some: Plain<Option<u64>> = places.into_iter().map(|it| Some(it as u64)).collect();
+    for positions in [positions(n), (0..n).collect()] {
+        let mut some: Plain<Option<u64>> = positions.into_iter().map(|it| Some(it as u64)).collect();
         book.call("EliasFanoVec::get_each_counted", about, |tally| list.get_each_counted(&mut some, tally));
     }
 }
 
 fn ask_sparse(book: &mut Book, list: &SparseRSVec<Global>, ones: &[u64], about: &str) {
-    for place in places(ones.len()) {
-        asked!(book, "SparseRSVec", list, about, select1_counted(place));
-        for v in numbers_near(ones, place) {
+    for position in positions(ones.len()) {
+        asked!(book, "SparseRSVec", list, about, select1_counted(position));
+        for v in numbers_near(ones, position) {
             asked!(
                 book,
                 "SparseRSVec",
@@ -604,7 +612,7 @@ fn symbols_of(n: usize, width: u16) -> WaveletMatrix<Global> {
     list.ok().unwrap()
 }
 
-fn ask_symbols(book: &mut Book, list: &WaveletMatrix<Global>, k: usize, place: usize, about: &str) {
+fn ask_symbols(book: &mut Book, list: &WaveletMatrix<Global>, k: usize, position: usize, about: &str) {
     let s = word(k);
     let mut symbol = BitVec::new(Global);
     append_symbol(&mut symbol, s, list.bit_len());
@@ -616,23 +624,23 @@ fn ask_symbols(book: &mut Book, list: &WaveletMatrix<Global>, k: usize, place: u
         "WaveletMatrix",
         list,
         about,
-        get_u64_counted(place),
-        get_value_counted(place),
-        get_sorted_counted(place),
-        get_sorted_u64_counted(place),
-        rank_counted(place, &symbol),
-        rank_u64_counted(place, s),
-        rank_offset_counted(place / 5, place, &symbol),
-        rank_offset_u64_counted(place / 5, place, s),
+        get_u64_counted(position),
+        get_value_counted(position),
+        get_sorted_counted(position),
+        get_sorted_u64_counted(position),
+        rank_counted(position, &symbol),
+        rank_u64_counted(position, s),
+        rank_offset_counted(position / 5, position, &symbol),
+        rank_offset_u64_counted(position / 5, position, s),
         select_counted(k, &symbol),
         select_u64_counted(k, s),
-        select_offset_counted(place / 4, k, &symbol),
-        select_offset_u64_counted(place / 4, k, s),
-        get_gathered_u64_counted(place),
-        gathered_u64_counted(place, s)
+        select_offset_counted(position / 4, k, &symbol),
+        select_offset_u64_counted(position / 4, k, s),
+        get_gathered_u64_counted(position),
+        gathered_u64_counted(position, s)
     );
-    ask_range(book, list, (place / 3)..place, k, &symbol, about);
-    let one = place..place.saturating_add(1);
+    ask_range(book, list, (position / 3)..position, k, &symbol, about);
+    let one = position..position.saturating_add(1);
     asked!(book, "WaveletMatrix", list, about, rank_range_u64_counted(one, s));
     book.arguments.clear();
 }
@@ -672,8 +680,8 @@ fn ask_range(
 /// Calls that answer many queries.
 fn ask_symbols_at_once(book: &mut Book, list: &WaveletMatrix<Global>, about: &str) {
     let about = || about.to_string();
-    let places = places(list.len());
-    let at = || places.iter().copied().enumerate();
+    let positions = positions(list.len());
+    let at = || positions.iter().copied().enumerate();
     let mut gets: Plain<_> = at().map(|it| GetQuery::new(it.1)).collect();
     book.call("WaveletMatrix::get_u64_each_counted", about, |tally| list.get_u64_each_counted(&mut gets, tally));
     let mut ranks: Plain<_> = at().map(|it| RankQuery::new(it.1, word(it.0))).collect();
@@ -699,8 +707,8 @@ fn reads_of_symbols_are_counted() {
         for width in [0u16, 1, 3, 8, 64, 65] {
             let about = format!("{n} symbols of {width} bits");
             let list = symbols_of(n, width);
-            for (k, place) in places(n).into_iter().enumerate() {
-                ask_symbols(&mut book, &list, k, place, &about);
+            for (k, position) in positions(n).into_iter().enumerate() {
+                ask_symbols(&mut book, &list, k, position, &about);
             }
             ask_symbols_at_once(&mut book, &list, &about);
             if n > 600 && width > 8 {
@@ -717,13 +725,13 @@ fn reads_of_symbols_are_counted() {
     assert_eq!(book.faults(), [""; 0]);
 }
 
-/// Asks for minima from each of some places to each later one.
+/// Asks for minima from each of some positions to each later one.
 fn ask_minima(book: &mut Book, items: &[u64], about: &str) {
     let binary = BinaryRmq::from_vec(Vec::from_slice(Global, items).ok().unwrap()).ok().unwrap();
     let fast = FastRmq::from_vec(Vec::from_slice(Global, items).ok().unwrap()).ok().unwrap();
-    let places: Plain<usize> = places(items.len()).into_iter().filter(|it| *it < items.len()).collect();
-    for i in places.iter().copied() {
-        for j in places.iter().copied().filter(|it| i <= *it) {
+    let positions: Plain<usize> = positions(items.len()).into_iter().filter(|it| *it < items.len()).collect();
+    for i in positions.iter().copied() {
+        for j in positions.iter().copied().filter(|it| i <= *it) {
             asked!(
                 book,
                 "BinaryRmq",
@@ -751,15 +759,15 @@ fn documents_of(documents: &[u64], items: &[u64]) -> Postings<Global> {
     Postings::from_sorted(documents, costs).ok().unwrap()
 }
 
-/// Asks for documents from each of some places to each later one, and for those of two lists with low parts of as many
+/// Asks for documents from each of some positions to each later one, and for those of two lists with low parts of as many
 /// bits.
 fn ask_documents(book: &mut Book, items: &[u64], about: &str) {
     let n = items.len();
     let (documents, others) = (members(n, 7, 0), members(n / 2 + 1, 13, 0));
     let (list, other) = (documents_of(&documents, items), documents_of(&others, items));
     book.low = words_of_low_part(&documents);
-    for i in places(n).into_iter().filter(|it| *it < n) {
-        for j in places(n).into_iter().filter(|it| i <= *it && *it < n) {
+    for i in positions(n).into_iter().filter(|it| *it < n) {
+        for j in positions(n).into_iter().filter(|it| i <= *it && *it < n) {
             let (from, to) = (7 * i as u64, 7 * j as u64 + 1);
             asked!(
                 book,
@@ -798,7 +806,7 @@ fn reads_of_range_minima_and_documents_are_counted() {
 fn ask_text(book: &mut Book, text: &TextIndex<Global>, symbols: &[u64], about: &str) {
     let n = symbols.len();
     let absent = [symbols.first().map_or(0, |it| it ^ 1); 3];
-    let patterns = places(n)
+    let patterns = positions(n)
         .into_iter()
         .filter(|from| *from <= n)
         .flat_map(|from| [0, 1, 2, 5].map(|len| &symbols[from..n.min(from + len)]));
@@ -811,13 +819,15 @@ fn ask_text(book: &mut Book, text: &TextIndex<Global>, symbols: &[u64], about: &
                 text.first_places_counted(pattern, limit, tally)
             });
         }
-        let mut places = book.call("TextIndex::places_counted", about, |tally| text.places_counted(pattern, tally));
-        walk(book, "TextIndex places next", 3, about(), &mut places, |it, _, tally| it.next_counted(tally).is_some());
-        walk(book, "TextIndex places nth_back", 2, about(), &mut places, |it, k, tally| {
+        let mut positions = book.call("TextIndex::places_counted", about, |tally| text.places_counted(pattern, tally));
+        walk(book, "TextIndex places next", 3, about(), &mut positions, |it, _, tally| {
+            it.next_counted(tally).is_some()
+        });
+        walk(book, "TextIndex places nth_back", 2, about(), &mut positions, |it, k, tally| {
             it.nth_back_counted(k, tally).is_some()
         });
     }
-    for start in places(n) {
+    for start in positions(n) {
         for end in [0, 1, 40, n].map(|it| start.saturating_add(it).min(n + 1)) {
             let about = || format!("{about}, from {start} to {end}");
             let _ = book.call("TextIndex::extract_counted", about, |tally| text.extract_counted(start..end, tally));
@@ -873,7 +883,7 @@ fn ask_tree<const SIZE: usize>(mut book: &mut Book, n: usize, kind: usize) {
     let tree = BpTree::<SIZE, Global>::from_bit_vector(shape(n, kind)).ok().unwrap();
     let about = format!("{n} bits of shape {kind}, blocks of {SIZE}");
     asked!(book, "BpTree", tree, about, is_balanced_counted());
-    for i in places(n) {
+    for i in positions(n) {
         for r in [-2i64, -1, 0, 1, 2, -100, 100] {
             asked!(book, "BpTree", tree, about, fwd_search_counted(i, r), bwd_search_counted(i, r));
         }

@@ -14,12 +14,12 @@ fn nothing_but_the_suffix_array_passes() {
         for text in lists(len, 3) {
             let symbols: Vec<u8> = text.iter().map(|symbol| *symbol as u8).collect();
             let mut order: Vec<u32> = (0..=len as u32).collect();
-            order.sort_by_key(|place| &symbols[*place as usize..]);
+            order.sort_by_key(|position| &symbols[*position as usize..]);
             let heads: Vec<u32> =
                 (0..3).map(|it| 1 + symbols.iter().filter(|symbol| **symbol < it).count() as u32).collect();
-            for places in lists(len + 1, len as u32 + 2) {
-                let passes = is_suffix_order(&symbols, &places, &mut heads.clone(), &mut [0]);
-                assert_eq!(passes, places == order, "the text {symbols:?}, the positions {places:?}");
+            for positions in lists(len + 1, len as u32 + 2) {
+                let passes = is_suffix_order(&symbols, &positions, &mut heads.clone(), &mut [0]);
+                assert_eq!(passes, positions == order, "the text {symbols:?}, the positions {positions:?}");
             }
             assert!(!is_suffix_order(&symbols, &order[1..], &mut heads.clone(), &mut [0]));
         }

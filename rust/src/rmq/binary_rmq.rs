@@ -1,6 +1,6 @@
 //! Range minima by a table.
 
-use super::{minima, places};
+use super::{bounds, minima};
 use crate::contracts::contract;
 use crate::error::{granted, no_range, BuildError};
 use crate::proved::vers_rmq::rmq::binary_rmq as proved;
@@ -29,7 +29,7 @@ minima! {
 #[derive(Clone, Copy, PartialEq, Eq, Hash, Debug)]
 pub struct PlacedItem {
     /// The position of the value.
-    pub place: usize,
+    pub position: usize,
     /// The value.
     pub value: u64,
 }
@@ -49,7 +49,7 @@ impl BinaryRmq {
             no_range(i, j);
         }
         let found = self.index.range_min_item(i, j);
-        PlacedItem { place: found.place, value: found.value }
+        PlacedItem { position: found.position, value: found.value }
     }
 
     /// Answers as [`range_min_item`](Self::range_min_item), and adds what is read to `tally`.
@@ -64,18 +64,18 @@ impl BinaryRmq {
             no_range(i, j);
         }
         let found = self.index.range_min_item_counted(i, j, &mut tally.0);
-        PlacedItem { place: found.place, value: found.value }
+        PlacedItem { position: found.position, value: found.value }
     }
 
-    /// Returns the value at `place`, and adds what is read to `tally`.
+    /// Returns the value at `position`, and adds what is read to `tally`.
     ///
     /// # Panics
-    /// If `place` is past the end.
+    /// If `position` is past the end.
     #[doc = contract!(BinaryRmq::item_counted)]
     #[inline]
     #[track_caller]
-    pub fn item_counted(&self, place: usize, tally: &mut Tally) -> u64 {
-        assert!(place < self.index.len(), "the list has no value at {}", place);
-        self.index.item_counted(place, &mut tally.0)
+    pub fn item_counted(&self, position: usize, tally: &mut Tally) -> u64 {
+        assert!(position < self.index.len(), "the list has no value at {}", position);
+        self.index.item_counted(position, &mut tally.0)
     }
 }

@@ -1,6 +1,6 @@
 //! Range minima by blocks.
 
-use super::{minima, places};
+use super::{bounds, minima};
 use crate::contracts::contract;
 use crate::error::{granted, no_range, BuildError};
 use crate::proved::vers_rmq::rmq::fast_rmq as proved;

@@ -8,16 +8,16 @@ pub mod fast_rmq;
 /// Returns the first and the last position of a range in a list of `len` values. Past the end the last position of the
 /// list is meant.
 #[track_caller]
-fn places(range: impl RangeBounds<usize>, len: usize) -> (usize, usize) {
+fn bounds(range: impl RangeBounds<usize>, len: usize) -> (usize, usize) {
     assert!(len > 0, "there are no values");
     let first = match range.start_bound() {
-        Bound::Included(&place) => place,
-        Bound::Excluded(&place) => place.saturating_add(1),
+        Bound::Included(&position) => position,
+        Bound::Excluded(&position) => position.saturating_add(1),
         Bound::Unbounded => 0,
     };
     let last = match range.end_bound() {
-        Bound::Included(&place) => place,
-        Bound::Excluded(&place) => place.checked_sub(1).expect("the range is empty"),
+        Bound::Included(&position) => position,
+        Bound::Excluded(&position) => position.checked_sub(1).expect("the range is empty"),
         Bound::Unbounded => len - 1,
     };
     (first.min(len - 1), last.min(len - 1))
@@ -75,7 +75,7 @@ macro_rules! minima {
             #[must_use]
             #[track_caller]
             pub fn range_min_with_range<T: RangeBounds<usize>>(&self, range: T) -> usize {
-                let (first, last) = places(range, self.index.len());
+                let (first, last) = bounds(range, self.index.len());
                 self.range_min(first, last)
             }
 
@@ -114,7 +114,7 @@ macro_rules! minima {
             /// If there are no values, or the range is empty.
             #[track_caller]
             pub fn range_min_with_range_counted<T: RangeBounds<usize>>(&self, range: T, tally: &mut Tally) -> usize {
-                let (first, last) = places(range, self.index.len());
+                let (first, last) = bounds(range, self.index.len());
                 self.range_min_counted(first, last, tally)
             }
         }

@@ -125,16 +125,16 @@ impl<const BLOCK_SIZE: usize> BpTree<BLOCK_SIZE> {
     }
 
     /// Returns the number of ones less the number of zeros before a position that is at most the length.
-    fn excess_before(&self, place: usize) -> i64 {
-        match place.checked_sub(1) {
+    fn excess_before(&self, position: usize) -> i64 {
+        match position.checked_sub(1) {
             Some(last) if last < self.tree.len() => self.tree.excess(last),
             _ => 0,
         }
     }
 
     /// Returns the number of ones before a position that is at most the length.
-    fn ones_before(&self, place: usize) -> usize {
-        (place as i64 + self.excess_before(place)) as usize / 2
+    fn ones_before(&self, position: usize) -> usize {
+        (position as i64 + self.excess_before(position)) as usize / 2
     }
 
     /// Returns true if the parentheses are balanced, so that they describe trees. O(1).
@@ -152,12 +152,12 @@ impl<const BLOCK_SIZE: usize> BpTree<BLOCK_SIZE> {
         self.tree.is_open(i)
     }
 
-    /// Returns true if the parentheses are balanced and a node opens at `place`. O(1).
+    /// Returns true if the parentheses are balanced and a node opens at `position`. O(1).
     #[doc = contract!(BpTree::has_node)]
     #[must_use]
     #[inline]
-    pub fn has_node(&self, place: usize) -> bool {
-        self.balanced && self.tree.is_open(place) == Some(true)
+    pub fn has_node(&self, position: usize) -> bool {
+        self.balanced && self.tree.is_open(position) == Some(true)
     }
 
     /// Panics if no node opens, in a build with debug assertions.
@@ -304,7 +304,7 @@ counted_searches! {
     is_open_counted, is_open(i: usize) -> Option<bool>;
     node_handle_counted, node_handle(i: usize) -> usize;
     is_balanced_counted, is_balanced() -> bool;
-    has_node_counted, has_node(place: usize) -> bool;
+    has_node_counted, has_node(position: usize) -> bool;
 }
 
 /// Forms of queries of nodes and levels that count what they read, under a condition.
@@ -368,18 +368,18 @@ impl<const BLOCK_SIZE: usize> BpTree<BLOCK_SIZE> {
         self.tree.excess_counted(i, &mut tally.0)
     }
 
-    /// Returns `place` if it has a one.
+    /// Returns `position` if it has a one.
     #[inline]
-    fn opening(&self, place: usize) -> Option<usize> {
-        if self.tree.is_open(place)? {
-            Some(place)
+    fn opening(&self, position: usize) -> Option<usize> {
+        if self.tree.is_open(position)? {
+            Some(position)
         } else {
             None
         }
     }
 }
 
-// Below, a query of a place without a node answers what its definition says of the parentheses.
+// Below, a query of a position without a node answers what its definition says of the parentheses.
 impl<const BLOCK_SIZE: usize> Tree for BpTree<BLOCK_SIZE> {
     type NodeHandle = usize;
 

@@ -20,14 +20,14 @@ pub struct Gathered {
     /// The symbol.
     pub symbol: u64,
     /// The position where it goes.
-    pub place: usize,
+    pub position: usize,
 }
 
 #[doc(hidden)]
 impl From<proved::Gathered> for Gathered {
     #[inline]
     fn from(found: proved::Gathered) -> Gathered {
-        Gathered { symbol: found.symbol, place: found.place }
+        Gathered { symbol: found.symbol, position: found.position }
     }
 }
 
@@ -218,47 +218,47 @@ impl WaveletMatrix {
 
 /// Symbols at positions.
 impl WaveletMatrix {
-    /// Returns the symbol at `place` as a list of bits, or `None` past the end.
+    /// Returns the symbol at `position` as a list of bits, or `None` past the end.
     #[doc = contract!(WaveletMatrix::get_value)]
     #[must_use]
     #[track_caller]
-    pub fn get_value(&self, place: usize) -> Option<BitVec> {
-        granted(self.symbols.get_value(place)).map(BitVec::from)
+    pub fn get_value(&self, position: usize) -> Option<BitVec> {
+        granted(self.symbols.get_value(position)).map(BitVec::from)
     }
 
-    /// Returns the symbol at `place` as a list of bits.
+    /// Returns the symbol at `position` as a list of bits.
     ///
     /// # Panics
-    /// If `place` is past the end.
+    /// If `position` is past the end.
     #[doc = contract!(WaveletMatrix::get_value)]
     #[must_use]
     #[track_caller]
-    pub fn get_value_unchecked(&self, place: usize) -> BitVec {
-        match self.get_value(place) {
+    pub fn get_value_unchecked(&self, position: usize) -> BitVec {
+        match self.get_value(position) {
             Some(found) => found,
-            None => panic!("the list has no symbol at {}", place),
+            None => panic!("the list has no symbol at {}", position),
         }
     }
 
-    /// Returns the symbol at `place`. `None` past the end, and if symbols have more than 64 bits.
+    /// Returns the symbol at `position`. `None` past the end, and if symbols have more than 64 bits.
     #[doc = contract!(WaveletMatrix::get_u64)]
     #[must_use]
     #[inline]
-    pub fn get_u64(&self, place: usize) -> Option<u64> {
-        self.symbols.get_u64(place)
+    pub fn get_u64(&self, position: usize) -> Option<u64> {
+        self.symbols.get_u64(position)
     }
 
-    /// Returns the symbol at `place`.
+    /// Returns the symbol at `position`.
     ///
     /// # Panics
-    /// If `place` is past the end, or symbols have more than 64 bits.
+    /// If `position` is past the end, or symbols have more than 64 bits.
     #[doc = contract!(WaveletMatrix::get_u64)]
     #[must_use]
     #[track_caller]
-    pub fn get_u64_unchecked(&self, place: usize) -> u64 {
-        match self.get_u64(place) {
+    pub fn get_u64_unchecked(&self, position: usize) -> u64 {
+        match self.get_u64(position) {
             Some(found) => found,
-            None => panic!("the list has no number at {}", place),
+            None => panic!("the list has no number at {}", position),
         }
     }
 }
@@ -336,22 +336,22 @@ batches! {
         numbers, ranges: Range<usize>, |i, range| proved::QuantileQuery::new(range.start, range.end, *i as usize);
     /// Replaces each position by its `gathered_u64` of the symbol at the same index, or by `other` if that is `None`.
     gathered_u64_each, gathered_u64_each_counted, gathered_u64_each, gathered_u64_each_counted:
-        places, symbols: u64, |place, symbol| proved::GatheredQuery::new(*place as usize, *symbol);
+        positions, symbols: u64, |position, symbol| proved::GatheredQuery::new(*position as usize, *symbol);
 }
 
 impl WaveletMatrix {
     /// Replaces each position by its `get_u64`, or by `other` if that is `None`.
-    pub fn get_u64_each(&self, places: &mut [u64], other: u64) {
-        let mut queries: Vec<_> = places.iter().map(|place| proved::GetQuery::new(*place as usize)).collect();
+    pub fn get_u64_each(&self, positions: &mut [u64], other: u64) {
+        let mut queries: Vec<_> = positions.iter().map(|position| proved::GetQuery::new(*position as usize)).collect();
         queries.chunks_mut(GROUP).for_each(|group| self.symbols.get_u64_each(group));
-        places.iter_mut().zip(queries).for_each(|(slot, query)| *slot = number(query.answer, other));
+        positions.iter_mut().zip(queries).for_each(|(slot, query)| *slot = number(query.answer, other));
     }
 
     /// Answers as [`get_u64_each`](Self::get_u64_each), and adds what is read to `tally`.
-    pub fn get_u64_each_counted(&self, places: &mut [u64], other: u64, tally: &mut Tally) {
-        let mut queries: Vec<_> = places.iter().map(|place| proved::GetQuery::new(*place as usize)).collect();
+    pub fn get_u64_each_counted(&self, positions: &mut [u64], other: u64, tally: &mut Tally) {
+        let mut queries: Vec<_> = positions.iter().map(|position| proved::GetQuery::new(*position as usize)).collect();
         queries.chunks_mut(GROUP).for_each(|group| self.symbols.get_u64_each_counted(group, &mut tally.0));
-        places.iter_mut().zip(queries).for_each(|(slot, query)| *slot = number(query.answer, other));
+        positions.iter_mut().zip(queries).for_each(|(slot, query)| *slot = number(query.answer, other));
     }
 }
 
@@ -599,29 +599,29 @@ impl WaveletMatrix {
 /// Positions in the order in which equal symbols are gathered: by their bits, the lowest first, and equal symbols as in
 /// the list.
 impl WaveletMatrix {
-    /// Returns the symbol at `place`, and where the position goes. `None` past the end, and if symbols have more than
+    /// Returns the symbol at `position`, and where the position goes. `None` past the end, and if symbols have more than
     /// 64 bits.
     #[doc = contract!(WaveletMatrix::get_gathered_u64)]
     #[must_use]
     #[inline]
-    pub fn get_gathered_u64(&self, place: usize) -> Option<Gathered> {
-        self.symbols.get_gathered_u64(place).map(Gathered::from)
+    pub fn get_gathered_u64(&self, position: usize) -> Option<Gathered> {
+        self.symbols.get_gathered_u64(position).map(Gathered::from)
     }
 
     /// Answers as [`get_gathered_u64`](Self::get_gathered_u64), and adds what is read to `tally`.
     #[doc = contract!(WaveletMatrix::get_gathered_u64_counted)]
     #[inline]
-    pub fn get_gathered_u64_counted(&self, place: usize, tally: &mut Tally) -> Option<Gathered> {
-        self.symbols.get_gathered_u64_counted(place, &mut tally.0).map(Gathered::from)
+    pub fn get_gathered_u64_counted(&self, position: usize, tally: &mut Tally) -> Option<Gathered> {
+        self.symbols.get_gathered_u64_counted(position, &mut tally.0).map(Gathered::from)
     }
 
-    /// Returns where the first such symbol from `place` on goes. `None` if `place` is above the length, or symbols have
+    /// Returns where the first such symbol from `position` on goes. `None` if `position` is above the length, or symbols have
     /// more than 64 bits.
     #[doc = contract!(WaveletMatrix::gathered_u64)]
     #[must_use]
     #[inline]
-    pub fn gathered_u64(&self, place: usize, symbol: u64) -> Option<usize> {
-        self.symbols.gathered_u64(place, symbol)
+    pub fn gathered_u64(&self, position: usize, symbol: u64) -> Option<usize> {
+        self.symbols.gathered_u64(position, symbol)
     }
 
     /// Returns the range of gathered positions of a symbol in a range. `None` if the list doesn't have the range, or
@@ -752,13 +752,13 @@ impl WaveletMatrix {
 }
 
 counted! { WaveletMatrix, symbols:
-    get_u64_counted, get_u64(place: usize) -> Option<u64>;
+    get_u64_counted, get_u64(position: usize) -> Option<u64>;
     rank_range_u64_counted, rank_range_u64(range: Range<usize>, symbol: u64) -> Option<usize>;
     rank_offset_u64_counted, rank_offset_u64(offset: usize, end: usize, symbol: u64) -> Option<usize>;
     rank_u64_counted, rank_u64(end: usize, symbol: u64) -> Option<usize>;
     select_offset_u64_counted, select_offset_u64(offset: usize, rank: usize, symbol: u64) -> Option<usize>;
     select_u64_counted, select_u64(rank: usize, symbol: u64) -> Option<usize>;
-    gathered_u64_counted, gathered_u64(place: usize, symbol: u64) -> Option<usize>;
+    gathered_u64_counted, gathered_u64(position: usize, symbol: u64) -> Option<usize>;
     gathered_range_u64_counted, gathered_range_u64(range: Range<usize>, symbol: u64) -> Option<Range<usize>>;
     predecessor_u64_counted, predecessor_u64(range: Range<usize>, symbol: u64) -> Option<u64>;
     successor_u64_counted, successor_u64(range: Range<usize>, symbol: u64) -> Option<u64>;
@@ -766,7 +766,7 @@ counted! { WaveletMatrix, symbols:
 
 /// Forms of calls with symbols as lists of bits that count what they read.
 macro_rules! counted_lists {
-    ($($call:ident, $of:ident($($arg:ident: $kind:ty),*) -> $answer:ty, |$found:ident| $told:expr;)*) => {
+    ($($call:ident, $of:ident($($arg:ident: $kind:ty),*) -> $answer:ty, |$found:ident| $answer_of:expr;)*) => {
         /// Calls that count what they read, for symbols as lists of bits.
         impl WaveletMatrix {
             $(
@@ -775,7 +775,7 @@ macro_rules! counted_lists {
                 #[track_caller]
                 pub fn $call(&self, $($arg: $kind,)* symbol: &BitVec, tally: &mut Tally) -> $answer {
                     let $found = self.symbols.$call($($arg,)* &symbol.bits, &mut tally.0);
-                    $told
+                    $answer_of
                 }
             )*
         }
@@ -796,8 +796,8 @@ impl WaveletMatrix {
     /// Answers as [`get_value`](Self::get_value), and adds what is read to `tally`.
     #[doc = contract!(WaveletMatrix::get_value_counted)]
     #[track_caller]
-    pub fn get_value_counted(&self, place: usize, tally: &mut Tally) -> Option<BitVec> {
-        granted(self.symbols.get_value_counted(place, &mut tally.0)).map(BitVec::from)
+    pub fn get_value_counted(&self, position: usize, tally: &mut Tally) -> Option<BitVec> {
+        granted(self.symbols.get_value_counted(position, &mut tally.0)).map(BitVec::from)
     }
 }
 

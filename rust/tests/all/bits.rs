@@ -11,8 +11,8 @@ fn bits(random: &mut Random, length: usize, share: u64) -> Vec<u64> {
 }
 
 /// Returns the positions of a bit.
-fn places(bits: &[u64], bit: u64) -> Vec<usize> {
-    (0..bits.len()).filter(|&place| bits[place] == bit).collect()
+fn positions(bits: &[u64], bit: u64) -> Vec<usize> {
+    (0..bits.len()).filter(|&position| bits[position] == bit).collect()
 }
 
 #[test]
@@ -22,24 +22,26 @@ fn bits_are_ranked_and_selected() {
         for share in [1, 2, 50] {
             let plain = bits(&mut random, length, share);
             let list = RsVec::from_bit_vec(BitVec::from_bits_u64(&plain));
-            let (zeros, ones) = (places(&plain, 0), places(&plain, 1));
+            let (zeros, ones) = (positions(&plain, 0), positions(&plain, 1));
             assert_eq!(list.len(), length);
-            for place in (0..length + 3).step_by(1 + length / 300) {
-                let ones_before = ones.partition_point(|&one| one < place);
-                let zeros_before = zeros.partition_point(|&zero| zero < place);
-                assert_eq!(list.get(place), plain.get(place).copied());
-                assert_eq!((list.rank0(place), list.rank1(place)), (zeros_before, ones_before));
-                assert_eq!(list.select0(place), zeros.get(place).copied().unwrap_or(length));
-                assert_eq!(list.select1(place), ones.get(place).copied().unwrap_or(length));
-                let is_there = place < length;
-                let after = |places: &[usize]| places.iter().find(|&&it| it > place && is_there).map(|&it| it as u64);
-                let before = |places: &[usize]| places.iter().rev().find(|&&it| it < place).map(|&it| it as u64);
-                assert_eq!((list.successor0(place), list.successor1(place)), (after(&zeros), after(&ones)));
-                assert_eq!((list.predecessor0(place), list.predecessor1(place)), (before(&zeros), before(&ones)));
+            for position in (0..length + 3).step_by(1 + length / 300) {
+                let ones_before = ones.partition_point(|&one| one < position);
+                let zeros_before = zeros.partition_point(|&zero| zero < position);
+                assert_eq!(list.get(position), plain.get(position).copied());
+                assert_eq!((list.rank0(position), list.rank1(position)), (zeros_before, ones_before));
+                assert_eq!(list.select0(position), zeros.get(position).copied().unwrap_or(length));
+                assert_eq!(list.select1(position), ones.get(position).copied().unwrap_or(length));
+                let is_there = position < length;
+                let after =
+                    |positions: &[usize]| positions.iter().find(|&&it| it > position && is_there).map(|&it| it as u64);
+                let before =
+                    |positions: &[usize]| positions.iter().rev().find(|&&it| it < position).map(|&it| it as u64);
+                assert_eq!((list.successor0(position), list.successor1(position)), (after(&zeros), after(&ones)));
+                assert_eq!((list.predecessor0(position), list.predecessor1(position)), (before(&zeros), before(&ones)));
                 for count in [0, 1, 7, 63, 64, 65] {
-                    let wanted = (count <= 64 && place + count <= length)
-                        .then(|| (0..count).map(|offset| plain[place + offset] << offset).sum());
-                    assert_eq!(list.get_bits(place, count), wanted, "{count} bits from {place} on");
+                    let wanted = (count <= 64 && position + count <= length)
+                        .then(|| (0..count).map(|offset| plain[position + offset] << offset).sum());
+                    assert_eq!(list.get_bits(position, count), wanted, "{count} bits from {position} on");
                 }
             }
             assert!(list.iter().eq(plain.iter().copied()) && list.iter().rev().eq(plain.iter().rev().copied()));
@@ -87,15 +89,15 @@ fn sparse_bits_are_found() {
         let plain = bits(&mut random, length, 20);
         let list = BitVec::from_bits_u64(&plain);
         for (wanted, sparse) in [(1, SparseRSVec::from_bitvec(&list)), (0, SparseRSVec::from(&list))] {
-            let ones = places(&plain, wanted);
+            let ones = positions(&plain, wanted);
             assert_eq!(sparse.len(), length as u64);
             assert!(sparse.iter1().eq(ones.iter().map(|&one| one as u64)));
-            for place in 0..length + 2 {
-                let before = ones.partition_point(|&one| one < place);
-                assert_eq!(sparse.is_set(place as u64), plain.get(place).map(|&bit| bit == wanted));
-                assert_eq!(sparse.rank1(place as u64), before as u64);
-                assert_eq!(sparse.rank0(place as u64), (place.min(length) - before) as u64);
-                assert_eq!(sparse.select1(place), ones.get(place).copied().unwrap_or(length) as u64);
+            for position in 0..length + 2 {
+                let before = ones.partition_point(|&one| one < position);
+                assert_eq!(sparse.is_set(position as u64), plain.get(position).map(|&bit| bit == wanted));
+                assert_eq!(sparse.rank1(position as u64), before as u64);
+                assert_eq!(sparse.rank0(position as u64), (position.min(length) - before) as u64);
+                assert_eq!(sparse.select1(position), ones.get(position).copied().unwrap_or(length) as u64);
             }
         }
     }
@@ -106,7 +108,7 @@ fn bits_change() {
     let mut random = Random::new(4);
     let (mut list, mut plain) = (BitVec::new(), Vec::new());
     for step in 0..20_000 {
-        let (number, place) = (random.number(), random.below(plain.len() as u64 + 1) as usize);
+        let (number, position) = (random.number(), random.below(plain.len() as u64 + 1) as usize);
         match random.below(8) {
             0 => {
                 list.append_bit(number);
@@ -122,12 +124,12 @@ fn bits_change() {
                 plain.extend((0..64).map(|offset| number >> offset & 1));
             }
             4 => {
-                assert_eq!(list.set(place, number).is_ok(), place < plain.len());
-                plain.get_mut(place).into_iter().for_each(|bit| *bit = number & 1);
+                assert_eq!(list.set(position, number).is_ok(), position < plain.len());
+                plain.get_mut(position).into_iter().for_each(|bit| *bit = number & 1);
             }
-            5 if place < plain.len() => {
-                list.flip_bit(place);
-                plain[place] ^= 1;
+            5 if position < plain.len() => {
+                list.flip_bit(position);
+                plain[position] ^= 1;
             }
             6 => {
                 let count = random.below(120) as usize;
@@ -136,18 +138,18 @@ fn bits_change() {
             }
             _ => {
                 let count = random.below(70) as usize;
-                let wanted = (1..=64).contains(&count) && place + count <= plain.len();
-                let wanted = wanted.then(|| (0..count).map(|offset| plain[place + offset] << offset).sum());
-                assert_eq!(list.get_bits(place, count), wanted);
+                let wanted = (1..=64).contains(&count) && position + count <= plain.len();
+                let wanted = wanted.then(|| (0..count).map(|offset| plain[position + offset] << offset).sum());
+                assert_eq!(list.get_bits(position, count), wanted);
             }
         }
         assert_eq!(list.len(), plain.len());
-        assert_eq!(list.get(place), plain.get(place).copied());
+        assert_eq!(list.get(position), plain.get(position).copied());
         if step % 500 == 0 {
             assert!(list.iter().eq(plain.iter().copied()));
             assert_eq!(list.count_ones(), plain.iter().sum());
             assert_eq!(list, BitVec::from_bits_u64(&plain));
-            let (before, from) = list.clone().split_at(place).unwrap();
+            let (before, from) = list.clone().split_at(position).unwrap();
             assert!(before.iter().chain(&from).eq(plain.iter().copied()));
             let mut joined = before;
             joined.extend([from]);
@@ -192,10 +194,10 @@ fn masks_combine_bits() {
         ] {
             assert_eq!(masked.to_bit_vec(), BitVec::from_bits_u64(&wanted));
             assert_eq!(masked.count_ones(), wanted.iter().sum());
-            for (place, &bit) in wanted.iter().enumerate() {
-                assert_eq!(masked.get(place), Some(bit));
+            for (position, &bit) in wanted.iter().enumerate() {
+                assert_eq!(masked.get(position), Some(bit));
                 let count = 1 + random.below(64) as usize;
-                assert_eq!(masked.get_bits(place, count), masked.to_bit_vec().get_bits(place, count));
+                assert_eq!(masked.get_bits(position, count), masked.to_bit_vec().get_bits(position, count));
             }
         }
         let mut changed = list.clone();
@@ -212,9 +214,9 @@ fn numbers_are_packed() {
         let packed = BitVec::pack_sequence_u64(&numbers, width);
         assert_eq!(packed, BitVec::pack_from_iter_u64(numbers, width));
         assert_eq!(packed.len(), 4 * width);
-        let bit = |place: usize| match place % width {
+        let bit = |position: usize| match position % width {
             high if high > 63 => 0,
-            low => numbers[place / width] >> low & 1,
+            low => numbers[position / width] >> low & 1,
         };
         assert!(packed.iter().eq((0..4 * width).map(bit)));
     }

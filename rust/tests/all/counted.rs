@@ -192,7 +192,7 @@ fn other_structures_are_counted() {
         range_min_item, range_min_item_counted(3, 600);
     }
     let least = list.range_min_item(3, 600);
-    assert_eq!((least.place, least.value), (list.range_min(3, 600), values[list.range_min(3, 600)]));
+    assert_eq!((least.position, least.value), (list.range_min(3, 600), values[list.range_min(3, 600)]));
     assert_eq!(list.item_counted(7, &mut Tally::new()), values[7]);
     let list = FastRmq::from_vec(values);
     agree! { list:

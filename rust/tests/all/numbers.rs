@@ -13,10 +13,10 @@ fn members_are_found() {
         assert!(list.clone().into_iter().rev().eq(members.iter().rev().copied()));
         assert_eq!(list.iter().min(), members.first().copied());
         assert_eq!(list.iter().max(), members.last().copied());
-        for place in 0..length + 2 {
-            assert_eq!(list.get(place), members.get(place).copied());
-            let before = if place == 0 { Some(&0) } else { members.get(place - 1) };
-            assert_eq!(list.delta(place), members.get(place).zip(before).map(|(it, before)| it - before));
+        for position in 0..length + 2 {
+            assert_eq!(list.get(position), members.get(position).copied());
+            let before = if position == 0 { Some(&0) } else { members.get(position - 1) };
+            assert_eq!(list.delta(position), members.get(position).zip(before).map(|(it, before)| it - before));
         }
         let near = members.iter().flat_map(|&it| [it.saturating_sub(1), it, it.saturating_add(1)]);
         for number in near.chain(random.numbers(50, bound)).chain([0, u64::MAX]) {
@@ -36,10 +36,10 @@ fn many_members_are_found_at_once() {
         let mut members = random.numbers(length, bound);
         members.sort_unstable();
         let list = EliasFanoVec::from_slice(&members);
-        let places: Vec<u64> = (0..length as u64 + 3).rev().collect();
-        let mut answers = places.clone();
+        let positions: Vec<u64> = (0..length as u64 + 3).rev().collect();
+        let mut answers = positions.clone();
         list.get_each(&mut answers, 77);
-        assert!(places.iter().map(|&it| list.get(it as usize).unwrap_or(77)).eq(answers));
+        assert!(positions.iter().map(|&it| list.get(it as usize).unwrap_or(77)).eq(answers));
         let numbers = random.numbers(500, bound + 2);
         let answered = |each: &dyn Fn(&mut [u64])| {
             let mut answers = numbers.clone();
@@ -75,11 +75,11 @@ fn least_values_are_found() {
         for _ in 0..2000 {
             let (i, j) = (random.below(length as u64) as usize, random.below(length as u64) as usize);
             let (i, j) = (i.min(j), i.max(j));
-            let least = (i..=j).min_by_key(|&place| values[place]).unwrap();
+            let least = (i..=j).min_by_key(|&position| values[position]).unwrap();
             assert_eq!((fast.range_min(i, j), binary.range_min(i, j)), (least, least));
             assert_eq!((fast.range_min_with_range(i..=j), binary.range_min_with_range(i..j + 1)), (least, least));
         }
-        let least = (0..length).min_by_key(|&place| values[place]).unwrap();
+        let least = (0..length).min_by_key(|&position| values[position]).unwrap();
         assert_eq!((fast.range_min_with_range(..), binary.range_min_with_range(..length + 9)), (least, least));
     }
 }

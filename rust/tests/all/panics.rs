@@ -173,7 +173,7 @@ fn symbols_stop() {
         "different lengths": list.quantile_u64_each(&mut [1, 2], &[0..1, 0..1, 0..1], 0);
         "different lengths": list.gathered_u64_each_counted(&mut [1], &[], 0, &mut Tally::new());
     }
-    // places past the end are left out
+    // positions past the end are left out
     assert_eq!((list.rank_u64_unchecked(9, 7), list.rank_range_u64_unchecked(3..9, 7)), (1, 0));
     assert_eq!((list.select_offset_u64_unchecked(9, 0, 7), list.select_u64_unchecked(1, 7)), (3, 3));
     let seven = BitVec::from_ones(4);

@@ -23,11 +23,17 @@ fn documents_are_found() {
             assert_eq!(list.contains(number), plain.contains(&number));
             assert_eq!((list.rank(number), list.next_at_least(number)), (below as u64, plain.get(below).copied()));
             let to = number.saturating_add(random.below(bound));
-            let within = (0..plain.len()).filter(|&place| (number..=to).contains(&plain[place]));
-            assert_eq!(list.cheapest(number, to), within.min_by_key(|&place| costs[place]).map(|place| plain[place]));
+            let within = (0..plain.len()).filter(|&position| (number..=to).contains(&plain[position]));
+            assert_eq!(
+                list.cheapest(number, to),
+                within.min_by_key(|&position| costs[position]).map(|position| plain[position])
+            );
         }
-        for place in 0..=plain.len() {
-            assert_eq!((list.get(place), list.cost(place)), (plain.get(place).copied(), costs.get(place).copied()));
+        for position in 0..=plain.len() {
+            assert_eq!(
+                (list.get(position), list.cost(position)),
+                (plain.get(position).copied(), costs.get(position).copied())
+            );
         }
         let other = documents(&mut random, count / 2, bound);
         let common: Vec<u64> = plain.iter().copied().filter(|document| other.contains(document)).collect();

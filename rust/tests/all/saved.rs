@@ -11,10 +11,10 @@ fn again<S: Saved>(structure: &S) -> S {
     for length in [0, bytes.len() - 1] {
         assert_eq!(S::load(&bytes[..length]).err(), Some(LoadError::TooShort));
     }
-    for place in (0..bytes.len()).step_by(1 + bytes.len() / 50) {
+    for position in (0..bytes.len()).step_by(1 + bytes.len() / 50) {
         let mut other = bytes.clone();
-        other[place] ^= 1;
-        assert!(S::load(&other).is_err(), "a bit of byte {place} was flipped");
+        other[position] ^= 1;
+        assert!(S::load(&other).is_err(), "a bit of byte {position} was flipped");
     }
     S::load(&bytes).unwrap()
 }
@@ -28,7 +28,10 @@ fn structures_are_loaded_as_they_were() {
         assert_eq!(again(&bits), bits);
         assert!(again(&RsVec::from_bit_vec(bits.clone())).iter().eq(&bits));
         let sparse = again(&SparseRSVec::from_bitvec(&bits));
-        assert!((0..length).all(|place| sparse.get(place as u64) == bits.get(place)) && sparse.len() == length as u64);
+        assert!(
+            (0..length).all(|position| sparse.get(position as u64) == bits.get(position))
+                && sparse.len() == length as u64
+        );
         let symbols = again(&WaveletMatrix::from_slice(&numbers, 10));
         assert!(symbols.iter_u64().unwrap().eq(numbers.iter().copied()) && symbols.bits_per_element() == 10);
         assert_eq!(**again(&FastRmq::from_vec(numbers.clone())), numbers);
@@ -81,9 +84,9 @@ fn each_kind_is_loaded_as_itself() {
 #[test]
 fn the_first_fault_is_reported() {
     let bytes = RsVec::from_bit_vec(BitVec::from_bits(&[0, 1, 1, 0])).save().unwrap();
-    let fault = |place: usize| {
+    let fault = |position: usize| {
         let mut bytes = bytes.clone();
-        bytes[place] ^= 1;
+        bytes[position] ^= 1;
         RsVec::load(&bytes).unwrap_err()
     };
     let faults = [0, 8, 16, 40].map(fault);

@@ -76,7 +76,7 @@ fn asked(random: &mut Random, numbers: &[u64], list: &WaveletMatrix) {
     };
     let wanted = symbol(number, width);
     let range = numbers.get(start..end);
-    let places = |from: usize| (from..length).filter(move |&place| numbers[place] == number);
+    let positions = |from: usize| (from..length).filter(move |&position| numbers[position] == number);
     let symbol = |number: Option<&u64>| number.map(|&number| symbol(number, width));
 
     assert_eq!(list.get_value(k), symbol(numbers.get(k)));
@@ -85,8 +85,8 @@ fn asked(random: &mut Random, numbers: &[u64], list: &WaveletMatrix) {
     assert_eq!(list.rank_range(start..end, &wanted), counted);
     assert_eq!(list.rank_offset(start, end, &wanted), counted);
     assert_eq!(list.rank(end, &wanted), numbers.get(..end).map(held));
-    assert_eq!(list.select(k, &wanted), places(0).nth(k));
-    assert_eq!(list.select_offset(start, k % 3, &wanted), places(start).nth(k % 3));
+    assert_eq!(list.select(k, &wanted), positions(0).nth(k));
+    assert_eq!(list.select_offset(start, k % 3, &wanted), positions(start).nth(k % 3));
     let by_size = range.map(|range| {
         let mut range = range.to_vec();
         range.sort_unstable();
@@ -105,8 +105,8 @@ fn asked(random: &mut Random, numbers: &[u64], list: &WaveletMatrix) {
     assert_eq!(list.get_u64(k), numbers.get(k).copied().filter(|_| is_narrow));
     assert_eq!(list.rank_range_u64(start..end, number), counted.filter(|_| is_narrow));
     assert_eq!(list.rank_u64(end, number), numbers.get(..end).map(held).filter(|_| is_narrow));
-    assert_eq!(list.select_u64(k, number), places(0).nth(k).filter(|_| is_narrow));
-    assert_eq!(list.select_offset_u64(start, 1, number), places(start).nth(1).filter(|_| is_narrow));
+    assert_eq!(list.select_u64(k, number), positions(0).nth(k).filter(|_| is_narrow));
+    assert_eq!(list.select_offset_u64(start, 1, number), positions(start).nth(1).filter(|_| is_narrow));
     assert_eq!(list.quantile_u64(start..end, k), members.get(k).copied().filter(|_| is_narrow));
     assert_eq!(list.range_max_u64(start..end), members.last().copied().filter(|_| is_narrow));
     assert_eq!(list.predecessor_u64(start..end, number), below.copied().filter(|_| is_narrow));
@@ -161,7 +161,7 @@ fn integers_of_each_type_count_by_their_low_bits() {
     fn symbols<N: vers_vecs::wavelet::Integer>(numbers: &[N], width: u16) -> Vec<u64> {
         let list = WaveletMatrix::from_integers(numbers, width);
         assert_eq!(list.bits_per_element(), usize::from(width));
-        (0..list.len()).filter_map(|place| list.get_u64(place)).collect()
+        (0..list.len()).filter_map(|position| list.get_u64(position)).collect()
     }
     assert_eq!(symbols(&[200_u8, 7, 255], 7), [72, 7, 127]);
     assert_eq!(symbols(&[300_u16, 7, 65535], 9), [300, 7, 511]);

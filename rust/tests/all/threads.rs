@@ -33,14 +33,14 @@ fn many_threads_ask_one_list() {
                     let mut random = Random::new(seed);
                     let own = (seed % 3 == 0).then(|| list.clone());
                     for _ in 0..5000 {
-                        let place = random.below(numbers.len() as u64) as usize;
-                        assert_eq!(own.as_ref().unwrap_or(list).get_u64(place), Some(numbers[place]));
+                        let position = random.below(numbers.len() as u64) as usize;
+                        assert_eq!(own.as_ref().unwrap_or(list).get_u64(position), Some(numbers[position]));
                     }
                 });
             }
             for _ in 0..10 {
-                for (place, &number) in numbers.iter().enumerate() {
-                    assert_eq!(list.get_u64(place), Some(number));
+                for (position, &number) in numbers.iter().enumerate() {
+                    assert_eq!(list.get_u64(position), Some(number));
                 }
             }
         });

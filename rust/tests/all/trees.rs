@@ -5,7 +5,7 @@ use vers_vecs::{BitVec, BpBuilder, BpTree, IsAncestor, LevelTree, SubtreeSize, T
 /// A tree as plain lists over its nodes in preorder.
 #[derive(Default)]
 struct Plain {
-    places: Vec<usize>,
+    positions: Vec<usize>,
     ends: Vec<usize>,
     parents: Vec<Option<usize>>,
     depths: Vec<u64>,
@@ -16,24 +16,24 @@ impl Plain {
     fn of(bits: &BitVec) -> Plain {
         let mut plain = Plain::default();
         let mut open = Vec::new();
-        for (place, bit) in bits.iter().enumerate() {
+        for (position, bit) in bits.iter().enumerate() {
             if bit == 1 {
                 plain.parents.push(open.last().copied());
                 plain.depths.push(open.len() as u64);
-                open.push(plain.places.len());
-                plain.places.push(place);
+                open.push(plain.positions.len());
+                plain.positions.push(position);
                 plain.ends.push(0);
             } else {
                 let node = open.pop().unwrap();
-                plain.ends[node] = plain.places.len();
-                plain.postorder.push(plain.places[node]);
+                plain.ends[node] = plain.positions.len();
+                plain.postorder.push(plain.positions[node]);
             }
         }
         plain
     }
 
-    fn place(&self, node: Option<usize>) -> Option<usize> {
-        node.map(|node| self.places[node])
+    fn position(&self, node: Option<usize>) -> Option<usize> {
+        node.map(|node| self.positions[node])
     }
 
     fn children(&self, node: usize) -> Vec<usize> {
@@ -63,24 +63,24 @@ fn nodes_are_found() {
         let bits = walk(&mut random, nodes, down);
         let (plain, tree) = (Plain::of(&bits), BpTree::<64>::from(bits.clone()));
         assert_eq!((tree.size(), tree.root(), tree.is_balanced()), (nodes, Some(0), true));
-        assert!(tree.iter().eq(plain.places.iter().copied()));
+        assert!(tree.iter().eq(plain.positions.iter().copied()));
         assert!(tree.dfs_post_iter().eq(plain.postorder.iter().copied()));
         for node in 0..nodes {
             asked(&mut random, &plain, &tree, node);
         }
         for depth in 0..5 + *plain.depths.iter().max().unwrap() {
             let mut level = (0..nodes).filter(|&node| plain.depths[node] == depth);
-            assert_eq!(tree.level_leftmost(depth), plain.place(level.clone().next()));
-            assert_eq!(tree.level_rightmost(depth), plain.place(level.next_back()));
+            assert_eq!(tree.level_leftmost(depth), plain.position(level.clone().next()));
+            assert_eq!(tree.level_rightmost(depth), plain.position(level.next_back()));
         }
         assert_eq!(BitVec::from(tree.clone()), bits);
-        assert!(tree.into_iter().eq(plain.places));
+        assert!(tree.into_iter().eq(plain.positions));
     }
 }
 
 /// Compares the answers for a node.
 fn asked(random: &mut Random, plain: &Plain, tree: &BpTree<64>, node: usize) {
-    let (place, nodes) = (plain.places[node], plain.places.len());
+    let (position, nodes) = (plain.positions[node], plain.positions.len());
     let children = plain.children(node);
     let siblings = match plain.parents[node] {
         Some(parent) => plain.children(parent),
@@ -88,29 +88,29 @@ fn asked(random: &mut Random, plain: &Plain, tree: &BpTree<64>, node: usize) {
     };
     let number = siblings.iter().position(|&it| it == node).unwrap();
     let same_depth = |it: &usize| plain.depths[*it] == plain.depths[node];
-    assert_eq!(tree.node_handle(node), place);
-    assert_eq!(tree.node_index(place), node);
-    assert_eq!(tree.parent(place), plain.place(plain.parents[node]));
-    assert_eq!(tree.first_child(place), plain.place(children.first().copied()));
-    assert_eq!(tree.last_child(place), plain.place(children.last().copied()));
-    assert_eq!(tree.next_sibling(place), plain.place(siblings.get(number + 1).copied()));
-    assert_eq!(tree.previous_sibling(place), plain.place(number.checked_sub(1).map(|before| siblings[before])));
-    assert_eq!(tree.level_next(place), plain.place((node + 1..nodes).find(same_depth)));
-    assert_eq!(tree.level_prev(place), plain.place((0..node).rev().find(same_depth)));
-    assert_eq!((tree.is_leaf(place), tree.depth(place)), (children.is_empty(), plain.depths[node]));
-    assert_eq!(tree.subtree_size(place), Some(plain.ends[node] - node));
-    let places = |nodes: &mut dyn Iterator<Item = usize>| nodes.map(|it| plain.places[it]).collect::<Vec<_>>();
-    assert_eq!(tree.children(place).collect::<Vec<_>>(), places(&mut children.iter().copied()));
-    assert_eq!(tree.rev_children(place).collect::<Vec<_>>(), places(&mut children.iter().rev().copied()));
-    assert_eq!(tree.subtree_iter(place).collect::<Vec<_>>(), places(&mut (node..plain.ends[node])));
-    let below = |it: &&usize| plain.places[node..plain.ends[node]].contains(it);
-    assert!(tree.subtree_post_iter(place).eq(plain.postorder.iter().filter(below).copied()));
+    assert_eq!(tree.node_handle(node), position);
+    assert_eq!(tree.node_index(position), node);
+    assert_eq!(tree.parent(position), plain.position(plain.parents[node]));
+    assert_eq!(tree.first_child(position), plain.position(children.first().copied()));
+    assert_eq!(tree.last_child(position), plain.position(children.last().copied()));
+    assert_eq!(tree.next_sibling(position), plain.position(siblings.get(number + 1).copied()));
+    assert_eq!(tree.previous_sibling(position), plain.position(number.checked_sub(1).map(|before| siblings[before])));
+    assert_eq!(tree.level_next(position), plain.position((node + 1..nodes).find(same_depth)));
+    assert_eq!(tree.level_prev(position), plain.position((0..node).rev().find(same_depth)));
+    assert_eq!((tree.is_leaf(position), tree.depth(position)), (children.is_empty(), plain.depths[node]));
+    assert_eq!(tree.subtree_size(position), Some(plain.ends[node] - node));
+    let positions = |nodes: &mut dyn Iterator<Item = usize>| nodes.map(|it| plain.positions[it]).collect::<Vec<_>>();
+    assert_eq!(tree.children(position).collect::<Vec<_>>(), positions(&mut children.iter().copied()));
+    assert_eq!(tree.rev_children(position).collect::<Vec<_>>(), positions(&mut children.iter().rev().copied()));
+    assert_eq!(tree.subtree_iter(position).collect::<Vec<_>>(), positions(&mut (node..plain.ends[node])));
+    let below = |it: &&usize| plain.positions[node..plain.ends[node]].contains(it);
+    assert!(tree.subtree_post_iter(position).eq(plain.postorder.iter().filter(below).copied()));
     let other = random.below(nodes as u64) as usize;
     let is_ancestor = (node..plain.ends[node]).contains(&other);
-    assert_eq!(tree.is_ancestor(place, plain.places[other]), Some(is_ancestor));
+    assert_eq!(tree.is_ancestor(position, plain.positions[other]), Some(is_ancestor));
     let mut ancestor = Some(node);
     for level in 0..4 {
-        assert_eq!(tree.level_ancestor(place, level), plain.place(ancestor));
+        assert_eq!(tree.level_ancestor(position, level), plain.position(ancestor));
         ancestor = ancestor.and_then(|it| plain.parents[it]);
     }
 }
@@ -121,7 +121,7 @@ fn parentheses_that_are_not_balanced_are_searched() {
     for length in [0, 1, 2, 63, 64, 200, 1500] {
         let bits = BitVec::from_bits_u64(&random.numbers(length, 2));
         let tree: BpTree = BpTree::from_bit_vector(bits.clone());
-        // the excess before each place, and at the end
+        // the excess before each position, and at the end
         let mut excess = vec![0i64];
         for bit in &bits {
             excess.push(excess[excess.len() - 1] + if bit == 1 { 1 } else { -1 });
@@ -129,23 +129,23 @@ fn parentheses_that_are_not_balanced_are_searched() {
         assert_eq!(tree.size(), bits.count_ones() as usize);
         assert_eq!(tree.is_balanced(), excess.iter().all(|&it| it >= 0) && excess[length] == 0);
         assert_eq!(tree.is_open(length), None);
-        for place in 0..length {
-            assert_eq!(tree.excess(place), excess[place + 1]);
+        for position in 0..length {
+            assert_eq!(tree.excess(position), excess[position + 1]);
             for rise in -3..=3 {
-                let forward = (place + 1..length).find(|&it| excess[it + 1] == excess[place + 1] + rise);
-                let backward = (0..place).rev().find(|&it| excess[it] == excess[place] + rise);
-                assert_eq!(tree.fwd_search(place, rise), forward, "from {place} by {rise}");
-                assert_eq!(tree.bwd_search(place, rise), backward, "from {place} back by {rise}");
+                let forward = (position + 1..length).find(|&it| excess[it + 1] == excess[position + 1] + rise);
+                let backward = (0..position).rev().find(|&it| excess[it] == excess[position] + rise);
+                assert_eq!(tree.fwd_search(position, rise), forward, "from {position} by {rise}");
+                assert_eq!(tree.bwd_search(position, rise), backward, "from {position} back by {rise}");
             }
-            assert_eq!(tree.close(place), tree.fwd_search(place, -1));
-            assert_eq!(tree.open(place), tree.bwd_search(place, -1));
-            if bits.get(place) == Some(1) {
-                assert_eq!(tree.node_index(place), (0..place).filter(|&it| bits.get(it) == Some(1)).count());
-                assert_eq!(tree.first_child(place), Some(place + 1).filter(|&it| bits.get(it) == Some(1)));
-                assert_eq!(tree.is_leaf(place), bits.get(place + 1) == Some(0));
-                assert_eq!(tree.has_node(place), tree.is_balanced());
-                assert_eq!(tree.parent(place), tree.enclose(place));
-                assert_eq!(tree.depth(place), (excess[place + 1] - 1).max(0) as u64);
+            assert_eq!(tree.close(position), tree.fwd_search(position, -1));
+            assert_eq!(tree.open(position), tree.bwd_search(position, -1));
+            if bits.get(position) == Some(1) {
+                assert_eq!(tree.node_index(position), (0..position).filter(|&it| bits.get(it) == Some(1)).count());
+                assert_eq!(tree.first_child(position), Some(position + 1).filter(|&it| bits.get(it) == Some(1)));
+                assert_eq!(tree.is_leaf(position), bits.get(position + 1) == Some(0));
+                assert_eq!(tree.has_node(position), tree.is_balanced());
+                assert_eq!(tree.parent(position), tree.enclose(position));
+                assert_eq!(tree.depth(position), (excess[position + 1] - 1).max(0) as u64);
             }
         }
         assert_eq!(BitVec::from(tree), bits);
@@ -174,7 +174,7 @@ fn a_walk_builds_a_tree() {
 #[test]
 #[cfg(debug_assertions)]
 #[should_panic(expected = "no node opens at 1")]
-fn places_where_no_node_opens_stop() {
+fn positions_where_no_node_opens_stop() {
     let tree: BpTree = BpTree::from(BitVec::from_bits(&[1, 0]));
     let _ = tree.is_ancestor(0, 1);
 }

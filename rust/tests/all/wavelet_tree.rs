@@ -1,12 +1,12 @@
-//! Compares wavelet trees with sorted lists of symbols and places.
+//! Compares wavelet trees with sorted lists of symbols and positions.
 
 use crate::plain::Random;
 use std::ops::Range;
 use vers_vecs::error::BuildError;
 use vers_vecs::reads::Tally;
-use vers_vecs::wavelet_tree::{SortedPlace, WaveletTree};
+use vers_vecs::wavelet_tree::{SortedPosition, WaveletTree};
 
-/// A list, and its symbols with their places, sorted: a sorted place is an index there.
+/// A list, and its symbols with their positions, sorted: a sorted position is an index there.
 struct Plain {
     symbols: Vec<u64>,
     sorted: Vec<(u64, usize)>,
@@ -19,16 +19,16 @@ impl Plain {
         Plain { symbols: symbols.to_vec(), sorted }
     }
 
-    fn sorted_place(&self, place: usize, symbol: u64) -> usize {
-        self.sorted.partition_point(|&it| it < (symbol, place))
+    fn sorted_position(&self, position: usize, symbol: u64) -> usize {
+        self.sorted.partition_point(|&it| it < (symbol, position))
     }
 
-    fn rank(&self, place: usize, symbol: u64) -> usize {
-        self.sorted_place(place, symbol) - self.sorted_place(0, symbol)
+    fn rank(&self, position: usize, symbol: u64) -> usize {
+        self.sorted_position(position, symbol) - self.sorted_position(0, symbol)
     }
 
     fn sorted_range(&self, range: Range<usize>, symbol: u64) -> Option<Range<usize>> {
-        let found = self.sorted_place(range.start, symbol)..self.sorted_place(range.end, symbol);
+        let found = self.sorted_position(range.start, symbol)..self.sorted_position(range.end, symbol);
         (!found.is_empty()).then_some(found)
     }
 }
@@ -37,7 +37,7 @@ impl Plain {
 fn shuffled(width: u16) -> Vec<u64> {
     let mut random = Random::new(u64::from(width));
     let mut symbols: Vec<u64> = (0..1 << width).collect();
-    (1..symbols.len()).rev().for_each(|place| symbols.swap(place, random.below(place as u64 + 1) as usize));
+    (1..symbols.len()).rev().for_each(|position| symbols.swap(position, random.below(position as u64 + 1) as usize));
     symbols
 }
 
@@ -53,18 +53,18 @@ fn lists(width: u16) -> Vec<Vec<u64>> {
     lists
 }
 
-/// Asks for each place, and for symbols that occur and some that don't.
+/// Asks for each position, and for symbols that occur and some that don't.
 fn compare(tree: &WaveletTree, plain: &Plain, asked: &[u64]) {
     let len = plain.symbols.len();
     assert_eq!((tree.len(), tree.is_empty()), (len, len == 0));
     assert!(
         tree.iter().eq(plain.symbols.iter().copied()) && tree.into_iter().rev().eq(plain.symbols.iter().rev().copied())
     );
-    for place in (0..len).step_by(len / 300 + 1) {
-        let (symbol, mut tally) = (plain.symbols[place], Tally::new());
-        let sorted = SortedPlace { symbol, place: plain.sorted_place(place, symbol) };
-        assert_eq!((tree.get(place), tree.get_sorted(place)), (Some(symbol), Some(sorted)));
-        assert_eq!(tree.get_sorted_counted(place, &mut tally), Some(sorted));
+    for position in (0..len).step_by(len / 300 + 1) {
+        let (symbol, mut tally) = (plain.symbols[position], Tally::new());
+        let sorted = SortedPosition { symbol, position: plain.sorted_position(position, symbol) };
+        assert_eq!((tree.get(position), tree.get_sorted(position)), (Some(symbol), Some(sorted)));
+        assert_eq!(tree.get_sorted_counted(position, &mut tally), Some(sorted));
     }
     let ends = [0, 1, len / 2, len.saturating_sub(1), len].map(|end| end.min(len));
     for &symbol in asked {
@@ -101,9 +101,9 @@ fn ranks_of_all_symbols() {
     for width in [0, 1, 8, 16] {
         let symbols = shuffled(width);
         let tree = WaveletTree::from_vec(symbols.clone(), width).unwrap();
-        for (place, &symbol) in symbols.iter().enumerate() {
-            assert_eq!((tree.rank(place, symbol), tree.rank(place + 1, symbol)), (Some(0), Some(1)));
-            assert_eq!(tree.get_sorted(place), Some(SortedPlace { symbol, place: symbol as usize }));
+        for (position, &symbol) in symbols.iter().enumerate() {
+            assert_eq!((tree.rank(position, symbol), tree.rank(position + 1, symbol)), (Some(0), Some(1)));
+            assert_eq!(tree.get_sorted(position), Some(SortedPosition { symbol, position: symbol as usize }));
         }
     }
 }
@@ -111,7 +111,7 @@ fn ranks_of_all_symbols() {
 #[test]
 fn forks_of_whole_superblocks() {
     for len in [32_766, 32_767, 32_768, 32_769] {
-        let symbols: Vec<u64> = (0..len as u64).map(|place| place * place / 3 % 2).collect();
+        let symbols: Vec<u64> = (0..len as u64).map(|position| position * position / 3 % 2).collect();
         let tree = WaveletTree::from_integers(&symbols, 1).unwrap();
         compare(&tree, &Plain::new(&symbols), &[0, 1, 2]);
     }
@@ -145,15 +145,15 @@ fn symbols_that_are_refused() {
 
 #[test]
 #[allow(clippy::reversed_empty_ranges)]
-fn places_that_are_refused() {
+fn positions_that_are_refused() {
     let tree = WaveletTree::from_integers(&[5_u8, 1, 7], 3).unwrap();
     let mut tally = Tally::new();
-    for place in [3, 4, usize::MAX] {
-        assert_eq!((tree.get(place), tree.get_sorted(place)), (None, None));
-        assert_eq!(tree.get_sorted_counted(place, &mut tally), None);
+    for position in [3, 4, usize::MAX] {
+        assert_eq!((tree.get(position), tree.get_sorted(position)), (None, None));
+        assert_eq!(tree.get_sorted_counted(position, &mut tally), None);
     }
-    for place in [4, usize::MAX] {
-        assert_eq!((tree.rank(place, 1), tree.rank_counted(place, 1, &mut tally)), (None, None));
+    for position in [4, usize::MAX] {
+        assert_eq!((tree.rank(position, 1), tree.rank_counted(position, 1, &mut tally)), (None, None));
     }
     for range in [2..1, 0..4, 3..2, 4..4, 0..usize::MAX, usize::MAX..0] {
         assert_eq!(tree.sorted_range(range.clone(), 1), None);

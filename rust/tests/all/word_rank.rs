@@ -14,9 +14,9 @@ fn lists(len: usize) -> Vec<Vec<bool>> {
     vec![
         vec![false; len],
         vec![true; len],
-        (0..len).map(|place| place % 3 == 0).collect(),
+        (0..len).map(|position| position % 3 == 0).collect(),
         (0..len).map(|_| random.below(2) == 1).collect(),
-        (0..len).map(|place| place + 1 == len).collect(),
+        (0..len).map(|position| position + 1 == len).collect(),
     ]
 }
 
@@ -26,18 +26,18 @@ fn ranks_are_sums() {
         let bits: WordRank = list.iter().copied().collect();
         assert_eq!((bits.len(), bits.is_empty()), (list.len(), list.is_empty()));
         let mut ones = 0;
-        for (place, &is_one) in list.iter().enumerate() {
-            assert_eq!(bits.rank1(place), ones);
-            assert_eq!(bits.is_one(place), Some(is_one));
-            assert_eq!(bits.get_and_rank1(place), Some(BitAndRank { is_one, ones }));
+        for (position, &is_one) in list.iter().enumerate() {
+            assert_eq!(bits.rank1(position), ones);
+            assert_eq!(bits.is_one(position), Some(is_one));
+            assert_eq!(bits.get_and_rank1(position), Some(BitAndRank { is_one, ones }));
             ones += usize::from(is_one);
         }
-        for place in [list.len(), list.len() + 1, list.len() + 64, usize::MAX] {
+        for position in [list.len(), list.len() + 1, list.len() + 64, usize::MAX] {
             let mut tally = Tally::new();
-            assert_eq!((bits.rank1(place), bits.rank1_counted(place, &mut tally)), (ones, ones));
-            assert_eq!((bits.is_one(place), bits.get_and_rank1(place)), (None, None));
+            assert_eq!((bits.rank1(position), bits.rank1_counted(position, &mut tally)), (ones, ones));
+            assert_eq!((bits.is_one(position), bits.get_and_rank1(position)), (None, None));
             let (is_one, found) =
-                (bits.is_one_counted(place, &mut tally), bits.get_and_rank1_counted(place, &mut tally));
+                (bits.is_one_counted(position, &mut tally), bits.get_and_rank1_counted(position, &mut tally));
             assert_eq!((is_one, found), (None, None));
         }
     }
@@ -66,9 +66,9 @@ fn a_word_has_a_count_of_two_bytes() {
 #[test]
 fn a_rank_reads_a_word_and_two_counts() {
     let bits = WordRank::from_bit_vec(BitVec::from_ones(100_000));
-    for place in [0, 77_777, 99_999, 100_000, usize::MAX] {
+    for position in [0, 77_777, 99_999, 100_000, usize::MAX] {
         let mut tally = Tally::new();
-        assert_eq!(bits.rank1_counted(place, &mut tally), place.min(100_000));
+        assert_eq!(bits.rank1_counted(position, &mut tally), position.min(100_000));
         assert_eq!((tally.data_words(), tally.block_entries(), tally.superblock_entries()), (1, 1, 1));
     }
     let mut tally = Tally::new();

@@ -4,7 +4,7 @@ use Rattle.std.specs.List.{range_with_len}
 use Rattle.std.specs.Int.{bit_at}
 use Rattle.vers_bits.specs.Bits.{limb_count}
 
--- place i of a list of words, the least significant bit of each word first
+-- position i of a list of words, the least significant bit of each word first
 abbrev pub word_bit : List ℕ → ℕ → Bool
 word_bit words i = bit_at (slice_index words (i / 64)) (i % 64) == 1
 
@@ -37,7 +37,7 @@ pub record CutsTo (ws vs : List ℕ) (n : ℕ) : Type 0 where
   pub below : (i : ℕ) → i < n → word_bit vs i ≡ word_bit ws i
   pub padded : (i : ℕ) → n ≤ i → word_bit vs i ≡ false
 
--- the words vs are ws with the bit b at place p
+-- the words vs are ws with the bit b at position p
 pub record Puts (ws vs : List ℕ) (p : ℕ) (b : Bool) : Type 0 where
   pub counted : length vs ≡ length ws
   pub here : word_bit vs p ≡ b

@@ -24,44 +24,44 @@ impl<A: Allocator + Copy> BitVec<A> {
         self.truncate(len.saturating_sub(n));
     }
 
-    /// Flips the bit at `place`. Precondition: `place` is below the length.
+    /// Flips the bit at `position`. Precondition: `position` is below the length.
     #[tactic(auto, using(crate::proofs::Edits::puts))]
-    pub fn flip_bit(&mut self, place: usize)
-        requires { place < length self.old }
-        ensures { self.new ≡ slice_set self.old place (not (slice_index_or self.old place false)) }
+    pub fn flip_bit(&mut self, position: usize)
+        requires { position < length self.old }
+        ensures { self.new ≡ slice_set self.old position (not (slice_index_or self.old position false)) }
     {
-        flip(&mut self.data, place);
+        flip(&mut self.data, position);
     }
 
-    /// Flips the bit at `place`. Precondition: `place` is below the length.
-    pub fn flip_bit_unchecked(&mut self, place: usize)
-        requires { place < length self.old }
-        ensures { self.new ≡ slice_set self.old place (not (slice_index_or self.old place false)) }
+    /// Flips the bit at `position`. Precondition: `position` is below the length.
+    pub fn flip_bit_unchecked(&mut self, position: usize)
+        requires { position < length self.old }
+        ensures { self.new ≡ slice_set self.old position (not (slice_index_or self.old position false)) }
     {
-        self.flip_bit(place);
+        self.flip_bit(position);
     }
 
-    /// Sets the bit at `place` to the lowest bit of `value`. Errors: `OutOfRange` if `place` is out of bounds;
+    /// Sets the bit at `position` to the lowest bit of `value`. Errors: `OutOfRange` if `position` is out of bounds;
     /// the list is then unchanged.
-    pub fn set(&mut self, place: usize, value: u64) -> Result<(), OutOfRange>
+    pub fn set(&mut self, position: usize, value: u64) -> Result<(), OutOfRange>
         ensures { MatchResult result
-            (λ _. (place < length self.old) × (self.new ≡ slice_set self.old place
-            (value % 2 == 1))) (λ _. (length self.old ≤ place) × (self.new ≡ self.old)) }
+            (λ _. (position < length self.old) × (self.new ≡ slice_set self.old position
+            (value % 2 == 1))) (λ _. (length self.old ≤ position) × (self.new ≡ self.old)) }
     {
-        if place >= self.len() {
+        if position >= self.len() {
             return Err(OutOfRange);
         }
-        self.set_unchecked(place, value);
+        self.set_unchecked(position, value);
         Ok(())
     }
 
-    /// Sets the bit at `place` to the lowest bit of `value`. Precondition: `place` is below the length.
+    /// Sets the bit at `position` to the lowest bit of `value`. Precondition: `position` is below the length.
     #[tactic(auto, using(crate::proofs::Edits::puts))]
-    pub fn set_unchecked(&mut self, place: usize, value: u64)
-        requires { place < length self.old }
-        ensures { self.new ≡ slice_set self.old place (value % 2 == 1) }
+    pub fn set_unchecked(&mut self, position: usize, value: u64)
+        requires { position < length self.old }
+        ensures { self.new ≡ slice_set self.old position (value % 2 == 1) }
     {
-        put_bit(&mut self.data, place, value % 2 == 1);
+        put_bit(&mut self.data, position, value % 2 == 1);
     }
 
     /// Returns the first `at` bits, and the others. If `at` is 0 or the length, one list is empty and the call

@@ -549,8 +549,8 @@ fn parities<T: Item>(items: &[T]) -> u64
     ensures { result ≡ number (map T.is_odd items.now) }
 {
     let mut word = 0;
-    for place in (0..items.len()).rev() {
-        word = 2 * word + u64::from(items[place].is_odd());
+    for position in (0..items.len()).rev() {
+        word = 2 * word + u64::from(items[position].is_odd());
     }
     word
 }

@@ -68,100 +68,100 @@ impl<'a, 'b, F: Fn(u64, u64) -> u64, A: Allocator + Copy> MaskedBitVec<'a, 'b, F
         self.limb(k).count_ones() as u64
     }
 
-    // Returns the `n` bits from `place` as a number. Precondition: they are in one limb.
+    // Returns the `n` bits from `position` as a number. Precondition: they are in one limb.
     #[tactic(auto, using(crate::proofs::Masks::parts))]
-    fn part(&self, place: usize, n: usize) -> u64
+    fn part(&self, position: usize, n: usize) -> u64
         requires may_call { OnEveryPair (F.pre self.now.mask) }
         requires some { 0 < n }
-        requires one_limb { place % 64 + n ≤ 64 }
-        requires within { place + n ≤ length self.now.left }
+        requires one_limb { position % 64 + n ≤ 64 }
+        requires within { position + n ≤ length self.now.left }
         ensures { OfMasked (F.post self.now.mask) self.now (λ bits.
-            result ≡ number (part bits place n)) }
+            result ≡ number (part bits position n)) }
     {
-        (self.limb(place / 64) >> (place % 64)) & (u64::MAX >> (64 - n))
+        (self.limb(position / 64) >> (position % 64)) & (u64::MAX >> (64 - n))
     }
 
-    /// Returns true if the bit at `place` is a one, or `None` if `place` is out of bounds.
-    #[tactic(auto, using(crate::proofs::Masks::places))]
-    pub fn is_bit_set(&self, place: usize) -> Option<bool>
+    /// Returns true if the bit at `position` is a one, or `None` if `position` is out of bounds.
+    #[tactic(auto, using(crate::proofs::Masks::positions))]
+    pub fn is_bit_set(&self, position: usize) -> Option<bool>
         requires { OnEveryPair (F.pre self.now.mask) }
-        ensures { OfMasked (F.post self.now.mask) self.now (λ bits. result ≡ slice_get bits place) }
+        ensures { OfMasked (F.post self.now.mask) self.now (λ bits. result ≡ slice_get bits position) }
     {
-        if place >= self.left.len() {
+        if position >= self.left.len() {
             return None;
         }
-        Some(self.is_bit_set_unchecked(place))
+        Some(self.is_bit_set_unchecked(position))
     }
 
-    /// Returns the bit at `place`, 1 or 0, or `None` if `place` is out of bounds.
-    #[tactic(auto, using(crate::proofs::Masks::places))]
-    pub fn get(&self, place: usize) -> Option<u64>
+    /// Returns the bit at `position`, 1 or 0, or `None` if `position` is out of bounds.
+    #[tactic(auto, using(crate::proofs::Masks::positions))]
+    pub fn get(&self, position: usize) -> Option<u64>
         requires { OnEveryPair (F.pre self.now.mask) }
         ensures { OfMasked (F.post self.now.mask) self.now
-            (λ bits. result ≡ option_map bit_value (slice_get bits place)) }
+            (λ bits. result ≡ option_map bit_value (slice_get bits position)) }
     {
-        if place >= self.left.len() {
+        if position >= self.left.len() {
             return None;
         }
-        Some(self.get_unchecked(place))
+        Some(self.get_unchecked(position))
     }
 
-    /// Returns true if the bit at `place` is a one. Precondition: `place` is below the length.
+    /// Returns true if the bit at `position` is a one. Precondition: `position` is below the length.
     #[tactic(auto, using(crate::proofs::Masks::reads))]
-    pub fn is_bit_set_unchecked(&self, place: usize) -> bool
+    pub fn is_bit_set_unchecked(&self, position: usize) -> bool
         requires may_call { OnEveryPair (F.pre self.now.mask) }
-        requires within { place < length self.now.left }
+        requires within { position < length self.now.left }
         ensures { OfMasked (F.post self.now.mask) self.now
-            (λ bits. result ≡ slice_index_or bits place false) }
+            (λ bits. result ≡ slice_index_or bits position false) }
     {
-        (self.answer(place / 64) >> (place % 64)) & 1 == 1
+        (self.answer(position / 64) >> (position % 64)) & 1 == 1
     }
 
-    /// Returns the bit at `place`, 1 or 0. Precondition: `place` is below the length.
+    /// Returns the bit at `position`, 1 or 0. Precondition: `position` is below the length.
     #[tactic(auto, using(crate::proofs::Masks::reads))]
-    pub fn get_unchecked(&self, place: usize) -> u64
+    pub fn get_unchecked(&self, position: usize) -> u64
         requires may_call { OnEveryPair (F.pre self.now.mask) }
-        requires within { place < length self.now.left }
+        requires within { position < length self.now.left }
         ensures { OfMasked (F.post self.now.mask) self.now
-            (λ bits. result ≡ bit_value (slice_index_or bits place false)) }
+            (λ bits. result ≡ bit_value (slice_index_or bits position false)) }
     {
-        u64::from(self.is_bit_set_unchecked(place))
+        u64::from(self.is_bit_set_unchecked(position))
     }
 
-    /// Returns the `n` bits from position `place` as a number. `None` if there are fewer, or `n` is 0 or above
+    /// Returns the `n` bits from `position` on as a number. `None` if there are fewer, or `n` is 0 or above
     /// 64.
     #[tactic(auto, using(crate::proofs::Masks::parts))]
-    pub fn get_bits(&self, place: usize, n: usize) -> Option<u64>
+    pub fn get_bits(&self, position: usize, n: usize) -> Option<u64>
         requires { OnEveryPair (F.pre self.now.mask) }
         ensures { OfMasked (F.post self.now.mask) self.now (λ bits.
-            result ≡ part_number bits place n) }
+            result ≡ part_number bits position n) }
     {
         let len = self.left.len();
-        if n == 0 || n > 64 || place > len || n > len - place {
+        if n == 0 || n > 64 || position > len || n > len - position {
             return None;
         }
-        Some(self.get_bits_unchecked(place, n))
+        Some(self.get_bits_unchecked(position, n))
     }
 
-    /// Returns the `n` bits from position `place` as a number: 0 if `n` is 0. Precondition: `n` is at most 64,
-    /// and `place + n` at most the length.
+    /// Returns the `n` bits from `position` on as a number: 0 if `n` is 0. Precondition: `n` is at most 64,
+    /// and `position + n` at most the length.
     #[tactic(auto, using(crate::proofs::Masks::parts))]
-    pub fn get_bits_unchecked(&self, place: usize, n: usize) -> u64
+    pub fn get_bits_unchecked(&self, position: usize, n: usize) -> u64
         requires may_call { OnEveryPair (F.pre self.now.mask) }
         requires few { n ≤ 64 }
-        requires within { place + n ≤ length self.now.left }
+        requires within { position + n ≤ length self.now.left }
         ensures { OfMasked (F.post self.now.mask) self.now (λ bits.
-            result ≡ number (part bits place n)) }
+            result ≡ number (part bits position n)) }
     {
         let len = self.left.len();
-        if n == 0 || place >= len {
+        if n == 0 || position >= len {
             return 0;
         }
-        let room = 64 - place % 64;
+        let room = 64 - position % 64;
         if n <= room {
-            return self.part(place, n);
+            return self.part(position, n);
         }
-        self.part(place, room) | (self.part(place + room, n - room) << room)
+        self.part(position, room) | (self.part(position + room, n - room) << room)
     }
 
     /// Returns the number of ones.
@@ -276,10 +276,10 @@ impl<'s, 'b, A: Allocator + Copy> Model for BitMask<'s, 'b, A> {
 }
 
 impl<'s, 'b, A: Allocator + Copy> BitMask<'s, 'b, A> {
-    /// Returns true if the bit at `place` is a one, or `None` if `place` is out of bounds.
+    /// Returns true if the bit at `position` is a one, or `None` if `position` is out of bounds.
     #[tactic(auto, using(crate::proofs::Masks::lengths))]
-    pub fn is_bit_set(&self, place: usize) -> Option<bool>
-        ensures { result ≡ slice_get self.now place }
+    pub fn is_bit_set(&self, position: usize) -> Option<bool>
+        ensures { result ≡ slice_get self.now position }
     {
         let kind = self.kind;
         MaskedBitVec {
@@ -287,13 +287,13 @@ impl<'s, 'b, A: Allocator + Copy> BitMask<'s, 'b, A> {
             right: self.right,
             mask: |x: u64, y: u64| kind.combine(x, y),
         }
-        .is_bit_set(place)
+        .is_bit_set(position)
     }
 
-    /// Returns the bit at `place`, 1 or 0, or `None` if `place` is out of bounds.
+    /// Returns the bit at `position`, 1 or 0, or `None` if `position` is out of bounds.
     #[tactic(auto, using(crate::proofs::Masks::lengths))]
-    pub fn get(&self, place: usize) -> Option<u64>
-        ensures { result ≡ option_map bit_value (slice_get self.now place) }
+    pub fn get(&self, position: usize) -> Option<u64>
+        ensures { result ≡ option_map bit_value (slice_get self.now position) }
     {
         let kind = self.kind;
         MaskedBitVec {
@@ -301,14 +301,14 @@ impl<'s, 'b, A: Allocator + Copy> BitMask<'s, 'b, A> {
             right: self.right,
             mask: |x: u64, y: u64| kind.combine(x, y),
         }
-        .get(place)
+        .get(position)
     }
 
-    /// Returns true if the bit at `place` is a one. Precondition: `place` is below the length.
+    /// Returns true if the bit at `position` is a one. Precondition: `position` is below the length.
     #[tactic(auto, using(crate::proofs::Masks::lengths))]
-    pub fn is_bit_set_unchecked(&self, place: usize) -> bool
-        requires { place < length self.now }
-        ensures { result ≡ slice_index_or self.now place false }
+    pub fn is_bit_set_unchecked(&self, position: usize) -> bool
+        requires { position < length self.now }
+        ensures { result ≡ slice_index_or self.now position false }
     {
         let kind = self.kind;
         MaskedBitVec {
@@ -316,14 +316,14 @@ impl<'s, 'b, A: Allocator + Copy> BitMask<'s, 'b, A> {
             right: self.right,
             mask: |x: u64, y: u64| kind.combine(x, y),
         }
-        .is_bit_set_unchecked(place)
+        .is_bit_set_unchecked(position)
     }
 
-    /// Returns the bit at `place`, 1 or 0. Precondition: `place` is below the length.
+    /// Returns the bit at `position`, 1 or 0. Precondition: `position` is below the length.
     #[tactic(auto, using(crate::proofs::Masks::lengths))]
-    pub fn get_unchecked(&self, place: usize) -> u64
-        requires { place < length self.now }
-        ensures { result ≡ bit_value (slice_index_or self.now place false) }
+    pub fn get_unchecked(&self, position: usize) -> u64
+        requires { position < length self.now }
+        ensures { result ≡ bit_value (slice_index_or self.now position false) }
     {
         let kind = self.kind;
         MaskedBitVec {
@@ -331,14 +331,14 @@ impl<'s, 'b, A: Allocator + Copy> BitMask<'s, 'b, A> {
             right: self.right,
             mask: |x: u64, y: u64| kind.combine(x, y),
         }
-        .get_unchecked(place)
+        .get_unchecked(position)
     }
 
-    /// Returns the `n` bits from position `place` as a number. `None` if there are fewer, or `n` is 0 or above
+    /// Returns the `n` bits from `position` on as a number. `None` if there are fewer, or `n` is 0 or above
     /// 64.
     #[tactic(auto, using(crate::proofs::Masks::lengths))]
-    pub fn get_bits(&self, place: usize, n: usize) -> Option<u64>
-        ensures { result ≡ part_number self.now place n }
+    pub fn get_bits(&self, position: usize, n: usize) -> Option<u64>
+        ensures { result ≡ part_number self.now position n }
     {
         let kind = self.kind;
         MaskedBitVec {
@@ -346,16 +346,16 @@ impl<'s, 'b, A: Allocator + Copy> BitMask<'s, 'b, A> {
             right: self.right,
             mask: |x: u64, y: u64| kind.combine(x, y),
         }
-        .get_bits(place, n)
+        .get_bits(position, n)
     }
 
-    /// Returns the `n` bits from position `place` as a number: 0 if `n` is 0. Precondition: `n` is at most 64,
-    /// and `place + n` at most the length.
+    /// Returns the `n` bits from `position` on as a number: 0 if `n` is 0. Precondition: `n` is at most 64,
+    /// and `position + n` at most the length.
     #[tactic(auto, using(crate::proofs::Masks::lengths))]
-    pub fn get_bits_unchecked(&self, place: usize, n: usize) -> u64
+    pub fn get_bits_unchecked(&self, position: usize, n: usize) -> u64
         requires few { n ≤ 64 }
-        requires within { place + n ≤ length self.now }
-        ensures { result ≡ number (part self.now place n) }
+        requires within { position + n ≤ length self.now }
+        ensures { result ≡ number (part self.now position n) }
     {
         let kind = self.kind;
         MaskedBitVec {
@@ -363,7 +363,7 @@ impl<'s, 'b, A: Allocator + Copy> BitMask<'s, 'b, A> {
             right: self.right,
             mask: |x: u64, y: u64| kind.combine(x, y),
         }
-        .get_bits_unchecked(place, n)
+        .get_bits_unchecked(position, n)
     }
 
     /// Returns the number of ones.

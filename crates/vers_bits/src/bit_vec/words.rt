@@ -145,23 +145,23 @@ pub(super) fn cut<A: Allocator + Copy>(words: &mut Vec<u64, A>, len: usize)
     words[len / 64] = low_part(last, used);
 }
 
-// Sets the bit at `place` to `bit`.
-pub(super) fn put_bit<A: Allocator + Copy>(words: &mut Vec<u64, A>, place: usize, bit: bool)
-    requires { place / 64 < length words.old.items }
-    ensures { Puts words.old.items words.new.items place bit }
+// Sets the bit at `position` to `bit`.
+pub(super) fn put_bit<A: Allocator + Copy>(words: &mut Vec<u64, A>, position: usize, bit: bool)
+    requires { position / 64 < length words.old.items }
+    ensures { Puts words.old.items words.new.items position bit }
 {
-    let mask = 1 << (place % 64);
+    let mask = 1 << (position % 64);
     if bit {
-        words[place / 64] |= mask;
+        words[position / 64] |= mask;
         return;
     }
-    words[place / 64] &= !mask;
+    words[position / 64] &= !mask;
 }
 
-// Flips the bit at `place`.
-pub(super) fn flip<A: Allocator + Copy>(words: &mut Vec<u64, A>, place: usize)
-    requires { place / 64 < length words.old.items }
-    ensures { Puts words.old.items words.new.items place (not (word_bit words.old.items place)) }
+// Flips the bit at `position`.
+pub(super) fn flip<A: Allocator + Copy>(words: &mut Vec<u64, A>, position: usize)
+    requires { position / 64 < length words.old.items }
+    ensures { Puts words.old.items words.new.items position (not (word_bit words.old.items position)) }
 {
-    words[place / 64] ^= 1 << (place % 64);
+    words[position / 64] ^= 1 << (position % 64);
 }

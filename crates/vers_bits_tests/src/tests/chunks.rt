@@ -10,8 +10,8 @@ use vers_bits::bit_vec::{BitVec, GrowError};
 // Returns how many of the first positions of the pattern are ones.
 fn ones_of_pattern(len: usize) -> u64 {
     let mut ones = 0u64;
-    for place in 0..len {
-        ones = ones.wrapping_add(u64::from(bit(place)));
+    for position in 0..len {
+        ones = ones.wrapping_add(u64::from(bit(position)));
     }
     ones
 }
@@ -21,15 +21,15 @@ fn are_equal(one: &BitVec<Global>, other: &BitVec<Global>) -> bool {
 }
 
 // Returns true if a list is unequal to what it was once a bit is flipped. The bit is flipped back.
-fn is_turn_seen(list: &mut BitVec<Global>, before: &BitVec<Global>, place: usize) -> bool {
-    let turn = Change::FlipBit(place);
+fn is_turn_seen(list: &mut BitVec<Global>, before: &BitVec<Global>, position: usize) -> bool {
+    let turn = Change::FlipBit(position);
     is_made(list, turn) && !are_equal(list, before) && is_made(list, turn)
 }
 
 // Returns true if that holds for each bit, and the list is equal to what it was when all are flipped back.
 fn is_each_turn_seen(list: &mut BitVec<Global>, before: &BitVec<Global>) -> bool {
-    for place in 0..before.len() {
-        if !is_turn_seen(list, before, place) {
+    for position in 0..before.len() {
+        if !is_turn_seen(list, before, position) {
             return false;
         }
     }

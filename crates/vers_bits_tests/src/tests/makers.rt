@@ -77,8 +77,8 @@ impl<A: Allocator + Copy> Items<A> {
     /// Returns the first items of the pattern.
     pub fn of_pattern(alloc: A, len: usize) -> Result<Self, AllocError> {
         let mut items = Items::new(alloc);
-        for place in 0..len {
-            items.add(u64::from(item(place)))?;
+        for position in 0..len {
+            items.add(u64::from(item(position)))?;
         }
         Ok(items)
     }

@@ -103,9 +103,9 @@ fn checked_answer<A: Allocator + Copy>(mask: &BitMask<'_, '_, A>, query: Query) 
     match query {
         Query::CountOnes => Some(mask.count_ones()),
         Query::CountZeros => Some(mask.count_zeros()),
-        Query::Get(place) => mask.get(place),
-        Query::IsBitSet(place) => number_of(mask.is_bit_set(place)),
-        Query::GetBits(place, n) => mask.get_bits(place, n),
+        Query::Get(position) => mask.get(position),
+        Query::IsBitSet(position) => number_of(mask.is_bit_set(position)),
+        Query::GetBits(position, n) => mask.get_bits(position, n),
         _ => None,
     }
 }
@@ -119,12 +119,12 @@ fn unchecked_answer<A: Allocator + Copy>(
     requires { len ≡ length mask.now }
 {
     match query {
-        Query::GetUnchecked(place) if place < len => Some(mask.get_unchecked(place)),
-        Query::IsBitSetUnchecked(place) if place < len => {
-            Some(u64::from(mask.is_bit_set_unchecked(place)))
+        Query::GetUnchecked(position) if position < len => Some(mask.get_unchecked(position)),
+        Query::IsBitSetUnchecked(position) if position < len => {
+            Some(u64::from(mask.is_bit_set_unchecked(position)))
         }
-        Query::GetBitsUnchecked(place, n) if is_part(len, place, n) => {
-            Some(mask.get_bits_unchecked(place, n))
+        Query::GetBitsUnchecked(position, n) if is_part(len, position, n) => {
+            Some(mask.get_bits_unchecked(position, n))
         }
         _ => None,
     }
@@ -153,9 +153,9 @@ fn checked_of_closure<F: Fn(u64, u64) -> u64, A: Allocator + Copy>(
     match query {
         Query::CountOnes => Some(mask.count_ones()),
         Query::CountZeros => Some(mask.count_zeros()),
-        Query::Get(place) => mask.get(place),
-        Query::IsBitSet(place) => number_of(mask.is_bit_set(place)),
-        Query::GetBits(place, n) => mask.get_bits(place, n),
+        Query::Get(position) => mask.get(position),
+        Query::IsBitSet(position) => number_of(mask.is_bit_set(position)),
+        Query::GetBits(position, n) => mask.get_bits(position, n),
         _ => None,
     }
 }
@@ -169,12 +169,12 @@ fn unchecked_of_closure<F: Fn(u64, u64) -> u64, A: Allocator + Copy>(
     requires long { len ≡ length mask.now.left }
 {
     match query {
-        Query::GetUnchecked(place) if place < len => Some(mask.get_unchecked(place)),
-        Query::IsBitSetUnchecked(place) if place < len => {
-            Some(u64::from(mask.is_bit_set_unchecked(place)))
+        Query::GetUnchecked(position) if position < len => Some(mask.get_unchecked(position)),
+        Query::IsBitSetUnchecked(position) if position < len => {
+            Some(u64::from(mask.is_bit_set_unchecked(position)))
         }
-        Query::GetBitsUnchecked(place, n) if is_part(len, place, n) => {
-            Some(mask.get_bits_unchecked(place, n))
+        Query::GetBitsUnchecked(position, n) if is_part(len, position, n) => {
+            Some(mask.get_bits_unchecked(position, n))
         }
         _ => None,
     }

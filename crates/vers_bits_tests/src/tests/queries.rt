@@ -31,9 +31,9 @@ pub fn answer<A: Allocator + Copy>(list: &BitVec<A>, query: Query) -> Option<u64
         Query::HeapSize => Some(list.heap_size() as u64),
         Query::CountOnes => Some(list.count_ones()),
         Query::CountZeros => Some(list.count_zeros()),
-        Query::Get(place) => list.get(place),
-        Query::IsBitSet(place) => number_of(list.is_bit_set(place)),
-        Query::GetBits(place, n) => list.get_bits(place, n),
+        Query::Get(position) => list.get(position),
+        Query::IsBitSet(position) => number_of(list.is_bit_set(position)),
+        Query::GetBits(position, n) => list.get_bits(position, n),
         Query::UnpackElement(index, n) => list.unpack_element(index, n),
         _ => unchecked_answer(list, query),
     }
@@ -48,9 +48,9 @@ pub fn number_of(bit: Option<bool>) -> Option<u64> {
 fn unchecked_answer<A: Allocator + Copy>(list: &BitVec<A>, query: Query) -> Option<u64> {
     match query {
         Query::Limb(k) => limb(list, k),
-        Query::GetUnchecked(place) => get_unchecked(list, place),
-        Query::IsBitSetUnchecked(place) => is_bit_set_unchecked(list, place),
-        Query::GetBitsUnchecked(place, n) => get_bits_unchecked(list, place, n),
+        Query::GetUnchecked(position) => get_unchecked(list, position),
+        Query::IsBitSetUnchecked(position) => is_bit_set_unchecked(list, position),
+        Query::GetBitsUnchecked(position, n) => get_bits_unchecked(list, position, n),
         Query::UnpackElementUnchecked(index, n) => unpack_element_unchecked(list, index, n),
         _ => None,
     }
@@ -63,36 +63,36 @@ fn limb<A: Allocator + Copy>(list: &BitVec<A>, k: usize) -> Option<u64> {
     Some(list.limb(k))
 }
 
-fn get_unchecked<A: Allocator + Copy>(list: &BitVec<A>, place: usize) -> Option<u64> {
-    if place >= list.len() {
+fn get_unchecked<A: Allocator + Copy>(list: &BitVec<A>, position: usize) -> Option<u64> {
+    if position >= list.len() {
         return None;
     }
-    Some(list.get_unchecked(place))
+    Some(list.get_unchecked(position))
 }
 
-fn is_bit_set_unchecked<A: Allocator + Copy>(list: &BitVec<A>, place: usize) -> Option<u64> {
-    if place >= list.len() {
+fn is_bit_set_unchecked<A: Allocator + Copy>(list: &BitVec<A>, position: usize) -> Option<u64> {
+    if position >= list.len() {
         return None;
     }
-    Some(u64::from(list.is_bit_set_unchecked(place)))
+    Some(u64::from(list.is_bit_set_unchecked(position)))
 }
 
 /// Returns true if a list of `len` bits has that many from a position on, and a number has room for them.
-pub fn is_part(len: usize, place: usize, n: usize) -> bool
-    ensures { IsTrue result → (n ≤ 64) × (place + n ≤ len) }
+pub fn is_part(len: usize, position: usize, n: usize) -> bool
+    ensures { IsTrue result → (n ≤ 64) × (position + n ≤ len) }
 {
-    n <= 64 && place <= len && n <= len - place
+    n <= 64 && position <= len && n <= len - position
 }
 
 fn get_bits_unchecked<A: Allocator + Copy>(
     list: &BitVec<A>,
-    place: usize,
+    position: usize,
     n: usize,
 ) -> Option<u64> {
-    if !is_part(list.len(), place, n) {
+    if !is_part(list.len(), position, n) {
         return None;
     }
-    Some(list.get_bits_unchecked(place, n))
+    Some(list.get_bits_unchecked(position, n))
 }
 
 fn unpack_element_unchecked<A: Allocator + Copy>(
@@ -156,17 +156,17 @@ pub fn append<A: Allocator + Copy>(list: &mut BitVec<A>, change: Change) -> Resu
 pub fn is_made<A: Allocator + Copy>(list: &mut BitVec<A>, change: Change) -> bool {
     let len = list.len();
     match change {
-        Change::Set(place, value) => list.set(place, value).is_ok(),
-        Change::SetUnchecked(place, value) if place < len => {
-            list.set_unchecked(place, value);
+        Change::Set(position, value) => list.set(position, value).is_ok(),
+        Change::SetUnchecked(position, value) if position < len => {
+            list.set_unchecked(position, value);
             true
         }
-        Change::FlipBit(place) if place < len => {
-            list.flip_bit(place);
+        Change::FlipBit(position) if position < len => {
+            list.flip_bit(position);
             true
         }
-        Change::FlipBitUnchecked(place) if place < len => {
-            list.flip_bit_unchecked(place);
+        Change::FlipBitUnchecked(position) if position < len => {
+            list.flip_bit_unchecked(position);
             true
         }
         Change::SetUnchecked(..) | Change::FlipBit(_) | Change::FlipBitUnchecked(_) => false,

@@ -24,7 +24,7 @@ impl Batch<RsVec<Global>, usize> for Selects {
 
     ghost wants = { λ batch bits number. answer.Found (select batch.bit bits number) };
 
-    ghost says = { λ _ place. answer.Found place };
+    ghost says = { λ _ position. answer.Found position };
 
     #[inline(always)]
     fn of(self, ask: Ask) -> usize {
@@ -42,8 +42,8 @@ impl Batch<RsVec<Global>, usize> for Selects {
     }
 
     #[inline(always)]
-    fn answer(self, place: usize) -> Answer {
-        Answer::place(place)
+    fn answer(self, position: usize) -> Answer {
+        Answer::position(position)
     }
 }
 
@@ -69,9 +69,9 @@ fn select_run<const ZERO: bool>(bits: &RsVec<Global>, numbers: &mut [usize])
         return;
     };
     let mut skip = *first;
-    let mut places = bits.select_iter::<ZERO>();
+    let mut positions = bits.select_iter::<ZERO>();
     for k in 0..numbers.len() {
-        numbers[k] = places.nth(skip).unwrap_or(bits.len());
+        numbers[k] = positions.nth(skip).unwrap_or(bits.len());
         skip = 0;
     }
 }

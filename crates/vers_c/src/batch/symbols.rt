@@ -20,7 +20,7 @@ struct Gets;
 impl Batch<WaveletMatrix<Global>, GetQuery> for Gets {
     ghost answers = { λ _ symbols. symbols_answer symbols query.Get };
 
-    ghost wants = { λ _ symbols it. if_numbers symbols (slice_get symbols.items it.place) };
+    ghost wants = { λ _ symbols it. if_numbers symbols (slice_get symbols.items it.position) };
 
     ghost says = { λ _ it. found_or_absent it.answer };
 
@@ -64,7 +64,7 @@ impl Batch<WaveletMatrix<Global>, RankQuery> for Ranks {
 
     #[inline(always)]
     fn answer(self, query: RankQuery) -> Answer {
-        Answer::place_or_absent(query.answer)
+        Answer::position_or_absent(query.answer)
     }
 }
 
@@ -92,7 +92,7 @@ impl Batch<WaveletMatrix<Global>, SelectQuery> for Selects {
 
     #[inline(always)]
     fn answer(self, query: SelectQuery) -> Answer {
-        Answer::place_or_absent(query.answer)
+        Answer::position_or_absent(query.answer)
     }
 }
 

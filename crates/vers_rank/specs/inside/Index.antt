@@ -34,7 +34,7 @@ AreLimbsOf l block limbs = (j : ℕ) → j < 8 → slice_index limbs j ≡ limb 
 abbrev pub held_of : Bool → ℕ → ℕ → ℕ
 held_of b ones n = cond b ones (n - ones)
 
--- how many of the first i places hold the bit, where zeros without end follow the list
+-- how many of the first i positions hold the bit, where zeros without end follow the list
 unfoldable pub held : Bool → List Bool → ℕ → ℕ
 held b l i = held_of b (count true l i) i
 
@@ -42,7 +42,7 @@ held b l i = held_of b (count true l i) i
 unfoldable pub held_in : Bool → ℕ → ℕ → ℕ
 held_in b w j = held_of b (count_ones (w % 2 ^ j)) j
 
--- how many of the 512 * j places of a superblock before its block number j hold the bit, where z of them are zeros
+-- how many of the 512 * j positions of a superblock before its block number j hold the bit, where z of them are zeros
 abbrev pub held_before : Bool → ℕ → ℕ → ℕ
 held_before b j z = cond b (BLOCK * j - z) z
 
@@ -58,7 +58,7 @@ pub record AreFirstSamples (b : Bool) (l : List Bool) (n : ℕ) (samples : List 
   pub counted : length samples ≡ n
   pub each : (j : ℕ) → j < n → IsSample b l j (slice_index samples j)
 
--- among the limbs of a block up to number last, the one with number r of the block's places of the bit, or last; and how many of these places stand before it
+-- among the limbs of a block up to number last, the one with number r of the block's positions of the bit, or last; and how many of these positions stand before it
 pub record IsLimbWith (b : Bool) (l : List Bool) (block r last limb before : ℕ) : Type 0 where
   pub start : 8 * block ≤ limb
   pub inside : limb ≤ last

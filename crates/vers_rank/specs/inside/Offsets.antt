@@ -1,9 +1,9 @@
--- The places of the ones among a few bits, and a buffer that hands numbers out from its end.
+-- The positions of the ones among a few bits, and a buffer that hands numbers out from its end.
 use Rattle.std.specs.Prelude.{ℕ, zero, suc, ◌+◌, ◌==◌, List, [], ◌∷◌, filter, slice_index}
 use Rattle.std.specs.List.{range_with_len}
 use Rattle.std.specs.Int.{bit_at}
 
--- the places of the ones among the n lowest digits of a number, ascending
+-- the positions of the ones among the n lowest digits of a number, ascending
 abbrev pub ones_below : ℕ → ℕ → List ℕ
 ones_below n x = filter (λ i. bit_at x i == 1) (range_with_len 0 n)
 

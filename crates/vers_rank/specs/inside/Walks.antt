@@ -1,26 +1,26 @@
--- What the walks over the places of the ones (or zeros) of an indexed list keep.
+-- What the walks over the positions of the ones (or zeros) of an indexed list keep.
 use Rattle.std.specs.Prelude.{◌≡◌, ℕ, ◌+◌, ◌-◌, ◌*◌, ◌/◌, ◌%◌, ◌<◌, ◌≤◌, ◌++◌, Bool, true, List, length, drop, slice_index, slice_index_or, false, if◌then◌else◌}
 use Rattle.std.specs.Int.{bit_at}
-use Rattle.vers_bits.specs.Bits.{is_bit, count, places}
+use Rattle.vers_bits.specs.Bits.{is_bit, count, positions}
 use Rattle.vers_rank.specs.declared.fast_rs_vec.reader.Reader.{Reader}
 use Rattle.vers_rank.specs.declared.fast_rs_vec.bit_set_iter.ChunkWalk.{ChunkWalk}
 use Rattle.vers_rank.specs.declared.fast_rs_vec.TheConstants.{BLOCK}
 use Rattle.vers_rank.specs.Walks.{chunk_count}
 use Rattle.vers_rank.specs.inside.Offsets.{last_first}
 
--- a list of bits, and the bit whose places are asked for
-pub record PlacesOf : Type 0 where
+-- a list of bits, and the bit whose positions are asked for
+pub record PositionsOf : Type 0 where
   pub bits : List Bool
   pub bit : Bool
 
--- place p holds the bit, and at least lo and fewer than hi places before it do
+-- position p holds the bit, and at least lo and fewer than hi positions before it do
 pub record IsWithin (bit : Bool) (bits : List Bool) (lo hi p : ℕ) : Type 0 where
   pub inside : p < length bits
   pub holds : is_bit bit (slice_index_or bits p false) ≡ true
   pub low : lo ≤ count bit bits p
   pub high : count bit bits p < hi
 
--- inside the list, the ones of the word are the places of limb k from number lo on and below number hi
+-- inside the list, the ones of the word are the positions of limb k from number lo on and below number hi
 pub record IsMarked (bit : Bool) (bits : List Bool) (k word lo hi : ℕ) : Type 0 where
   pub fits : word < 18446744073709551616
   pub sound : (i : ℕ) → i < 64 → bit_at word i ≡ 1 → 64 * k + i < length bits → IsWithin bit bits lo hi (64 * k + i)
@@ -49,19 +49,19 @@ marked bit word = if bit then word else 18446744073709551615 - word
 
 -- ---- chunks of 16 bits
 
--- the places of the ones (or zeros) from p on
-unfoldable pub places_from : Bool → List Bool → ℕ → List ℕ
-places_from bit bits p = drop (count bit bits p) (places bit bits)
+-- the positions of the ones (or zeros) from p on
+unfoldable pub positions_from : Bool → List Bool → ℕ → List ℕ
+positions_from bit bits p = drop (count bit bits p) (positions bit bits)
 
--- the places that a walk by chunks has still to give: those of the last chunk that it has not given, and those after it
-abbrev pub chunk_places_left : List Bool → ChunkWalk → List ℕ
-chunk_places_left bits walk = last_first walk.start walk.offsets walk.left ++ places_from walk.bit bits walk.end
+-- the positions that a walk by chunks has still to give: those of the last chunk that it has not given, and those after it
+abbrev pub chunk_positions_left : List Bool → ChunkWalk → List ℕ
+chunk_positions_left bits walk = last_first walk.start walk.offsets walk.left ++ positions_from walk.bit bits walk.end
 
 -- how many chunks a walk has still to load
 abbrev pub chunks_unread : List Bool → ChunkWalk → ℕ
 chunks_unread bits walk = chunk_count (length bits - walk.end)
 
--- the buffer holds offsets of places of the list, and up to the list's end whole chunks were loaded
+-- the buffer holds offsets of positions of the list, and up to the list's end whole chunks were loaded
 pub record IsChunkWalkOf (bits : List Bool) (walk : ChunkWalk) : Type 0 where
   pub room : length walk.offsets ≡ 16
   pub few : walk.left ≤ 16

@@ -1,11 +1,11 @@
 //! Iterators that turn chunks of 16 bits into the offsets of their zeros or ones.
 ghost use Rattle.std.specs.Prelude.{◌≡◌, ◌+◌, ◌-◌, ◌<◌, ◌≤◌, true, false, length};
 ghost use Rattle.std.specs.Iterator.{item_count, YieldsFirst};
-ghost use Rattle.vers_bits.specs.Bits.{places};
+ghost use Rattle.vers_bits.specs.Bits.{positions};
 ghost use Rattle.vers_bits.specs.Walk.{TakesFirst};
 ghost use Rattle.vers_tally.specs.Reads.{AddsAtMost};
 ghost use Rattle.vers_rank.specs.Walks.{chunk_count, chunk_reads};
-ghost use Rattle.vers_rank.specs.inside.Walks.{chunk_places_left, chunks_unread, IsChunkWalkOf};
+ghost use Rattle.vers_rank.specs.inside.Walks.{chunk_positions_left, chunks_unread, IsChunkWalkOf};
 
 use super::{LIMB, RsVec};
 use crate::offsets::{CHUNK, put_offsets, put_offsets_plainly};
@@ -34,8 +34,8 @@ impl ChunkWalk {
     ) -> Option<usize>
         requires { IsChunkWalkOf bits.now self.old }
         ensures walk { IsChunkWalkOf bits.now self.new }
-        ensures steps { TakesFirst (chunk_places_left bits.now self.old) result
-            (chunk_places_left bits.now self.new) }
+        ensures steps { TakesFirst (chunk_positions_left bits.now self.old) result
+            (chunk_positions_left bits.now self.new) }
         ensures loads { chunks_unread bits.now self.new ≤ chunks_unread bits.now self.old }
         ensures adds { AddsAtMost tally.old tally.new
             (chunk_reads (chunks_unread bits.now self.old - chunks_unread bits.now self.new)) }
@@ -58,8 +58,8 @@ impl ChunkWalk {
         requires passed { self.old.left ≡ 0 }
         requires more { self.old.end < length bits.now }
         ensures walk { IsChunkWalkOf bits.now self.new }
-        ensures same_left { chunk_places_left bits.now self.new
-            ≡ chunk_places_left bits.now self.old }
+        ensures same_left { chunk_positions_left bits.now self.new
+            ≡ chunk_positions_left bits.now self.old }
         ensures on { self.old.end < self.new.end }
         ensures loads { chunks_unread bits.now self.new ≤ chunks_unread bits.now self.old }
         ensures adds { AddsAtMost tally.old tally.new
@@ -89,13 +89,13 @@ struct Chunks<'a, A: Allocator + Copy> {
 
 impl<'a, A: Allocator + Copy> Model for Chunks<'a, A> {
     ghost use Rattle.vers_rank.specs.Walks.{ChunksOf};
-    ghost use Rattle.vers_rank.specs.inside.Walks.{chunk_places_left, chunks_unread, IsChunkWalkOf};
+    ghost use Rattle.vers_rank.specs.inside.Walks.{chunk_positions_left, chunks_unread, IsChunkWalkOf};
 
     ghost Value = { ChunksOf };
 
     ghost view = { λ s. record {
       bits = s.bits.now;
-      left = chunk_places_left s.bits.now s.walk;
+      left = chunk_positions_left s.bits.now s.walk;
       unread = chunks_unread s.bits.now s.walk;
     } };
 
@@ -107,7 +107,7 @@ impl<'a, A: Allocator + Copy> Chunks<'a, A> {
     fn new(bits: &'a RsVec<A>, bit: bool) -> Self
         ensures { result ≡ record {
           bits = bits.now;
-          left = places bit bits.now;
+          left = positions bit bits.now;
           unread = chunk_count (length bits.now);
         } }
     {
@@ -148,7 +148,7 @@ impl<A: Allocator + Copy> RsVec<A> {
     pub fn bit_set_iter0(&self) -> BitSetIter<'_, true, A>
         ensures { result.rest ≡ record {
           bits = self.now;
-          left = places false self.now;
+          left = positions false self.now;
           unread = chunk_count (length self.now);
         } }
     {
@@ -161,7 +161,7 @@ impl<A: Allocator + Copy> RsVec<A> {
     pub fn bit_set_iter1(&self) -> BitSetIter<'_, false, A>
         ensures { result.rest ≡ record {
           bits = self.now;
-          left = places true self.now;
+          left = positions true self.now;
           unread = chunk_count (length self.now);
         } }
     {

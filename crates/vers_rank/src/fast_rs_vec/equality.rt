@@ -14,7 +14,7 @@ impl<A: Allocator + Copy> RsVec<A> {
     pub fn sparse_equals<const ZERO: bool>(&self, other: &Self) -> bool
         ensures { IsTrue result ↔ (self.now ≡ other.now) }
     {
-        self.has_places_of(!ZERO, other)
+        self.has_positions_of(!ZERO, other)
     }
 
     /// Returns true if both lists have the same bits, comparing all limbs.
@@ -26,7 +26,7 @@ impl<A: Allocator + Copy> RsVec<A> {
     }
 
     // Returns true if both lists have the same length and the same positions of a bit, by a walk over each.
-    fn has_places_of(&self, bit: bool, other: &Self) -> bool
+    fn has_positions_of(&self, bit: bool, other: &Self) -> bool
         ensures { IsTrue result ↔ (self.now ≡ other.now) }
     {
         if self.len() != other.len() {
@@ -39,8 +39,8 @@ impl<A: Allocator + Copy> RsVec<A> {
         let mut here = Reader::new();
         let mut there = Reader::new();
         for r in 0..self.total(bit) {
-            let place = here.place(bit, r, self, &mut tally);
-            if place != there.place(bit, r, other, &mut tally) {
+            let position = here.position(bit, r, self, &mut tally);
+            if position != there.position(bit, r, other, &mut tally) {
                 return false;
             }
         }

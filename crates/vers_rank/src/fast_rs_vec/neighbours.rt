@@ -1,6 +1,6 @@
 //! Predecessors and successors: the nearest ones and zeros.
 ghost use Rattle.std.specs.Prelude.{◌≡◌, length, true, false};
-ghost use Rattle.vers_bits.specs.Bits.{count, place_after, place_before};
+ghost use Rattle.vers_bits.specs.Bits.{count, position_after, position_before};
 ghost use Rattle.vers_tally.specs.Reads.{AddsAtMost, one_more};
 ghost use Rattle.vers_rank.specs.Queries.{superblock_count, rank_reads, neighbour_reads};
 
@@ -9,109 +9,109 @@ use std::alloc::Allocator;
 use vers_tally::tally::Tally;
 
 impl<A: Allocator + Copy> RsVec<A> {
-    /// Returns the least position of a zero above `place`. `None` if there is none, or `place` is past the end.
+    /// Returns the least position of a zero above `position`. `None` if there is none, or `position` is past the end.
     #[inline]
-    pub fn successor0(&self, place: usize) -> Option<u64>
-        ensures { result ≡ place_after false self.now place }
+    pub fn successor0(&self, position: usize) -> Option<u64>
+        ensures { result ≡ position_after false self.now position }
     {
         let mut tally = Tally::new();
-        self.successor0_counted(place, &mut tally)
+        self.successor0_counted(position, &mut tally)
     }
 
-    /// Returns the least position of a one above `place`. `None` if there is none, or `place` is past the end.
+    /// Returns the least position of a one above `position`. `None` if there is none, or `position` is past the end.
     #[inline]
-    pub fn successor1(&self, place: usize) -> Option<u64>
-        ensures { result ≡ place_after true self.now place }
+    pub fn successor1(&self, position: usize) -> Option<u64>
+        ensures { result ≡ position_after true self.now position }
     {
         let mut tally = Tally::new();
-        self.successor1_counted(place, &mut tally)
+        self.successor1_counted(position, &mut tally)
     }
 
-    /// Returns the greatest position of a zero below `place`, which may be past the end. `None` if there is none.
+    /// Returns the greatest position of a zero below `position`, which may be past the end. `None` if there is none.
     #[inline]
-    pub fn predecessor0(&self, place: usize) -> Option<u64>
-        ensures { result ≡ place_before false self.now place }
+    pub fn predecessor0(&self, position: usize) -> Option<u64>
+        ensures { result ≡ position_before false self.now position }
     {
         let mut tally = Tally::new();
-        self.predecessor0_counted(place, &mut tally)
+        self.predecessor0_counted(position, &mut tally)
     }
 
-    /// Returns the greatest position of a one below `place`, which may be past the end. `None` if there is none.
+    /// Returns the greatest position of a one below `position`, which may be past the end. `None` if there is none.
     #[inline]
-    pub fn predecessor1(&self, place: usize) -> Option<u64>
-        ensures { result ≡ place_before true self.now place }
+    pub fn predecessor1(&self, position: usize) -> Option<u64>
+        ensures { result ≡ position_before true self.now position }
     {
         let mut tally = Tally::new();
-        self.predecessor1_counted(place, &mut tally)
+        self.predecessor1_counted(position, &mut tally)
     }
 
-    /// Returns `successor0(place)`. Reads at most what one rank and one select do.
+    /// Returns `successor0(position)`. Reads at most what one rank and one select do.
     #[inline(always)]
-    pub fn successor0_counted(&self, place: usize, tally: &mut Tally) -> Option<u64>
-        ensures value { result ≡ place_after false self.now place }
+    pub fn successor0_counted(&self, position: usize, tally: &mut Tally) -> Option<u64>
+        ensures value { result ≡ position_after false self.now position }
         ensures adds { AddsAtMost tally.old tally.new
             (neighbour_reads (superblock_count (length self.now))) }
     {
-        self.successor_counted(false, place, tally)
+        self.successor_counted(false, position, tally)
     }
 
-    /// Returns `successor1(place)`. Reads at most what one rank and one select do.
+    /// Returns `successor1(position)`. Reads at most what one rank and one select do.
     #[inline(always)]
-    pub fn successor1_counted(&self, place: usize, tally: &mut Tally) -> Option<u64>
-        ensures value { result ≡ place_after true self.now place }
+    pub fn successor1_counted(&self, position: usize, tally: &mut Tally) -> Option<u64>
+        ensures value { result ≡ position_after true self.now position }
         ensures adds { AddsAtMost tally.old tally.new
             (neighbour_reads (superblock_count (length self.now))) }
     {
-        self.successor_counted(true, place, tally)
+        self.successor_counted(true, position, tally)
     }
 
-    /// Returns `predecessor0(place)`. Reads at most what one rank and one select do.
+    /// Returns `predecessor0(position)`. Reads at most what one rank and one select do.
     #[inline(always)]
-    pub fn predecessor0_counted(&self, place: usize, tally: &mut Tally) -> Option<u64>
-        ensures value { result ≡ place_before false self.now place }
+    pub fn predecessor0_counted(&self, position: usize, tally: &mut Tally) -> Option<u64>
+        ensures value { result ≡ position_before false self.now position }
         ensures adds { AddsAtMost tally.old tally.new
             (neighbour_reads (superblock_count (length self.now))) }
     {
-        self.predecessor_counted(false, place, tally)
+        self.predecessor_counted(false, position, tally)
     }
 
-    /// Returns `predecessor1(place)`. Reads at most what one rank and one select do.
+    /// Returns `predecessor1(position)`. Reads at most what one rank and one select do.
     #[inline(always)]
-    pub fn predecessor1_counted(&self, place: usize, tally: &mut Tally) -> Option<u64>
-        ensures value { result ≡ place_before true self.now place }
+    pub fn predecessor1_counted(&self, position: usize, tally: &mut Tally) -> Option<u64>
+        ensures value { result ≡ position_before true self.now position }
         ensures adds { AddsAtMost tally.old tally.new
             (neighbour_reads (superblock_count (length self.now))) }
     {
-        self.predecessor_counted(true, place, tally)
+        self.predecessor_counted(true, position, tally)
     }
 
-    // Returns the least position of a zero or a one above `place`.
+    // Returns the least position of a zero or a one above `position`.
     #[inline(always)]
     #[tactic(auto, using(crate::proofs::Neighbours::neighbours))]
-    fn successor_counted(&self, bit: bool, place: usize, tally: &mut Tally) -> Option<u64>
-        ensures value { result ≡ place_after bit self.now place }
+    fn successor_counted(&self, bit: bool, position: usize, tally: &mut Tally) -> Option<u64>
+        ensures value { result ≡ position_after bit self.now position }
         ensures adds { AddsAtMost tally.old tally.new
             (neighbour_reads (superblock_count (length self.now))) }
     {
-        if place >= self.len() {
+        if position >= self.len() {
             return None;
         }
-        let before = self.rank_counted(bit, place + 1, tally);
+        let before = self.rank_counted(bit, position + 1, tally);
         if before >= self.total(bit) {
             return None;
         }
         Some(self.select_counted(bit, before, tally) as u64)
     }
 
-    // Returns the greatest position of a zero or a one below `place`.
+    // Returns the greatest position of a zero or a one below `position`.
     #[inline(always)]
     #[tactic(auto, using(crate::proofs::Neighbours::neighbours))]
-    fn predecessor_counted(&self, bit: bool, place: usize, tally: &mut Tally) -> Option<u64>
-        ensures value { result ≡ place_before bit self.now place }
+    fn predecessor_counted(&self, bit: bool, position: usize, tally: &mut Tally) -> Option<u64>
+        ensures value { result ≡ position_before bit self.now position }
         ensures adds { AddsAtMost tally.old tally.new
             (neighbour_reads (superblock_count (length self.now))) }
     {
-        let before = self.rank_counted(bit, place, tally);
+        let before = self.rank_counted(bit, position, tally);
         if before == 0 {
             return None;
         }
@@ -120,14 +120,14 @@ impl<A: Allocator + Copy> RsVec<A> {
 
     // Returns the number of zeros or ones below a position.
     #[inline(always)]
-    fn rank_counted(&self, bit: bool, place: usize, tally: &mut Tally) -> usize
-        ensures value { result ≡ count bit self.now place }
+    fn rank_counted(&self, bit: bool, position: usize, tally: &mut Tally) -> usize
+        ensures value { result ≡ count bit self.now position }
         ensures counted { tally.new.rank_calls ≡ one_more tally.old.rank_calls }
         ensures adds { AddsAtMost tally.old tally.new rank_reads }
     {
         if bit {
-            return self.rank1_counted(place, tally);
+            return self.rank1_counted(position, tally);
         }
-        self.rank0_counted(place, tally)
+        self.rank0_counted(position, tally)
     }
 }

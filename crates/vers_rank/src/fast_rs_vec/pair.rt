@@ -11,7 +11,7 @@ use vers_tally::tally::Tally;
 
 /// The positions of two consecutive zeros of a list, or of two consecutive ones.
 #[derive(Clone, Copy, Drop)]
-pub struct PlacePair {
+pub struct PositionPair {
     /// The position of the first.
     pub first: usize,
     /// The position of the next one.
@@ -21,7 +21,7 @@ pub struct PlacePair {
 impl<A: Allocator + Copy> RsVec<A> {
     /// Returns the positions of zero `r` (from 0) and of the next zero, each the length if there are fewer.
     #[inline]
-    pub fn select0_pair(&self, r: usize) -> PlacePair
+    pub fn select0_pair(&self, r: usize) -> PositionPair
         ensures first { result.first ≡ select false self.now r }
         ensures second { result.second ≡ select false self.now (r + 1) }
         ensures within { (result.first ≤ length self.now) × (result.second ≤ length self.now) }
@@ -33,7 +33,7 @@ impl<A: Allocator + Copy> RsVec<A> {
     /// Returns `select0_pair(r)`. Counts one query. Reads at most what one select does if both are in one word
     /// of 64 bits, otherwise two.
     #[inline(always)]
-    pub fn select0_pair_counted(&self, r: usize, tally: &mut Tally) -> PlacePair
+    pub fn select0_pair_counted(&self, r: usize, tally: &mut Tally) -> PositionPair
         ensures first { result.first ≡ select false self.now r }
         ensures second { result.second ≡ select false self.now (r + 1) }
         ensures within { (result.first ≤ length self.now) × (result.second ≤ length self.now) }
@@ -50,7 +50,7 @@ impl<A: Allocator + Copy> RsVec<A> {
 
     /// Returns the positions of one `r` (from 0) and of the next one, each the length if there are fewer.
     #[inline]
-    pub fn select1_pair(&self, r: usize) -> PlacePair
+    pub fn select1_pair(&self, r: usize) -> PositionPair
         ensures first { result.first ≡ select true self.now r }
         ensures second { result.second ≡ select true self.now (r + 1) }
         ensures within { (result.first ≤ length self.now) × (result.second ≤ length self.now) }
@@ -62,7 +62,7 @@ impl<A: Allocator + Copy> RsVec<A> {
     /// Returns `select1_pair(r)`. Counts one query. Reads at most what one select does if both are in one word
     /// of 64 bits, otherwise two.
     #[inline(always)]
-    pub fn select1_pair_counted(&self, r: usize, tally: &mut Tally) -> PlacePair
+    pub fn select1_pair_counted(&self, r: usize, tally: &mut Tally) -> PositionPair
         ensures first { result.first ≡ select true self.now r }
         ensures second { result.second ≡ select true self.now (r + 1) }
         ensures within { (result.first ≤ length self.now) × (result.second ≤ length self.now) }
@@ -80,7 +80,7 @@ impl<A: Allocator + Copy> RsVec<A> {
     // Returns the positions of zero or one `r` and of the next, mostly from the rest of its word. Both selects
     // of the rare case are one call in the source, so that the compiler inlines the search only once.
     #[inline(always)]
-    fn pair_of(&self, bit: bool, r: usize, tally: &mut Tally) -> PlacePair
+    fn pair_of(&self, bit: bool, r: usize, tally: &mut Tally) -> PositionPair
         ensures first { result.first ≡ select bit self.now r }
         ensures second { result.second ≡ select bit self.now (r + 1) }
         ensures within { (result.first ≤ length self.now) × (result.second ≤ length self.now) }
@@ -96,7 +96,7 @@ impl<A: Allocator + Copy> RsVec<A> {
         let len = self.len();
         let total = self.total(bit);
         if r >= total {
-            return PlacePair {
+            return PositionPair {
                 first: len,
                 second: len,
             };
@@ -105,26 +105,26 @@ impl<A: Allocator + Copy> RsVec<A> {
         let mut number = r;
         loop {
             let at = self.locate(bit, number, tally);
-            let place = LIMB * at.limb + at.place;
+            let position = LIMB * at.limb + at.position;
             if number > r {
-                return PlacePair {
+                return PositionPair {
                     first,
-                    second: place,
+                    second: position,
                 };
             }
-            let after = marks(bit, at.word) >> at.place >> 1;
+            let after = marks(bit, at.word) >> at.position >> 1;
             if after != 0 {
                 // The last word has zeros past the end too.
-                let second = place + 1 + after.trailing_zeros() as usize;
-                return PlacePair {
-                    first: place,
+                let second = position + 1 + after.trailing_zeros() as usize;
+                return PositionPair {
+                    first: position,
                     second: second.min(len),
                 };
             }
-            first = place;
+            first = position;
             number = r + 1;
             if number >= total {
-                return PlacePair { first, second: len };
+                return PositionPair { first, second: len };
             }
         }
     }

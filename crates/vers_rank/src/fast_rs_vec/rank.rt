@@ -19,126 +19,126 @@ pub struct RankedBit {
 }
 
 impl<A: Allocator + Copy> RsVec<A> {
-    /// Returns the number of zeros below `place`; all zeros if `place` is past the end.
+    /// Returns the number of zeros below `position`; all zeros if `position` is past the end.
     #[inline]
-    pub fn rank0(&self, place: usize) -> usize
-        ensures value { result ≡ count false self.now place }
+    pub fn rank0(&self, position: usize) -> usize
+        ensures value { result ≡ count false self.now position }
         ensures within { result ≤ length self.now }
     {
         let mut tally = Tally::new();
-        self.rank0_counted(place, &mut tally)
+        self.rank0_counted(position, &mut tally)
     }
 
-    /// Returns the number of ones below `place`; all ones if `place` is past the end.
+    /// Returns the number of ones below `position`; all ones if `position` is past the end.
     #[inline]
-    pub fn rank1(&self, place: usize) -> usize
-        ensures value { result ≡ count true self.now place }
+    pub fn rank1(&self, position: usize) -> usize
+        ensures value { result ≡ count true self.now position }
         ensures within { result ≤ length self.now }
     {
         let mut tally = Tally::new();
-        self.rank1_counted(place, &mut tally)
+        self.rank1_counted(position, &mut tally)
     }
 
-    /// Returns `rank0(place)`. Reads at most 8 data words, one block entry and one superblock entry.
+    /// Returns `rank0(position)`. Reads at most 8 data words, one block entry and one superblock entry.
     #[inline(always)]
     #[tactic(auto, using(crate::proofs::Ranks::sums))]
-    pub fn rank0_counted(&self, place: usize, tally: &mut Tally) -> usize
-        ensures value { result ≡ count false self.now place }
+    pub fn rank0_counted(&self, position: usize, tally: &mut Tally) -> usize
+        ensures value { result ≡ count false self.now position }
         ensures within { result ≤ length self.now }
         ensures counted { tally.new.rank_calls ≡ one_more tally.old.rank_calls }
         ensures adds { AddsAtMost tally.old tally.new rank_reads }
     {
         tally.add_rank_call();
-        if let Some(limbs) = self.bits.block(place / BLOCK, tally) {
-            return place.min(self.len()) - self.ones_below(limbs, place, tally);
+        if let Some(limbs) = self.bits.block(position / BLOCK, tally) {
+            return position.min(self.len()) - self.ones_below(limbs, position, tally);
         }
-        if place >= self.len() {
+        if position >= self.len() {
             return self.zeros();
         }
-        place - self.ones_below_in_last(place, tally)
+        position - self.ones_below_in_last(position, tally)
     }
 
-    /// Returns `rank1(place)`. Reads at most 8 data words, one block entry and one superblock entry.
+    /// Returns `rank1(position)`. Reads at most 8 data words, one block entry and one superblock entry.
     #[inline(always)]
     #[tactic(auto, using(crate::proofs::Ranks::sums))]
-    pub fn rank1_counted(&self, place: usize, tally: &mut Tally) -> usize
-        ensures value { result ≡ count true self.now place }
+    pub fn rank1_counted(&self, position: usize, tally: &mut Tally) -> usize
+        ensures value { result ≡ count true self.now position }
         ensures within { result ≤ length self.now }
         ensures counted { tally.new.rank_calls ≡ one_more tally.old.rank_calls }
         ensures adds { AddsAtMost tally.old tally.new rank_reads }
     {
         tally.add_rank_call();
-        if let Some(limbs) = self.bits.block(place / BLOCK, tally) {
-            return self.ones_below(limbs, place, tally);
+        if let Some(limbs) = self.bits.block(position / BLOCK, tally) {
+            return self.ones_below(limbs, position, tally);
         }
-        if place >= self.len() {
+        if position >= self.len() {
             return self.ones();
         }
-        self.ones_below_in_last(place, tally)
+        self.ones_below_in_last(position, tally)
     }
 
-    /// Returns the number of zeros below `place`, and the bit there. Precondition: `place` is below the length.
+    /// Returns the number of zeros below `position`, and the bit there. Precondition: `position` is below the length.
     #[inline]
-    pub fn rank0_with_bit(&self, place: usize) -> RankedBit
-        requires { place < length self.now }
-        ensures zeros { result.zeros ≡ count false self.now place }
-        ensures bit { result.is_one ≡ slice_index_or self.now place false }
+    pub fn rank0_with_bit(&self, position: usize) -> RankedBit
+        requires { position < length self.now }
+        ensures zeros { result.zeros ≡ count false self.now position }
+        ensures bit { result.is_one ≡ slice_index_or self.now position false }
     {
         let mut tally = Tally::new();
-        self.rank0_with_bit_counted(place, &mut tally)
+        self.rank0_with_bit_counted(position, &mut tally)
     }
 
-    /// Returns `rank0_with_bit(place)`. Reads at most 9 data words, one block entry and one superblock entry.
+    /// Returns `rank0_with_bit(position)`. Reads at most 9 data words, one block entry and one superblock entry.
     #[inline(always)]
     #[tactic(auto, using(crate::proofs::Ranks::sums))]
-    pub fn rank0_with_bit_counted(&self, place: usize, tally: &mut Tally) -> RankedBit
-        requires { place < length self.now }
-        ensures zeros { result.zeros ≡ count false self.now place }
-        ensures bit { result.is_one ≡ slice_index_or self.now place false }
+    pub fn rank0_with_bit_counted(&self, position: usize, tally: &mut Tally) -> RankedBit
+        requires { position < length self.now }
+        ensures zeros { result.zeros ≡ count false self.now position }
+        ensures bit { result.is_one ≡ slice_index_or self.now position false }
         ensures counted { tally.new.rank_calls ≡ one_more tally.old.rank_calls }
         ensures adds { AddsAtMost tally.old tally.new (record rank_reads { data_words = 9 }) }
     {
         tally.add_rank_call();
-        if let Some(limbs) = self.bits.block(place / BLOCK, tally) {
+        if let Some(limbs) = self.bits.block(position / BLOCK, tally) {
             return RankedBit {
-                zeros: place - self.ones_below(limbs, place, tally),
-                is_one: limbs[place / LIMB % 8] >> (place % LIMB) & 1 == 1,
+                zeros: position - self.ones_below(limbs, position, tally),
+                is_one: limbs[position / LIMB % 8] >> (position % LIMB) & 1 == 1,
             };
         }
         RankedBit {
-            zeros: place - self.ones_below_in_last(place, tally),
-            is_one: self.bits.is_one(place, tally),
+            zeros: position - self.ones_below_in_last(position, tally),
+            is_one: self.bits.is_one(position, tally),
         }
     }
 
     // Returns the number of ones below a position, by the limbs of its block.
     #[inline(always)]
     #[tactic(auto, using(crate::proofs::Ranks::sums))]
-    fn ones_below(&self, limbs: &[u64; 8], place: usize, tally: &mut Tally) -> usize
-        requires limbs { AreLimbsOf self.now (place / BLOCK) limbs.now }
-        requires within { BLOCK * (place / BLOCK) < length self.now }
-        ensures value { result ≡ count true self.now place }
-        ensures few { result ≤ place }
+    fn ones_below(&self, limbs: &[u64; 8], position: usize, tally: &mut Tally) -> usize
+        requires limbs { AreLimbsOf self.now (position / BLOCK) limbs.now }
+        requires within { BLOCK * (position / BLOCK) < length self.now }
+        ensures value { result ≡ count true self.now position }
+        ensures few { result ≤ position }
         ensures adds { AddsAtMost tally.old tally.new
             (record no_reads { block_entries = 1; superblock_entries = 1 }) }
     {
-        let block = place / BLOCK;
-        let ones = self.ones_in_block(limbs, place);
+        let block = position / BLOCK;
+        let ones = self.ones_in_block(limbs, position);
         BLOCK * block - self.zeros_before(block, tally) + ones
     }
 
     // Returns the number of ones below a position in the last block, which may not have all its limbs.
     #[inline(always)]
     #[tactic(auto, using(crate::proofs::Ranks::sums))]
-    fn ones_below_in_last(&self, place: usize, tally: &mut Tally) -> usize
-        requires { place < length self.now }
-        ensures value { result ≡ count true self.now place }
-        ensures few { result ≤ place }
+    fn ones_below_in_last(&self, position: usize, tally: &mut Tally) -> usize
+        requires { position < length self.now }
+        ensures value { result ≡ count true self.now position }
+        ensures few { result ≤ position }
         ensures adds { AddsAtMost tally.old tally.new
             (record no_reads { data_words = 8; block_entries = 1; superblock_entries = 1 }) }
     {
-        let block = place / BLOCK;
-        let ones = self.ones_up_to(block, place, tally);
+        let block = position / BLOCK;
+        let ones = self.ones_up_to(block, position, tally);
         BLOCK * block - self.zeros_before(block, tally) + ones
     }
 
@@ -159,31 +159,31 @@ impl<A: Allocator + Copy> RsVec<A> {
     // there, its limb there, and in that limb. Limbs past the position, which the last block may not have, are
     // not read.
     #[inline(always)]
-    fn ones_up_to(&self, block: usize, place: usize, tally: &mut Tally) -> usize
-        requires within { (BLOCK * block ≤ place) × (place < BLOCK * block + BLOCK)
-            × (place < length self.now) }
-        ensures value { count true self.now (BLOCK * block) + result ≡ count true self.now place }
+    fn ones_up_to(&self, block: usize, position: usize, tally: &mut Tally) -> usize
+        requires within { (BLOCK * block ≤ position) × (position < BLOCK * block + BLOCK)
+            × (position < length self.now) }
+        ensures value { count true self.now (BLOCK * block) + result ≡ count true self.now position }
         ensures few { result ≤ BLOCK }
         ensures adds { AddsAtMost tally.old tally.new (only_data_words 8) }
     {
-        let half = self.ones_up_to_half(block, place, tally);
-        let quarter = self.ones_up_to_quarter(place, tally);
-        let limb = self.ones_up_to_limb(place, tally);
-        half + quarter + limb + self.ones_of_rest(place, tally)
+        let half = self.ones_up_to_half(block, position, tally);
+        let quarter = self.ones_up_to_quarter(position, tally);
+        let limb = self.ones_up_to_limb(position, tally);
+        half + quarter + limb + self.ones_of_rest(position, tally)
     }
 
     // Returns the number of ones from the start of a block up to the position's half of it.
     #[inline(always)]
     #[tactic(auto, using(crate::proofs::Ranks::parts))]
-    fn ones_up_to_half(&self, block: usize, place: usize, tally: &mut Tally) -> usize
-        requires within { (BLOCK * block ≤ place) × (place < BLOCK * block + BLOCK)
-            × (place < length self.now) }
+    fn ones_up_to_half(&self, block: usize, position: usize, tally: &mut Tally) -> usize
+        requires within { (BLOCK * block ≤ position) × (position < BLOCK * block + BLOCK)
+            × (position < length self.now) }
         ensures value { count true self.now (BLOCK * block) + result
-            ≡ count true self.now (256 * (place / 256)) }
+            ≡ count true self.now (256 * (position / 256)) }
         ensures few { result ≤ 256 }
         ensures adds { AddsAtMost tally.old tally.new (only_data_words 4) }
     {
-        if place / 256 % 2 == 0 {
+        if position / 256 % 2 == 0 {
             return 0;
         }
         self.ones_of_two(8 * block, tally) + self.ones_of_two(8 * block + 2, tally)
@@ -192,33 +192,33 @@ impl<A: Allocator + Copy> RsVec<A> {
     // Returns the number of ones from the start of the position's half of a block up to its quarter.
     #[inline(always)]
     #[tactic(auto, using(crate::proofs::Ranks::parts))]
-    fn ones_up_to_quarter(&self, place: usize, tally: &mut Tally) -> usize
-        requires { place < length self.now }
-        ensures value { count true self.now (256 * (place / 256)) + result
-            ≡ count true self.now (128 * (place / 128)) }
+    fn ones_up_to_quarter(&self, position: usize, tally: &mut Tally) -> usize
+        requires { position < length self.now }
+        ensures value { count true self.now (256 * (position / 256)) + result
+            ≡ count true self.now (128 * (position / 128)) }
         ensures few { result ≤ 128 }
         ensures adds { AddsAtMost tally.old tally.new (only_data_words 2) }
     {
-        if place / 128 % 2 == 0 {
+        if position / 128 % 2 == 0 {
             return 0;
         }
-        self.ones_of_two(place / 256 * 4, tally)
+        self.ones_of_two(position / 256 * 4, tally)
     }
 
     // Returns the number of ones from the start of the position's quarter of a block up to its limb.
     #[inline(always)]
     #[tactic(auto, using(crate::proofs::Ranks::parts))]
-    fn ones_up_to_limb(&self, place: usize, tally: &mut Tally) -> usize
-        requires { place < length self.now }
-        ensures value { count true self.now (128 * (place / 128)) + result
-            ≡ count true self.now (64 * (place / 64)) }
+    fn ones_up_to_limb(&self, position: usize, tally: &mut Tally) -> usize
+        requires { position < length self.now }
+        ensures value { count true self.now (128 * (position / 128)) + result
+            ≡ count true self.now (64 * (position / 64)) }
         ensures few { result ≤ 64 }
         ensures adds { AddsAtMost tally.old tally.new (only_data_words 1) }
     {
-        if place / LIMB % 2 == 0 {
+        if position / LIMB % 2 == 0 {
             return 0;
         }
-        self.ones_of_whole(place / 128 * 2, tally)
+        self.ones_of_whole(position / 128 * 2, tally)
     }
 
     // Reads two limbs and returns their number of ones.
@@ -226,7 +226,7 @@ impl<A: Allocator + Copy> RsVec<A> {
     #[tactic(auto, using(crate::proofs::Ranks::parts))]
     pub(super) fn ones_of_two(&self, k: usize, tally: &mut Tally) -> usize
         requires within { 64 * k + 64 < length self.now }
-        requires is_place { 64 * k < 18446744073709551616 }
+        requires is_position { 64 * k < 18446744073709551616 }
         ensures value { count true self.now (64 * k) + result ≡ count true self.now (64 * (k + 2)) }
         ensures few { result ≤ 128 }
         ensures adds { AddsAtMost tally.old tally.new (only_data_words 2) }
@@ -249,14 +249,14 @@ impl<A: Allocator + Copy> RsVec<A> {
     // Reads the position's limb and returns its number of ones below the position.
     #[inline(always)]
     #[tactic(auto, using(crate::proofs::Ranks::limbs))]
-    fn ones_of_rest(&self, place: usize, tally: &mut Tally) -> usize
-        requires { place < length self.now }
-        ensures value { count true self.now (64 * (place / 64)) + result
-            ≡ count true self.now place }
+    fn ones_of_rest(&self, position: usize, tally: &mut Tally) -> usize
+        requires { position < length self.now }
+        ensures value { count true self.now (64 * (position / 64)) + result
+            ≡ count true self.now position }
         ensures few { result ≤ 64 }
         ensures adds { AddsAtMost tally.old tally.new (only_data_words 1) }
     {
-        ones_of_part(self.bits.limb(place / LIMB, tally), place)
+        ones_of_part(self.bits.limb(position / LIMB, tally), position)
     }
 
     // Returns the number of ones from the start of a block up to a position in it: up to its half, its quarter
@@ -265,56 +265,56 @@ impl<A: Allocator + Copy> RsVec<A> {
     // the position's own, which may be in another cache line.
     #[inline(always)]
     #[tactic(auto, using(crate::proofs::Ranks::limbs))]
-    fn ones_in_block(&self, limbs: &[u64; 8], place: usize) -> usize
-        requires { AreLimbsOf self.now (place / BLOCK) limbs.now }
-        ensures value { count true self.now (BLOCK * (place / BLOCK)) + result
-            ≡ count true self.now place }
+    fn ones_in_block(&self, limbs: &[u64; 8], position: usize) -> usize
+        requires { AreLimbsOf self.now (position / BLOCK) limbs.now }
+        ensures value { count true self.now (BLOCK * (position / BLOCK)) + result
+            ≡ count true self.now position }
     {
-        let half = self.ones_before_half(limbs, place);
-        let quarter = self.ones_before_quarter(limbs, place);
-        let limb = self.ones_before_limb(limbs, place);
-        half + quarter + limb + ones_of_part(limbs[place / LIMB % 8], place)
+        let half = self.ones_before_half(limbs, position);
+        let quarter = self.ones_before_quarter(limbs, position);
+        let limb = self.ones_before_limb(limbs, position);
+        half + quarter + limb + ones_of_part(limbs[position / LIMB % 8], position)
     }
 
     // Returns the number of ones from the start of a block up to the position's half of it.
     #[inline(always)]
     #[tactic(auto, using(crate::proofs::Ranks::parts))]
-    fn ones_before_half(&self, limbs: &[u64; 8], place: usize) -> usize
-        requires { AreLimbsOf self.now (place / BLOCK) limbs.now }
-        ensures value { count true self.now (BLOCK * (place / BLOCK)) + result
-            ≡ count true self.now (256 * (place / 256)) }
+    fn ones_before_half(&self, limbs: &[u64; 8], position: usize) -> usize
+        requires { AreLimbsOf self.now (position / BLOCK) limbs.now }
+        ensures value { count true self.now (BLOCK * (position / BLOCK)) + result
+            ≡ count true self.now (256 * (position / 256)) }
         ensures few { result ≤ 256 }
     {
-        let block = place / BLOCK;
+        let block = position / BLOCK;
         let two = self.ones_of_pair(limbs, block, 8 * block);
         let four = two + self.ones_of_pair(limbs, block, 8 * block + 2);
-        if place / 256 % 2 == 1 { four } else { 0 }
+        if position / 256 % 2 == 1 { four } else { 0 }
     }
 
     // Returns the number of ones from the start of the position's half of a block up to its quarter.
     #[inline(always)]
     #[tactic(auto, using(crate::proofs::Ranks::parts))]
-    fn ones_before_quarter(&self, limbs: &[u64; 8], place: usize) -> usize
-        requires { AreLimbsOf self.now (place / BLOCK) limbs.now }
-        ensures value { count true self.now (256 * (place / 256)) + result
-            ≡ count true self.now (128 * (place / 128)) }
+    fn ones_before_quarter(&self, limbs: &[u64; 8], position: usize) -> usize
+        requires { AreLimbsOf self.now (position / BLOCK) limbs.now }
+        ensures value { count true self.now (256 * (position / 256)) + result
+            ≡ count true self.now (128 * (position / 128)) }
         ensures few { result ≤ 128 }
     {
-        let two = self.ones_of_pair(limbs, place / BLOCK, place / 256 * 4);
-        if place / 128 % 2 == 1 { two } else { 0 }
+        let two = self.ones_of_pair(limbs, position / BLOCK, position / 256 * 4);
+        if position / 128 % 2 == 1 { two } else { 0 }
     }
 
     // Returns the number of ones from the start of the position's quarter of a block up to its limb.
     #[inline(always)]
     #[tactic(auto, using(crate::proofs::Ranks::parts))]
-    fn ones_before_limb(&self, limbs: &[u64; 8], place: usize) -> usize
-        requires { AreLimbsOf self.now (place / BLOCK) limbs.now }
-        ensures value { count true self.now (128 * (place / 128)) + result
-            ≡ count true self.now (64 * (place / 64)) }
+    fn ones_before_limb(&self, limbs: &[u64; 8], position: usize) -> usize
+        requires { AreLimbsOf self.now (position / BLOCK) limbs.now }
+        ensures value { count true self.now (128 * (position / 128)) + result
+            ≡ count true self.now (64 * (position / 64)) }
         ensures few { result ≤ 64 }
     {
-        let first = self.ones_of_limb(limbs, place / BLOCK, place / 128 * 2);
-        if place / 64 % 2 == 1 { first } else { 0 }
+        let first = self.ones_of_limb(limbs, position / BLOCK, position / 128 * 2);
+        if position / 64 % 2 == 1 { first } else { 0 }
     }
 
     // Returns the number of ones in two limbs of a block.
@@ -345,9 +345,9 @@ impl<A: Allocator + Copy> RsVec<A> {
 // Returns the number of ones in a limb below a position in it.
 #[inline(always)]
 #[tactic(auto, using(crate::proofs::Ranks::limbs))]
-fn ones_of_part(limb: u64, place: usize) -> usize
-    ensures value { result ≡ count_ones (limb % 2 ^ (place % 64)) }
+fn ones_of_part(limb: u64, position: usize) -> usize
+    ensures value { result ≡ count_ones (limb % 2 ^ (position % 64)) }
     ensures few { result ≤ 64 }
 {
-    (limb & ((1 << (place % LIMB)) - 1)).count_ones() as usize
+    (limb & ((1 << (position % LIMB)) - 1)).count_ones() as usize
 }

@@ -6,7 +6,7 @@ ghost use Rattle.vers_rank.specs.Queries.{superblock_count, select_reads};
 ghost use Rattle.vers_rank.specs.inside.Walks.{IsReading, IsReadingBack};
 
 use super::{LIMB, RsVec};
-use crate::word::{marks, place_in_word};
+use crate::word::{marks, position_in_word};
 use std::alloc::Allocator;
 use vers_tally::tally::Tally;
 
@@ -38,7 +38,7 @@ impl Reader {
     // Returns the position of number `r`: mostly from the current word, otherwise from a word of the same
     // block, or by a select.
     #[inline(always)]
-    pub(super) fn place<A: Allocator + Copy>(
+    pub(super) fn position<A: Allocator + Copy>(
         &mut self,
         bit: bool,
         r: usize,
@@ -109,8 +109,8 @@ impl Reader {
             ones = self.word.count_ones() as usize;
         }
         if self.next < r {
-            let place = place_in_word(self.word, true, r - self.next);
-            self.word &= u64::MAX << place;
+            let position = position_in_word(self.word, true, r - self.next);
+            self.word &= u64::MAX << position;
             self.next = r;
         }
     }
@@ -133,7 +133,7 @@ impl Reader {
     {
         tally.add_rank_call();
         let at = bits.locate(bit, r, tally);
-        self.word = marks(bit, at.word) & (u64::MAX << at.place);
+        self.word = marks(bit, at.word) & (u64::MAX << at.position);
         self.limb = at.limb;
         self.next = r;
         let edge = bits.count_at_block(bit, at.limb / 8 + 1, tally);
@@ -143,7 +143,7 @@ impl Reader {
     // Returns the position of number `r`, in a walk from the back.
     #[inline(always)]
     #[tactic(auto, using(crate::proofs::ReadingBack::highests))]
-    pub(super) fn place_back<A: Allocator + Copy>(
+    pub(super) fn position_back<A: Allocator + Copy>(
         &mut self,
         bit: bool,
         r: usize,
@@ -220,8 +220,8 @@ impl Reader {
             ones = self.word.count_ones() as usize;
         }
         if end < self.next {
-            let place = place_in_word(self.word, true, ones - 1 - (self.next - end));
-            self.word &= u64::MAX >> (63 - place);
+            let position = position_in_word(self.word, true, ones - 1 - (self.next - end));
+            self.word &= u64::MAX >> (63 - position);
             self.next = end;
         }
     }
@@ -245,7 +245,7 @@ impl Reader {
     {
         tally.add_rank_call();
         let at = bits.locate(bit, end - 1, tally);
-        self.word = marks(bit, at.word) & (u64::MAX >> (63 - at.place));
+        self.word = marks(bit, at.word) & (u64::MAX >> (63 - at.position));
         self.limb = at.limb;
         self.next = end;
         let edge = bits.count_at_block(bit, at.limb / 8, tally);

@@ -73,13 +73,13 @@ impl<A: Allocator + Copy> RsVec<A> {
             (select_reads (superblock_count (length self.now))) }
     {
         tally.add_rank_call();
-        self.place_of(bit, r, tally)
+        self.position_of(bit, r, tally)
     }
 
     // Returns the position of zero or one `r`, or the length, as a part of a query.
     #[inline(always)]
     #[tactic(auto, using(crate::proofs::Selects::totals))]
-    pub(super) fn place_of(&self, bit: bool, r: usize, tally: &mut Tally) -> usize
+    pub(super) fn position_of(&self, bit: bool, r: usize, tally: &mut Tally) -> usize
         ensures value { result ≡ select bit self.now r }
         ensures within { result ≤ length self.now }
         ensures same_queries { tally.new.rank_calls ≡ tally.old.rank_calls }
@@ -95,7 +95,7 @@ impl<A: Allocator + Copy> RsVec<A> {
             return len;
         }
         let at = self.locate(bit, r, tally);
-        LIMB * at.limb + at.place
+        LIMB * at.limb + at.position
     }
 
     // Returns the location of zero or one `r`.
@@ -103,8 +103,8 @@ impl<A: Allocator + Copy> RsVec<A> {
     #[tactic(auto, using(crate::proofs::Selects::totals))]
     pub(super) fn locate(&self, bit: bool, r: usize, tally: &mut Tally) -> InWord
         requires { r < count bit self.now (length self.now) }
-        ensures value { 64 * result.limb + result.place ≡ select bit self.now r }
-        ensures within { (64 * result.limb < length self.now) × (result.place < 64) }
+        ensures value { 64 * result.limb + result.position ≡ select bit self.now r }
+        ensures within { (64 * result.limb < length self.now) × (result.position < 64) }
         ensures word { result.word ≡ limb self.now result.limb }
         ensures adds { AddsAtMost tally.old tally.new
             (record no_reads {
@@ -121,7 +121,7 @@ impl<A: Allocator + Copy> RsVec<A> {
         } else {
             self.limb_of(bit, r_in_superblock, s, false, tally)
         };
-        self.place_in_limb(bit, at, tally)
+        self.position_in_limb(bit, at, tally)
     }
 
     // Returns the number within its superblock of number `r`.

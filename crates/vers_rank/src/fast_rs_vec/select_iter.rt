@@ -1,6 +1,6 @@
 //! Iterators over the positions of the zeros or the ones of an indexed list.
 ghost use Rattle.std.specs.Prelude.{◌≡◌, not, true, false, length};
-ghost use Rattle.vers_bits.specs.Bits.{places};
+ghost use Rattle.vers_bits.specs.Bits.{positions};
 ghost use Rattle.vers_rank.specs.Queries.{superblock_count, select_reads};
 
 use super::RsVec;
@@ -18,7 +18,7 @@ pub struct Kind<const ZERO: bool>;
 /// The positions of one kind of bit of an indexed list, which iterators of type `K` read one by one. It keeps
 /// the current limb of each end.
 #[derive(Drop)]
-pub struct Places<K, L: Indexed> {
+pub struct Positions<K, L: Indexed> {
     list: L,
     bit: bool,
     front: Reader,
@@ -26,10 +26,10 @@ pub struct Places<K, L: Indexed> {
     kind: PhantomData<K>,
 }
 
-impl<K, L: Indexed> Model for Places<K, L> {
-    ghost use Rattle.vers_rank.specs.inside.Walks.{PlacesOf, IsReading, IsReadingBack};
+impl<K, L: Indexed> Model for Positions<K, L> {
+    ghost use Rattle.vers_rank.specs.inside.Walks.{PositionsOf, IsReading, IsReadingBack};
 
-    ghost Value = { PlacesOf };
+    ghost Value = { PositionsOf };
 
     ghost view = { λ s. record { bits = L.bits s.list; bit = s.bit } };
 
@@ -37,13 +37,13 @@ impl<K, L: Indexed> Model for Places<K, L> {
 }
 
 #[tactic(auto, using(crate::proofs::BothEnds::kinds))]
-impl<K, L: Indexed> Places<K, L> {
+impl<K, L: Indexed> Positions<K, L> {
     /// Returns the positions of the ones of a list if `bit` is true, otherwise of its zeros. Reads nothing yet.
     pub fn new(list: L, bit: bool) -> Self
         ensures { result ≡ record { bits = L.bits list; bit = bit } }
     {
         let nothing = Reader::new();
-        Places {
+        Positions {
             list,
             bit,
             front: nothing,
@@ -54,10 +54,10 @@ impl<K, L: Indexed> Places<K, L> {
 }
 
 #[tactic(auto, using(crate::proofs::BothEnds::kinds))]
-impl<K, L: Indexed> Source for Places<K, L> {
+impl<K, L: Indexed> Source for Positions<K, L> {
     type Item = usize;
 
-    ghost items = { λ s. places s.bit s.bits };
+    ghost items = { λ s. positions s.bit s.bits };
 
     ghost step = { λ s. select_reads (superblock_count (length s.bits)) };
 
@@ -69,51 +69,52 @@ impl<K, L: Indexed> Source for Places<K, L> {
 
     #[inline(always)]
     fn item_at(&mut self, i: usize, tally: &mut Tally) -> usize {
-        self.front.place(self.bit, i, self.list.list(), tally)
+        self.front.position(self.bit, i, self.list.list(), tally)
     }
 
     #[inline(always)]
     fn item_at_back(&mut self, i: usize, tally: &mut Tally) -> usize {
-        self.back.place_back(self.bit, i, self.list.list(), tally)
+        self.back
+            .position_back(self.bit, i, self.list.list(), tally)
     }
 }
 
-impl<'a, K, A: Allocator + Copy> Borrowing for Places<K, &'a RsVec<A>> {
+impl<'a, K, A: Allocator + Copy> Borrowing for Positions<K, &'a RsVec<A>> {
     fn second(&self) -> Self {
-        Places::new(self.list, self.bit)
+        Positions::new(self.list, self.bit)
     }
 }
 
-impl<K, A: Allocator + Copy> Owning for Places<K, RsVec<A>> {
+impl<K, A: Allocator + Copy> Owning for Positions<K, RsVec<A>> {
     fn second(&self) -> Result<Self, AllocError> {
         let list = self.list.clone()?;
-        Ok(Places::new(list, self.bit))
+        Ok(Positions::new(list, self.bit))
     }
 }
 
 /// An iterator over the positions of the zeros of a list if `ZERO` is true, otherwise of its ones, ascending.
 /// Each step reads at most what one select does.
-pub type SelectIter<'a, const ZERO: bool, A> = BothEnds<Places<Kind<ZERO>, &'a RsVec<A>>>;
+pub type SelectIter<'a, const ZERO: bool, A> = BothEnds<Positions<Kind<ZERO>, &'a RsVec<A>>>;
 
 /// An iterator over the positions of the zeros of a list that it owns if `ZERO` is true, otherwise of its ones,
 /// ascending. Each step reads at most what one select does.
-pub type SelectIntoIter<const ZERO: bool, A> = BothEnds<Places<Kind<ZERO>, RsVec<A>>>;
+pub type SelectIntoIter<const ZERO: bool, A> = BothEnds<Positions<Kind<ZERO>, RsVec<A>>>;
 
 impl<A: Allocator + Copy> RsVec<A> {
     /// Returns an iterator over the positions of the zeros if `ZERO` is true, otherwise of the ones.
     pub fn select_iter<const ZERO: bool>(&self) -> SelectIter<'_, ZERO, A>
         ensures { result ≡ record {
-          left = places (not ZERO) self.now;
+          left = positions (not ZERO) self.now;
           step = select_reads (superblock_count (length self.now));
         } }
     {
-        BothEnds::new(Places::new(self, !ZERO))
+        BothEnds::new(Positions::new(self, !ZERO))
     }
 
     /// Returns an iterator over the positions of the zeros.
     pub fn iter0(&self) -> SelectIter<'_, true, A>
         ensures { result ≡ record {
-          left = places false self.now;
+          left = positions false self.now;
           step = select_reads (superblock_count (length self.now));
         } }
     {
@@ -123,7 +124,7 @@ impl<A: Allocator + Copy> RsVec<A> {
     /// Returns an iterator over the positions of the ones.
     pub fn iter1(&self) -> SelectIter<'_, false, A>
         ensures { result ≡ record {
-          left = places true self.now;
+          left = positions true self.now;
           step = select_reads (superblock_count (length self.now));
         } }
     {
@@ -134,31 +135,31 @@ impl<A: Allocator + Copy> RsVec<A> {
     /// the list.
     pub fn into_select_iter<const ZERO: bool>(self) -> SelectIntoIter<ZERO, A>
         ensures { result ≡ record {
-          left = places (not ZERO) self;
+          left = positions (not ZERO) self;
           step = select_reads (superblock_count (length self));
         } }
     {
-        let places = Places::new(self, !ZERO);
-        BothEnds::new(places)
+        let positions = Positions::new(self, !ZERO);
+        BothEnds::new(positions)
     }
 
     /// Returns an iterator over the positions of the zeros, which owns the list.
     pub fn into_iter0(self) -> SelectIntoIter<true, A>
         ensures { result ≡ record {
-          left = places false self;
+          left = positions false self;
           step = select_reads (superblock_count (length self));
         } }
     {
-        BothEnds::new(Places::new(self, false))
+        BothEnds::new(Positions::new(self, false))
     }
 
     /// Returns an iterator over the positions of the ones, which owns the list.
     pub fn into_iter1(self) -> SelectIntoIter<false, A>
         ensures { result ≡ record {
-          left = places true self;
+          left = positions true self;
           step = select_reads (superblock_count (length self));
         } }
     {
-        BothEnds::new(Places::new(self, true))
+        BothEnds::new(Positions::new(self, true))
     }
 }

@@ -23,10 +23,10 @@ fn plain_answer<A: Allocator + Copy>(plain: &PlainList<A>, query: Query) -> Opti
     match query {
         Query::Zeros => Some(plain.rank(false, plain.len()) as u64),
         Query::Ones => Some(plain.rank(true, plain.len()) as u64),
-        Query::Get(place) => plain.get(place),
-        Query::GetBits(place, n) => plain.get_bits(place, n),
-        Query::Rank0(place) => Some(plain.rank(false, place) as u64),
-        Query::Rank1(place) => Some(plain.rank(true, place) as u64),
+        Query::Get(position) => plain.get(position),
+        Query::GetBits(position, n) => plain.get_bits(position, n),
+        Query::Rank0(position) => Some(plain.rank(false, position) as u64),
+        Query::Rank1(position) => Some(plain.rank(true, position) as u64),
         Query::Select(bit, r) => Some(plain.select(bit, r) as u64),
         Query::Select0(r) | Query::Select0Each(r) => Some(plain.select(false, r) as u64),
         Query::Select1(r) | Query::Select1Each(r) => Some(plain.select(true, r) as u64),
@@ -34,17 +34,21 @@ fn plain_answer<A: Allocator + Copy>(plain: &PlainList<A>, query: Query) -> Opti
         Query::ZeroPairSecond(r) => Some(plain.select(false, r.saturating_add(1)) as u64),
         Query::PairFirst(r) => Some(plain.select(true, r) as u64),
         Query::PairSecond(r) => Some(plain.select(true, r.saturating_add(1)) as u64),
-        Query::Successor0(place) => plain.successor(false, place),
-        Query::Successor1(place) => plain.successor(true, place),
-        Query::Predecessor0(place) => plain.predecessor(false, place),
-        Query::Predecessor1(place) => plain.predecessor(true, place),
+        Query::Successor0(position) => plain.successor(false, position),
+        Query::Successor1(position) => plain.successor(true, position),
+        Query::Predecessor0(position) => plain.predecessor(false, position),
+        Query::Predecessor1(position) => plain.predecessor(true, position),
         _ => None,
     }
 }
 
 // Returns true if all queries at a position are right.
-fn are_right_at<A: Allocator + Copy>(list: &RsVec<A>, plain: &PlainList<A>, place: usize) -> bool {
-    for query in queries_at(place) {
+fn are_right_at<A: Allocator + Copy>(
+    list: &RsVec<A>,
+    plain: &PlainList<A>,
+    position: usize,
+) -> bool {
+    for query in queries_at(position) {
         if !is_right(list, query, plain_answer(plain, query)) {
             return false;
         }
@@ -66,10 +70,13 @@ fn are_right_ends<A: Allocator + Copy>(list: &RsVec<A>, plain: &PlainList<A>, bi
 }
 
 // Returns the first position with a wrong query, up to two past the end and at the greatest position.
-fn first_wrong_place<A: Allocator + Copy>(plain: &PlainList<A>, list: &RsVec<A>) -> Option<usize> {
-    for place in 0..plain.len().saturating_add(3) {
-        if !are_right_at(list, plain, place) {
-            return Some(place);
+fn first_wrong_position<A: Allocator + Copy>(
+    plain: &PlainList<A>,
+    list: &RsVec<A>,
+) -> Option<usize> {
+    for position in 0..plain.len().saturating_add(3) {
+        if !are_right_at(list, plain, position) {
+            return Some(position);
         }
     }
     if are_right_at(list, plain, usize::MAX)
@@ -96,11 +103,11 @@ fn is_right_batch<A: Allocator + Copy>(list: &RsVec<A>, n: usize, step: usize) -
     if n <= MOST {
         list.select1_each(&mut numbers[..n]);
     }
-    numbers.iter().enumerate().all(|(i, place)| {
+    numbers.iter().enumerate().all(|(i, position)| {
         if i < n {
-            *place == list.select1(i.wrapping_mul(step))
+            *position == list.select1(i.wrapping_mul(step))
         } else {
-            *place == 7
+            *position == 7
         }
     })
 }
@@ -119,12 +126,12 @@ fn batches_of_every_length(rt: HostRuntime) -> Result<(), Fail> {
 }
 
 // Returns true if a walk by chunks returns the positions that have the bit, one after another, and no more.
-fn gives_places<const ZERO: bool, A: Allocator + Copy>(
+fn gives_positions<const ZERO: bool, A: Allocator + Copy>(
     mut walk: BitSetIter<'_, ZERO, A>,
     plain: &PlainList<A>,
 ) -> bool {
-    for place in 0..plain.len() {
-        if plain.get(place) == Some(u64::from(!ZERO)) && walk.next() != Some(place) {
+    for position in 0..plain.len() {
+        if plain.get(position) == Some(u64::from(!ZERO)) && walk.next() != Some(position) {
             return false;
         }
     }
@@ -132,23 +139,23 @@ fn gives_places<const ZERO: bool, A: Allocator + Copy>(
 }
 
 // Returns true if both walks by chunks over a list return the positions of the plain one.
-fn have_places<A: Allocator + Copy>(plain: &PlainList<A>, list: &RsVec<A>) -> bool {
-    gives_places(list.bit_set_iter0(), plain) && gives_places(list.bit_set_iter1(), plain)
+fn have_positions<A: Allocator + Copy>(plain: &PlainList<A>, list: &RsVec<A>) -> bool {
+    gives_positions(list.bit_set_iter0(), plain) && gives_positions(list.bit_set_iter1(), plain)
 }
 
 // Returns the first position at which both disagree on a list, or its length if it was not made.
 fn disagreement(alloc: Global, look: Look, len: usize) -> Option<usize> {
     let plain = plain_of(alloc, look, len);
     let list = list_of(alloc, look, len);
-    asked_both(plain, list, |plain, list| first_wrong_place(plain, list)).unwrap_or(Some(len))
+    asked_both(plain, list, |plain, list| first_wrong_position(plain, list)).unwrap_or(Some(len))
 }
 
 // Returns the first length, and the position there, at which both disagree on a list of some look.
 fn first_disagreement(alloc: Global, lengths: &[usize]) -> Option<(usize, usize)> {
     for len in lengths {
         for look in LOOKS.iter() {
-            if let Some(place) = disagreement(alloc, *look, *len) {
-                return Some((*len, place));
+            if let Some(position) = disagreement(alloc, *look, *len) {
+                return Some((*len, position));
             }
         }
     }
@@ -174,7 +181,7 @@ fn past_two_superblocks(rt: HostRuntime) {
 fn chunks_are_right(alloc: Global, look: Look, len: usize) -> bool {
     let plain = plain_of(alloc, look, len);
     let list = list_of(alloc, look, len);
-    asked_both(plain, list, |plain, list| have_places(plain, list)).unwrap_or(false)
+    asked_both(plain, list, |plain, list| have_positions(plain, list)).unwrap_or(false)
 }
 
 // Returns the first length, and the row of the look, of which the walks by chunks miss a position.
@@ -190,27 +197,27 @@ fn first_wrong_chunks(alloc: Global) -> Option<(usize, usize)> {
 }
 
 #[test]
-fn chunks_give_every_place(rt: HostRuntime) {
+fn chunks_give_every_position(rt: HostRuntime) {
     assert_eq!(rt; first_wrong_chunks(rt.alloc()), None, "a length and a look");
 }
 
-fn are_told_apart<A: Allocator + Copy>(list: &RsVec<A>, turned: &RsVec<A>) -> bool {
+fn are_distinguished<A: Allocator + Copy>(list: &RsVec<A>, turned: &RsVec<A>) -> bool {
     !list.full_equals(turned) && list.full_equals(list)
 }
 
 // Returns true if a list is unequal to one with another bit at a position.
-fn is_seen(alloc: Global, len: usize, place: usize) -> bool {
+fn is_seen(alloc: Global, len: usize, position: usize) -> bool {
     let list = list_of(alloc, Look::Mixed, len);
-    let turned = turned_at(alloc, Look::Mixed, len, place);
-    asked_both(list, turned, |list, turned| are_told_apart(list, turned)).unwrap_or(false)
+    let turned = turned_at(alloc, Look::Mixed, len, position);
+    asked_both(list, turned, |list, turned| are_distinguished(list, turned)).unwrap_or(false)
 }
 
 // Returns the first of every 61st position, and the last one, at which another bit is not seen.
 fn first_unseen(alloc: Global, len: usize) -> Option<usize> {
     for step in 0..len.div_ceil(61) {
-        let place = step.wrapping_mul(61);
-        if !is_seen(alloc, len, place) {
-            return Some(place);
+        let position = step.wrapping_mul(61);
+        if !is_seen(alloc, len, position) {
+            return Some(position);
         }
     }
     let last = len.checked_sub(1)?;
@@ -222,8 +229,8 @@ fn first_unseen(alloc: Global, len: usize) -> Option<usize> {
 
 fn first_unseen_of_all(alloc: Global) -> Option<(usize, usize)> {
     for len in SIZES.iter() {
-        if let Some(place) = first_unseen(alloc, *len) {
-            return Some((*len, place));
+        if let Some(position) = first_unseen(alloc, *len) {
+            return Some((*len, position));
         }
     }
     None
@@ -234,6 +241,6 @@ fn full_equality_sees_every_limb(rt: HostRuntime) {
     assert_eq!(rt;
         first_unseen_of_all(rt.alloc()),
         None,
-        "a length and a place"
+        "a length and a position"
     );
 }

@@ -316,13 +316,13 @@ fn clones_go_on_from_where_the_walk_is(rt: HostRuntime) {
 
 // Returns the first position that a walk by chunks misses, of the positions from 0 up to `n`.
 fn first_lost<const ZERO: bool, A: Allocator + Copy>(
-    places: &mut BitSetIter<'_, ZERO, A>,
+    positions: &mut BitSetIter<'_, ZERO, A>,
     n: usize,
     tally: &mut Tally,
 ) -> Option<usize> {
-    for place in 0..n {
-        if places.next_counted(tally) != Some(place) {
-            return Some(place);
+    for position in 0..n {
+        if positions.next_counted(tally) != Some(position) {
+            return Some(position);
         }
     }
     None
@@ -331,15 +331,15 @@ fn first_lost<const ZERO: bool, A: Allocator + Copy>(
 // Returns true if a walk by chunks returns the positions from 0 up to `n` and then none, from at most that many
 // chunks.
 fn gives_up_to<const ZERO: bool, A: Allocator + Copy>(
-    places: &mut BitSetIter<'_, ZERO, A>,
+    positions: &mut BitSetIter<'_, ZERO, A>,
     n: usize,
     chunks: u64,
 ) -> bool {
     let mut tally = Tally::new();
-    first_lost(places, n, &mut tally).is_none()
-        && places.next_counted(&mut tally).is_none()
+    first_lost(positions, n, &mut tally).is_none()
+        && positions.next_counted(&mut tally).is_none()
         && tally.chunks() <= chunks
-        && places.next().is_none()
+        && positions.next().is_none()
 }
 
 // Returns true if walks by chunks over `n` equal bits return all positions of that bit, and none of the other.
@@ -426,12 +426,12 @@ fn loops_over_a_list(rt: HostRuntime) {
 }
 
 // Returns the sum of the positions that a loop passes.
-fn sum_of<I: Iterator<Item = usize>>(places: I) -> usize
-    requires { I.can_next places × IsFinite (I.remaining places) }
+fn sum_of<I: Iterator<Item = usize>>(positions: I) -> usize
+    requires { I.can_next positions × IsFinite (I.remaining positions) }
 {
     let mut sum: usize = 0;
-    for place in places {
-        sum = sum.wrapping_add(place);
+    for position in positions {
+        sum = sum.wrapping_add(position);
     }
     sum
 }
@@ -447,37 +447,37 @@ fn have_sum<A: Allocator + Copy>(list: &RsVec<A>, sum: usize) -> bool {
 
 // Returns the sum of the positions of a walk that owns its list.
 fn owned_sum<const ZERO: bool, A: Allocator + Copy>(
-    places: Result<SelectIntoIter<ZERO, A>, AllocError>,
+    positions: Result<SelectIntoIter<ZERO, A>, AllocError>,
 ) -> usize {
-    match places {
-        Ok(places) => sum_of(places),
+    match positions {
+        Ok(positions) => sum_of(positions),
         Err(_) => 0,
     }
 }
 
 // Does the same by a `&mut` to the walk.
 fn owned_sum_by_mut<const ZERO: bool, A: Allocator + Copy>(
-    places: Result<SelectIntoIter<ZERO, A>, AllocError>,
+    positions: Result<SelectIntoIter<ZERO, A>, AllocError>,
 ) -> usize {
-    match places {
-        Ok(mut places) => sum_by_mut(&mut places),
+    match positions {
+        Ok(mut positions) => sum_by_mut(&mut positions),
         Err(_) => 0,
     }
 }
 
 fn sum_by_mut<const ZERO: bool, A: Allocator + Copy>(
-    places: &mut SelectIntoIter<ZERO, A>,
+    positions: &mut SelectIntoIter<ZERO, A>,
 ) -> usize {
-    sum_of(places)
+    sum_of(positions)
 }
 
 fn sum_in_a_loop<A: Allocator + Copy>(list: &RsVec<A>) -> usize {
     let mut sum: usize = 0;
-    for place in list.iter1() {
-        sum = sum.wrapping_add(place);
+    for position in list.iter1() {
+        sum = sum.wrapping_add(position);
     }
-    for place in list.bit_set_iter1() {
-        sum = sum.wrapping_add(place);
+    for position in list.bit_set_iter1() {
+        sum = sum.wrapping_add(position);
     }
     sum
 }
@@ -500,7 +500,7 @@ fn sums_of_10110(list: &RsVec<Global>) -> (usize, bool, bool) {
 }
 
 #[test]
-fn loops_over_places(rt: HostRuntime) {
+fn loops_over_positions(rt: HostRuntime) {
     let sums = asked(list_10110(rt.alloc()), sums_of_10110);
     assert_eq!(rt; sums, Ok((10, true, true)));
 }

@@ -51,8 +51,8 @@ pub fn bits_of<A: Allocator + Copy>(
     len: usize,
 ) -> Result<BitVec<A>, GrowError> {
     let mut bits = BitVec::new(alloc);
-    for place in 0..len {
-        bits.append(bit_of(look, place))?;
+    for position in 0..len {
+        bits.append(bit_of(look, position))?;
     }
     Ok(bits)
 }
@@ -74,8 +74,8 @@ pub fn turned_at<A: Allocator + Copy>(
     turned: usize,
 ) -> Result<RsVec<A>, GrowError> {
     let mut bits = BitVec::new(alloc);
-    for place in 0..len {
-        bits.append(bit_of(look, place) != (place == turned))?;
+    for position in 0..len {
+        bits.append(bit_of(look, position) != (position == turned))?;
     }
     indexed(bits)
 }
@@ -89,11 +89,11 @@ pub enum Over {
 }
 
 /// Returns the item that a walk over a list of a look returns for a position, if any.
-pub fn item_at(over: Over, look: Look, place: usize) -> Option<u64> {
-    let bit = bit_of(look, place);
+pub fn item_at(over: Over, look: Look, position: usize) -> Option<u64> {
+    let bit = bit_of(look, position);
     match over {
         Over::Bits => Some(u64::from(bit)),
-        Over::Zeros => (!bit).then_some(place as u64),
-        Over::Ones => bit.then_some(place as u64),
+        Over::Zeros => (!bit).then_some(position as u64),
+        Over::Ones => bit.then_some(position as u64),
     }
 }

@@ -15,16 +15,16 @@ use vers_tally::tally::Tally;
 // Returns true if a list has the bits of a look, and its rank and select.
 fn has_bits<A: Allocator + Copy>(list: &RsVec<A>, look: Look, len: usize) -> bool {
     let mut ones: usize = 0;
-    for place in 0..len {
-        let is_one = bit_of(look, place);
+    for position in 0..len {
+        let is_one = bit_of(look, position);
         let found = if is_one {
             list.select1(ones)
         } else {
-            list.select0(place.wrapping_sub(ones))
+            list.select0(position.wrapping_sub(ones))
         };
-        if list.get(place) != Some(u64::from(is_one))
-            || list.rank1(place) != ones
-            || found != place
+        if list.get(position) != Some(u64::from(is_one))
+            || list.rank1(position) != ones
+            || found != position
         {
             return false;
         }
@@ -44,8 +44,8 @@ struct WalkOver {
 // Checks whether a walk returns the items and ends.
 impl<W: Walk> Check<W> for WalkOver {
     fn is_right(&self, walk: &mut W) -> bool {
-        for place in 0..self.len {
-            let wanted = item_at(self.over, self.look, place);
+        for position in 0..self.len {
+            let wanted = item_at(self.over, self.look, position);
             if wanted.is_some() && walk.step(Step::Next) != wanted {
                 return false;
             }
@@ -232,7 +232,7 @@ enum Free {
     IntoIter,
     IntoSelectIter,
     Steps,
-    PlaceSteps,
+    PositionSteps,
 }
 
 const FREE: [Free; 9] = [
@@ -244,7 +244,7 @@ const FREE: [Free; 9] = [
     Free::IntoIter,
     Free::IntoSelectIter,
     Free::Steps,
-    Free::PlaceSteps,
+    Free::PositionSteps,
 ];
 
 // Returns true if both forms of a query agree.
@@ -253,14 +253,14 @@ fn agrees<A: Allocator + Copy>(list: &RsVec<A>, query: Query) -> bool {
 }
 
 // Returns true if both forms of the queries at a position agree.
-fn forms_agree<A: Allocator + Copy>(list: &RsVec<A>, place: usize) -> bool {
-    for query in queries_at(place) {
+fn forms_agree<A: Allocator + Copy>(list: &RsVec<A>, position: usize) -> bool {
+    for query in queries_at(position) {
         if !agrees(list, query) {
             return false;
         }
     }
-    agrees(list, Query::Select0Each(place))
-        && agrees(list, Query::Select1Each(place))
+    agrees(list, Query::Select0Each(position))
+        && agrees(list, Query::Select1Each(position))
         && list.heap_size() > 0
 }
 
@@ -303,8 +303,8 @@ fn steps_work<W: Walk>(walk: &mut W, items: usize) -> bool {
 // Returns the number of ones of a list.
 fn ones_of(len: usize) -> usize {
     let mut ones: usize = 0;
-    for place in 0..len {
-        ones = ones.wrapping_add(usize::from(bit_of(Look::Mixed, place)));
+    for position in 0..len {
+        ones = ones.wrapping_add(usize::from(bit_of(Look::Mixed, position)));
     }
     ones
 }
@@ -395,12 +395,12 @@ fn tried_steps<B: Allocator, W: Walk, X: Drop>(
     try_use_checked(heap, walk, &Steps { items })
 }
 
-fn tried_place_steps(heap: &Refusing<Global>, len: usize) -> Ending {
+fn tried_position_steps(heap: &Refusing<Global>, len: usize) -> Ending {
     let walk = ones_walk(list_of(heap, Look::Mixed, len));
     tried_steps(heap, walk, ones_of(len))
 }
 
-fn tried_into_places(heap: &Refusing<Global>, len: usize) -> Ending {
+fn tried_into_positions(heap: &Refusing<Global>, len: usize) -> Ending {
     let Ok(list) = list_of(heap, Look::Mixed, len) else {
         return Ending::Wrong;
     };
@@ -429,8 +429,8 @@ fn tried_list<B: Allocator, A: Allocator + Copy>(
 impl Trial<Global> for Free {
     fn run(self, heap: &Refusing<Global>, len: usize) -> Ending {
         match self {
-            Free::IntoSelectIter => tried_into_places(heap, len),
-            Free::PlaceSteps => tried_place_steps(heap, len),
+            Free::IntoSelectIter => tried_into_positions(heap, len),
+            Free::PositionSteps => tried_position_steps(heap, len),
             _ => tried_list(heap, list_of(heap, Look::Mixed, len), self, len),
         }
     }

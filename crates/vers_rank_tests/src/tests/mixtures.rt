@@ -74,8 +74,8 @@ struct Walked {
 impl Walked {
     fn count(self) -> usize {
         let mut count: usize = 0;
-        for place in 0..self.len {
-            if item_at(self.over, self.look, place).is_some() {
+        for position in 0..self.len {
+            if item_at(self.over, self.look, position).is_some() {
                 count = count.wrapping_add(1);
             }
         }
@@ -85,8 +85,8 @@ impl Walked {
     // Returns the item of a number (from 0).
     fn item(self, number: usize) -> Option<u64> {
         let mut before: usize = 0;
-        for place in 0..self.len {
-            let item = item_at(self.over, self.look, place);
+        for position in 0..self.len {
+            let item = item_at(self.over, self.look, position);
             if item.is_some() {
                 if before == number {
                     return item;

@@ -20,19 +20,19 @@ impl<A: Allocator + Copy> PlainList<A> {
     }
 
     /// Returns the bit at a position, 1 or 0. `None` for a position that the list doesn't have.
-    pub fn get(&self, place: usize) -> Option<u64> {
-        self.bits.get(place)
+    pub fn get(&self, position: usize) -> Option<u64> {
+        self.bits.get(position)
     }
 
     // Returns true if there is a bit at a position, and it has that value.
-    fn holds(&self, bit: bool, place: usize) -> bool {
-        self.bits.is_bit_set(place) == Some(bit)
+    fn holds(&self, bit: bool, position: usize) -> bool {
+        self.bits.is_bit_set(position) == Some(bit)
     }
 
     /// Returns the number of zeros or ones below a position.
-    pub fn rank(&self, bit: bool, place: usize) -> usize {
+    pub fn rank(&self, bit: bool, position: usize) -> usize {
         let mut count: usize = 0;
-        for p in 0..place.min(self.len()) {
+        for p in 0..position.min(self.len()) {
             if self.holds(bit, p) {
                 count = count.wrapping_add(1);
             }
@@ -54,19 +54,19 @@ impl<A: Allocator + Copy> PlainList<A> {
         self.len()
     }
 
-    /// Returns the least position above `place` that has the bit.
-    pub fn successor(&self, bit: bool, place: usize) -> Option<u64> {
-        for p in place..self.len() {
-            if p > place && self.holds(bit, p) {
+    /// Returns the least position above `position` that has the bit.
+    pub fn successor(&self, bit: bool, position: usize) -> Option<u64> {
+        for p in position..self.len() {
+            if p > position && self.holds(bit, p) {
                 return Some(p as u64);
             }
         }
         None
     }
 
-    /// Returns the greatest position below `place` that has the bit.
-    pub fn predecessor(&self, bit: bool, place: usize) -> Option<u64> {
-        for p in (0..place.min(self.len())).rev() {
+    /// Returns the greatest position below `position` that has the bit.
+    pub fn predecessor(&self, bit: bool, position: usize) -> Option<u64> {
+        for p in (0..position.min(self.len())).rev() {
             if self.holds(bit, p) {
                 return Some(p as u64);
             }
@@ -74,15 +74,15 @@ impl<A: Allocator + Copy> PlainList<A> {
         None
     }
 
-    /// Returns the `n` bits from position `place` as a number, the lowest first; 0 if `n` is 0. `None` if the
+    /// Returns the `n` bits from `position` on as a number, the lowest first; 0 if `n` is 0. `None` if the
     /// list doesn't have them.
-    pub fn get_bits(&self, place: usize, n: usize) -> Option<u64> {
-        if n > 64 || place.checked_add(n)? > self.len() {
+    pub fn get_bits(&self, position: usize, n: usize) -> Option<u64> {
+        if n > 64 || position.checked_add(n)? > self.len() {
             return None;
         }
         let mut number: u64 = 0;
         for i in (0..n).rev() {
-            let bit = self.bits.get(place.wrapping_add(i))?;
+            let bit = self.bits.get(position.wrapping_add(i))?;
             number = number.wrapping_mul(2).wrapping_add(bit);
         }
         Some(number)

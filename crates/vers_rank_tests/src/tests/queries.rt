@@ -36,8 +36,8 @@ fn batch_with(r: usize) -> [usize; 3] {
 }
 
 // Returns the answer for the last of them.
-fn answer_of(places: [usize; 3]) -> Option<u64> {
-    Some(places[2] as u64)
+fn answer_of(positions: [usize; 3]) -> Option<u64> {
+    Some(positions[2] as u64)
 }
 
 /// Returns the answer of a query in its plain form.
@@ -48,10 +48,10 @@ pub fn answer<A: Allocator + Copy>(list: &RsVec<A>, query: Query) -> Option<u64>
         Query::Zeros => Some(list.zeros() as u64),
         Query::Ones => Some(list.ones() as u64),
         Query::HeapSize => Some(list.heap_size() as u64),
-        Query::Get(place) => list.get(place),
-        Query::GetBits(place, n) => list.get_bits(place, n),
-        Query::Rank0(place) => Some(list.rank0(place) as u64),
-        Query::Rank1(place) => Some(list.rank1(place) as u64),
+        Query::Get(position) => list.get(position),
+        Query::GetBits(position, n) => list.get_bits(position, n),
+        Query::Rank0(position) => Some(list.rank0(position) as u64),
+        Query::Rank1(position) => Some(list.rank1(position) as u64),
         Query::Select0(r) | Query::Select(false, r) => Some(list.select0(r) as u64),
         Query::Select1(r) | Query::Select(true, r) => Some(list.select1(r) as u64),
         Query::Select0Each(r) => {
@@ -68,10 +68,10 @@ pub fn answer<A: Allocator + Copy>(list: &RsVec<A>, query: Query) -> Option<u64>
         Query::ZeroPairSecond(r) => Some(list.select0_pair(r).second as u64),
         Query::PairFirst(r) => Some(list.select1_pair(r).first as u64),
         Query::PairSecond(r) => Some(list.select1_pair(r).second as u64),
-        Query::Successor0(place) => list.successor0(place),
-        Query::Successor1(place) => list.successor1(place),
-        Query::Predecessor0(place) => list.predecessor0(place),
-        Query::Predecessor1(place) => list.predecessor1(place),
+        Query::Successor0(position) => list.successor0(position),
+        Query::Successor1(position) => list.successor1(position),
+        Query::Predecessor0(position) => list.predecessor0(position),
+        Query::Predecessor1(position) => list.predecessor1(position),
     }
 }
 
@@ -82,10 +82,10 @@ pub fn counted<A: Allocator + Copy>(
     tally: &mut Tally,
 ) -> Option<u64> {
     match query {
-        Query::Get(place) => list.get_counted(place, tally),
-        Query::GetBits(place, n) => list.get_bits_counted(place, n, tally),
-        Query::Rank0(place) => Some(list.rank0_counted(place, tally) as u64),
-        Query::Rank1(place) => Some(list.rank1_counted(place, tally) as u64),
+        Query::Get(position) => list.get_counted(position, tally),
+        Query::GetBits(position, n) => list.get_bits_counted(position, n, tally),
+        Query::Rank0(position) => Some(list.rank0_counted(position, tally) as u64),
+        Query::Rank1(position) => Some(list.rank1_counted(position, tally) as u64),
         Query::Select0(r) => Some(list.select0_counted(r, tally) as u64),
         Query::Select1(r) => Some(list.select1_counted(r, tally) as u64),
         Query::Select(bit, r) => Some(list.select_counted(bit, r, tally) as u64),
@@ -103,10 +103,10 @@ pub fn counted<A: Allocator + Copy>(
         Query::ZeroPairSecond(r) => Some(list.select0_pair_counted(r, tally).second as u64),
         Query::PairFirst(r) => Some(list.select1_pair_counted(r, tally).first as u64),
         Query::PairSecond(r) => Some(list.select1_pair_counted(r, tally).second as u64),
-        Query::Successor0(place) => list.successor0_counted(place, tally),
-        Query::Successor1(place) => list.successor1_counted(place, tally),
-        Query::Predecessor0(place) => list.predecessor0_counted(place, tally),
-        Query::Predecessor1(place) => list.predecessor1_counted(place, tally),
+        Query::Successor0(position) => list.successor0_counted(position, tally),
+        Query::Successor1(position) => list.successor1_counted(position, tally),
+        Query::Predecessor0(position) => list.predecessor0_counted(position, tally),
+        Query::Predecessor1(position) => list.predecessor1_counted(position, tally),
         _ => answer(list, query),
     }
 }
@@ -186,22 +186,22 @@ pub fn first_wrong_answer<A: Allocator + Copy>(
 }
 
 /// Returns the queries of a position, or of that many bits.
-pub fn queries_at(place: usize) -> [Query; 15] {
+pub fn queries_at(position: usize) -> [Query; 15] {
     [
-        Query::Get(place),
-        Query::GetBits(place, 1),
-        Query::GetBits(place, 64),
-        Query::Rank0(place),
-        Query::Rank1(place),
-        Query::Select0(place),
-        Query::Select1(place),
-        Query::ZeroPairFirst(place),
-        Query::ZeroPairSecond(place),
-        Query::PairFirst(place),
-        Query::PairSecond(place),
-        Query::Successor0(place),
-        Query::Successor1(place),
-        Query::Predecessor0(place),
-        Query::Predecessor1(place),
+        Query::Get(position),
+        Query::GetBits(position, 1),
+        Query::GetBits(position, 64),
+        Query::Rank0(position),
+        Query::Rank1(position),
+        Query::Select0(position),
+        Query::Select1(position),
+        Query::ZeroPairFirst(position),
+        Query::ZeroPairSecond(position),
+        Query::PairFirst(position),
+        Query::PairSecond(position),
+        Query::Successor0(position),
+        Query::Successor1(position),
+        Query::Predecessor0(position),
+        Query::Predecessor1(position),
     ]
 }

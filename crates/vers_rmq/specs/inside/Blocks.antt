@@ -14,21 +14,21 @@ block_end n b = min (BLOCK * b + BLOCK) n
 abbrev pub no_masks : BlockMasks
 no_masks = record { whole = record { prefixes = 0; suffixes = 0 }; parts = record { prefixes = 0; suffixes = 0 } }
 
--- what is kept of block b: the place of its least item by the distance from its start, that item, and its masks
-pub record IsBlock (items : List ℕ) (b place least : ℕ) (masks : BlockMasks) : Type 0 where
+-- what is kept of block b: the position of its least item by the distance from its start, that item, and its masks
+pub record IsBlock (items : List ℕ) (b position least : ℕ) (masks : BlockMasks) : Type 0 where
   pub whole : AreMasks items BLOCK (BLOCK * b) (block_end (length items) b) masks.whole
   pub parts : AreMasks items PART (BLOCK * b) (block_end (length items) b) masks.parts
-  pub best : IsFirstLeast items (BLOCK * b) (block_end (length items) b - 1) (BLOCK * b + place)
-  pub value : least ≡ slice_index items (BLOCK * b + place)
+  pub best : IsFirstLeast items (BLOCK * b) (block_end (length items) b - 1) (BLOCK * b + position)
+  pub value : least ≡ slice_index items (BLOCK * b + position)
 
 -- what is kept of the first n blocks
-pub record AreBlocks (items : List ℕ) (n : ℕ) (minima places : List ℕ) (masks : List BlockMasks) : Type 0 where
+pub record AreBlocks (items : List ℕ) (n : ℕ) (minima positions : List ℕ) (masks : List BlockMasks) : Type 0 where
   pub minima_counted : length minima ≡ n
-  pub places_counted : length places ≡ n
+  pub positions_counted : length positions ≡ n
   pub masks_counted : length masks ≡ n
-  pub block : (b : ℕ) → b < n → IsBlock items b (slice_index places b) (slice_index minima b) (slice_index_or masks b no_masks)
+  pub block : (b : ℕ) → b < n → IsBlock items b (slice_index positions b) (slice_index minima b) (slice_index_or masks b no_masks)
 
 -- what is kept of all blocks
-pub record AreAllBlocks (items minima places : List ℕ) (masks : List BlockMasks) : Type 0 where
+pub record AreAllBlocks (items minima positions : List ℕ) (masks : List BlockMasks) : Type 0 where
   pub bounded : length items ≤ MAX_LEN
-  pub blocks : AreBlocks items (block_count BLOCK (length items)) minima places masks
+  pub blocks : AreBlocks items (block_count BLOCK (length items)) minima positions masks

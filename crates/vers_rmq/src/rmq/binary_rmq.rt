@@ -2,15 +2,15 @@
 ghost use Rattle.std.specs.Prelude.{◌≡◌, ◌+◌, ◌-◌, ◌^◌, ◌<◌, ◌≤◌, ◌↔◌, [], length, slice_index, IsTrue, IfOk, IfErr};
 ghost use Rattle.std.specs.Iterator.{Drains, IsFinite};
 ghost use Rattle.vers_tally.specs.Reads.{only_items, AddsAtMost};
-ghost use Rattle.vers_rmq.specs.Minima.{IsFirstLeast, least_place};
+ghost use Rattle.vers_rmq.specs.Minima.{IsFirstLeast, least_position};
 ghost use Rattle.vers_rmq.specs.Layout.{binary_heap_size};
-ghost use Rattle.vers_rmq.specs.Ranges.{start_place, end_place, IsRangeOf};
+ghost use Rattle.vers_rmq.specs.Ranges.{start_position, end_position, IsRangeOf};
 ghost use Rattle.vers_rmq.specs.Makers.{Refused};
 
 mod table;
 
-use crate::rmq::binary_rmq::table::{log2, places, width};
-use crate::rmq::bounds::{end_place, start_place};
+use crate::rmq::binary_rmq::table::{log2, positions, width};
+use crate::rmq::bounds::{end_position, start_position};
 use crate::rmq::gather::gathered;
 pub use crate::rmq::least::PlacedItem;
 use crate::rmq::least::{lesser_of, read_at};
@@ -69,7 +69,7 @@ impl<A: Allocator + Copy> BinaryRmq<A> {
         ensures { IfOk result (λ v. v ≡ items.items) }
     {
         let alloc = *items.allocator();
-        let table = places(items.as_slice(), alloc)?;
+        let table = positions(items.as_slice(), alloc)?;
         Ok(BinaryRmq {
             items: CountedItems::new(items),
             table,
@@ -144,24 +144,24 @@ impl<A: Allocator + Copy> BinaryRmq<A> {
         self.table[self.items.len() * k + i] as usize
     }
 
-    /// Returns the item at `place`. Precondition: `place` is below the length.
+    /// Returns the item at `position`. Precondition: `position` is below the length.
     #[inline]
-    pub fn item(&self, place: usize) -> u64
-        requires { place < length self.now }
-        ensures { result ≡ slice_index self.now place }
+    pub fn item(&self, position: usize) -> u64
+        requires { position < length self.now }
+        ensures { result ≡ slice_index self.now position }
     {
         let mut tally = Tally::new();
-        self.item_counted(place, &mut tally)
+        self.item_counted(position, &mut tally)
     }
 
-    /// Returns `item(place)`. Reads one item.
+    /// Returns `item(position)`. Reads one item.
     #[inline(always)]
-    pub fn item_counted(&self, place: usize, tally: &mut Tally) -> u64
-        requires { place < length self.now }
-        ensures value { result ≡ slice_index self.now place }
+    pub fn item_counted(&self, position: usize, tally: &mut Tally) -> u64
+        requires { position < length self.now }
+        ensures value { result ≡ slice_index self.now position }
         ensures adds { AddsAtMost tally.old tally.new (only_items 1) }
     {
-        self.items.read(place, tally)
+        self.items.read(position, tally)
     }
 
     /// Returns the first least item from position `i` to position `j`, both included, with its position.
@@ -170,9 +170,9 @@ impl<A: Allocator + Copy> BinaryRmq<A> {
     pub fn range_min_item(&self, i: usize, j: usize) -> PlacedItem
         requires order { i ≤ j }
         requires inside { j < length self.now }
-        ensures place { result.place ≡ least_place self.now i j }
-        ensures within { (i ≤ result.place) × (result.place ≤ j) }
-        ensures item { result.value ≡ slice_index self.now result.place }
+        ensures position { result.position ≡ least_position self.now i j }
+        ensures within { (i ≤ result.position) × (result.position ≤ j) }
+        ensures item { result.value ≡ slice_index self.now result.position }
     {
         let mut tally = Tally::new();
         self.range_min_item_counted(i, j, &mut tally)
@@ -183,9 +183,9 @@ impl<A: Allocator + Copy> BinaryRmq<A> {
     pub fn range_min_item_counted(&self, i: usize, j: usize, tally: &mut Tally) -> PlacedItem
         requires order { i ≤ j }
         requires inside { j < length self.now }
-        ensures place { result.place ≡ least_place self.now i j }
-        ensures within { (i ≤ result.place) × (result.place ≤ j) }
-        ensures item { result.value ≡ slice_index self.now result.place }
+        ensures position { result.position ≡ least_position self.now i j }
+        ensures within { (i ≤ result.position) × (result.position ≤ j) }
+        ensures item { result.value ≡ slice_index self.now result.position }
         ensures adds { AddsAtMost tally.old tally.new (only_items 2) }
     {
         let _ = &self.items;
@@ -200,11 +200,11 @@ impl<A: Allocator + Copy> BinaryRmq<A> {
     pub fn range_min_counted(&self, i: usize, j: usize, tally: &mut Tally) -> usize
         requires order { i ≤ j }
         requires inside { j < length self.now }
-        ensures value { result ≡ least_place self.now i j }
+        ensures value { result ≡ least_position self.now i j }
         ensures within { (i ≤ result) × (result ≤ j) }
         ensures adds { AddsAtMost tally.old tally.new (only_items 2) }
     {
-        self.range_min_item_counted(i, j, tally).place
+        self.range_min_item_counted(i, j, tally).position
     }
 
     /// Returns the first position of a least item from position `i` to position `j`, both included.
@@ -213,7 +213,7 @@ impl<A: Allocator + Copy> BinaryRmq<A> {
     pub fn range_min(&self, i: usize, j: usize) -> usize
         requires order { i ≤ j }
         requires inside { j < length self.now }
-        ensures value { result ≡ least_place self.now i j }
+        ensures value { result ≡ least_position self.now i j }
         ensures within { (i ≤ result) × (result ≤ j) }
     {
         let mut tally = Tally::new();
@@ -229,12 +229,12 @@ impl<A: Allocator + Copy> BinaryRmq<A> {
         tally: &mut Tally,
     ) -> usize
         requires { IsRangeOf start end (length self.now) }
-        ensures value { result ≡ least_place self.now
-            (start_place start (length self.now)) (end_place end (length self.now)) }
+        ensures value { result ≡ least_position self.now
+            (start_position start (length self.now)) (end_position end (length self.now)) }
         ensures adds { AddsAtMost tally.old tally.new (only_items 2) }
     {
         let n = self.len();
-        self.range_min_counted(start_place(start, n), end_place(end, n), tally)
+        self.range_min_counted(start_position(start, n), end_position(end, n), tally)
     }
 
     /// Returns the first position of a least item in a range whose ends are clamped to the positions of the
@@ -245,8 +245,8 @@ impl<A: Allocator + Copy> BinaryRmq<A> {
     #[inline]
     pub fn range_min_with_range(&self, start: Bound<usize>, end: Bound<usize>) -> usize
         requires { IsRangeOf start end (length self.now) }
-        ensures { result ≡ least_place self.now
-            (start_place start (length self.now)) (end_place end (length self.now)) }
+        ensures { result ≡ least_position self.now
+            (start_position start (length self.now)) (end_position end (length self.now)) }
     {
         let mut tally = Tally::new();
         self.range_min_with_range_counted(start, end, &mut tally)

@@ -2,17 +2,17 @@
 ghost use Rattle.std.specs.Prelude.{◌≡◌, ◌+◌, ◌-◌, ◌*◌, ◌/◌, ◌^◌, ◌<◌, ◌≤◌, ◌↔◌, [], ℕ, length, min, slice_index, IsTrue, IfOk, IfErr};
 ghost use Rattle.std.specs.Iterator.{Drains, IsFinite};
 ghost use Rattle.vers_tally.specs.Reads.{only_items, AddsAtMost};
-ghost use Rattle.vers_rmq.specs.Minima.{IsFirstLeast, least_place};
+ghost use Rattle.vers_rmq.specs.Minima.{IsFirstLeast, least_position};
 ghost use Rattle.vers_rmq.specs.inside.Candidates.{IsLeastItem};
 ghost use Rattle.vers_rmq.specs.Layout.{fast_heap_size};
-ghost use Rattle.vers_rmq.specs.Ranges.{start_place, end_place, IsRangeOf};
+ghost use Rattle.vers_rmq.specs.Ranges.{start_position, end_position, IsRangeOf};
 ghost use Rattle.vers_rmq.specs.Makers.{Refused};
 
 mod block;
 mod mask;
 
 use crate::rmq::binary_rmq::BinaryRmq;
-use crate::rmq::bounds::{end_place, start_place};
+use crate::rmq::bounds::{end_position, start_position};
 use crate::rmq::fast_rmq::block::{BlockMasks, Blocks, all_blocks};
 use crate::rmq::fast_rmq::mask::{first_set, last_set};
 use crate::rmq::gather::gathered;
@@ -47,7 +47,7 @@ pub const MAX_LEN: usize = 549755813760;
 pub struct FastRmq<A: Allocator + Copy> {
     items: CountedItems<A>,
     minima: BinaryRmq<A>,
-    places: Vec<u8, A>,
+    positions: Vec<u8, A>,
     masks: Vec<BlockMasks, A>,
 }
 
@@ -59,7 +59,7 @@ impl<A: Allocator + Copy> Model for FastRmq<A> {
 
     ghost view = { λ v. v.items };
 
-    ghost invariant = { λ v. AreAllBlocks v.items v.minima v.places.items v.masks.items };
+    ghost invariant = { λ v. AreAllBlocks v.items v.minima v.positions.items v.masks.items };
 }
 
 impl<A: Allocator + Copy> Clone for FastRmq<A> {
@@ -67,15 +67,15 @@ impl<A: Allocator + Copy> Clone for FastRmq<A> {
 
     /// Returns a copy of the items and the data of the blocks.
     fn clone(&self) -> Result<Self, AllocError> {
-        let alloc = *self.places.allocator();
+        let alloc = *self.positions.allocator();
         let items = Vec::from_slice(alloc, self.items.as_slice(Uncounted))?;
-        let places = Vec::from_slice(alloc, self.places.as_slice())?;
+        let positions = Vec::from_slice(alloc, self.positions.as_slice())?;
         let masks = Vec::from_slice(alloc, self.masks.as_slice())?;
         let minima = self.minima.clone()?;
         Ok(FastRmq {
             items: CountedItems::new(items),
             minima,
-            places,
+            positions,
             masks,
         })
     }
@@ -91,14 +91,14 @@ impl<A: Allocator + Copy> FastRmq<A> {
         let alloc = *items.allocator();
         let Blocks {
             minima,
-            places,
+            positions,
             masks,
         } = all_blocks(items.as_slice(), alloc)?;
         let minima = BinaryRmq::from_vec(minima)?;
         Ok(FastRmq {
             items: CountedItems::new(items),
             minima,
-            places,
+            positions,
             masks,
         })
     }
@@ -155,7 +155,7 @@ impl<A: Allocator + Copy> FastRmq<A> {
     /// Returns a copy of the allocator.
     #[inline]
     pub fn allocator(&self) -> A {
-        *self.places.allocator()
+        *self.positions.allocator()
     }
 
     /// Returns the number of bytes that the items and the data of the blocks take.
@@ -163,14 +163,14 @@ impl<A: Allocator + Copy> FastRmq<A> {
     pub fn heap_size(&self) -> usize
         ensures { result ≡ fast_heap_size (length self.now) }
     {
-        let kept = self.places.len() + 64 * self.masks.len();
+        let kept = self.positions.len() + 64 * self.masks.len();
         8 * self.items.len() + self.minima.heap_size() + kept
     }
 
     // Returns the first position of a least item from the start of the block of `j` to `j`.
     #[inline(always)]
-    #[tactic(auto, using(crate::proofs::Blocks::mask_places))]
-    fn prefix_place(&self, j: usize) -> usize
+    #[tactic(auto, using(crate::proofs::Blocks::mask_positions))]
+    fn prefix_position(&self, j: usize) -> usize
         requires { j < length self.now }
         ensures value { IsFirstLeast self.now (BLOCK * (j / BLOCK)) j result }
         ensures inside { result < length self.now }
@@ -180,8 +180,8 @@ impl<A: Allocator + Copy> FastRmq<A> {
 
     // Returns the first position of a least item from `i` to the end of its block.
     #[inline(always)]
-    #[tactic(auto, using(crate::proofs::Blocks::mask_places))]
-    fn suffix_place(&self, i: usize) -> usize
+    #[tactic(auto, using(crate::proofs::Blocks::mask_positions))]
+    fn suffix_position(&self, i: usize) -> usize
         requires { i < length self.now }
         ensures value { IsFirstLeast self.now i (min (BLOCK * (i / BLOCK) + BLOCK) (length self.now) - 1)
             result }
@@ -192,8 +192,8 @@ impl<A: Allocator + Copy> FastRmq<A> {
 
     // Returns the first position of a least item from the start of the part of `j` to `j`.
     #[inline(always)]
-    #[tactic(auto, using(crate::proofs::Blocks::mask_places))]
-    fn part_prefix_place(&self, j: usize) -> usize
+    #[tactic(auto, using(crate::proofs::Blocks::mask_positions))]
+    fn part_prefix_position(&self, j: usize) -> usize
         requires { j < length self.now }
         ensures value { IsFirstLeast self.now (PART * (j / PART)) j result }
         ensures inside { result < length self.now }
@@ -203,8 +203,8 @@ impl<A: Allocator + Copy> FastRmq<A> {
 
     // Returns the first position of a least item from `i` to the end of its part.
     #[inline(always)]
-    #[tactic(auto, using(crate::proofs::Blocks::mask_places))]
-    fn part_suffix_place(&self, i: usize) -> usize
+    #[tactic(auto, using(crate::proofs::Blocks::mask_positions))]
+    fn part_suffix_position(&self, i: usize) -> usize
         requires { i < length self.now }
         ensures value { IsFirstLeast self.now i (min (PART * (i / PART) + PART) (length self.now) - 1)
             result }
@@ -224,7 +224,7 @@ impl<A: Allocator + Copy> FastRmq<A> {
         let _ = self.items.len();
         let least = self.minima.range_min_item_counted(a, c, tally);
         PlacedItem {
-            place: BLOCK * least.place + self.places[least.place] as usize,
+            position: BLOCK * least.position + self.positions[least.position] as usize,
             value: least.value,
         }
     }
@@ -239,15 +239,15 @@ impl<A: Allocator + Copy> FastRmq<A> {
         ensures value { IsFirstLeast self.now i j result }
         ensures adds { AddsAtMost tally.old tally.new (only_items 16) }
     {
-        let last = self.part_prefix_place(j);
+        let last = self.part_prefix_position(j);
         if i <= last {
             return last;
         }
-        let first = self.part_suffix_place(i);
+        let first = self.part_suffix_position(i);
         if first <= j {
             return first;
         }
-        scan(&self.items, i, j, tally).place
+        scan(&self.items, i, j, tally).position
     }
 
     // Returns the first position of a least item of a range over parts of one block: by the masks of the block,
@@ -260,25 +260,25 @@ impl<A: Allocator + Copy> FastRmq<A> {
         ensures value { IsFirstLeast self.now i j result }
         ensures adds { AddsAtMost tally.old tally.new (only_items 8) }
     {
-        let last = self.prefix_place(j);
+        let last = self.prefix_position(j);
         if i <= last {
             return last;
         }
-        let first = self.suffix_place(i);
+        let first = self.suffix_position(i);
         if first <= j {
             return first;
         }
-        let mut least = read_at(&self.items, self.part_suffix_place(i), tally);
+        let mut least = read_at(&self.items, self.part_suffix_position(i), tally);
         for part in i / PART + 1..j / PART {
             let here = read_at(
                 &self.items,
-                self.part_prefix_place(PART * part + (PART - 1)),
+                self.part_prefix_position(PART * part + (PART - 1)),
                 tally,
             );
             least = lesser_of(least, here);
         }
-        let here = read_at(&self.items, self.part_prefix_place(j), tally);
-        lesser_of(least, here).place
+        let here = read_at(&self.items, self.part_prefix_position(j), tally);
+        lesser_of(least, here).position
     }
 
     // Returns the least item of block `b`. Reads one item.
@@ -306,7 +306,7 @@ impl<A: Allocator + Copy> FastRmq<A> {
         if after.value < least {
             return after;
         }
-        lesser_of(read_at(&self.items, self.suffix_place(i), tally), after)
+        lesser_of(read_at(&self.items, self.suffix_position(i), tally), after)
     }
 
     // Returns the first least item up to `j`, if `before` is that up to the end of the previous block. Reads no
@@ -323,7 +323,7 @@ impl<A: Allocator + Copy> FastRmq<A> {
         if before.value <= least {
             return before;
         }
-        lesser_of(before, read_at(&self.items, self.prefix_place(j), tally))
+        lesser_of(before, read_at(&self.items, self.prefix_position(j), tally))
     }
 
     // Returns the first position of a least item of a range over blocks, by the least items of whole blocks,
@@ -336,13 +336,13 @@ impl<A: Allocator + Copy> FastRmq<A> {
         ensures adds { AddsAtMost tally.old tally.new (only_items 6) }
     {
         if i / BLOCK + 1 == j / BLOCK {
-            let first = read_at(&self.items, self.suffix_place(i), tally);
-            let last = read_at(&self.items, self.prefix_place(j), tally);
-            return lesser_of(first, last).place;
+            let first = read_at(&self.items, self.suffix_position(i), tally);
+            let last = read_at(&self.items, self.prefix_position(j), tally);
+            return lesser_of(first, last).position;
         }
         let middle = self.between(i / BLOCK + 1, j / BLOCK - 1, tally);
         let from = self.least_from(i, middle, tally);
-        self.least_up_to(from, j, tally).place
+        self.least_up_to(from, j, tally).position
     }
 
     /// Returns `range_min(i, j)`. Reads at most 18 items: at most 6 over more than one block, 8 over parts of
@@ -351,7 +351,7 @@ impl<A: Allocator + Copy> FastRmq<A> {
     pub fn range_min_counted(&self, i: usize, j: usize, tally: &mut Tally) -> usize
         requires order { i ≤ j }
         requires inside { j < length self.now }
-        ensures value { result ≡ least_place self.now i j }
+        ensures value { result ≡ least_position self.now i j }
         ensures within { (i ≤ result) × (result ≤ j) }
         ensures adds { AddsAtMost tally.old tally.new (only_items 18) }
     {
@@ -370,7 +370,7 @@ impl<A: Allocator + Copy> FastRmq<A> {
     pub fn range_min(&self, i: usize, j: usize) -> usize
         requires order { i ≤ j }
         requires inside { j < length self.now }
-        ensures value { result ≡ least_place self.now i j }
+        ensures value { result ≡ least_position self.now i j }
         ensures within { (i ≤ result) × (result ≤ j) }
     {
         let mut tally = Tally::new();
@@ -386,12 +386,12 @@ impl<A: Allocator + Copy> FastRmq<A> {
         tally: &mut Tally,
     ) -> usize
         requires { IsRangeOf start end (length self.now) }
-        ensures value { result ≡ least_place self.now
-            (start_place start (length self.now)) (end_place end (length self.now)) }
+        ensures value { result ≡ least_position self.now
+            (start_position start (length self.now)) (end_position end (length self.now)) }
         ensures adds { AddsAtMost tally.old tally.new (only_items 18) }
     {
         let n = self.len();
-        self.range_min_counted(start_place(start, n), end_place(end, n), tally)
+        self.range_min_counted(start_position(start, n), end_position(end, n), tally)
     }
 
     /// Returns the first position of a least item in a range whose ends are clamped to the positions of the
@@ -402,8 +402,8 @@ impl<A: Allocator + Copy> FastRmq<A> {
     #[inline]
     pub fn range_min_with_range(&self, start: Bound<usize>, end: Bound<usize>) -> usize
         requires { IsRangeOf start end (length self.now) }
-        ensures { result ≡ least_place self.now
-            (start_place start (length self.now)) (end_place end (length self.now)) }
+        ensures { result ≡ least_position self.now
+            (start_position start (length self.now)) (end_position end (length self.now)) }
     {
         let mut tally = Tally::new();
         self.range_min_with_range_counted(start, end, &mut tally)

@@ -11,7 +11,7 @@ use vers_tally::tally::{CountedItems, Tally};
 #[derive(Clone, Copy, Drop)]
 pub struct PlacedItem {
     /// The position.
-    pub place: usize,
+    pub position: usize,
     /// The item.
     pub value: u64,
 }
@@ -29,38 +29,38 @@ pub(super) fn lesser_of(first: PlacedItem, second: PlacedItem) -> PlacedItem
 }
 
 // Returns the one of two positions that has the lesser item, the first if they are equal.
-#[tactic(auto, using(crate::proofs::Minima::lesser_inside, crate::proofs::Minima::chosen_place))]
-pub(super) fn lesser_place(items: &[u64], m: usize, n: usize) -> usize
+#[tactic(auto, using(crate::proofs::Minima::lesser_inside, crate::proofs::Minima::chosen_position))]
+pub(super) fn lesser_position(items: &[u64], m: usize, n: usize) -> usize
     requires first { m < length items.now }
     requires second { n < length items.now }
     ensures value { result ≡ lesser items.now m n }
     ensures inside { result < length items.now }
 {
     let first = PlacedItem {
-        place: m,
+        position: m,
         value: items[m],
     };
     let second = PlacedItem {
-        place: n,
+        position: n,
         value: items[n],
     };
-    lesser_of(first, second).place
+    lesser_of(first, second).position
 }
 
 // Returns the item at a position. Reads one item.
 #[inline(always)]
 pub(super) fn read_at<A: Allocator + Copy>(
     items: &CountedItems<A>,
-    place: usize,
+    position: usize,
     tally: &mut Tally,
 ) -> PlacedItem
-    requires { place < length items.now }
-    ensures at { result.place ≡ place }
-    ensures item { result.value ≡ slice_index items.now place }
+    requires { position < length items.now }
+    ensures at { result.position ≡ position }
+    ensures item { result.value ≡ slice_index items.now position }
     ensures adds { AddsAtMost tally.old tally.new (only_items 1) }
 {
-    let value = items.read(place, tally);
-    PlacedItem { place, value }
+    let value = items.read(position, tally);
+    PlacedItem { position, value }
 }
 
 // Returns the first least item from `i` to `j`. Reads each of them once.

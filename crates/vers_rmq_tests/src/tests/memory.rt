@@ -24,13 +24,13 @@ fn items_of<A: Allocator + Copy>(alloc: A, n: usize) -> Result<Vec<u64, A>, Allo
 // Returns true if a list has these items, and answers the first least one of each range from the start.
 fn is_of<R: RangeMinima>(minima: &R, items: &[u64]) -> bool {
     let mut lowest = u64::MAX;
-    let mut place = 0usize;
+    let mut position = 0usize;
     for (k, item) in items.iter().enumerate() {
         if *item < lowest {
             lowest = *item;
-            place = k;
+            position = k;
         }
-        if least(minima, 0, k) != Some(place) {
+        if least(minima, 0, k) != Some(position) {
             return false;
         }
     }

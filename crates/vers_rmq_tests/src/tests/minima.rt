@@ -1,7 +1,7 @@
 //! Lists with range minima, and their queries.
 ghost use Rattle.std.specs.Prelude.{◌≡◌, ℕ, ◌^◌, ◌<◌, ◌≤◌, IsTrue, length};
 ghost use Rattle.std.specs.Range.Bound.{start_index, end_index};
-ghost use Rattle.vers_rmq.specs.Ranges.{start_place, end_place};
+ghost use Rattle.vers_rmq.specs.Ranges.{start_position, end_position};
 
 use std::alloc::{AllocError, Allocator};
 use std::ops::Bound;
@@ -27,28 +27,33 @@ pub trait RangeMinima: Clone + Drop {
     fn bytes(&self) -> usize;
 
     // The query and its counted form, and both with ends.
-    fn place(&self, i: usize, j: usize) -> usize
+    fn position(&self, i: usize, j: usize) -> usize
         requires order { i ≤ j }
         requires inside { j < item_count self.now };
 
-    fn place_counted(&self, i: usize, j: usize, tally: &mut Tally) -> usize
+    fn position_counted(&self, i: usize, j: usize, tally: &mut Tally) -> usize
         requires order { i ≤ j }
         requires inside { j < item_count self.now };
 
-    fn place_in(&self, start: Bound<usize>, end: Bound<usize>) -> usize
+    fn position_in(&self, start: Bound<usize>, end: Bound<usize>) -> usize
         requires some { 0 < item_count self.now }
         requires start { start_index start < 2 ^ 64 }
         requires end { 0 < end_index end (item_count self.now) }
-        requires order { start_place start (item_count self.now) ≤ end_place end (item_count self.now) };
+        requires order { start_position start (item_count self.now) ≤ end_position end (item_count self.now) };
 
-    fn place_in_counted(&self, start: Bound<usize>, end: Bound<usize>, tally: &mut Tally) -> usize
+    fn position_in_counted(
+        &self,
+        start: Bound<usize>,
+        end: Bound<usize>,
+        tally: &mut Tally,
+    ) -> usize
         requires some { 0 < item_count self.now }
         requires start { start_index start < 2 ^ 64 }
         requires end { 0 < end_index end (item_count self.now) }
-        requires order { start_place start (item_count self.now) ≤ end_place end (item_count self.now) };
+        requires order { start_position start (item_count self.now) ≤ end_position end (item_count self.now) };
 
     // Returns true if the functions that only this type has agree that the first least item is at a position.
-    fn agrees(&self, i: usize, j: usize, place: usize) -> bool
+    fn agrees(&self, i: usize, j: usize, position: usize) -> bool
         requires order { i ≤ j }
         requires inside { j < item_count self.now };
 }
@@ -74,10 +79,10 @@ pub fn least<R: RangeMinima>(minima: &R, i: usize, j: usize) -> Option<usize> {
         return None;
     }
     let mut tally = Tally::new();
-    let place = minima.place_counted(i, j, &mut tally);
+    let position = minima.position_counted(i, j, &mut tally);
     let is_few = tally.items() <= R::MOST_READS;
-    if is_few && minima.place(i, j) == place && minima.agrees(i, j, place) {
-        Some(place)
+    if is_few && minima.position(i, j) == position && minima.agrees(i, j, position) {
+        Some(position)
     } else {
         None
     }
@@ -93,9 +98,9 @@ pub fn least_in<R: RangeMinima>(
         return None;
     }
     let mut tally = Tally::new();
-    let place = minima.place_in_counted(start, end, &mut tally);
-    if tally.items() <= R::MOST_READS && minima.place_in(start, end) == place {
-        Some(place)
+    let position = minima.position_in_counted(start, end, &mut tally);
+    if tally.items() <= R::MOST_READS && minima.position_in(start, end) == position {
+        Some(position)
     } else {
         None
     }
@@ -106,28 +111,28 @@ fn may_ask(start: Bound<usize>, end: Bound<usize>, n: usize) -> bool
     ensures some { IsTrue result → 0 < n }
     ensures start { IsTrue result → start_index start < 2 ^ 64 }
     ensures end { IsTrue result → 0 < end_index end n }
-    ensures order { IsTrue result → start_place start n ≤ end_place end n }
+    ensures order { IsTrue result → start_position start n ≤ end_position end n }
 {
     if n == 0 {
         return false;
     }
     let first = match start {
-        Bound::Included(place) => place,
-        Bound::Excluded(place) => {
-            if place == usize::MAX {
+        Bound::Included(position) => position,
+        Bound::Excluded(position) => {
+            if position == usize::MAX {
                 return false;
             }
-            place + 1
+            position + 1
         }
         Bound::Unbounded => 0,
     };
     let last = match end {
-        Bound::Included(place) => place,
-        Bound::Excluded(place) => {
-            if place == 0 {
+        Bound::Included(position) => position,
+        Bound::Excluded(position) => {
+            if position == 0 {
                 return false;
             }
-            place - 1
+            position - 1
         }
         Bound::Unbounded => n - 1,
     };
@@ -174,33 +179,38 @@ impl<A: Allocator + Copy> RangeMinima for BinaryRmq<A> {
         self.heap_size()
     }
 
-    fn place(&self, i: usize, j: usize) -> usize {
+    fn position(&self, i: usize, j: usize) -> usize {
         self.range_min(i, j)
     }
 
-    fn place_counted(&self, i: usize, j: usize, tally: &mut Tally) -> usize {
+    fn position_counted(&self, i: usize, j: usize, tally: &mut Tally) -> usize {
         self.range_min_counted(i, j, tally)
     }
 
-    fn place_in(&self, start: Bound<usize>, end: Bound<usize>) -> usize {
+    fn position_in(&self, start: Bound<usize>, end: Bound<usize>) -> usize {
         self.range_min_with_range(start, end)
     }
 
-    fn place_in_counted(&self, start: Bound<usize>, end: Bound<usize>, tally: &mut Tally) -> usize {
+    fn position_in_counted(
+        &self,
+        start: Bound<usize>,
+        end: Bound<usize>,
+        tally: &mut Tally,
+    ) -> usize {
         self.range_min_with_range_counted(start, end, tally)
     }
 
-    fn agrees(&self, i: usize, j: usize, place: usize) -> bool {
-        if place >= self.len() {
+    fn agrees(&self, i: usize, j: usize, position: usize) -> bool {
+        if position >= self.len() {
             return false;
         }
         let mut tally = Tally::new();
         let least = self.range_min_item(i, j);
         let counted = self.range_min_item_counted(i, j, &mut tally);
-        least.place == place
-            && counted.place == place
-            && least.value == self.item(place)
-            && counted.value == self.item_counted(place, &mut tally)
+        least.position == position
+            && counted.position == position
+            && least.value == self.item(position)
+            && counted.value == self.item_counted(position, &mut tally)
             && tally.items() <= 3
     }
 }
@@ -245,19 +255,24 @@ impl<A: Allocator + Copy> RangeMinima for FastRmq<A> {
         self.heap_size()
     }
 
-    fn place(&self, i: usize, j: usize) -> usize {
+    fn position(&self, i: usize, j: usize) -> usize {
         self.range_min(i, j)
     }
 
-    fn place_counted(&self, i: usize, j: usize, tally: &mut Tally) -> usize {
+    fn position_counted(&self, i: usize, j: usize, tally: &mut Tally) -> usize {
         self.range_min_counted(i, j, tally)
     }
 
-    fn place_in(&self, start: Bound<usize>, end: Bound<usize>) -> usize {
+    fn position_in(&self, start: Bound<usize>, end: Bound<usize>) -> usize {
         self.range_min_with_range(start, end)
     }
 
-    fn place_in_counted(&self, start: Bound<usize>, end: Bound<usize>, tally: &mut Tally) -> usize {
+    fn position_in_counted(
+        &self,
+        start: Bound<usize>,
+        end: Bound<usize>,
+        tally: &mut Tally,
+    ) -> usize {
         self.range_min_with_range_counted(start, end, tally)
     }
 

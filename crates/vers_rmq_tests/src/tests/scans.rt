@@ -67,16 +67,16 @@ fn items_of<A: Allocator + Copy>(
 
 // Returns the first position of a least item from `i` to `j`, by a plain scan; `None` if there is no such range.
 fn scanned(items: &[u64], i: usize, j: usize) -> Option<usize> {
-    let mut place = i;
+    let mut position = i;
     let mut least = *items.get(i)?;
     for k in i..j.saturating_add(1) {
         let here = *items.get(k)?;
         if here < least {
-            place = k;
+            position = k;
             least = here;
         }
     }
-    Some(place)
+    Some(position)
 }
 
 // Returns true if a range has the scan's answer, which is the one that is known.

@@ -6,18 +6,18 @@ use Rattle.std.proofs.lemmas.Nat.{pow_pos}
 use Rattle.std.proofs.lemmas.List.Elements.{All-get_or}
 use Rattle.std.proofs.lemmas.List.{same_from_push, take_at, drop_at, get_or_past}
 use Rattle.std.specs.Prelude.{⊤, map, flat_map, All}
-use Rattle.vers_bits.specs.Bits.{count, is_bit, number, low_bits, pack, limb_count, limbs, places, select}
-use Rattle.vers_bits.proofs.PublicLaws.{any_default, equal_limbs, select_up, length-limbs, length-places, length-packed, length-low_bits, number-low_bits}
+use Rattle.vers_bits.specs.Bits.{count, is_bit, number, low_bits, pack, limb_count, limbs, positions, select}
+use Rattle.vers_bits.proofs.PublicLaws.{any_default, equal_limbs, select_up, length-limbs, length-positions, length-packed, length-low_bits, number-low_bits}
 use Rattle.vers_sorted.specs.Ones.{ones_at}
 use Rattle.std.specs.List.Sorted.{IsNonDecreasing}
 use Rattle.vers_sorted.specs.Layout.{first_of, last_of, low_count, high_count, low_parts, high_parts}
-use Rattle.vers_sorted.proofs.PublicLaws.{counted_parts, ones_at-places, parts_tell}
+use Rattle.vers_sorted.proofs.PublicLaws.{counted_parts, ones_at-positions, parts_tell}
 use Rattle.vers_wavelet.specs.Symbols.{Symbols}
 use Rattle.postings.specs.Posted.{Posted, ArePaired}
 use Rattle.vers_wavelet.specs.Makers.{symbol_levels}
 use Rattle.vers_wavelet.proofs.PublicLaws.{levels_even}
 use Rattle.vers_wavelet.proofs.PublicLaws as Wavelet
-use Rattle.vers_saved.specs.Format.{level_words, place_words, posting_words, sorted_words, sparse_words}
+use Rattle.vers_saved.specs.Format.{level_words, position_words, posting_words, sorted_words, sparse_words}
 
 -- a kind with no later version
 pub no_first : {P : Type 0} → false ≡ true → P
@@ -67,30 +67,30 @@ same_bits : (x : List Bool) → map (is_bit true) x ≡ x
 same_bits [] = refl
 same_bits (b ∷ x) = ap (λ l. b ∷ l) (same_bits x)
 
--- lists of bits with the same length and places of the ones
-places_are : (x y : List Bool) → places true x ≡ places true y → length x ≡ length y → x ≡ y
-places_are x y ones long =
-    sym (ones_at-places true x ∙ same_bits x) ∙ ap (λ l. ones_at l (length x)) ones ∙ ap (ones_at (places true y)) long ∙ ones_at-places true y ∙ same_bits y
+-- lists of bits with the same length and positions of the ones
+positions_are : (x y : List Bool) → positions true x ≡ positions true y → length x ≡ length y → x ≡ y
+positions_are x y ones long =
+    sym (ones_at-positions true x ∙ same_bits x) ∙ ap (λ l. ones_at l (length x)) ones ∙ ap (ones_at (positions true y)) long ∙ ones_at-positions true y ∙ same_bits y
 
--- the places of the ones ascend
-pub places_up : (x : List Bool) → IsNonDecreasing (places true x)
+-- the positions of the ones ascend
+pub positions_up : (x : List Bool) → IsNonDecreasing (positions true x)
 unfolding select
-places_up x i j d from h = elim (cases_lt i j) [
+positions_up x i j d from h = elim (cases_lt i j) [
   | inl less ↦
-      let few : j < count true x (length x) = omega (arith, length-places true x) in
-      omega (arith, select_up true x i j less few, any_default (places true x) i (length x) d (omega arith), any_default (places true x) j (length x) d h)
+      let few : j < count true x (length x) = omega (arith, length-positions true x) in
+      omega (arith, select_up true x i j less few, any_default (positions true x) i (length x) d (omega arith), any_default (positions true x) j (length x) d h)
   | inr past ↦ let same : i ≡ j = omega arith in rw same (omega arith)
 ]
 
--- lists of bits with few ones, by the length and the words of the places
+-- lists of bits with few ones, by the length and the words of the positions
 pub sparse_tell : (x y : List Bool) → ⊤ → ⊤ → length (sparse_words x) ≡ length (sparse_words y) → ◌≡◌ {A = ℕ} 64 64 → sparse_words x ≡ sparse_words y → x ≡ y
 sparse_tell x y t u long one same =
-    let rest : sorted_words (places true x) ≡ sorted_words (places true y) = ap (drop 1) same in
-    places_are x y (sorted_tell (places true x) (places true y) (places_up x) (places_up y) (ap length rest) one rest) (ap (λ l. get_or l 0 0) same)
+    let rest : sorted_words (positions true x) ≡ sorted_words (positions true y) = ap (drop 1) same in
+    positions_are x y (sorted_tell (positions true x) (positions true y) (positions_up x) (positions_up y) (ap length rest) one rest) (ap (λ l. get_or l 0 0) same)
 
--- and by the places and then the length
-pub places_tell : true ≡ true → (x y : List Bool) → ⊤ → ⊤ → length (place_words x) ≡ length (place_words y) → ◌≡◌ {A = ℕ} 64 64 → place_words x ≡ place_words y → x ≡ y
-places_tell later x y t u long one same = let p = same_from_push (places true x) (places true y) (length x) (length y) same in places_are x y p.0 p.1
+-- and by the positions and then the length
+pub positions_tell : true ≡ true → (x y : List Bool) → ⊤ → ⊤ → length (position_words x) ≡ length (position_words y) → ◌≡◌ {A = ℕ} 64 64 → position_words x ≡ position_words y → x ≡ y
+positions_tell later x y t u long one same = let p = same_from_push (positions true x) (positions true y) (length x) (length y) same in positions_are x y p.0 p.1
 
 -- lists of n bits each with the same limbs, one list after another
 rows_tell : (n : ℕ) (ls ms : List (List Bool)) → All (λ l. length l ≡ n) ls → All (λ l. length l ≡ n) ms → length ls ≡ length ms → flat_map limbs ls ≡ flat_map limbs ms → ls ≡ ms

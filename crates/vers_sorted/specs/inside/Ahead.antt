@@ -4,12 +4,12 @@ use Rattle.vers_bits.specs.Bits.{number, count}
 use Rattle.vers_sorted.specs.declared.elias_fano.ahead.Ahead.{Ahead}
 use Rattle.vers_sorted.specs.Layout.{high_parts}
 
--- the ones of the high parts before the place are those of the first i members, and the word is the number of the bits from there on
+-- the ones of the high parts before the position are those of the first i members, and the word is the number of the bits from there on
 pub record HasRead (s : List ℕ) (i : ℕ) (ahead : Ahead) : Type 0 where
-  pub before : count true (high_parts s) ahead.place ≡ i
-  pub within : ahead.place + ahead.len ≤ length (high_parts s)
+  pub before : count true (high_parts s) ahead.position ≡ i
+  pub within : ahead.position + ahead.len ≤ length (high_parts s)
   pub few : ahead.len ≤ 64
-  pub bits : ahead.word ≡ number (take ahead.len (drop ahead.place (high_parts s)))
+  pub bits : ahead.word ≡ number (take ahead.len (drop ahead.position (high_parts s)))
 
 -- where a one was read ahead, it is that of member i
 abbrev pub IsAhead : List ℕ → ℕ → Ahead → Type 0

@@ -12,7 +12,7 @@ pub record IsBucket (s : List ℕ) (v : ℕ) (bucket : Bucket) : Type 0 where
   pub start : IsStart s (high_of s v) bucket.start
   pub end : IsStart s (high_of s v + 1) bucket.end
 
--- the members below v end between these places of the bucket
+-- the members below v end between these positions of the bucket
 pub record IsBetween (s : List ℕ) (v : ℕ) (bucket : Bucket) (between : Between) : Type 0 where
   pub start_from : bucket.start ≤ between.from
   pub from_below : between.from ≤ below s v

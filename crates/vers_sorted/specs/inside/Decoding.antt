@@ -6,13 +6,13 @@ use Rattle.vers_sorted.specs.declared.elias_fano.parts.Bits.{Bits}
 use Rattle.vers_sorted.specs.declared.elias_fano.parts.Walk.{Walk}
 
 -- the position of the first bit that was read ahead
-abbrev pub place_ahead : Bits → ℕ
-place_ahead ahead = 64 * ahead.limbs - ahead.len
+abbrev pub position_ahead : Bits → ℕ
+position_ahead ahead = 64 * ahead.limbs - ahead.len
 
 -- bits that were read ahead are those from their position on
 pub record AreReadAhead (bits : List Bool) (ahead : Bits) : Type 0 where
   pub few : ahead.len ≤ 64 * ahead.limbs
-  pub read : ahead.word ≡ number (part bits (place_ahead ahead) ahead.len)
+  pub read : ahead.word ≡ number (part bits (position_ahead ahead) ahead.len)
 
 -- the low part of member i
 abbrev pub low_at : List Bool → ℕ → ℕ → ℕ
@@ -23,9 +23,9 @@ abbrev pub above : List Bool → List Bool → ℕ → ℕ → ℕ
 above high low width i = 2 ^ width * (select true high i - i - 1) + number (part low (width * i) width)
 
 -- the one of member i has i + 1 bits or more before it, and no high part above that of the span
-pub record IsNear (span width i place : ℕ) : Type 0 where
-  pub zero : i + 1 ≤ place
-  pub few : place - i - 1 ≤ span / 2 ^ width
+pub record IsNear (span width i position : ℕ) : Type 0 where
+  pub zero : i + 1 ≤ position
+  pub few : position - i - 1 ≤ span / 2 ^ width
 
 -- member 0 is the first one, and each other follows the one before it
 abbrev pub follows : Bool → ℕ → ℕ → ℕ → Bool
@@ -42,8 +42,8 @@ pub record AreDecodable (rising : Bool) (high low : List Bool) (span width n : �
   pub end : above high low width (n - 1) ≡ span
 
 -- the position of the one before that of member i, 0 if there is none
-abbrev pub place_before : List Bool → ℕ → ℕ
-place_before high i = if i == 0 then 0 else select true high (i - 1)
+abbrev pub position_before : List Bool → ℕ → ℕ
+position_before high i = if i == 0 then 0 else select true high (i - 1)
 
 -- the least low part that member i may have if its one is at the next position
 abbrev pub least_low : Bool → List Bool → ℕ → ℕ → ℕ
@@ -51,12 +51,12 @@ least_low rising low width i = if i == 0 then 0 else low_at low width (i - 1) + 
 
 -- the one of member i is past the one before, and past a zero too if its low part is less than the least one
 abbrev pub StepsUp : Bool → List Bool → List Bool → ℕ → ℕ → Type 0
-StepsUp rising high low width i = place_before high i + bit_value (nat_lt (low_at low width i) (least_low rising low width i)) < select true high i
+StepsUp rising high low width i = position_before high i + bit_value (nat_lt (low_at low width i) (least_low rising low width i)) < select true high i
 
 -- a walk has read i members, each of which steps up
 pub record HasRead (rising : Bool) (high low : List Bool) (width i : ℕ) (walk : Walk) : Type 0 where
-  pub place : walk.place ≡ place_before high i
+  pub position : walk.position ≡ position_before high i
   pub least : walk.least ≡ least_low rising low width i
-  pub part : place_ahead walk.lows ≡ width * i
+  pub part : position_ahead walk.lows ≡ width * i
   pub ahead : AreReadAhead low walk.lows
   pub each : (j : ℕ) → j < i → StepsUp rising high low width j

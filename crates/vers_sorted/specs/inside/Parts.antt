@@ -5,14 +5,14 @@ use Rattle.std.specs.List.Sorted.{IsNonDecreasing}
 use Rattle.vers_bits.specs.Bits.{number, count, select, pack}
 use Rattle.vers_tally.specs.Reads.{Reads, no_reads, digits}
 use Rattle.vers_rank.specs.Queries.{superblock_count}
-use Rattle.vers_sorted.specs.Layout.{first_of, last_of, low_width, high_of, low_of, high_length, high_place, high_parts}
+use Rattle.vers_sorted.specs.Layout.{first_of, last_of, low_width, high_of, low_of, high_length, high_position, high_parts}
 use Rattle.vers_sorted.specs.Ones.{ones_at}
 
 -- what the high parts of s say: a one for each member
 pub record HoldHigh (s : List ℕ) (high : List Bool) : Type 0 where
   pub ones : count true high (length high) ≡ length s
   pub total : length high ≡ high_length s
-  pub place : (i : ℕ) → i < length s → select true high i ≡ high_of s (slice_index s i) + i + 1
+  pub position : (i : ℕ) → i < length s → select true high i ≡ high_of s (slice_index s i) + i + 1
 
 -- what the low parts of s say
 pub record HoldLow (s : List ℕ) (low : List Bool) : Type 0 where
@@ -21,7 +21,7 @@ pub record HoldLow (s : List ℕ) (low : List Bool) : Type 0 where
 
 -- the high parts before any but the first i members have their ones
 unfoldable pub first_high_parts : List ℕ → ℕ → List Bool
-first_high_parts s i = ones_at (map (high_place s) (range_with_len 0 i)) (high_length s)
+first_high_parts s i = ones_at (map (high_position s) (range_with_len 0 i)) (high_length s)
 
 -- the low parts of the first i members
 unfoldable pub first_low_parts : List ℕ → ℕ → List Bool

@@ -2,17 +2,17 @@
 ghost use Rattle.std.specs.Prelude.{◌≡◌, ◌+◌, ◌<◌, length, slice_index};
 ghost use Rattle.vers_tally.specs.Reads.{AddsAtMost};
 ghost use Rattle.vers_sorted.specs.inside.Ahead.{HasRead, IsAhead};
-ghost use Rattle.vers_sorted.specs.Layout.{high_length, high_place};
+ghost use Rattle.vers_sorted.specs.Layout.{high_length, high_position};
 ghost use Rattle.vers_sorted.specs.inside.Parts.{reads};
 
 use super::EliasFanoVec;
 use std::alloc::Allocator;
 use vers_tally::tally::Tally;
 
-// Bits of the high parts: `len` of them from `place` on, as a number. No ones if nothing was read.
+// Bits of the high parts: `len` of them from `position` on, as a number. No ones if nothing was read.
 #[derive(Clone, Copy, Drop)]
 pub(super) struct Ahead {
-    pub(super) place: usize,
+    pub(super) position: usize,
     pub(super) len: usize,
     pub(super) word: u64,
 }
@@ -21,10 +21,10 @@ impl Ahead {
     // Returns an empty read-ahead.
     #[inline]
     pub(super) fn none() -> Ahead
-        ensures { result ≡ record { place = 0; len = 0; word = 0 } }
+        ensures { result ≡ record { position = 0; len = 0; word = 0 } }
     {
         Ahead {
-            place: 0,
+            position: 0,
             len: 0,
             word: 0,
         }
@@ -35,45 +35,45 @@ impl<A: Allocator + Copy> EliasFanoVec<A> {
     // Returns the position of the one of a member, which mostly was read ahead with those before it.
     #[inline(always)]
     #[tactic(auto, using(crate::proofs::Aheads::steps))]
-    pub(super) fn place_ahead(&self, i: usize, ahead: &mut Ahead, tally: &mut Tally) -> usize
+    pub(super) fn position_ahead(&self, i: usize, ahead: &mut Ahead, tally: &mut Tally) -> usize
         requires within { i < length self.now }
         requires ahead { IsAhead self.now i ahead.old }
-        ensures value { result ≡ high_place self.now i }
+        ensures value { result ≡ high_position self.now i }
         ensures ahead { IsAhead self.now (i + 1) ahead.new }
         ensures adds { AddsAtMost tally.old tally.new (reads 0 2 (high_length self.now)) }
     {
         let bits = self.high.len();
         if ahead.word != 0 {
-            return self.place_read(i, ahead);
+            return self.position_read(i, ahead);
         }
-        let place = self.high.select1_counted(i, tally);
-        let len = (bits - place - 1).min(64);
-        ahead.place = place + 1;
+        let position = self.high.select1_counted(i, tally);
+        let len = (bits - position - 1).min(64);
+        ahead.position = position + 1;
         ahead.len = len;
         ahead.word = self
             .high
-            .get_bits_counted(place + 1, len, tally)
+            .get_bits_counted(position + 1, len, tally)
             .unwrap_or(0);
-        place
+        position
     }
 
     // Returns the position of the one of a member, which was read ahead.
     #[inline(always)]
     #[tactic(auto, using(crate::proofs::Aheads::steps))]
-    pub(super) fn place_read(&self, i: usize, ahead: &mut Ahead) -> usize
+    pub(super) fn position_read(&self, i: usize, ahead: &mut Ahead) -> usize
         requires some { 0 < ahead.old.word }
         requires read { HasRead self.now i ahead.old }
         ensures within { i < length self.now }
-        ensures value { result ≡ high_place self.now i }
+        ensures value { result ≡ high_position self.now i }
         ensures read { HasRead self.now (i + 1) ahead.new }
         ensures fewer { ahead.new.len < ahead.old.len }
     {
         let _ = self.high.len();
         let skip = ahead.word.trailing_zeros() as usize;
         ahead.word = (ahead.word >> skip) >> 1;
-        ahead.place += skip + 1;
+        ahead.position += skip + 1;
         ahead.len -= skip + 1;
-        ahead.place - 1
+        ahead.position - 1
     }
 
     // Returns a member, by the position of its one.
@@ -85,7 +85,7 @@ impl<A: Allocator + Copy> EliasFanoVec<A> {
         ensures ahead { IsAhead self.now (i + 1) ahead.new }
         ensures adds { AddsAtMost tally.old tally.new (reads 1 2 (high_length self.now)) }
     {
-        let high = (self.place_ahead(i, ahead, tally) - i - 1) as u64;
+        let high = (self.position_ahead(i, ahead, tally) - i - 1) as u64;
         self.with_low_part(high, i, tally)
     }
 }

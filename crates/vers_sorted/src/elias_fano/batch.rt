@@ -4,7 +4,7 @@ ghost use Rattle.std.specs.List.Sorted.{IsNonDecreasing};
 ghost use Rattle.vers_tally.specs.Reads.{digits, only_low_parts, times, AddsAtMost};
 ghost use Rattle.vers_rank.specs.Batches.{Changed};
 ghost use Rattle.vers_sorted.specs.Sorted.{below};
-ghost use Rattle.vers_sorted.specs.Layout.{high_place, member_reads, search_reads};
+ghost use Rattle.vers_sorted.specs.Layout.{high_position, member_reads, search_reads};
 ghost use Rattle.vers_sorted.specs.inside.Begun.{IsBegun, IsInside};
 
 use super::EliasFanoVec;
@@ -18,55 +18,55 @@ pub(super) const GROUP: usize = 64;
 
 // Computes the numbers of the ones of the members at `n` positions, past all ones for each `None`.
 #[inline(always)]
-fn ask_each(places: &[Option<u64>], from: usize, n: usize, ones: &mut [usize; GROUP])
-    requires within { from + n ≤ length places.now }
+fn ask_each(positions: &[Option<u64>], from: usize, n: usize, ones: &mut [usize; GROUP])
+    requires within { from + n ≤ length positions.now }
     requires few { n ≤ GROUP }
     ensures { (j : ℕ) → j < n → slice_index ones.new j
-        ≡ unwrap_or (slice_index_or places.now (from + j) None) 18446744073709551615 }
+        ≡ unwrap_or (slice_index_or positions.now (from + j) None) 18446744073709551615 }
 {
     for j in 0..n {
-        ones[j] = places[from + j].unwrap_or(u64::MAX) as usize;
+        ones[j] = positions[from + j].unwrap_or(u64::MAX) as usize;
     }
 }
 
 // Returns true if the last of `n` positions is n - 1 past the first, as in a run.
 #[inline(always)]
-fn is_run(places: &[Option<u64>], from: usize, n: usize) -> bool
-    requires { from + n ≤ length places.now }
+fn is_run(positions: &[Option<u64>], from: usize, n: usize) -> bool
+    requires { from + n ≤ length positions.now }
 {
     if n < 2 {
         return false;
     }
-    match (places[from], places[from + n - 1]) {
+    match (positions[from], positions[from + n - 1]) {
         (Some(first), Some(last)) => last.wrapping_sub(first) == (n - 1) as u64,
         _ => false,
     }
 }
 
 impl<A: Allocator + Copy> EliasFanoVec<A> {
-    /// Replaces each `Some(i)` in `places` by `get(i)`; each `None` stays. Allocates nothing.
-    pub fn get_each(&self, places: &mut [Option<u64>])
-        ensures value { places.new ≡ map (option_and_then (slice_get self.now)) places.old }
+    /// Replaces each `Some(i)` in `positions` by `get(i)`; each `None` stays. Allocates nothing.
+    pub fn get_each(&self, positions: &mut [Option<u64>])
+        ensures value { positions.new ≡ map (option_and_then (slice_get self.now)) positions.old }
         ensures ascending { IsNonDecreasing self.now }
     {
         let mut tally = Tally::new();
-        self.get_each_counted(places, &mut tally)
+        self.get_each_counted(positions, &mut tally)
     }
 
     /// Does what `get_each` does. Reads at most what as many calls of `get` do.
     #[inline(always)]
-    pub fn get_each_counted(&self, places: &mut [Option<u64>], tally: &mut Tally)
-        ensures value { places.new ≡ map (option_and_then (slice_get self.now)) places.old }
+    pub fn get_each_counted(&self, positions: &mut [Option<u64>], tally: &mut Tally)
+        ensures value { positions.new ≡ map (option_and_then (slice_get self.now)) positions.old }
         ensures ascending { IsNonDecreasing self.now }
         ensures adds { AddsAtMost tally.old tally.new
-            (times (length places.old) (member_reads self.now)) }
+            (times (length positions.old) (member_reads self.now)) }
     {
         let _ = self.len();
-        let len = places.len();
+        let len = positions.len();
         let mut from = 0;
         while from < len {
             let n = GROUP.min(len - from);
-            self.get_group(places, from, n, tally);
+            self.get_group(positions, from, n, tally);
             from += n;
         }
     }
@@ -74,34 +74,34 @@ impl<A: Allocator + Copy> EliasFanoVec<A> {
     // Replaces each of `n` positions by the member there: in turn if they are a run, otherwise all selects first, level
     // by level.
     #[inline(always)]
-    fn get_group(&self, places: &mut [Option<u64>], from: usize, n: usize, tally: &mut Tally)
-        requires within { from + n ≤ length places.old }
+    fn get_group(&self, positions: &mut [Option<u64>], from: usize, n: usize, tally: &mut Tally)
+        requires within { from + n ≤ length positions.old }
         requires few { n ≤ GROUP }
-        ensures value { Changed None (λ place m. m ≡ option_and_then (slice_get self.now) place)
-            from n places.old places.new }
+        ensures value { Changed None (λ position m. m ≡ option_and_then (slice_get self.now) position)
+            from n positions.old positions.new }
         ensures adds { AddsAtMost tally.old tally.new (times n (member_reads self.now)) }
     {
-        if is_run(places, from, n) {
-            self.get_in_turn(places, from, n, tally);
+        if is_run(positions, from, n) {
+            self.get_in_turn(positions, from, n, tally);
             return;
         }
         let _ = &self.len;
         let mut ones = [0; GROUP];
-        ask_each(places, from, n, &mut ones);
+        ask_each(positions, from, n, &mut ones);
         self.high.select1_each_counted(&mut ones[..n], tally);
-        self.members_each(places, from, n, &ones, tally);
+        self.members_each(positions, from, n, &ones, tally);
     }
 
     // Replaces each of `n` positions by the member there, as an iterator reads them.
-    fn get_in_turn(&self, places: &mut [Option<u64>], from: usize, n: usize, tally: &mut Tally)
-        requires { from + n ≤ length places.old }
-        ensures value { Changed None (λ place m. m ≡ option_and_then (slice_get self.now) place)
-            from n places.old places.new }
+    fn get_in_turn(&self, positions: &mut [Option<u64>], from: usize, n: usize, tally: &mut Tally)
+        requires { from + n ≤ length positions.old }
+        ensures value { Changed None (λ position m. m ≡ option_and_then (slice_get self.now) position)
+            from n positions.old positions.new }
         ensures adds { AddsAtMost tally.old tally.new (times n (member_reads self.now)) }
     {
         let mut members = Members::new(self);
         for j in 0..n {
-            places[from + j] = members.member_of(places[from + j], tally);
+            positions[from + j] = members.member_of(positions[from + j], tally);
         }
     }
 
@@ -109,35 +109,35 @@ impl<A: Allocator + Copy> EliasFanoVec<A> {
     #[inline(always)]
     fn members_each(
         &self,
-        places: &mut [Option<u64>],
+        positions: &mut [Option<u64>],
         from: usize,
         n: usize,
         ones: &[usize; GROUP],
         tally: &mut Tally,
     )
-        requires within { from + n ≤ length places.old }
+        requires within { from + n ≤ length positions.old }
         requires few { n ≤ GROUP }
         requires ones { (j : ℕ) → j < n → (i : ℕ)
-            → slice_index_or places.old (from + j) None ≡ Some i → i < length self.now
-            → slice_index ones.now j ≡ high_place self.now i }
-        ensures value { Changed None (λ place m. m ≡ option_and_then (slice_get self.now) place)
-            from n places.old places.new }
+            → slice_index_or positions.old (from + j) None ≡ Some i → i < length self.now
+            → slice_index ones.now j ≡ high_position self.now i }
+        ensures value { Changed None (λ position m. m ≡ option_and_then (slice_get self.now) position)
+            from n positions.old positions.new }
         ensures adds { AddsAtMost tally.old tally.new (times n (only_low_parts 1)) }
     {
         for j in 0..n {
-            places[from + j] = self.member_at(places[from + j], ones[j], tally);
+            positions[from + j] = self.member_at(positions[from + j], ones[j], tally);
         }
     }
 
     // Returns the member at a position, by the position of its one.
     #[inline(always)]
     #[tactic(auto, using(crate::proofs::Packed::gets))]
-    fn member_at(&self, place: Option<u64>, one: usize, tally: &mut Tally) -> Option<u64>
-        requires { (i : ℕ) → place ≡ Some i → i < length self.now → one ≡ high_place self.now i }
-        ensures value { result ≡ option_and_then (slice_get self.now) place }
+    fn member_at(&self, position: Option<u64>, one: usize, tally: &mut Tally) -> Option<u64>
+        requires { (i : ℕ) → position ≡ Some i → i < length self.now → one ≡ high_position self.now i }
+        ensures value { result ≡ option_and_then (slice_get self.now) position }
         ensures adds { AddsAtMost tally.old tally.new (only_low_parts 1) }
     {
-        let Some(number) = place else {
+        let Some(number) = position else {
             return None;
         };
         let i = number as usize;

@@ -78,12 +78,12 @@ impl<L: Sorted> Members<L> {
 
     // Returns the member at a position, if there is one. It is read fastest at the position after the last one.
     #[inline(always)]
-    pub(super) fn member_of(&mut self, place: Option<u64>, tally: &mut Tally) -> Option<u64>
-        ensures value { result ≡ option_and_then (slice_get self.old) place }
+    pub(super) fn member_of(&mut self, position: Option<u64>, tally: &mut Tally) -> Option<u64>
+        ensures value { result ≡ option_and_then (slice_get self.old) position }
         ensures same { self.new ≡ self.old }
         ensures adds { AddsAtMost tally.old tally.new (member_reads self.old) }
     {
-        let i = place? as usize;
+        let i = position? as usize;
         if i >= self.count_items() {
             return None;
         }

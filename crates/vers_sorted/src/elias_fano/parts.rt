@@ -4,7 +4,7 @@ ghost use Rattle.std.specs.List.Sorted.{IsNonDecreasing};
 ghost use Rattle.vers_bits.specs.Bits.{bit_value, count, limb, number, part, select};
 ghost use Rattle.vers_sorted.specs.Layout.{ArePartsOf, first_of, high_count, high_parts, last_of, low_count, low_parts, width};
 ghost use Rattle.vers_sorted.specs.Sorted.{each_next, order_of};
-ghost use Rattle.vers_sorted.specs.inside.Decoding.{AreDecodable, AreReadAhead, HasRead, IsNear, StepsUp, above, place_ahead};
+ghost use Rattle.vers_sorted.specs.inside.Decoding.{AreDecodable, AreReadAhead, HasRead, IsNear, StepsUp, above, position_ahead};
 
 use super::EliasFanoVec;
 use super::make::width_of;
@@ -119,11 +119,11 @@ struct Bits {
 #[tactic(auto, using(crate::proofs::Decoding::parts))]
 fn next_part<L: Limbs>(low: &L, width: usize, bits: &mut Bits) -> u64
     requires narrow { width < 64 }
-    requires within { place_ahead bits.old + width ≤ length (L.bits low.now) }
+    requires within { position_ahead bits.old + width ≤ length (L.bits low.now) }
     requires read { AreReadAhead (L.bits low.now) bits.old }
-    ensures value { result ≡ number (part (L.bits low.now) (place_ahead bits.old) width) }
+    ensures value { result ≡ number (part (L.bits low.now) (position_ahead bits.old) width) }
     ensures small { result < 2 ^ width }
-    ensures place { place_ahead bits.new ≡ place_ahead bits.old + width }
+    ensures position { position_ahead bits.new ≡ position_ahead bits.old + width }
     ensures read { AreReadAhead (L.bits low.now) bits.new }
 {
     let _ = low.len();
@@ -148,14 +148,14 @@ fn next_part<L: Limbs>(low: &L, width: usize, bits: &mut Bits) -> u64
 #[derive(Clone, Copy, Drop)]
 struct Walk {
     lows: Bits,
-    place: usize,
+    position: usize,
     least: u64,
 }
 
 impl Walk {
     // Returns a walk before the first member.
     fn new() -> Walk
-        ensures { result ≡ record { lows = record { limbs = 0; len = 0; word = 0 }; place = 0; least = 0 } }
+        ensures { result ≡ record { lows = record { limbs = 0; len = 0; word = 0 }; position = 0; least = 0 } }
     {
         let lows = Bits {
             limbs: 0,
@@ -164,37 +164,37 @@ impl Walk {
         };
         Walk {
             lows,
-            place: 0,
+            position: 0,
             least: 0,
         }
     }
 }
 
-// Reads the low part of the next member, whose one is at `place`. Returns true if the member may follow the last one.
+// Reads the low part of the next member, whose one is at `position`. Returns true if it may follow the last one.
 #[inline(always)]
 fn read_member<L: Limbs, const RISING: bool>(
     low: &L,
     width: usize,
-    place: usize,
+    position: usize,
     walk: &mut Walk,
 ) -> bool
     requires narrow { width < 64 }
-    requires within { place_ahead walk.old.lows + width ≤ length (L.bits low.now) }
+    requires within { position_ahead walk.old.lows + width ≤ length (L.bits low.now) }
     requires read { AreReadAhead (L.bits low.now) walk.old.lows }
-    requires near { walk.old.place ≤ MOST_BITS }
-    ensures follows { let low_part = number (part (L.bits low.now) (place_ahead walk.old.lows) width) in
-        result ≡ nat_lt (walk.old.place + bit_value (nat_lt low_part walk.old.least)) place }
-    ensures place { walk.new.place ≡ place }
+    requires near { walk.old.position ≤ MOST_BITS }
+    ensures follows { let low_part = number (part (L.bits low.now) (position_ahead walk.old.lows) width) in
+        result ≡ nat_lt (walk.old.position + bit_value (nat_lt low_part walk.old.least)) position }
+    ensures position { walk.new.position ≡ position }
     ensures least { walk.new.least
-        ≡ number (part (L.bits low.now) (place_ahead walk.old.lows) width) + bit_value RISING }
-    ensures part { place_ahead walk.new.lows ≡ place_ahead walk.old.lows + width }
+        ≡ number (part (L.bits low.now) (position_ahead walk.old.lows) width) + bit_value RISING }
+    ensures part { position_ahead walk.new.lows ≡ position_ahead walk.old.lows + width }
     ensures read { AreReadAhead (L.bits low.now) walk.new.lows }
 {
     let part = next_part(low, width, &mut walk.lows);
-    let past = walk.place + usize::from(part < walk.least);
-    walk.place = place;
+    let past = walk.position + usize::from(part < walk.least);
+    walk.position = position;
     walk.least = part + u64::from(RISING);
-    past < place
+    past < position
 }
 
 // Reads the members whose ones are in limb `k` of the high parts. Returns true if each may follow the one before it.
@@ -220,9 +220,9 @@ fn read_limb<L: Limbs, H: Limbs, const RISING: bool>(
     let _ = high.len();
     let mut word = high.limb(k);
     while word != 0 {
-        let place = 64 * k + word.trailing_zeros() as usize;
+        let position = 64 * k + word.trailing_zeros() as usize;
         word &= word - 1;
-        if !read_member::<L, RISING>(low, width, place, walk) {
+        if !read_member::<L, RISING>(low, width, position, walk) {
             return false;
         }
     }
@@ -245,17 +245,17 @@ fn count_ones_in<L: Limbs>(bits: &L) -> usize
 // or there is no zero before that one.
 #[inline(always)]
 #[tactic(auto, using(crate::proofs::Decoding::joins))]
-fn above_of(i: usize, place: usize, low: u64, width: usize, span: u64) -> Option<u64>
+fn above_of(i: usize, position: usize, low: u64, width: usize, span: u64) -> Option<u64>
     requires narrow { width < 64 }
     requires small { low < 2 ^ width }
-    ensures near { IfSome result (λ _. IsNear span width i place) }
-    ensures value { IfSome result (λ v. v ≡ 2 ^ width * (place - i - 1) + low) }
-    ensures none { result ≡ None → IsNear span width i place → ⊥ }
+    ensures near { IfSome result (λ _. IsNear span width i position) }
+    ensures value { IfSome result (λ v. v ≡ 2 ^ width * (position - i - 1) + low) }
+    ensures none { result ≡ None → IsNear span width i position → ⊥ }
 {
-    if place <= i {
+    if position <= i {
         return None;
     }
-    let high = (place - i - 1) as u64;
+    let high = (position - i - 1) as u64;
     if high > span >> width {
         return None;
     }
@@ -302,7 +302,7 @@ fn are_decodable<L: Limbs, H: Limbs, const RISING: bool>(
     }
     let part = walk.least - u64::from(RISING);
     let span = ends.span();
-    let Some(end) = above_of(ends.len - 1, walk.place, part, width, span) else {
+    let Some(end) = above_of(ends.len - 1, walk.position, part, width, span) else {
         return false;
     };
     end == span

@@ -14,18 +14,18 @@ use vers_tally::tally::Tally;
 pub(super) fn zero_after<A: Allocator + Copy>(
     high: &RsVec<A>,
     h: usize,
-    place: usize,
+    position: usize,
     tally: &mut Tally,
 ) -> usize
     requires within { h + 1 < count false high.now (length high.now) }
-    requires place { place ≡ select false high.now h }
+    requires position { position ≡ select false high.now h }
     ensures value { result ≡ select false high.now (h + 1) }
     ensures adds { AddsAtMost tally.old tally.new (reads 0 2 (length high.now)) }
 {
     let _ = high.len();
-    if let Some(word) = high.get_bits_counted(place + 1, 64, tally) {
+    if let Some(word) = high.get_bits_counted(position + 1, 64, tally) {
         if word != u64::MAX {
-            return place + 1 + word.trailing_ones() as usize;
+            return position + 1 + word.trailing_ones() as usize;
         }
     }
     high.select0_counted(h + 1, tally)

@@ -45,7 +45,7 @@ fn written_answers(rt: HostRuntime) -> Result<(), Fail> {
 }
 
 // Returns a position of a batch: every third is none.
-fn place_at(i: usize) -> Option<u64> {
+fn position_at(i: usize) -> Option<u64> {
     if i % 3 == 2 {
         return None;
     }
@@ -56,17 +56,17 @@ fn place_at(i: usize) -> Option<u64> {
 fn is_right<A: Allocator + Copy>(list: &EliasFanoVec<A>, n: usize) -> bool {
     let mut members = [None; MOST];
     for (i, member) in members.iter_mut().enumerate() {
-        *member = place_at(i);
+        *member = position_at(i);
     }
     if n <= MOST {
         list.get_each(&mut members[..n]);
     }
     members.iter().enumerate().all(|(i, member)| {
-        let place = place_at(i);
-        if i < n && place.is_some() {
+        let position = position_at(i);
+        if i < n && position.is_some() {
             *member == list.get(i / 7)
         } else {
-            *member == place
+            *member == position
         }
     })
 }
@@ -78,20 +78,20 @@ fn is_run_right<A: Allocator + Copy>(
     n: usize,
     middle: Option<u64>,
 ) -> bool {
-    let mut places = [None; MOST];
-    for (i, place) in places.iter_mut().enumerate() {
-        *place = Some(first.wrapping_add(i as u64));
+    let mut positions = [None; MOST];
+    for (i, position) in positions.iter_mut().enumerate() {
+        *position = Some(first.wrapping_add(i as u64));
     }
     if n > 2 && n <= MOST {
-        places[n / 2] = middle;
+        positions[n / 2] = middle;
     }
-    let mut members = places;
+    let mut members = positions;
     if n <= MOST {
         list.get_each(&mut members[..n]);
     }
-    members.iter().zip(&places).enumerate().all(|(i, (member, place))| match place {
-        Some(place) if i < n => *member == list.get(*place as usize),
-        _ => *member == *place,
+    members.iter().zip(&positions).enumerate().all(|(i, (member, position))| match position {
+        Some(position) if i < n => *member == list.get(*position as usize),
+        _ => *member == *position,
     })
 }
 

@@ -61,22 +61,22 @@ pub fn answer<A: Allocator + Copy>(bits: &SparseRSVec<A>, query: Query) -> Optio
         Query::Len => Some(bits.len()),
         Query::IsEmpty => Some(u64::from(bits.is_empty())),
         Query::HeapSize => Some(bits.heap_size() as u64),
-        Query::IsSet(place) => as_number(bits.is_set(place)),
-        Query::IsSetUnchecked(place) => {
-            if place >= bits.len() {
+        Query::IsSet(position) => as_number(bits.is_set(position)),
+        Query::IsSetUnchecked(position) => {
+            if position >= bits.len() {
                 return None;
             }
-            Some(u64::from(bits.is_set_unchecked(place)))
+            Some(u64::from(bits.is_set_unchecked(position)))
         }
-        Query::Get(place) => bits.get(place),
-        Query::GetUnchecked(place) => {
-            if place >= bits.len() {
+        Query::Get(position) => bits.get(position),
+        Query::GetUnchecked(position) => {
+            if position >= bits.len() {
                 return None;
             }
-            Some(bits.get_unchecked(place))
+            Some(bits.get_unchecked(position))
         }
-        Query::Rank0(place) => Some(bits.rank0(place)),
-        Query::Rank1(place) => Some(bits.rank1(place)),
+        Query::Rank0(position) => Some(bits.rank0(position)),
+        Query::Rank1(position) => Some(bits.rank1(position)),
         Query::Select1(r) => Some(bits.select1(r)),
         Query::Iter1(r) => bits.iter1().nth(r),
     }
@@ -86,10 +86,10 @@ pub fn answer<A: Allocator + Copy>(bits: &SparseRSVec<A>, query: Query) -> Optio
 pub fn counted<A: Allocator + Copy>(bits: &SparseRSVec<A>, query: Query) -> Option<u64> {
     let mut tally = Tally::new();
     match query {
-        Query::IsSet(place) => as_number(bits.is_set_counted(place, &mut tally)),
-        Query::Get(place) => bits.get_counted(place, &mut tally),
-        Query::Rank0(place) => Some(bits.rank0_counted(place, &mut tally)),
-        Query::Rank1(place) => Some(bits.rank1_counted(place, &mut tally)),
+        Query::IsSet(position) => as_number(bits.is_set_counted(position, &mut tally)),
+        Query::Get(position) => bits.get_counted(position, &mut tally),
+        Query::Rank0(position) => Some(bits.rank0_counted(position, &mut tally)),
+        Query::Rank1(position) => Some(bits.rank1_counted(position, &mut tally)),
         Query::Select1(r) => Some(bits.select1_counted(r, &mut tally)),
         _ => answer(bits, query),
     }

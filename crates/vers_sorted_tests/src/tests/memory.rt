@@ -20,12 +20,12 @@ fn member(i: usize) -> u64 {
 }
 
 // Returns one number `i` of the sparse list.
-fn place_of_one(i: usize) -> u64 {
+fn position_of_one(i: usize) -> u64 {
     (i as u64).wrapping_mul(3).wrapping_add(1)
 }
 
-fn is_one(place: u64) -> bool {
-    place % 3 == 1
+fn is_one(position: u64) -> bool {
+    position % 3 == 1
 }
 
 // Returns the number of bits that the sparse list of that many ones has.
@@ -44,7 +44,7 @@ fn members_of<A: Allocator + Copy>(alloc: A, len: usize) -> Result<Vec<u64, A>, 
 fn ones_of<A: Allocator + Copy>(alloc: A, len: usize) -> Result<Vec<u64, A>, AllocError> {
     let mut numbers = Vec::new(alloc);
     for i in 0..len {
-        numbers.push(place_of_one(i))?;
+        numbers.push(position_of_one(i))?;
     }
     Ok(numbers)
 }
@@ -52,8 +52,8 @@ fn ones_of<A: Allocator + Copy>(alloc: A, len: usize) -> Result<Vec<u64, A>, All
 // Returns all bits of the sparse list, `len` of them.
 fn all_bits<A: Allocator + Copy>(alloc: A, len: usize) -> Result<BitVec<A>, GrowError> {
     let mut bits = BitVec::new(alloc);
-    for place in 0..len {
-        bits.append(is_one(place as u64))?;
+    for position in 0..len {
+        bits.append(is_one(position as u64))?;
     }
     Ok(bits)
 }
@@ -337,21 +337,21 @@ fn bits_answer_all<A: Allocator + Copy>(
 
 // Returns true if a sparse list has one number `i`, and the zeros next to it.
 fn knows_one<A: Allocator + Copy>(bits: &SparseRSVec<A>, i: usize) -> bool {
-    let place = place_of_one(i);
-    let zeros = place.wrapping_sub(i as u64);
+    let position = position_of_one(i);
+    let zeros = position.wrapping_sub(i as u64);
     let rows = [
-        (BitQuery::Get(place), Some(1)),
-        (BitQuery::GetUnchecked(place), Some(1)),
-        (BitQuery::IsSet(place), Some(1)),
-        (BitQuery::IsSetUnchecked(place), Some(1)),
-        (BitQuery::Rank1(place), Some(i as u64)),
-        (BitQuery::Rank0(place), Some(zeros)),
-        (BitQuery::Select1(i), Some(place)),
-        (BitQuery::Iter1(i), Some(place)),
-        (BitQuery::Get(place.wrapping_add(1)), Some(0)),
-        (BitQuery::IsSet(place.wrapping_sub(1)), Some(0)),
+        (BitQuery::Get(position), Some(1)),
+        (BitQuery::GetUnchecked(position), Some(1)),
+        (BitQuery::IsSet(position), Some(1)),
+        (BitQuery::IsSetUnchecked(position), Some(1)),
+        (BitQuery::Rank1(position), Some(i as u64)),
+        (BitQuery::Rank0(position), Some(zeros)),
+        (BitQuery::Select1(i), Some(position)),
+        (BitQuery::Iter1(i), Some(position)),
+        (BitQuery::Get(position.wrapping_add(1)), Some(0)),
+        (BitQuery::IsSet(position.wrapping_sub(1)), Some(0)),
         (
-            BitQuery::Rank1(place.wrapping_add(1)),
+            BitQuery::Rank1(position.wrapping_add(1)),
             Some((i as u64).wrapping_add(1)),
         ),
     ];
@@ -361,7 +361,7 @@ fn knows_one<A: Allocator + Copy>(bits: &SparseRSVec<A>, i: usize) -> bool {
 // Returns true if it has that many ones, and answers about some of them and its end.
 fn has_all_ones<A: Allocator + Copy>(bits: &SparseRSVec<A>, len: usize) -> bool {
     for i in 0..len {
-        if bits.select1(i) != place_of_one(i) {
+        if bits.select1(i) != position_of_one(i) {
             return false;
         }
     }
@@ -383,8 +383,8 @@ fn has_all_ones<A: Allocator + Copy>(bits: &SparseRSVec<A>, len: usize) -> bool 
 
 // Returns true if a list of all bits has its ones, or its zeros if it is inverted.
 fn has_bits<A: Allocator + Copy>(bits: &SparseRSVec<A>, len: u64, is_inverted: bool) -> bool {
-    for place in 0..len {
-        if bits.is_set(place) != Some(is_one(place) != is_inverted) {
+    for position in 0..len {
+        if bits.is_set(position) != Some(is_one(position) != is_inverted) {
             return false;
         }
     }
@@ -394,12 +394,13 @@ fn has_bits<A: Allocator + Copy>(bits: &SparseRSVec<A>, len: u64, is_inverted: b
 // The positions of the ones of a sparse list.
 #[derive(Clone, Copy, Drop)]
 struct Ones<'a> {
-    places: &'a [u64],
+    positions: &'a [u64],
 }
 
 impl<A: Allocator + Copy> Check<SparseRSVec<A>> for Ones<'_> {
     fn is_right(&self, bits: &mut SparseRSVec<A>) -> bool {
-        has_all_ones(bits, self.places.len()) && follows(&mut bits.iter1(), self.places, &STEPS)
+        has_all_ones(bits, self.positions.len())
+            && follows(&mut bits.iter1(), self.positions, &STEPS)
     }
 }
 
@@ -408,7 +409,7 @@ impl<A: Allocator + Copy> Check<SparseRSVec<A>> for Ones<'_> {
 struct SparseMaker<'a, 'b> {
     heap: &'a Heap,
     call: Call,
-    places: &'b [u64],
+    positions: &'b [u64],
     bits: &'b BitVec<&'a Heap>,
 }
 
@@ -421,12 +422,12 @@ impl<'a> Making for SparseMaker<'a, '_> {
         match self.call {
             Call::FromBitvec => SparseRSVec::from_bitvec(self.bits),
             Call::FromBitvecInverted => SparseRSVec::from_bitvec_inverted(self.bits),
-            _ => bits_of(self.heap, self.places, bit_count(self.places.len())),
+            _ => bits_of(self.heap, self.positions, bit_count(self.positions.len())),
         }
     }
 
     fn is_right(&self, list: &SparseRSVec<&'a Heap>) -> bool {
-        let len = self.places.len();
+        let len = self.positions.len();
         match self.call {
             Call::FromBitvec => has_bits(list, len as u64, false),
             Call::FromBitvecInverted => has_bits(list, len as u64, true),
@@ -435,8 +436,8 @@ impl<'a> Making for SparseMaker<'a, '_> {
     }
 }
 
-fn tried_sparse_maker(heap: &Heap, call: Call, places: &[u64]) -> Ending {
-    match all_bits(heap, places.len()) {
+fn tried_sparse_maker(heap: &Heap, call: Call, positions: &[u64]) -> Ending {
+    match all_bits(heap, positions.len()) {
         Ok(bits) => {
             let bits = &bits;
             try_making(
@@ -444,7 +445,7 @@ fn tried_sparse_maker(heap: &Heap, call: Call, places: &[u64]) -> Ending {
                 &SparseMaker {
                     heap,
                     call,
-                    places,
+                    positions,
                     bits,
                 },
             )
@@ -453,9 +454,9 @@ fn tried_sparse_maker(heap: &Heap, call: Call, places: &[u64]) -> Ending {
     }
 }
 
-fn tried_sparse(heap: &Heap, call: Call, places: &[u64]) -> Ending {
-    let ones = Ones { places };
-    let made = bits_of(heap, places, bit_count(places.len()));
+fn tried_sparse(heap: &Heap, call: Call, positions: &[u64]) -> Ending {
+    let ones = Ones { positions };
+    let made = bits_of(heap, positions, bit_count(positions.len()));
     if matches!(call, Call::CloneSparse) {
         return try_clone_checked(heap, made, &ones);
     }
@@ -470,12 +471,12 @@ fn tried_of_members(heap: &Heap, call: Call, len: usize) -> Ending {
 }
 
 fn tried_of_ones(heap: &Heap, call: Call, len: usize) -> Ending {
-    let Ok(places) = ones_of(heap, len) else {
+    let Ok(positions) = ones_of(heap, len) else {
         return Ending::Wrong;
     };
     match call {
-        Call::CloneSparse | Call::SparseQueries => tried_sparse(heap, call, places.as_slice()),
-        _ => tried_sparse_maker(heap, call, places.as_slice()),
+        Call::CloneSparse | Call::SparseQueries => tried_sparse(heap, call, positions.as_slice()),
+        _ => tried_sparse_maker(heap, call, positions.as_slice()),
     }
 }
 

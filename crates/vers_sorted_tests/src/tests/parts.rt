@@ -221,9 +221,9 @@ fn are_right_with<A: Allocator + Copy>(
     rising: bool,
 ) -> Result<bool, AllocError> {
     let mut low = list.low_parts().clone()?;
-    if let Some(place) = flipped {
-        if place < low.len() {
-            low.flip_bit(place);
+    if let Some(position) = flipped {
+        if position < low.len() {
+            low.flip_bit(position);
         }
     }
     Ok(are_parts(list.ends(), &low, high, rising))

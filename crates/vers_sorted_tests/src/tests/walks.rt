@@ -130,8 +130,8 @@ fn from_back(left: &[u64], n: usize) -> AnswerAndRest<'_> {
     if n >= left.len() {
         return (None, &[]);
     }
-    let place = left.len() - 1 - n;
-    (Some(left[place]), &left[..place])
+    let position = left.len() - 1 - n;
+    (Some(left[position]), &left[..position])
 }
 
 // Returns the first and the last item of a plain list.

@@ -1,4 +1,4 @@
--- The pairs of a forest are the places between which the excess stays above where it began.
+-- The pairs of a forest are the positions between which the excess stays above where it began.
 use Rattle.vers_trees.proofs.Names.{◌≡◌, ℕ, zero, suc, ◌+◌, ◌-◌, ◌<◌, ◌≤◌, ◌⊎◌, inl, inr, Bool, true, false, List, ◌∷◌, ◌++◌, length, get_or, pos, ◌+ℤ◌, ◌≤ℤ◌, ◌<ℤ◌, arith, length-append, ⊎_elim, subst, sym, refl, ap, ◌∙◌, ints, cases_lt, cases_order, get_or_append_left, get_or_at, get_or-append-add, excess, Forest, none, tree, text}
 use Rattle.vers_trees.proofs.grammar.Excess.{excess-zero, excess-nil, excess-cons, excess-append_left, excess-append_right, open_from_rise, close_from_fall}
 
@@ -111,7 +111,7 @@ open_is_paired F v d h b = let r = bit_is_paired F true v d h b in (r.1, subst (
 pub close_is_paired : (F : Forest) (c : ℕ) (d : Bool) → c < length (text F) → get_or (text F) c d ≡ false → (v : ℕ) × Paired F v c
 close_is_paired F c d h b = let r = bit_is_paired F false c d h b in (r.0, subst (λ (k : ℕ). Paired F r.0 k) r.3 r.2)
 
--- an opening place rises, and a closing place falls
+-- an opening position rises, and a closing position falls
 pub closes_rises : (l : List Bool) (v c : ℕ) (d : Bool) → Closes l v c → get_or l v d ≡ true
 closes_rises l v c d p = open_from_rise l v d (omega arith) (p.above (v + 1) (omega arith) (omega arith))
 

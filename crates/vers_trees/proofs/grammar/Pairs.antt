@@ -1,4 +1,4 @@
--- The list of a forest's pairs has just the places that open and close a tree.
+-- The list of a forest's pairs has just the positions that open and close a tree.
 use Rattle.vers_trees.proofs.Names.{◌≡◌, ℕ, suc, ◌+◌, ◌<◌, ◌⊎◌, inl, inr, List, ◌∷◌, ◌++◌, map, length, get_or, arith, ⊎_elim, subst, sym, refl, ap, ◌∙◌, ◌≤◌, Bool, false, ◌&&◌, cond, [], ltb, count_by, pos, Contains, get_or-map, length-map, Contains-get_or, Contains-append_left, Contains-append_right, Contains-append_cases, Forest, none, tree, text, moved, pairs, ints, nat_tests, lt-ltb, le-ltb, and_from, and_left, and_right, sum_by-cons, sum_by-append, excess, rules}
 use Rattle.vers_trees.proofs.grammar.Paired.{Paired, paired_closes, excess_in_first, excess_in_rest}
 use Rattle.vers_trees.proofs.grammar.Excess.{excess-zero}
@@ -44,7 +44,7 @@ paired_from_contains (tree X Y) q h = ⊎_elim
     (Contains-append_cases (map (moved 1) (pairs X)) (map (moved (length (text X) + 2)) (pairs Y)) q c))
     (grind arith)
 
--- ---- how many pairs of a forest are around a pair, by its places
+-- ---- how many pairs of a forest are around a pair, by its positions
 abbrev pub one_if : Bool → ℕ
 one_if b = cond b 1 0
 

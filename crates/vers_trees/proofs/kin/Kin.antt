@@ -1,6 +1,6 @@
 -- The nodes around a node of a balanced list: its parent, its depth, how many come before it, and where its nearest children and siblings open.
-use Rattle.vers_trees.proofs.Names.{nat_tests, ◌≡◌, ℕ, zero, suc, ◌+◌, ◌-◌, ◌<◌, ◌≤◌, ◌<ℤ◌, Bool, true, false, ◌&&◌, List, [], ◌∷◌, get_or, ltb, leb, count_by, pos, negsuc, neg_ℤ, Some, arith, ⊎_elim, sym, refl, ap, ◌∙◌, Decides, lt-ltb, le-ltb, le-leb, Decides-ltb, Decides-and, leb_tells, length-filter, count, places, excess, last_rise_before, Forest, pairs, IsBalanced, forest_of, nodes, closing, is_ancestor, is_proper_ancestor, depth, parent, node_index, IsLastRiseBefore, ints, rules, common_steps, cond, length, Option, None, filter, Contains, last_or, Decides-like, same_from_decides, eq-or-lt_of_le, nodes_under, children, siblings, first_of, last_of, next_of, previous_of, get_or_default, ◌↔◌, IsTrue, is_some, not, count_both, first_rise_after, IsNode, ◌≢◌, slice_get, option_map, ◌==◌, slice_get-get_or, select, length-places, none, tree, text, ne_eqb, slice_get_within, false_from_ne_true}
-use Rattle.vers_trees.proofs.walks.Lists.{places-cons}
+use Rattle.vers_trees.proofs.Names.{nat_tests, ◌≡◌, ℕ, zero, suc, ◌+◌, ◌-◌, ◌<◌, ◌≤◌, ◌<ℤ◌, Bool, true, false, ◌&&◌, List, [], ◌∷◌, get_or, ltb, leb, count_by, pos, negsuc, neg_ℤ, Some, arith, ⊎_elim, sym, refl, ap, ◌∙◌, Decides, lt-ltb, le-ltb, le-leb, Decides-ltb, Decides-and, leb_tells, length-filter, count, positions, excess, last_rise_before, Forest, pairs, IsBalanced, forest_of, nodes, closing, is_ancestor, is_proper_ancestor, depth, parent, node_index, IsLastRiseBefore, ints, rules, common_steps, cond, length, Option, None, filter, Contains, last_or, Decides-like, same_from_decides, eq-or-lt_of_le, nodes_under, children, siblings, first_of, last_of, next_of, previous_of, get_or_default, ◌↔◌, IsTrue, is_some, not, count_both, first_rise_after, IsNode, ◌≢◌, slice_get, option_map, ◌==◌, slice_get-get_or, select, length-positions, none, tree, text, ne_eqb, slice_get_within, false_from_ne_true}
+use Rattle.vers_trees.proofs.walks.Lists.{positions-cons}
 use Rattle.vers_trees.proofs.searches.Searches.{before_some, before_none, by_answer, before_is, after_is}
 use Rattle.vers_trees.proofs.grammar.Excess.{above_since, excess-is_walk, open_from_rise, excess_after_open, excess_after_close}
 use Rattle.vers_trees.proofs.grammar.Grammar.{text-forest_of}
@@ -65,12 +65,12 @@ depth_is_excess l b v h =
     let c = count_agree (λ (q : ℕ × ℕ). is_proper_ancestor F q.0 v) (λ (q : ℕ × ℕ). strictly_contains q (v, closing F v)) (pairs F) (λ q i. ap (λ (k : ℕ). ltb q.0 v && ltb (closing F v) k) (closing_is F q.0 q.1 (paired_from_contains F q i))) in
     ap pos (a ∙ m ∙ c) ∙ pairs_around F v (closing F v) (paired_here l b v (closing F v) h.closes) ∙ ap (λ (k : List Bool). excess k v) (text-forest_of l b)
 
--- of the places of a bit, those before place v
-pub below_counted : (bit : Bool) (l : List Bool) (v : ℕ) → count_by (λ w. ltb w v) (places bit l) ≡ count bit l v
-unfolding count places
+-- of the positions of a bit, those before position v
+pub below_counted : (bit : Bool) (l : List Bool) (v : ℕ) → count_by (λ w. ltb w v) (positions bit l) ≡ count bit l v
+unfolding count positions
 below_counted bit l zero = grind (arith, count_none, le-ltb)
 below_counted bit [] (suc v) = refl
-below_counted bit (b ∷ l) (suc v) = grind (arith, common_steps, count_by-map, count_agree, nat_tests, count_by-cons, places-cons, count_by-append, lt-ltb, below_counted bit l v)
+below_counted bit (b ∷ l) (suc v) = grind (arith, common_steps, count_by-map, count_agree, nat_tests, count_by-cons, positions-cons, count_by-append, lt-ltb, below_counted bit l v)
 
 pub index_is_rank : (l : List Bool) → IsBalanced l → (v : ℕ) → node_index (forest_of l) v ≡ count true l v
 unfolding node_index
@@ -138,7 +138,7 @@ previous_sibling_is_search l b v h some o =
     before_is l (v - 1) (negsuc 0) p.0 (before_from_closes l p.0 (v - 1) p.3)
     ∙ sym (previous_in l b _ _ (λ w. option_decides (parent (forest_of l) w) (parent (forest_of l) v)) v (Some p.0) (grind (arith, ints, not_beside l b p.0)))
 
--- ---- by one bit: what opens at a place, and what closes right before it
+-- ---- by one bit: what opens at a position, and what closes right before it
 abbrev pub opened_here : List Bool → ℕ → Option ℕ
 opened_here l p = cond (get_or l p false) (Some p) None
 
@@ -182,12 +182,12 @@ leaf_by [] o r e f = grind arith
 leaf_by (x ∷ xs) o r e f = grind arith
 
 -- ---- in the words of any tree
--- a handle is the place itself
-pub same_place : (o p : Option ℕ) → o ≡ p → option_map (λ v. v) o ≡ p
-same_place o p e = grind arith
+-- a handle is the position itself
+pub same_position : (o p : Option ℕ) → o ≡ p → option_map (λ v. v) o ≡ p
+same_position o p e = grind arith
 
 pub size_by : (l : List Bool) → IsBalanced l → (n : ℕ) → n ≡ count true l (length l) → n ≡ length (nodes (forest_of l))
-size_by l b n e = e ∙ sym (length-places true l) ∙ ap (λ (xs : List ℕ). length xs) (sym (nodes_by l b))
+size_by l b n e = e ∙ sym (length-positions true l) ∙ ap (λ (xs : List ℕ). length xs) (sym (nodes_by l b))
 
 first_root : (F : Forest) → text F ≢ [] → first_of (nodes F) ≡ Some 0
 first_root none h = absurd (h refl)
@@ -195,8 +195,8 @@ first_root (tree X Y) h = refl
 
 pub root_by : (l : List Bool) → IsBalanced l → (o : Option ℕ) → (l ≡ [] → o ≡ None) → (l ≢ [] → o ≡ Some 0) → option_map (λ v. v) o ≡ first_of (nodes (forest_of l))
 unfolding forest_of
-root_by [] b o n s = same_place o None (n refl)
-root_by (x ∷ l) b o n s = same_place o (Some 0) (s (λ e. absurd (cc))) ∙ sym (first_root (forest_of (x ∷ l)) (λ e. let g = sym (text-forest_of (x ∷ l) b) ∙ e in absurd (cc)))
+root_by [] b o n s = same_position o None (n refl)
+root_by (x ∷ l) b o n s = same_position o (Some 0) (s (λ e. absurd (cc))) ∙ sym (first_root (forest_of (x ∷ l)) (λ e. let g = sym (text-forest_of (x ∷ l) b) ∙ e in absurd (cc)))
 
 pub handle_by : (l : List Bool) → IsBalanced l → (i n : ℕ) → n ≡ select true l i → i < length (nodes (forest_of l)) → slice_get (nodes (forest_of l)) i ≡ Some n
 unfolding select

@@ -1,18 +1,18 @@
--- The nodes of a forest are the places of the ones that it is written down with.
-use Rattle.vers_trees.proofs.Names.{◌≡◌, ℕ, zero, suc, ◌+◌, ◌<◌, ◌≤◌, Bool, true, false, ◌&&◌, List, [], ◌∷◌, map, length, get_or, Option, Some, None, MatchOption, eqb, ltb, arith, subst, sym, refl, ap, ◌∙◌, find, filter, slice_get, Decides, option_eq, Contains, range_with_len, last_or, Decides-eqb, Decides-ltb, Decides-and, is_bit, places, Forest, IsBalanced, forest_of, none, tree, text, moved, pairs, nodes, IsNode, closing, first_of, next_of, previous_of, map-append, ints, ⊎_elim, cases_lt, get_or_past}
-use Rattle.vers_trees.proofs.walks.Lists.{opening_moved, places-tree}
+-- The nodes of a forest are the positions of the ones that it is written down with.
+use Rattle.vers_trees.proofs.Names.{◌≡◌, ℕ, zero, suc, ◌+◌, ◌<◌, ◌≤◌, Bool, true, false, ◌&&◌, List, [], ◌∷◌, map, length, get_or, Option, Some, None, MatchOption, eqb, ltb, arith, subst, sym, refl, ap, ◌∙◌, find, filter, slice_get, Decides, option_eq, Contains, range_with_len, last_or, Decides-eqb, Decides-ltb, Decides-and, is_bit, positions, Forest, IsBalanced, forest_of, none, tree, text, moved, pairs, nodes, IsNode, closing, first_of, next_of, previous_of, map-append, ints, ⊎_elim, cases_lt, get_or_past}
+use Rattle.vers_trees.proofs.walks.Lists.{opening_moved, positions-tree}
 use Rattle.vers_trees.proofs.searches.Searches.{find_is, last_is}
 pub use Rattle.vers_trees.proofs.grammar.Grammar.{text-forest_of}
 use Rattle.vers_trees.proofs.grammar.Paired.{Closes, Paired, paired_closes, closes_paired, open_is_paired, close_is_paired, closes_rises}
 use Rattle.vers_trees.proofs.grammar.Pairs.{contains_first, contains_later, contains_map_cases, contains_from_paired, paired_from_contains}
 
--- the nodes are the places of ones, so they ascend
-pub nodes_are_ones : (F : Forest) → nodes F ≡ places true (text F)
-unfolding places
+-- the nodes are the positions of ones, so they ascend
+pub nodes_are_ones : (F : Forest) → nodes F ≡ positions true (text F)
+unfolding positions
 nodes_are_ones none = refl
 nodes_are_ones (tree X Y) =
     let n = length (text X) + 2 in let e : length (text X) + 2 ≡ 1 + length (text X) + 1 = omega arith in
-    rw (map-append (λ (p : ℕ × ℕ). p.0) (map (moved 1) (pairs X)) (map (moved n) (pairs Y)), opening_moved 1 (pairs X), opening_moved n (pairs Y), nodes_are_ones X, nodes_are_ones Y, e) (sym (places-tree true (text X) (text Y)))
+    rw (map-append (λ (p : ℕ × ℕ). p.0) (map (moved 1) (pairs X)) (map (moved n) (pairs Y)), opening_moved 1 (pairs X), opening_moved n (pairs Y), nodes_are_ones X, nodes_are_ones Y, e) (sym (positions-tree true (text X) (text Y)))
 
 -- ---- where a node of a balanced list closes
 find_only : {X : Type 0} → (test : X → Bool) (xs : List X) (y : X) → Contains xs y → test y ≡ true → ((x : X) → Contains xs x → test x ≡ true → x ≡ y) → find test xs ≡ Some y
@@ -63,8 +63,8 @@ opens l v h = closes_rises l v (closing (forest_of l) v) false h.closes
 pub inside : (l : List Bool) (v : ℕ) → HasPair l v → v < length l
 inside l v h = omega arith
 
-pub nodes_by : (l : List Bool) → IsBalanced l → nodes (forest_of l) ≡ places true l
-nodes_by l b = nodes_are_ones (forest_of l) ∙ ap (places true) (text-forest_of l b)
+pub nodes_by : (l : List Bool) → IsBalanced l → nodes (forest_of l) ≡ positions true l
+nodes_by l b = nodes_are_ones (forest_of l) ∙ ap (positions true) (text-forest_of l b)
 
 -- ---- the first and the last node that pass a test
 pub filter_filtered : {X : Type 0} → (p t : X → Bool) (xs : List X) → filter t (filter p xs) ≡ filter (λ x. p x && t x) xs
@@ -86,7 +86,7 @@ at_one : (l : List Bool) (t : ℕ → Bool) (P : ℕ → Type 0) → ((w : ℕ) 
 at_one l t P d w = Decides-and (get_or l w false) (t w) (λ e. e, λ e. e) (d w)
 
 nodes_filtered : (l : List Bool) → IsBalanced l → (t : ℕ → Bool) → filter t (nodes (forest_of l)) ≡ filter (node_test l t) (range_with_len 0 (length l))
-unfolding places
+unfolding positions
 nodes_filtered l b t = ap (filter t) (nodes_by l b) ∙ filter_filtered (λ p. is_bit true (get_or l p false)) t (range_with_len 0 (length l))
 
 -- the first, and the last, of the nodes that have P, or none

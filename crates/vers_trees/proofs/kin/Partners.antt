@@ -1,4 +1,4 @@
--- From one place of a pair a search for an excess that is one less finds the other.
+-- From one position of a pair a search for an excess that is one less finds the other.
 use Rattle.vers_trees.proofs.Names.{◌≡◌, ℕ, ◌+◌, ◌-◌, ◌<◌, ◌≤◌, ◌≢◌, Bool, true, false, List, get_or, pos, negsuc, ◌+ℤ◌, arith, ◌<ℤ◌, ap, ints, excess, IsFirstRiseAfter, IsLastRiseBefore, cases_Bool, eq-or-lt_of_le}
 use Rattle.vers_trees.proofs.grammar.Excess.{above_until, above_since, excess-is_walk, excess_after_open, excess_after_close}
 use Rattle.vers_trees.proofs.grammar.Paired.{Closes, closes_rises, closes_falls}
@@ -38,7 +38,7 @@ nested l v c w d p q a b = grind (arith, Closes)
 pub opens_around : (l : List Bool) (v c q e : ℕ) → Closes l v c → Closes l q e → q ≤ c → c < e → q < v
 opens_around l v c q e p m h x = grind (arith, Closes, nested)
 
--- a one at or before the place where a pair closes stands before it
+-- a one at or before the position where a pair closes stands before it
 pub one_before : (l : List Bool) (v c w : ℕ) → Closes l v c → get_or l w false ≡ true → w ≤ c → w < c
 one_before l v c w p b h = grind (arith, ints, closes_falls, eq-or-lt_of_le)
 

@@ -10,11 +10,11 @@ leaves_covered l size first nodes so short b = record { short = short; covered =
     covered : CoveredFrom l size first nodes first
     covered m s e h p =
         let q = leaf_stands first m s e p h in let q1 = q.1 in let d = div_ceil_times (length l) size so in
-        let place : first + s ≡ m = omega arith in ⊎_elim
+        let position : first + s ≡ m = omega arith in ⊎_elim
         (λ (w : s < block_count size (length l)).
         let u : (s + 1) * size ≤ block_count size (length l) * size = mul-le-mul_right size (omega arith) in
         let x : start_of l size s ≡ s * size = omega arith in let y : start_of l size e ≡ min (s * size + size) (length l) = rw q1 (omega arith) in
-        record { part = inl (rw (x, y, ← place) (b.part s w)) })
+        record { part = inl (rw (x, y, ← position) (b.part s w)) })
         (λ (w : block_count size (length l) ≤ s).
         record { part = inr (omega (arith, mul-le-mul_right size w), get_or_past nodes m empty_node (omega arith)) })
         (cases_lt s (block_count size (length l)))

@@ -6,7 +6,7 @@ use Rattle.vers_trees.proofs.searches.Scans.{part_joined, sums_fit}
 pub starts_up : (l : List Bool) (size i e : ℕ) → i ≤ e → start_of l size i ≤ start_of l size e
 starts_up l size i e h = grind (arith, ints, mul-le-mul_right)
 
--- the part of a node that begins inside the list has a place, and every part has the node's total
+-- the part of a node that begins inside the list has a position, and every part has the node's total
 pub part_inside : (l : List Bool) (size i e : ℕ) (x : Node) → Covers l size i e x → i * size < length l → IsPart l (start_of l size i) (start_of l size e) x
 part_inside l size i e x c h = grind arith
 
@@ -45,8 +45,8 @@ stands_children first i s e p h = go p.height refl
           middle = 2 * p.offset * 2 ^ k + 2 ^ k;
           after = omega arith;
           before = omega arith;
-          left = record { level = p.level + 1; height = k; offset = 2 * p.offset; levels = lv'; inside = omega arith; place = omega arith; from = omega arith; upto = omega arith };
-          right = record { level = p.level + 1; height = k; offset = 2 * p.offset + 1; levels = lv'; inside = omega arith; place = omega arith; from = omega arith; upto = omega arith };
+          left = record { level = p.level + 1; height = k; offset = 2 * p.offset; levels = lv'; inside = omega arith; position = omega arith; from = omega arith; upto = omega arith };
+          right = record { level = p.level + 1; height = k; offset = 2 * p.offset + 1; levels = lv'; inside = omega arith; position = omega arith; from = omega arith; upto = omega arith };
         }
 
 -- the root's part is all
@@ -91,7 +91,7 @@ pub parent_of_right : (first j s e : ℕ) → IsAbove first (2 * j + 2) s e → 
 parent_of_right first j s e p = grind (arith, ints, one_part, parent_of first (2 * j + 2) j s e p (inr refl))
 
 pub stands_leaf : (first h k : ℕ) → 2 ^ h ≡ first + 1 → k ≤ first → IsAbove first (first + k) k (k + 1)
-stands_leaf first h k lv b = record { level = h; height = 0; offset = k; levels = ap (λ (n : ℕ). 2 ^ n) (let g : h + 0 ≡ h = omega arith in g) ∙ lv; inside = omega arith; place = omega arith; from = omega arith; upto = omega arith }
+stands_leaf first h k lv b = record { level = h; height = 0; offset = k; levels = ap (λ (n : ℕ). 2 ^ n) (let g : h + 0 ≡ h = omega arith in g) ∙ lv; inside = omega arith; position = omega arith; from = omega arith; upto = omega arith }
 
 pub leaf_stands : (first i s e : ℕ) → IsAbove first i s e → first ≤ i → (s ≡ i - first) × (e ≡ s + 1)
 leaf_stands first i s e p h =

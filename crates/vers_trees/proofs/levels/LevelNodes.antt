@@ -7,7 +7,7 @@ use Rattle.vers_trees.proofs.kin.Partners.{before_from_closes}
 pub use Rattle.vers_trees.proofs.kin.NodeList.{HasPair, one_pair, zero_pair, opens, inside, IsFirstNode, IsLastNode, first_node, first_in, last_node, next_in, previous_in, node_pair}
 use Rattle.vers_trees.proofs.kin.Kin.{ancestor_decides, above_from_before, above_is_around, depth_is_excess}
 
--- ---- places where the excess is x, below which it stands at a place before or after
+-- ---- positions where the excess is x, below which it stands at a position before or after
 -- after c the first of them is past a one
 opens_at : (l : List Bool) (c w : ℕ) (x : ℤ) → excess l (c + 1) <ℤ x → c < w → w < length l → excess l (w + 1) ≡ x → ((k : ℕ) → c < k → k < w → excess l (k + 1) ≢ x) → get_or l w false ≡ true
 opens_at l c w x h a i s n =
@@ -34,7 +34,7 @@ module _ (l : List Bool) (b : IsBalanced l) (c : ℕ) (r : ℤ) (some : pos 0 <�
       let k = one_pair l b u q.inside (opens_at l c u (excess l (c + 1) +ℤ r) (omega (arith, ints)) q.after q.inside q.sum q.first) in
       (k, (is u k).1 (q.after, q.sum), λ w x kw p. q.first w ((is w kw).0 p).0 x ((is w kw).0 p).1))
 
--- what opens for a place, if there is one
+-- what opens for a position, if there is one
 abbrev pub opens_for : List Bool → Option ℕ → Option ℕ
 opens_for l None = None
 opens_for l (Some c) = last_rise_before l c (negsuc 0)

@@ -1,5 +1,5 @@
 -- Numbers that ascend, and those of a list that pass a test.
-use Rattle.vers_trees.proofs.Names.{◌≡◌, ℕ, zero, suc, ◌+◌, ◌-◌, ◌<◌, ◌≤◌, Bool, true, List, [], ◌∷◌, length, get_or, ltb, Option, None, Some, arith, subst, sym, refl, ap, ◌∙◌, slice_get, find, filter, Contains, last_or, range_with_len, get_or_from_slice_get, slice_get_within, lt-ltb, le-ltb, cond_both, All-get_or, All-filter, All-contains_itself, filter_passes, find_is, none_passing, last_passing_is, places, Forest, text, nodes, last_of}
+use Rattle.vers_trees.proofs.Names.{◌≡◌, ℕ, zero, suc, ◌+◌, ◌-◌, ◌<◌, ◌≤◌, Bool, true, List, [], ◌∷◌, length, get_or, ltb, Option, None, Some, arith, subst, sym, refl, ap, ◌∙◌, slice_get, find, filter, Contains, last_or, range_with_len, get_or_from_slice_get, slice_get_within, lt-ltb, le-ltb, cond_both, All-get_or, All-filter, All-contains_itself, filter_passes, find_is, none_passing, last_passing_is, positions, Forest, text, nodes, last_of}
 use Rattle.vers_trees.proofs.grammar.Pairs.{contains_first, contains_later}
 use Rattle.vers_trees.proofs.kin.NodeList.{nodes_are_ones}
 
@@ -66,9 +66,9 @@ passing_holds p (x ∷ xs) v (suc k, l, e) t =
     cond_both (p x) (x ∷ filter p xs) (filter p xs) (λ (ys : List ℕ). Contains ys v) (λ e. contains_later x (filter p xs) v c) (λ e. c)
 
 -- ---- levels
-pub places_ascend : (bit : Bool) (l : List Bool) → AscendsFrom 0 (places bit l)
-unfolding places
-places_ascend bit l = filter_ascends _ 0 (range_with_len 0 (length l)) (range_ascends 0 (length l))
+pub positions_ascend : (bit : Bool) (l : List Bool) → AscendsFrom 0 (positions bit l)
+unfolding positions
+positions_ascend bit l = filter_ascends _ 0 (range_with_len 0 (length l)) (range_ascends 0 (length l))
 
 pub nodes_ascend : (F : Forest) → AscendsFrom 0 (nodes F)
-nodes_ascend F = subst (AscendsFrom 0) (sym (nodes_are_ones F)) (places_ascend true (text F))
+nodes_ascend F = subst (AscendsFrom 0) (sym (nodes_are_ones F)) (positions_ascend true (text F))

@@ -1,4 +1,4 @@
--- The places right beside one, which a search finds by their bits alone.
+-- The positions right beside one, which a search finds by their bits alone.
 use Rattle.vers_trees.proofs.Names.{◌≡◌, ◌↔◌, ℕ, ◌+◌, ◌-◌, ◌<◌, ◌≤◌, Bool, true, false, List, length, get_or, not, nat_eq, ℤ, FitsSigned, to_z, of_z, Some, arith, neg_ℤ, pos, negsuc, ◌-ℤ◌, refl, w64, IsTrue, ints, to_z-of_z, eqb-true, excess, first_rise_after, last_rise_before, bit_step, enclosing, count, count_both}
 pub use Rattle.vers_trees.proofs.searches.Searches.{after_some, after_is, before_some, before_is, before_past}
 use Rattle.vers_trees.proofs.searches.Scans.{step_fits, bit_is, fits_small}

@@ -1,5 +1,5 @@
 -- Numbers by their octal digits, and what an entry of a table of bytes is packed of.
-use Rattle.vers_trees.proofs.Names.{◌≡◌, ℕ, zero, suc, ◌+◌, ◌-◌, ◌*◌, ◌/◌, ◌%◌, ◌^◌, ◌<◌, ◌≤◌, List, [], ◌∷◌, length, drop, get_or, arith, ap, ◌∙◌, ◌≢◌, ◌⊎◌, inr, Bool, true, false, pos, ◌+ℤ◌, ◌-ℤ◌, cond, min, max, ⊎_elim, refl, replicate, nat_eq, set, pow-suc, pow-le-pow_right, drop-cons, length-drop, get_or-drop, get_or-set_same, get_or-set_other, shr-shr, IsByte, sum_along, place_along, octal, HasMet, step_along, ints, cases_lt, bit_at-number, excess, bit_step}
+use Rattle.vers_trees.proofs.Names.{◌≡◌, ℕ, zero, suc, ◌+◌, ◌-◌, ◌*◌, ◌/◌, ◌%◌, ◌^◌, ◌<◌, ◌≤◌, List, [], ◌∷◌, length, drop, get_or, arith, ap, ◌∙◌, ◌≢◌, ◌⊎◌, inr, Bool, true, false, pos, ◌+ℤ◌, ◌-ℤ◌, cond, min, max, ⊎_elim, refl, replicate, nat_eq, set, pow-suc, pow-le-pow_right, drop-cons, length-drop, get_or-drop, get_or-set_same, get_or-set_other, shr-shr, IsByte, sum_along, position_along, octal, HasMet, step_along, ints, cases_lt, bit_at-number, excess, bit_step}
 use Rattle.vers_trees.proofs.grammar.Excess.{excess-zero, excess_after_bit}
 
 -- each of the digits is below 8
@@ -29,14 +29,14 @@ octal-digit (d ∷ ds) (suc x) h i = grind (arith, ints, shr-shr (octal (d ∷ d
 
 -- ---- how the entry of a byte is met, step by step along its bits
 -- before the first step
-pub met_nothing : (from_end : Bool) (bits : List Bool) (places : List ℕ) → ((x : ℕ) → get_or places x 7 ≡ 7) → HasMet from_end bits 0 8 9 7 places
-met_nothing from_end bits places all = grind (arith, excess-zero)
+pub met_nothing : (from_end : Bool) (bits : List Bool) (positions : List ℕ) → ((x : ℕ) → get_or positions x 7 ≡ 7) → HasMet from_end bits 0 8 9 7 positions
+met_nothing from_end bits positions all = grind (arith, excess-zero)
 
 -- a step at a bit adds to the sum
 step_by : (from_end b : Bool) → step_along from_end b ≡ cond from_end (pos 0 -ℤ bit_step b) (bit_step b)
 step_by from_end b = grind arith
 
-next_sum : (from_end : Bool) (bits : List Bool) (n : ℕ) → length bits ≡ 8 → n < 8 → sum_along from_end bits (n + 1) ≡ sum_along from_end bits n +ℤ step_along from_end (get_or bits (place_along from_end n) false)
+next_sum : (from_end : Bool) (bits : List Bool) (n : ℕ) → length bits ≡ 8 → n < 8 → sum_along from_end bits (n + 1) ≡ sum_along from_end bits n +ℤ step_along from_end (get_or bits (position_along from_end n) false)
 next_sum false bits n e h = grind (arith, ints, step_by, excess_after_bit)
 next_sum true bits n e h =
     let a : excess bits (7 - n + 1) ≡ excess bits (8 - n) = ap (excess bits) (omega arith) in
@@ -46,23 +46,23 @@ next_sum true bits n e h =
 pub up_or_down : (from_end b : Bool) (value next : ℕ) → pos next ≡ pos value +ℤ step_along from_end b → (next ≡ value + 1) ⊎ (next + 1 ≡ value)
 up_or_down from_end b value next u = grind arith
 
--- what the code has after a step: the bounds, and the places
-pub record IsNoted (least greatest next p : ℕ) (places : List ℕ) (least' greatest' : ℕ) (places' : List ℕ) : Type 0 where
+-- what the code has after a step: the bounds, and the positions
+pub record IsNoted (least greatest next p : ℕ) (positions : List ℕ) (least' greatest' : ℕ) (positions' : List ℕ) : Type 0 where
   pub lower : least' ≡ min least next
   pub upper : greatest' ≡ max greatest next
-  pub again : least ≤ next → next ≤ greatest → places' ≡ places
-  pub first : (next < least) ⊎ (greatest < next) → places' ≡ set places next p
+  pub again : least ≤ next → next ≤ greatest → positions' ≡ positions
+  pub first : (next < least) ⊎ (greatest < next) → positions' ≡ set positions next p
 
--- the place of a sum after a step: that of the step, where the sum is met for the first time, and else what it was
-noted_at : (least greatest next p : ℕ) (places : List ℕ) (least' greatest' : ℕ) (places' : List ℕ) → IsNoted least greatest next p places least' greatest' places' → next < length places → (x : ℕ)
-    → (((next < least) ⊎ (greatest < next)) × (next ≡ x) × (get_or places' x 7 ≡ p)) ⊎ ((((least ≤ next) × (next ≤ greatest)) ⊎ (next ≢ x)) × (get_or places' x 7 ≡ get_or places x 7))
-noted_at least greatest next p places least' greatest' places' w inside x = grind (arith, get_or-set_same, get_or-set_other)
+-- the position of a sum after a step: that of the step, where the sum is met for the first time, and else what it was
+noted_at : (least greatest next p : ℕ) (positions : List ℕ) (least' greatest' : ℕ) (positions' : List ℕ) → IsNoted least greatest next p positions least' greatest' positions' → next < length positions → (x : ℕ)
+    → (((next < least) ⊎ (greatest < next)) × (next ≡ x) × (get_or positions' x 7 ≡ p)) ⊎ ((((least ≤ next) × (next ≤ greatest)) ⊎ (next ≢ x)) × (get_or positions' x 7 ≡ get_or positions x 7))
+noted_at least greatest next p positions least' greatest' positions' w inside x = grind (arith, get_or-set_same, get_or-set_other)
 
-pub met_more : (from_end : Bool) (bits : List Bool) (byte n value least greatest next place : ℕ) (places : List ℕ) (least' greatest' : ℕ) (places' : List ℕ) → IsByte bits byte → n < 8 → HasMet from_end bits n value least greatest places
-    → place ≡ place_along from_end n → pos next ≡ pos value +ℤ step_along from_end (nat_eq (byte / 2 ^ place % 2) 1) → next < length places → IsNoted least greatest next place places least' greatest' places'
-    → HasMet from_end bits (n + 1) next least' greatest' places'
-met_more from_end bits byte n value least greatest next place places least' greatest' places' is h m e u inside w =
-    let bit : get_or bits (place_along from_end n) false ≡ nat_eq (byte / 2 ^ place % 2) 1 = grind (arith, ints, bit_at-number) in
+pub met_more : (from_end : Bool) (bits : List Bool) (byte n value least greatest next position : ℕ) (positions : List ℕ) (least' greatest' : ℕ) (positions' : List ℕ) → IsByte bits byte → n < 8 → HasMet from_end bits n value least greatest positions
+    → position ≡ position_along from_end n → pos next ≡ pos value +ℤ step_along from_end (nat_eq (byte / 2 ^ position % 2) 1) → next < length positions → IsNoted least greatest next position positions least' greatest' positions'
+    → HasMet from_end bits (n + 1) next least' greatest' positions'
+met_more from_end bits byte n value least greatest next position positions least' greatest' positions' is h m e u inside w =
+    let bit : get_or bits (position_along from_end n) false ≡ nat_eq (byte / 2 ^ position % 2) 1 = grind (arith, ints, bit_at-number) in
     let s = next_sum from_end bits n is.eight h ∙ ap (λ (c : Bool). sum_along from_end bits n +ℤ step_along from_end c) bit in
     let sum : pos next ≡ sum_along from_end bits (n + 1) +ℤ pos 8 = omega (arith, ints) in let near = up_or_down from_end _ value next u in
     let last = λ (k : ℕ) (y : k < n + 1) (z : n ≤ k). ap (sum_along from_end bits) (let g : k + 1 ≡ n + 1 = omega arith in g) in
@@ -73,18 +73,18 @@ met_more from_end bits byte n value least greatest next place places least' grea
       low = λ k y. ⊎_elim (λ (z : k < n). let o = m.low k z in omega (arith, ints)) (λ (z : n ≤ k). let o = last k y z in omega (arith, ints)) (cases_lt k n);
       met = λ x a c. ⊎_elim
           (grind (arith, ints))
-          (λ (q : (((least ≤ next) × (next ≤ greatest)) ⊎ (next ≢ x)) × (get_or places' x 7 ≡ get_or places x 7)).
+          (λ (q : (((least ≤ next) × (next ≤ greatest)) ⊎ (next ≢ x)) × (get_or positions' x 7 ≡ get_or positions x 7)).
           let f = m.met x (omega (arith, m.around, near, q.0)) (omega (arith, m.around, near, q.0)) in
-          rw q.1 (record { step = f.step; within = omega arith; sum = f.sum; first = f.first; place = f.place }))
-          (noted_at least greatest next place places least' greatest' places' w inside x);
-      absent = λ x o. grind (arith, o, noted_at least greatest next place places least' greatest' places' w inside x, m.absent x);
+          rw q.1 (record { step = f.step; within = omega arith; sum = f.sum; first = f.first; position = f.position }))
+          (noted_at least greatest next position positions least' greatest' positions' w inside x);
+      absent = λ x o. grind (arith, o, noted_at least greatest next position positions least' greatest' positions' w inside x, m.absent x);
     }
 
--- the places stay digits
-pub few_more : (least greatest next p : ℕ) (places : List ℕ) (least' greatest' : ℕ) (places' : List ℕ) → IsNoted least greatest next p places least' greatest' places' → next < length places → p < 8 → ((x : ℕ) → get_or places x 7 < 8) → (x : ℕ) → get_or places' x 7 < 8
-few_more least greatest next p places least' greatest' places' w inside small old x = omega (arith, noted_at least greatest next p places least' greatest' places' w inside x, old x)
+-- the positions stay digits
+pub few_more : (least greatest next p : ℕ) (positions : List ℕ) (least' greatest' : ℕ) (positions' : List ℕ) → IsNoted least greatest next p positions least' greatest' positions' → next < length positions → p < 8 → ((x : ℕ) → get_or positions x 7 < 8) → (x : ℕ) → get_or positions' x 7 < 8
+few_more least greatest next p positions least' greatest' positions' w inside small old x = omega (arith, noted_at least greatest next p positions least' greatest' positions' w inside x, old x)
 
--- no place met
+-- no position met
 pub sevens : (n x : ℕ) → ◌≡◌ {A = ℕ} (get_or (replicate n 7) x 7) 7
 sevens zero x = refl
 sevens (suc n) zero = refl

@@ -18,32 +18,32 @@ left_is r rise left f g d = rw d.1 (to_z-of_z w64 _ d.0 ∙ ap (λ (z : ℤ). z 
 -- ---- what a search answers
 pub record IsAnswer (back : Bool) (s : Sought) (o : Option ℕ) : Type 0 where
   pub none : HasNone back s → None ≡ o
-  pub some : (place : ℕ) → IsRise back s.bits s.from (edge back (length s.bits) 0) s.rise place → Some place ≡ o
+  pub some : (position : ℕ) → IsRise back s.bits s.from (edge back (length s.bits) 0) s.rise position → Some position ≡ o
 
 pub answer_after : (l : List Bool) (size i : ℕ) (r : ℤ) → IsAnswer false (sought l size (i + 1) r) (first_rise_after l i r)
 answer_after l size i r = record {
   none = λ n. sym (none_after l i r (λ k a b. n k (omega arith) b));
-  some = λ place q. sym (after_is l i r place (record { after = omega arith; inside = q.between.1; sum = q.sum; first = λ k x y. q.first k (omega arith, y) }));
+  some = λ position q. sym (after_is l i r position (record { after = omega arith; inside = q.between.1; sum = q.sum; first = λ k x y. q.first k (omega arith, y) }));
 }
 
 pub answer_before : (l : List Bool) (size i : ℕ) (r : ℤ) → i < length l → IsAnswer true (sought l size i r) (last_rise_before l i r)
 answer_before l size i r h = record {
   none = λ n. sym (none_before l i r n);
-  some = λ place q. sym (before_is l i r place (record { before = q.between.1; inside = h; sum = q.sum; last = λ k x y. q.first k (omega arith, y) }));
+  some = λ position q. sym (before_is l i r position (record { before = q.between.1; inside = h; sum = q.sum; last = λ k x y. q.first k (omega arith, y) }));
 }
 
-pub answer_here : (back : Bool) (s : Sought) (o : Option ℕ) → IsAnswer back s o → (end place : ℕ) → IsRise back s.bits s.from end s.rise place → IsBetween back s.from (edge back (length s.bits) 0) place → Some place ≡ o
-answer_here back s o a end place q b = a.some place (record { between = b; sum = q.sum; first = q.first })
+pub answer_here : (back : Bool) (s : Sought) (o : Option ℕ) → IsAnswer back s o → (end position : ℕ) → IsRise back s.bits s.from end s.rise position → IsBetween back s.from (edge back (length s.bits) 0) position → Some position ≡ o
+answer_here back s o a end position q b = a.some position (record { between = b; sum = q.sum; first = q.first })
 
 -- ---- where a search comes to past its block
 comes_past : (back : Bool) (s : Sought) (block : ℕ) → 0 < s.size → 0 < s.from → s.from ≤ length s.bits → block ≡ (s.from - 1) / s.size → IsAfter back s.from (start_of s.bits s.size (edge back (block + 1) block))
 comes_past back s block so a b e = grind arith
 
--- the block that a search backwards goes on in ends before the place that it begins at
+-- the block that a search backwards goes on in ends before the position that it begins at
 pub ends_before : (s : Sought) (j : ℕ) (rest : ℤ) → IsAhead true s j (j + 1) rest → j * s.size + s.size < s.from
 ends_before s j rest a = omega arith
 
--- ---- in a list with its tree, where the block that the search begins in has no place with its sum
+-- ---- in a list with its tree, where the block that the search begins in has no position with its sum
 module _ (back : Bool) (s : Sought) (first : ℕ) (nodes : List Node) (block : ℕ) (rise : ℤ) (p : IsPassed back s first nodes block rise) (o : Option ℕ) (a : IsAnswer back s o) (f : FitsSigned w64 s.rise) where
   fits : FitsSigned w64 rise
   fits = rise_fits s.bits s.from (start_of s.bits s.size (edge back (block + 1) block)) rise p.indexed.short p.inside (omega arith) p.passed.risen
@@ -64,27 +64,27 @@ module _ (back : Bool) (s : Sought) (first : ℕ) (nodes : List Node) (block : �
     pub none_next : ((q : Sought) → BeginsAt back q first nodes block (stored left) → HasNone back q) → None ≡ o
     none_next none = a.none (none s begins)
 
-    -- the block that it answers has such a place, and its scan ends the search
+    -- the block that it answers has such a position, and its scan ends the search
     module _ (j : ℕ) (rest : ℤ) (next : (q : Sought) → BeginsAt back q first nodes block (stored left) → IsAhead back q j (j + 1) rest) where
       ahead : IsAhead back s j (j + 1) rest
       ahead = next s begins
 
       pub next_inside : j * s.size < length s.bits
-      next_inside = omega (arith, ahead.place.2, ahead.place.1)
+      next_inside = omega (arith, ahead.position.2, ahead.position.1)
 
       whole : stored rest ≡ rest
-      whole = let k = ahead.place in to_z-of_z w64 rest (left_fits back s (start_of s.bits s.size (edge back j (j + 1))) rest k.0 p.indexed.short (omega arith) ahead.passed.remains (omega arith) k.3)
+      whole = let k = ahead.position in to_z-of_z w64 rest (left_fits back s (start_of s.bits s.size (edge back j (j + 1))) rest k.0 p.indexed.short (omega arith) ahead.passed.remains (omega arith) k.3)
 
-      pub next_answer : (x y : ℕ) (r : Result ℕ ℤ) → x ≡ start_of s.bits s.size (edge back j (j + 1)) → y ≡ start_of s.bits s.size (edge back (j + 1) j) → MatchResult r (λ place. IsRise back s.bits x y (stored rest) place) (λ past. HasNoRise back s.bits x y (stored rest) past) → result_ok r ≡ o
-      next_answer x y (Ok place) e g q =
+      pub next_answer : (x y : ℕ) (r : Result ℕ ℤ) → x ≡ start_of s.bits s.size (edge back j (j + 1)) → y ≡ start_of s.bits s.size (edge back (j + 1) j) → MatchResult r (λ position. IsRise back s.bits x y (stored rest) position) (λ past. HasNoRise back s.bits x y (stored rest) past) → result_ok r ≡ o
+      next_answer x y (Ok position) e g q =
           let t = rw (e, g) at q in let re = ahead.passed.remains in let wh = whole in
-          a.some place (record {
+          a.some position (record {
             between = grind (arith, p.inside, ahead.passed.after, t.between);
             sum = omega (arith, ints);
-            first = λ k b z. ⊎_elim (λ w. ahead.passed.none k w z) (λ w. t.first k w (omega (arith, ints))) (split back s.from (start_of s.bits s.size (edge back j (j + 1))) (up_to back place) k b);
+            first = λ k b z. ⊎_elim (λ w. ahead.passed.none k w z) (λ w. t.first k w (omega (arith, ints))) (split back s.from (start_of s.bits s.size (edge back j (j + 1))) (up_to back position) k b);
           })
       next_answer x y (Err past) e g q =
-          let re = ahead.passed.remains in let wh = whole in let k = ahead.place in
+          let re = ahead.passed.remains in let wh = whole in let k = ahead.position in
           absurd ((rw (e, g) at q).none k.0 (grind (arith, k.1, k.2)) (omega (arith, ints)))
 
 -- what it reads then: the tree's nodes, and the bits of a block

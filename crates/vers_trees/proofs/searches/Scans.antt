@@ -2,7 +2,7 @@
 use Rattle.vers_trees.proofs.Names.{◌≡◌, ◌≢◌, ℕ, ◌+◌, ◌-◌, ◌^◌, ◌<◌, ◌≤◌, ◌⊎◌, Bool, true, false, List, length, get_or, ℤ, pos, negsuc, ◌+ℤ◌, ◌-ℤ◌, ◌≤ℤ◌, FitsSigned, to_z, of_z, arith, ⊎_elim, refl, sym, ap, ◌∙◌, w64, ints, clamps, by_lt_z, to_z-of_z, cases_lt, Node, combined, SumsFit, excess, bit_step, count_near, count_up, IsPart, sum_past, IsBetween, up_to, IsRise, HasNoRise}
 use Rattle.vers_trees.proofs.grammar.Excess.{excess_after_bit}
 
--- the excess changes by at most as much as there are places between
+-- the excess changes by at most as much as there are positions between
 pub rise_within : (l : List Bool) (i j n : ℕ) (z : ℤ) → excess l j ≡ excess l i +ℤ z → j ≤ i + n → i ≤ j + n → (z ≤ℤ pos n) × (negsuc n ≤ℤ z)
 unfolding excess
 rise_within l i j n z e a b = grind (arith, ints, cases_lt i j, count_up true l i j, count_up false l i j, count_near true l i j, count_near false l i j, count_up true l j i, count_up false l j i, count_near true l j i, count_near false l j i)
@@ -10,7 +10,7 @@ rise_within l i j n z e a b = grind (arith, ints, cases_lt i j, count_up true l 
 pub fits_small : (z : ℤ) → z ≤ℤ pos (2 ^ 63 - 1) → negsuc (2 ^ 63 - 1) ≤ℤ z → FitsSigned w64 z
 fits_small z a b = grind (arith, ints)
 
--- between two places of a list of fewer than 2^63 bits the excess rises by a number that fits
+-- between two positions of a list of fewer than 2^63 bits the excess rises by a number that fits
 pub rise_fits : (l : List Bool) (i j : ℕ) (z : ℤ) → length l < 2 ^ 63 → i ≤ length l → j ≤ length l → excess l j ≡ excess l i +ℤ z → FitsSigned w64 z
 rise_fits l i j z short a b e = grind (arith, ints, rise_within, fits_small)
 
@@ -24,7 +24,7 @@ step_fits b d e = grind (arith, ints, fits_small)
 pub rest_is : (f : ℤ → ℤ) (x b : ℤ) → FitsSigned w64 x → FitsSigned w64 (f (to_z w64 (of_z w64 x))) × (b ≡ f (to_z w64 (of_z w64 x))) → to_z w64 (of_z w64 b) ≡ f x
 rest_is f x b h s = rw s.1 (to_z-of_z w64 _ s.0 ∙ ap f (to_z-of_z w64 x h))
 
--- ---- stretches: none of the places that a search passes from p on to q has the sum t
+-- ---- stretches: none of the positions that a search passes from p on to q has the sum t
 abbrev pub Misses : (back : Bool) → List Bool → ℕ → ℕ → ℤ → Type 0
 Misses back l p q t = (k : ℕ) → IsBetween back p q k → sum_past back l k ≢ t
 
@@ -36,9 +36,9 @@ pub joined : (back : Bool) (l : List Bool) (from p q : ℕ) (t : ℤ) → Misses
 joined back l from p q t m n k b = ⊎_elim (m k) (n k) (split back from p q k b)
 
 -- past a stretch on which the excess rises by x or by d
-pub found : (back : Bool) (l : List Bool) (from p place end : ℕ) (r rise x : ℤ) → HasNoRise back l from p r rise → IsBetween back from end place → Misses back l p (up_to back place) (excess l from +ℤ r) → sum_past back l place ≡ excess l p +ℤ x → rise +ℤ x ≡ r → IsRise back l from end r place
-found back l from p place end r rise x h i m e z =
-    record { between = i; sum = omega (arith, ints); first = joined back l from p (up_to back place) _ h.none m }
+pub found : (back : Bool) (l : List Bool) (from p position end : ℕ) (r rise x : ℤ) → HasNoRise back l from p r rise → IsBetween back from end position → Misses back l p (up_to back position) (excess l from +ℤ r) → sum_past back l position ≡ excess l p +ℤ x → rise +ℤ x ≡ r → IsRise back l from end r position
+found back l from p position end r rise x h i m e z =
+    record { between = i; sum = omega (arith, ints); first = joined back l from p (up_to back position) _ h.none m }
 
 more : (back : Bool) (l : List Bool) (from p q : ℕ) (r rise d z : ℤ) → HasNoRise back l from p r rise → length l < 2 ^ 63 → from ≤ length l → q ≤ length l → excess l q ≡ excess l p +ℤ d → z ≡ rise +ℤ d → Misses back l p q (excess l from +ℤ r) → FitsSigned w64 z × HasNoRise back l from q r (to_z w64 (of_z w64 z))
 more back l from p q r rise d z h short i j e n m =
@@ -56,7 +56,7 @@ backward_more l p q end r rise d h short o i j e m = let n = rise_is l p q d sho
 pub bit_is : (l : List Bool) (i j : ℕ) (b : Bool) (d : ℤ) → j ≡ i + 1 → i < length l → b ≡ get_or l i false → d ≡ bit_step b → excess l j ≡ excess l i +ℤ d
 bit_is l i j b d n h e q = ap (excess l) n ∙ excess_after_bit l i false h ∙ ap (λ (z : ℤ). excess l i +ℤ z) (sym (q ∙ ap bit_step e))
 
--- the sum past it fits, its place has the sum that is looked for, or there is still none
+-- the sum past it fits, its position has the sum that is looked for, or there is still none
 pub forward_bit : (l : List Bool) (from p end : ℕ) (r rise d : ℤ) (b : Bool) → HasNoRise false l from p r rise → length l < 2 ^ 63 → from ≤ p → p < end → end ≤ length l → b ≡ get_or l p false → d ≡ bit_step b
     → FitsSigned w64 (rise +ℤ to_z w64 (of_z w64 d)) × (rise +ℤ to_z w64 (of_z w64 d) ≡ r → IsRise false l from end r p) × ((rise +ℤ to_z w64 (of_z w64 d) ≡ r → ⊥) → HasNoRise false l from (p + 1) r (to_z w64 (of_z w64 (rise +ℤ to_z w64 (of_z w64 d)))))
 forward_bit l from p end r rise d b h short o i j e q =

@@ -1,4 +1,4 @@
--- The searches for a rise of the excess find the places that their facts describe.
+-- The searches for a rise of the excess find the positions that their facts describe.
 use Rattle.vers_trees.proofs.Names.{◌≡◌, ℕ, zero, suc, ◌+◌, ◌-◌, ◌<◌, ◌≤◌, ◌≢◌, Bool, cond, List, [], ◌∷◌, ◌++◌, length, ℤ, ◌+ℤ◌, Option, Some, None, MatchOption, arith, sym, refl, ap, ◌∙◌, find, filter, Decides, range_with_len, last_or, map-id, filter_of_map_range_with_len_more, cases_lt, lt-ltb, le-ltb, Decides-int_eq, excess, first_rise_after, last_rise_before, IsFirstRiseAfter, IsLastRiseBefore}
 
 -- j is the first number from a on and below b that has P, and the last below n
@@ -17,7 +17,7 @@ pub record IsLast (P : ℕ → Type 0) (n j : ℕ) : Type 0 where
 same_answer : (o p : Option ℕ) (N : Type 0) (Is : ℕ → Type 0) → MatchOption o N Is → MatchOption p N Is → (N → (j : ℕ) → Is j → ⊥) → ((i j : ℕ) → Is i → Is j → i ≡ j) → o ≡ p
 same_answer o p N Is m q n u = grind arith
 
--- what follows from an answer that is none, and from one that is a place
+-- what follows from an answer that is none, and from one that is a position
 pub by_answer : (P : Option ℕ → Type 0) (o : Option ℕ) → (o ≡ None → P None) → ((j : ℕ) → o ≡ Some j → P (Some j)) → P o
 by_answer P None n s = n refl
 by_answer P (Some j) n s = s j refl
@@ -74,7 +74,7 @@ after_none l i r h k x y = (rw h at (find_first _ (rises_to l i r) (λ k. Decide
 pub none_after : (l : List Bool) (i : ℕ) (r : ℤ) → ((k : ℕ) → i < k → k < length l → excess l (k + 1) ≢ excess l (i + 1) +ℤ r) → first_rise_after l i r ≡ None
 none_after l i r h = by_answer (λ o. o ≡ None) (first_rise_after l i r) (λ e. refl) (λ j e. let f = after_some l i r j e in absurd (h j f.after f.inside f.sum))
 
--- a place that the list doesn't have
+-- a position that the list doesn't have
 pub before_past : (l : List Bool) (i : ℕ) (r : ℤ) → length l ≤ i → last_rise_before l i r ≡ None
 unfolding last_rise_before
 before_past l i r g = rw (le-ltb i (length l) g) refl

@@ -1,11 +1,11 @@
 -- A walk from tree to tree below a node meets its children, forwards and backwards.
-use Rattle.vers_trees.proofs.Names.{◌≡◌, ℕ, zero, suc, ◌+◌, ◌-◌, ◌<◌, ◌≤◌, Bool, true, false, List, [], ◌∷◌, length, reverse, get_or, eqb, negsuc, Option, Some, None, arith, sym, refl, ap, ◌∙◌, map, take, drop, slice_get, option_eq, slice_get_within, slice_get_past, cond_some, slice_get-get_or, get_or_from_slice_get, get_or-reverse, length-reverse, length-map, length-take, length-drop, get_or-map, get_or-take, get_or-drop, take_all, length-filter, count_by-le-length, count, places, select, length-places, count_le, Forest, IsBalanced, forest_of, nodes, closing, parent, nodes_under, children, siblings, last_of, next_of, previous_of, IsNode, subtree, tree_to, opened, tree_from, tree_before, met, walked, MeetsJust, opening_of, tree_beside, siblings_left, IsWalkOfSiblings, Contains-get_or, TakesFirst, postorder, subtree_post, closed_by}
+use Rattle.vers_trees.proofs.Names.{◌≡◌, ℕ, zero, suc, ◌+◌, ◌-◌, ◌<◌, ◌≤◌, Bool, true, false, List, [], ◌∷◌, length, reverse, get_or, eqb, negsuc, Option, Some, None, arith, sym, refl, ap, ◌∙◌, map, take, drop, slice_get, option_eq, slice_get_within, slice_get_past, cond_some, slice_get-get_or, get_or_from_slice_get, get_or-reverse, length-reverse, length-map, length-take, length-drop, get_or-map, get_or-take, get_or-drop, take_all, length-filter, count_by-le-length, count, positions, select, length-positions, count_le, Forest, IsBalanced, forest_of, nodes, closing, parent, nodes_under, children, siblings, last_of, next_of, previous_of, IsNode, subtree, tree_to, opened, tree_from, tree_before, met, walked, MeetsJust, opening_of, tree_beside, siblings_left, IsWalkOfSiblings, Contains-get_or, TakesFirst, postorder, subtree_post, closed_by}
 use Rattle.vers_trees.proofs.searches.Searches.{after_is}
 use Rattle.vers_trees.proofs.kin.Partners.{after_from_closes}
 use Rattle.vers_trees.proofs.kin.NodeList.{HasPair, node_pair, nodes_by, opens, option_decides}
 use Rattle.vers_trees.proofs.levels.NodeLaws.{AscendsFrom, nodes_ascend, filter_ascends, next_member, member_before, first_member_before, last_by_number, member_passes}
 pub use Rattle.vers_trees.proofs.kin.Kin.{opened_here, closed_before, first_child_is, last_child_is, next_sibling_is, previous_sibling_is, closes_inside}
-use Rattle.vers_trees.proofs.walks.ListsOfNodes.{postorder_by, places_in, as_part, part_inside, part_size, subtree_is, subtree_size_is, subtree_post_is}
+use Rattle.vers_trees.proofs.walks.ListsOfNodes.{postorder_by, positions_in, as_part, part_inside, part_size, subtree_is, subtree_size_is, subtree_post_is}
 
 -- a walk that ends meets what `walked` says, if it is given enough steps
 pub walk_is : (step : ℕ → Option (ℕ × ℕ)) (n p : ℕ) (vs : List ℕ) → MeetsJust step p vs → length vs ≤ n → walked step n p ≡ vs
@@ -53,7 +53,7 @@ child_member l b v i w e =
 
 children_few : (l : List Bool) (b : IsBalanced l) (v : ℕ) → length (children (forest_of l) v) ≤ length l
 unfolding nodes_under
-children_few l b v = grind (arith, length-filter, count_by-le-length, nodes_by, length-places, count_le)
+children_few l b v = grind (arith, length-filter, count_by-le-length, nodes_by, length-positions, count_le)
 
 meets_forwards : (l : List Bool) (b : IsBalanced l) (v : ℕ) → HasPair l v → MeetsJust (tree_from l) (v + 1) (children (forest_of l) v)
 meets_forwards l b v h = steps_meet (tree_from l) (children (forest_of l) v) (λ p i. slice_get (children (forest_of l) v) i ≡ opened_here l p)
@@ -111,39 +111,39 @@ backwards l v c b n e = let r = length-reverse (children (forest_of l) v) in let
     rw e (walk_from l false (closing (forest_of l) v) (reverse (children (forest_of l) v)) (meets_backwards l b v (node_pair l b v n)) (omega arith))
 
 -- ---- the tree of a node
-pub subtree_inside : (bit : Bool) (l : List Bool) (v : ℕ) → IsBalanced l → IsNode (forest_of l) v → count bit l v + length (subtree (forest_of l) v) ≤ length (places bit l)
+pub subtree_inside : (bit : Bool) (l : List Bool) (v : ℕ) → IsBalanced l → IsNode (forest_of l) v → count bit l v + length (subtree (forest_of l) v) ≤ length (positions bit l)
 subtree_inside bit l v b n = grind (arith, node_pair, part_size, subtree_size_is, part_inside)
 
-pub subtree_part : (l : List Bool) (v : ℕ) → IsBalanced l → IsNode (forest_of l) v → take (length (subtree (forest_of l) v)) (drop (count true l v) (places true l)) ≡ subtree (forest_of l) v
+pub subtree_part : (l : List Bool) (v : ℕ) → IsBalanced l → IsNode (forest_of l) v → take (length (subtree (forest_of l) v)) (drop (count true l v) (positions true l)) ≡ subtree (forest_of l) v
 subtree_part l v b n = grind (arith, subtree_is, node_pair, as_part)
 
-pub subtree_post_part : (l : List Bool) (v : ℕ) → IsBalanced l → IsNode (forest_of l) v → map (opening_of l) (take (length (subtree (forest_of l) v)) (drop (count false l v) (places false l))) ≡ subtree_post (forest_of l) v
-subtree_post_part l v b n = grind (arith, node_pair, places_in, part_size, subtree_size_is, as_part, subtree_post_is)
+pub subtree_post_part : (l : List Bool) (v : ℕ) → IsBalanced l → IsNode (forest_of l) v → map (opening_of l) (take (length (subtree (forest_of l) v)) (drop (count false l v) (positions false l))) ≡ subtree_post (forest_of l) v
+subtree_post_part l v b n = grind (arith, node_pair, positions_in, part_size, subtree_size_is, as_part, subtree_post_is)
 
 -- ---- handles
 pub ones_are_nodes : (bits : List Bool) (i : ℕ) → IsBalanced bits → i < count true bits (length bits) → IsNode (forest_of bits) (select true bits i)
 unfolding select
-ones_are_nodes bits i b h = rw (nodes_by bits b) (Contains-get_or (places true bits) i (length bits) (omega (arith, length-places true bits)))
+ones_are_nodes bits i b h = rw (nodes_by bits b) (Contains-get_or (positions true bits) i (length bits) (omega (arith, length-positions true bits)))
 
 -- ---- the nodes that zeros close, as a source of items
-pub length-closed_by : (l : List Bool) (k n : ℕ) → k + n ≤ length (places false l) → length (closed_by l k n) ≡ n
-length-closed_by l k n h = omega (arith, length-map (take n (drop k (places false l))) (opening_of l), length-take n (drop k (places false l)), length-drop k (places false l))
+pub length-closed_by : (l : List Bool) (k n : ℕ) → k + n ≤ length (positions false l) → length (closed_by l k n) ≡ n
+length-closed_by l k n h = omega (arith, length-map (take n (drop k (positions false l))) (opening_of l), length-take n (drop k (positions false l)), length-drop k (positions false l))
 
 -- a zero of number k + i is there, below the most bits that a list has
-pub zero_inside : (l : List Bool) (k n i : ℕ) → k + n ≤ length (places false l) → i < length (closed_by l k n) → k + i < length (places false l)
+pub zero_inside : (l : List Bool) (k n i : ℕ) → k + n ≤ length (positions false l) → i < length (closed_by l k n) → k + i < length (positions false l)
 zero_inside l k n i h low = omega (arith, length-closed_by l k n h)
 
-pub zeros_fit : (l : List Bool) → length (places false l) ≤ length l
-zeros_fit l = omega (arith, length-places false l, (count_le false l (length l)).1)
+pub zeros_fit : (l : List Bool) → length (positions false l) ≤ length l
+zeros_fit l = omega (arith, length-positions false l, (count_le false l (length l)).1)
 
-pub closed_item : (l : List Bool) (k n i c : ℕ) → k + n ≤ length (places false l) → i < length (closed_by l k n) → slice_get (places false l) (k + i) ≡ Some c → slice_get (closed_by l k n) i ≡ Some (opening_of l c)
+pub closed_item : (l : List Bool) (k n i c : ℕ) → k + n ≤ length (positions false l) → i < length (closed_by l k n) → slice_get (positions false l) (k + i) ≡ Some c → slice_get (closed_by l k n) i ≡ Some (opening_of l c)
 closed_item l k n i c h low at =
     let few : i < n = omega (arith, low, length-closed_by l k n h) in
-    let is = get_or-take n (drop k (places false l)) i 0 few ∙ get_or-drop k (places false l) i 0 ∙ get_or_from_slice_get (places false l) (k + i) c 0 at in
-    slice_get-get_or (closed_by l k n) i 0 low ∙ ap Some (get_or-map (opening_of l) (take n (drop k (places false l))) i 0 0 (omega (arith, length-take n (drop k (places false l)), length-drop k (places false l))) ∙ ap (opening_of l) is)
+    let is = get_or-take n (drop k (positions false l)) i 0 few ∙ get_or-drop k (positions false l) i 0 ∙ get_or_from_slice_get (positions false l) (k + i) c 0 at in
+    slice_get-get_or (closed_by l k n) i 0 low ∙ ap Some (get_or-map (opening_of l) (take n (drop k (positions false l))) i 0 0 (omega (arith, length-take n (drop k (positions false l)), length-drop k (positions false l))) ∙ ap (opening_of l) is)
 
 -- the nodes that all zeros close are those of the forest, each after those below it
-pub closed_by_all : (l : List Bool) (n : ℕ) → IsBalanced l → n ≡ length (places false l) → closed_by l 0 n ≡ postorder (forest_of l)
-closed_by_all l n b e = ap (map (opening_of l)) (take_all n (places false l) (omega (arith, e))) ∙ postorder_by l b
+pub closed_by_all : (l : List Bool) (n : ℕ) → IsBalanced l → n ≡ length (positions false l) → closed_by l 0 n ≡ postorder (forest_of l)
+closed_by_all l n b e = ap (map (opening_of l)) (take_all n (positions false l) (omega (arith, e))) ∙ postorder_by l b
 
 pub ruleset closed = (length-closed_by, zero_inside, zeros_fit, closed_item)

@@ -13,14 +13,14 @@ step_along false bit = bit_step bit
 step_along true true = negsuc 0
 step_along true false = pos 1
 
--- what was met in n steps: the sum, the least and the greatest, each plus 8, and for each between the place first met; before the first step the least is above the greatest
-pub record HasMet (from_end : Bool) (bits : List Bool) (n value least greatest : ℕ) (places : List ℕ) : Type 0 where
+-- what was met in n steps: the sum, the least and the greatest, each plus 8, and for each between the position first met; before the first step the least is above the greatest
+pub record HasMet (from_end : Bool) (bits : List Bool) (n value least greatest : ℕ) (positions : List ℕ) : Type 0 where
   pub sum : pos value ≡ sum_along from_end bits n +ℤ pos 8
   pub around : ((n ≡ 0) × (value ≡ 8) × (least ≡ 9) × (greatest ≡ 7)) ⊎ ((least ≤ value) × (value ≤ greatest))
   pub high : (k : ℕ) → k < n → (sum_along from_end bits (k + 1) +ℤ pos 8) ≤ℤ pos greatest
   pub low : (k : ℕ) → k < n → pos least ≤ℤ (sum_along from_end bits (k + 1) +ℤ pos 8)
-  pub met : (x : ℕ) → least ≤ x → x ≤ greatest → IsFirstMet from_end bits n x (slice_index_or places x 7)
-  pub absent : (x : ℕ) → (x < least) ⊎ (greatest < x) → slice_index_or places x 7 ≡ 7
+  pub met : (x : ℕ) → least ≤ x → x ≤ greatest → IsFirstMet from_end bits n x (slice_index_or positions x 7)
+  pub absent : (x : ℕ) → (x < least) ⊎ (greatest < x) → slice_index_or positions x 7 ≡ 7
 
 -- the number with these octal digits, the lowest first
 abbrev pub octal : List ℕ → ℕ

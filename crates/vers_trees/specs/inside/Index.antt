@@ -26,7 +26,7 @@ pub record IsIndexed (l : List Bool) (size first : ℕ) (nodes : List Node) : Ty
   pub counted : length nodes ≡ node_count size (length l)
   pub over : 0 < length l → IsTreeOf l size first nodes
 
--- in a list with its tree a search has no place with its sum up to the end of the block that it begins in, where it has risen by `rise`
+-- in a list with its tree a search has no position with its sum up to the end of the block that it begins in, where it has risen by `rise`
 pub record IsPassed (back : Bool) (s : Sought) (first : ℕ) (nodes : List Node) (block : ℕ) (rise : ℤ) : Type 0 where
   pub indexed : IsIndexed s.bits s.size first nodes
   pub some : 0 < s.from

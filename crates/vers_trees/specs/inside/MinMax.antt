@@ -27,7 +27,7 @@ pub record IsInRangeOrStart (x : Node) (r : ℤ) : Type 0 where
   pub low : int_min x.least (pos 0) ≤ℤ r
   pub high : r ≤ℤ int_max x.greatest (pos 0)
 
--- the total is 0, and no place is below the start
+-- the total is 0, and no position is below the start
 pub record IsLevel (x : Node) : Type 0 where
   pub total : x.total ≡ pos 0
   pub least : pos 0 ≤ℤ x.least
@@ -65,7 +65,7 @@ pub record IsAbove (first i s e : ℕ) : Type 0 where
   pub offset : ℕ
   pub levels : 2 ^ (level + height) ≡ first + 1
   pub inside : offset < 2 ^ level
-  pub place : i + 1 ≡ 2 ^ level + offset
+  pub position : i + 1 ≡ 2 ^ level + offset
   pub from : s ≡ offset * 2 ^ height
   pub upto : e ≡ offset * 2 ^ height + 2 ^ height
 
@@ -88,7 +88,7 @@ pub record IsMinMax (l : List Bool) (size first : ℕ) (nodes : List Node) : Typ
   pub short : length l < 2 ^ 63
   pub small : first < 2 ^ 63
 
--- what a search looks for in a list in blocks of `size` bits: a sum that is `rise` above the one before the place `from`
+-- what a search looks for in a list in blocks of `size` bits: a sum that is `rise` above the one before the position `from`
 pub record Sought : Type 0 where
   pub bits : List Bool
   pub size : ℕ
@@ -102,31 +102,31 @@ sought l size from r = record { bits = l; size = size; from = from; rise = r }
 abbrev pub target : Sought → ℤ
 target s = excess s.bits s.from +ℤ s.rise
 
--- place p is one that a search from the place `from` comes to
+-- position p is one that a search from the position `from` comes to
 abbrev pub IsAfter : (back : Bool) → ℕ → ℕ → Type 0
 IsAfter false from p = from ≤ p
 IsAfter true from p = p < from
 
--- a search has passed the places up to p, none of which has its sum, which is `left` above the one before p
+-- a search has passed the positions up to p, none of which has its sum, which is `left` above the one before p
 pub record Passed (back : Bool) (s : Sought) (p : ℕ) (left : ℤ) : Type 0 where
   pub inside : s.from ≤ length s.bits
   pub after : IsAfter back s.from p
   pub remains : excess s.bits p +ℤ left ≡ target s
   pub none : (k : ℕ) → IsBetween back s.from p k → sum_past back s.bits k ≢ target s
 
--- no place that a search can come to has its sum
+-- no position that a search can come to has its sum
 abbrev pub HasNone : (back : Bool) → Sought → Type 0
 HasNone false s = (k : ℕ) → s.from ≤ k → k < length s.bits → sum_past false s.bits k ≢ target s
 HasNone true s = (k : ℕ) → k < s.from → sum_past true s.bits k ≢ target s
 
--- a place of the blocks from i up to e has the sum
-abbrev pub HasPlace : (back : Bool) → Sought → ℕ → ℕ → Type 0
-HasPlace back s i e = (k : ℕ) × (start_of s.bits s.size i ≤ k) × (k < start_of s.bits s.size e) × (sum_past back s.bits k ≡ target s)
+-- a position of the blocks from i up to e has the sum
+abbrev pub HasPosition : (back : Bool) → Sought → ℕ → ℕ → Type 0
+HasPosition back s i e = (k : ℕ) × (start_of s.bits s.size i ≤ k) × (k < start_of s.bits s.size e) × (sum_past back s.bits k ≡ target s)
 
--- the first place with the sum is in the blocks from i up to e, before which the search has passed all
+-- the first position with the sum is in the blocks from i up to e, before which the search has passed all
 pub record IsAhead (back : Bool) (s : Sought) (i e : ℕ) (left : ℤ) : Type 0 where
   pub passed : Passed back s (start_of s.bits s.size (edge back i e)) left
-  pub place : HasPlace back s i e
+  pub position : HasPosition back s i e
 
 -- a search has passed the block `begin`
 pub record BeginsAt (back : Bool) (s : Sought) (first : ℕ) (nodes : List Node) (begin : ℕ) (left : ℤ) : Type 0 where
@@ -134,19 +134,19 @@ pub record BeginsAt (back : Bool) (s : Sought) (first : ℕ) (nodes : List Node)
   pub some : begin * s.size < length s.bits
   pub passed : Passed back s (start_of s.bits s.size (edge back (begin + 1) begin)) left
 
--- the first place with the sum is below the node at `place`
-pub record LeadsTo (back : Bool) (s : Sought) (first : ℕ) (nodes : List Node) (place : ℕ) (left : ℤ) : Type 0 where
+-- the first position with the sum is below the node at `position`
+pub record LeadsTo (back : Bool) (s : Sought) (first : ℕ) (nodes : List Node) (position : ℕ) (left : ℤ) : Type 0 where
   pub tree : IsMinMax s.bits s.size first nodes
   pub start : ℕ
   pub stop : ℕ
-  pub stands : IsAbove first place start stop
+  pub stands : IsAbove first position start stop
   pub ahead : IsAhead back s start stop left
 
--- a search has passed the part of the node at `place`
-pub record PassedTo (back : Bool) (s : Sought) (first place : ℕ) (left : ℤ) : Type 0 where
+-- a search has passed the part of the node at `position`
+pub record PassedTo (back : Bool) (s : Sought) (first position : ℕ) (left : ℤ) : Type 0 where
   pub start : ℕ
   pub stop : ℕ
-  pub stands : IsAbove first place start stop
+  pub stands : IsAbove first position start stop
   pub passed : Passed back s (start_of s.bits s.size (edge back stop start)) left
 
 -- `odd` is `number` without the zeros at its end
@@ -171,19 +171,19 @@ far_child true node = 2 * node + 1
 
 -- whether a node is such another one, and the first one beside it
 abbrev pub IsFarChild : (back : Bool) → ℕ → Type 0
-IsFarChild false place = place % 2 ≡ 0
-IsFarChild true place = place % 2 ≡ 1
+IsFarChild false position = position % 2 ≡ 0
+IsFarChild true position = position % 2 ≡ 1
 
 abbrev pub beside_far : (back : Bool) → ℕ → ℕ
-beside_far false place = place - 1
-beside_far true place = place + 1
+beside_far false position = position - 1
+beside_far true position = position + 1
 
--- a search comes to the node at `place`, a far child, and has passed the part of the near one; at place 0 there is nothing left to pass
-pub record ComesTo (back : Bool) (s : Sought) (first : ℕ) (nodes : List Node) (place : ℕ) (left : ℤ) : Type 0 where
+-- a search comes to the node at `position`, a far child, and has passed the part of the near one; at position 0 there is nothing left to pass
+pub record ComesTo (back : Bool) (s : Sought) (first : ℕ) (nodes : List Node) (position : ℕ) (left : ℤ) : Type 0 where
   pub tree : IsMinMax s.bits s.size first nodes
-  pub far : 0 < place → IsFarChild back place
-  pub passed : 0 < place → PassedTo back s first (beside_far back place) left
-  pub none : place ≡ 0 → HasNone back s
+  pub far : 0 < position → IsFarChild back position
+  pub passed : 0 < position → PassedTo back s first (beside_far back position) left
+  pub none : position ≡ 0 → HasNone back s
 
 -- by its node, a part has the sum that a search needs: `left` above the sum at the end that the search meets first
 abbrev pub IsMet : (back : Bool) → Node → ℤ → Type 0

@@ -4,7 +4,7 @@ use Rattle.vers_bits.specs.Bits.{bit_value}
 use Rattle.vers_tally.specs.Reads.{Reads, no_reads}
 use Rattle.vers_trees.specs.Excess.{excess}
 
--- the sum past a place, on the side that a search goes to
+-- the sum past a position, on the side that a search goes to
 abbrev pub sum_past : (back : Bool) → List Bool → ℕ → ℤ
 sum_past false l k = excess l (k + 1)
 sum_past true l k = excess l k
@@ -14,7 +14,7 @@ abbrev pub edge : (back : Bool) → ℕ → ℕ → ℕ
 edge false a b = a
 edge true a b = b
 
--- place k is one that a search passes from the place `from`, where it begins, on to p; and how far it has come before k
+-- position k is one that a search passes from the position `from`, where it begins, on to p; and how far it has come before k
 abbrev pub IsBetween : (back : Bool) → ℕ → ℕ → ℕ → Type 0
 IsBetween false from p k = (from ≤ k) × (k < p)
 IsBetween true from p k = (p ≤ k) × (k < from)
@@ -23,11 +23,11 @@ abbrev pub up_to : (back : Bool) → ℕ → ℕ
 up_to false k = k
 up_to true k = k + 1
 
--- place is the first from `from` on to `end` past which the excess is r above that before `from`
-pub record IsRise (back : Bool) (l : List Bool) (from end : ℕ) (r : ℤ) (place : ℕ) : Type 0 where
-  pub between : IsBetween back from end place
-  pub sum : sum_past back l place ≡ excess l from +ℤ r
-  pub first : (k : ℕ) → IsBetween back from (up_to back place) k → sum_past back l k ≢ excess l from +ℤ r
+-- position is the first from `from` on to `end` past which the excess is r above that before `from`
+pub record IsRise (back : Bool) (l : List Bool) (from end : ℕ) (r : ℤ) (position : ℕ) : Type 0 where
+  pub between : IsBetween back from end position
+  pub sum : sum_past back l position ≡ excess l from +ℤ r
+  pub first : (k : ℕ) → IsBetween back from (up_to back position) k → sum_past back l k ≢ excess l from +ℤ r
 
 -- there is none up to p, and the excess before p is `rise` above that before `from`
 pub record HasNoRise (back : Bool) (l : List Bool) (from p : ℕ) (r rise : ℤ) : Type 0 where
@@ -59,6 +59,6 @@ scan_reads n = record no_reads { data_words = n; rank_calls = n }
 abbrev pub block_reads : ℕ → Reads
 block_reads n = record no_reads { data_words = n; rank_calls = n; blocks = 1 }
 
--- the place after p, where it opens
+-- the position after p, where it opens
 abbrev pub opened_after : List Bool → ℕ → Option ℕ
 opened_after l p = if slice_index_or l (p + 1) false then Some (p + 1) else None

@@ -3,7 +3,7 @@ ghost use Rattle.std.specs.Prelude.{◌<◌, ◌≤◌};
 
 use crate::tests::lists::{Query, ask, asked, tree_of};
 use crate::tests::plain::{
-    Group, Node, Order, answer, is_ancestor, leftmost, nodes_of, opened_at, places, rightmost,
+    Group, Node, Order, answer, is_ancestor, leftmost, nodes_of, opened_at, positions, rightmost,
 };
 use crate::tests::queries::Question;
 use crate::tests::tours::{First, TOURS, Tour, tour_gives};
@@ -69,7 +69,7 @@ fn toured(
         Tour::Iter | Tour::All => (Group::All, Order::Opening),
         Tour::AllPost => (Group::All, Order::Closing),
     };
-    places(alloc, nodes, group, order)
+    positions(alloc, nodes, group, order)
 }
 
 impl Compared {
@@ -95,9 +95,9 @@ impl Compared {
         node: usize,
         question: Question,
     ) {
-        let place = opened_at(nodes, node);
+        let position = opened_at(nodes, node);
         let wanted = answer(nodes, node, question);
-        self.note(ask(tree, Query::Node(place, question)).is(wanted));
+        self.note(ask(tree, Query::Node(position, question)).is(wanted));
     }
 
     // Compares all queries of a node.
@@ -126,11 +126,11 @@ impl Compared {
         nodes: &[Node],
         node: usize,
     ) {
-        let place = opened_at(nodes, node);
+        let position = opened_at(nodes, node);
         for (other, below) in nodes.iter().enumerate() {
             self.pairs = self.pairs.saturating_add(1);
             let wanted = i64::from(is_ancestor(nodes, node, other));
-            self.note(ask(tree, Query::IsAncestor(place, below.open)).is(Some(wanted)));
+            self.note(ask(tree, Query::IsAncestor(position, below.open)).is(Some(wanted)));
         }
     }
 
@@ -142,11 +142,11 @@ impl Compared {
         nodes: &[Node],
         node: usize,
     ) -> Result<(), AllocError> {
-        let place = opened_at(nodes, node);
+        let position = opened_at(nodes, node);
         for tour in TOURS {
             let wanted = toured(alloc, nodes, node, tour)?;
             for first in [First::Plain, First::Counted] {
-                let given = tour_gives(tree, tour, place, first, wanted.as_slice());
+                let given = tour_gives(tree, tour, position, first, wanted.as_slice());
                 self.note(given == Some(true));
             }
         }

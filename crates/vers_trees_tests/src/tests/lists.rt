@@ -21,7 +21,7 @@ fn excess<const N: usize, A: Allocator + Copy>(tree: &BpTree<N, A>, i: usize) ->
 }
 
 // Returns the answers of a query of a position, or of one that requires balanced parentheses.
-fn ask_place<const N: usize, A: Allocator + Copy>(tree: &BpTree<N, A>, query: Query) -> Answer {
+fn ask_position<const N: usize, A: Allocator + Copy>(tree: &BpTree<N, A>, query: Query) -> Answer {
     let mut tally = Tally::new();
     match query {
         Query::IsOpen(i) => {
@@ -29,20 +29,20 @@ fn ask_place<const N: usize, A: Allocator + Copy>(tree: &BpTree<N, A>, query: Qu
         }
         Query::Excess(i) => excess(tree, i),
         Query::Forward(i, r) => {
-            Answer::of_places(
+            Answer::of_positions(
                 tree.fwd_search(i, r),
                 tree.fwd_search_counted(i, r, &mut tally),
             )
         }
         Query::Backward(i, r) => {
-            Answer::of_places(
+            Answer::of_positions(
                 tree.bwd_search(i, r),
                 tree.bwd_search_counted(i, r, &mut tally),
             )
         }
-        Query::Close(i) => Answer::of_places(tree.close(i), tree.close_counted(i, &mut tally)),
-        Query::Open(i) => Answer::of_places(tree.open(i), tree.open_counted(i, &mut tally)),
-        Query::Enclose(i) => Answer::of_places(
+        Query::Close(i) => Answer::of_positions(tree.close(i), tree.close_counted(i, &mut tally)),
+        Query::Open(i) => Answer::of_positions(tree.open(i), tree.open_counted(i, &mut tally)),
+        Query::Enclose(i) => Answer::of_positions(
             tree.enclose(i),
             tree.enclose_counted(i, &mut tally),
         ),
@@ -58,16 +58,16 @@ pub fn ask<const N: usize, A: Allocator + Copy>(tree: &BpTree<N, A>, query: Quer
         Query::Len => Answer::uncounted(number(Some(tree.len()))),
         Query::Size => Answer::uncounted(number(Some(tree.size()))),
         Query::IsEmpty => Answer::of_truths(Some(tree.is_empty()), Some(tree.is_empty())),
-        Query::Root => Answer::of_places(tree.root(), tree.root()),
+        Query::Root => Answer::of_positions(tree.root(), tree.root()),
         Query::IsBalanced => Answer::of_truths(
             Some(tree.is_balanced()),
             Some(tree.is_balanced_counted(&mut tally)),
         ),
-        Query::Handle(i) => Answer::of_places(
+        Query::Handle(i) => Answer::of_positions(
             Some(tree.node_handle(i)),
             Some(tree.node_handle_counted(i, &mut tally)),
         ),
-        _ => ask_place(tree, query),
+        _ => ask_position(tree, query),
     }
 }
 

@@ -6,7 +6,7 @@ use crate::tests::builders::stepped;
 use crate::tests::lists::{Query, ask, tree_of};
 use crate::tests::nodes::{are_balanced, node_at};
 use crate::tests::plain::{
-    Group, Node, Order, answer, is_ancestor, leftmost, nodes_of, places, rightmost,
+    Group, Node, Order, answer, is_ancestor, leftmost, nodes_of, positions, rightmost,
 };
 use crate::tests::queries::{Question, number};
 use crate::tests::tours::{First, Tour, tour_gives};
@@ -27,11 +27,11 @@ type Heap = Refusing<Global>;
 // leaves.
 fn forest_bits<A: Allocator + Copy>(alloc: A, nodes: usize) -> Result<Vec<u8, A>, AllocError> {
     let mut bits = Vec::new(alloc);
-    for place in 0..nodes.wrapping_mul(2) {
+    for position in 0..nodes.wrapping_mul(2) {
         let is_one = if nodes == 3 {
-            NODE_WITH_TWO.get(place) == Some(&1)
+            NODE_WITH_TWO.get(position) == Some(&1)
         } else {
-            place < nodes
+            position < nodes
         };
         bits.push(u8::from(is_one))?;
     }
@@ -451,7 +451,7 @@ fn closing_order<A: Allocator + Copy>(
     nodes: &[Node],
 ) -> Result<Vec<usize, A>, AllocError> {
     if nodes.len() == 3 {
-        return places(alloc, nodes, Group::All, Order::Closing);
+        return positions(alloc, nodes, Group::All, Order::Closing);
     }
     let mut closed = Vec::new(alloc);
     for node in nodes.iter().rev() {

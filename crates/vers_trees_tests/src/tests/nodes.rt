@@ -34,14 +34,14 @@ fn numbered<const N: usize, A: Allocator + Copy>(
 /// Returns the position, if a node opens there. `None` for other positions.
 pub fn node_at<const N: usize, A: Allocator + Copy>(
     tree: &BpTree<N, A>,
-    place: usize,
+    position: usize,
 ) -> Option<usize>
     requires { IsBalanced tree.now }
     ensures { IfSome result (λ node. IsNode (forest_of tree.now) node) }
 {
     for number in 0..tree.size() {
         let node = numbered(tree, number)?;
-        if node == place {
+        if node == position {
             return Some(node);
         }
     }
@@ -106,7 +106,7 @@ fn about_node<const N: usize, A: Allocator + Copy>(
 {
     let mut tally = Tally::new();
     match question {
-        Question::Index => Answer::of_places(
+        Question::Index => Answer::of_positions(
             Some(tree.measure(node, Measure::NodeIndex) as usize),
             Some(tree.node_index_counted(node, &mut tally)),
         ),
@@ -114,17 +114,17 @@ fn about_node<const N: usize, A: Allocator + Copy>(
             Some(tree.measure(node, Measure::IsLeaf) == 1),
             Some(tree.is_leaf_counted(node, &mut tally)),
         ),
-        Question::Depth => Answer::of_places(
+        Question::Depth => Answer::of_positions(
             Some(tree.measure(node, Measure::Depth) as usize),
             Some(tree.depth_counted(node, &mut tally) as usize),
         ),
-        Question::SubtreeSize => Answer::of_places(
+        Question::SubtreeSize => Answer::of_positions(
             Some(tree.measure(node, Measure::SubtreeSize) as usize),
             tree.subtree_size_counted(node, &mut tally),
         ),
         _ => {
             let (plain, counted) = relatives(tree, node, question);
-            Answer::of_places(plain, counted)
+            Answer::of_positions(plain, counted)
         }
     }
 }
@@ -147,14 +147,14 @@ fn about_pair<const N: usize, A: Allocator + Copy>(
 }
 
 // Returns the answers about the node at a position. `None` if the position has no node.
-fn about_place<const N: usize, A: Allocator + Copy>(
+fn about_position<const N: usize, A: Allocator + Copy>(
     tree: &BpTree<N, A>,
-    place: usize,
+    position: usize,
     question: Question,
 ) -> Option<Answer>
     requires { IsBalanced tree.now }
 {
-    let node = node_at(tree, place)?;
+    let node = node_at(tree, position)?;
     Some(about_node(tree, node, question))
 }
 
@@ -169,8 +169,8 @@ fn about_ends<const N: usize, A: Allocator + Copy>(
     let leftmost = tree.level_leftmost_counted(depth, &mut tally);
     let rightmost = tree.level_rightmost_counted(depth, &mut tally);
     (
-        Answer::of_places(tree.level_end(depth, LevelEnd::Leftmost), leftmost),
-        Answer::of_places(tree.level_end(depth, LevelEnd::Rightmost), rightmost),
+        Answer::of_positions(tree.level_end(depth, LevelEnd::Leftmost), leftmost),
+        Answer::of_positions(tree.level_end(depth, LevelEnd::Rightmost), rightmost),
     )
 }
 
@@ -184,7 +184,7 @@ pub fn ask_balanced<const N: usize, A: Allocator + Copy>(
         return None;
     }
     match query {
-        Query::Node(place, question) => about_place(tree, place, question),
+        Query::Node(position, question) => about_position(tree, position, question),
         Query::IsAncestor(ancestor, descendant) => about_pair(tree, ancestor, descendant),
         Query::LevelLeftmost(depth) => Some(about_ends(tree, depth).0),
         Query::LevelRightmost(depth) => Some(about_ends(tree, depth).1),

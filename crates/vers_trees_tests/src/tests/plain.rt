@@ -13,9 +13,9 @@ pub struct Node {
     pub depth: u64,
 }
 
-fn close_at(nodes: &mut [Node], closed: usize, place: usize) {
+fn close_at(nodes: &mut [Node], closed: usize, position: usize) {
     if let Some(node) = nodes.get_mut(closed) {
-        node.close = place;
+        node.close = position;
     }
 }
 
@@ -24,12 +24,12 @@ pub fn nodes_of<A: Allocator + Copy>(alloc: A, bits: &[u8]) -> Result<Vec<Node, 
     let mut nodes: Vec<Node, A> = Vec::new(alloc);
     let mut innermost = None;
     let mut depth = 0u64;
-    for (place, bit) in bits.iter().enumerate() {
+    for (position, bit) in bits.iter().enumerate() {
         if *bit == 1 {
             let opened = nodes.len();
             nodes.push(Node {
-                open: place,
-                close: place,
+                open: position,
+                close: position,
                 parent: innermost,
                 depth,
             })?;
@@ -38,7 +38,7 @@ pub fn nodes_of<A: Allocator + Copy>(alloc: A, bits: &[u8]) -> Result<Vec<Node, 
         } else if let Some(closed) = innermost {
             innermost = parent(nodes.as_slice(), closed);
             depth = depth.saturating_sub(1);
-            close_at(nodes.as_mut_slice(), closed, place);
+            close_at(nodes.as_mut_slice(), closed, position);
         }
     }
     Ok(nodes)
@@ -133,19 +133,19 @@ pub fn opened_at(nodes: &[Node], node: usize) -> usize {
 }
 
 // Does the same for a node that may not be there.
-fn place(nodes: &[Node], node: Option<usize>) -> Option<i64> {
+fn position(nodes: &[Node], node: Option<usize>) -> Option<i64> {
     let opened = opened_at(nodes, node?);
     number(Some(opened))
 }
 
 /// Returns the position of the first node of a depth.
 pub fn leftmost(nodes: &[Node], depth: u64) -> Option<i64> {
-    place(nodes, first_from(nodes, Group::Level(depth), 0))
+    position(nodes, first_from(nodes, Group::Level(depth), 0))
 }
 
 /// Returns the position of the last node of a depth.
 pub fn rightmost(nodes: &[Node], depth: u64) -> Option<i64> {
-    place(nodes, last_before(nodes, Group::Level(depth), nodes.len()))
+    position(nodes, last_before(nodes, Group::Level(depth), nodes.len()))
 }
 
 /// Returns the answer for a node that exists.
@@ -156,18 +156,18 @@ pub fn answer(nodes: &[Node], node: usize, question: Question) -> Option<i64> {
     let siblings = Group::Under(it.parent);
     let level = Group::Level(it.depth);
     match question {
-        Question::Parent => place(nodes, it.parent),
-        Question::FirstChild => place(nodes, first_from(nodes, children, 0)),
-        Question::LastChild => place(nodes, last_before(nodes, children, nodes.len())),
-        Question::NextSibling => place(nodes, first_from(nodes, siblings, next)),
-        Question::PreviousSibling => place(nodes, last_before(nodes, siblings, node)),
+        Question::Parent => position(nodes, it.parent),
+        Question::FirstChild => position(nodes, first_from(nodes, children, 0)),
+        Question::LastChild => position(nodes, last_before(nodes, children, nodes.len())),
+        Question::NextSibling => position(nodes, first_from(nodes, siblings, next)),
+        Question::PreviousSibling => position(nodes, last_before(nodes, siblings, node)),
         Question::Index => number(Some(node)),
         Question::IsLeaf => Some(i64::from(count(nodes, children) == 0)),
         Question::Depth => i64::try_from(it.depth).ok(),
         Question::SubtreeSize => number(Some(count(nodes, Group::Subtree(node)))),
-        Question::LevelNext => place(nodes, first_from(nodes, level, next)),
-        Question::LevelPrev => place(nodes, last_before(nodes, level, node)),
-        Question::LevelAncestor(levels) => place(nodes, ancestor(nodes, node, levels)),
+        Question::LevelNext => position(nodes, first_from(nodes, level, next)),
+        Question::LevelPrev => position(nodes, last_before(nodes, level, node)),
+        Question::LevelAncestor(levels) => position(nodes, ancestor(nodes, node, levels)),
     }
 }
 
@@ -180,9 +180,9 @@ pub enum Order {
 }
 
 // Returns the node that closes at a position.
-fn closed_at(nodes: &[Node], place: usize) -> Option<usize> {
+fn closed_at(nodes: &[Node], position: usize) -> Option<usize> {
     for (node, it) in nodes.iter().enumerate() {
-        if it.close == place {
+        if it.close == position {
             return Some(node);
         }
     }
@@ -199,19 +199,19 @@ fn node_by(nodes: &[Node], order: Order, k: usize) -> Option<usize> {
 }
 
 /// Returns the positions of the nodes of a group in an order. There are twice as many parentheses as nodes.
-pub fn places<A: Allocator + Copy>(
+pub fn positions<A: Allocator + Copy>(
     alloc: A,
     nodes: &[Node],
     group: Group,
     order: Order,
 ) -> Result<Vec<usize, A>, AllocError> {
-    let mut places = Vec::new(alloc);
+    let mut positions = Vec::new(alloc);
     for k in 0..nodes.len().saturating_mul(2) {
         if let Some(node) = node_by(nodes, order, k) {
             if is_in(nodes, group, node) {
-                places.push(opened_at(nodes, node))?;
+                positions.push(opened_at(nodes, node))?;
             }
         }
     }
-    Ok(places)
+    Ok(positions)
 }

@@ -58,7 +58,7 @@ impl Answer {
     }
 
     /// Returns both answers of a query for a position or another number.
-    pub fn of_places(plain: Option<usize>, counted: Option<usize>) -> Answer {
+    pub fn of_positions(plain: Option<usize>, counted: Option<usize>) -> Answer {
         Answer::of(number(plain), number(counted))
     }
 
@@ -80,8 +80,8 @@ impl Answer {
 }
 
 /// Returns a position as a signed number.
-pub fn number(place: Option<usize>) -> Option<i64> {
-    i64::try_from(place?).ok()
+pub fn number(position: Option<usize>) -> Option<i64> {
+    i64::try_from(position?).ok()
 }
 
 // Returns a boolean as 1 or 0.

@@ -65,7 +65,7 @@ fn rise_before(sums: &[i64], i: usize, r: i64) -> Option<i64> {
 }
 
 // Returns the position of one `i`, or the length.
-fn place_of_one(sums: &[i64], i: usize) -> Option<i64> {
+fn position_of_one(sums: &[i64], i: usize) -> Option<i64> {
     let mut left = i;
     for (k, pair) in sums.windows(2).enumerate() {
         if pair.first() < pair.last() {
@@ -135,7 +135,7 @@ impl Compared {
         self.note(ask(tree, Query::Close(i)).is(rise_after(sums, i, -1)));
         self.note(ask(tree, Query::Open(i)).is(rise_before(sums, i, -1)));
         self.note(ask(tree, Query::Enclose(i)).is(rise_before(sums, i, depth)));
-        self.note(ask(tree, Query::Handle(i)).is(place_of_one(sums, i)));
+        self.note(ask(tree, Query::Handle(i)).is(position_of_one(sums, i)));
     }
 
     // Compares all queries of a tree of the list.

@@ -133,7 +133,7 @@ fn tour_from<const N: usize, A: Allocator + Copy>(
 pub fn tour_gives<const N: usize, A: Allocator + Copy>(
     tree: &BpTree<N, A>,
     tour: Tour,
-    place: usize,
+    position: usize,
     first: First,
     wanted: &[usize],
 ) -> Option<bool> {
@@ -148,6 +148,6 @@ pub fn tour_gives<const N: usize, A: Allocator + Copy>(
     if matches!(tour, Tour::AllPost) {
         return Some(gives(tree.dfs_post_iter(), first, wanted));
     }
-    let node = node_at(tree, place)?;
+    let node = node_at(tree, position)?;
     Some(tour_from(tree, tour, node, first, wanted))
 }

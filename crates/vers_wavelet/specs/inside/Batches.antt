@@ -5,7 +5,7 @@ use Rattle.vers_wavelet.specs.Makers.{digit}
 use Rattle.vers_wavelet.specs.declared.wavelet.batch.group.Asked.{Asked}
 use Rattle.vers_wavelet.specs.declared.wavelet.batch.group.Group.{Group}
 use Rattle.vers_wavelet.specs.declared.wavelet.batch.select.SelectQuery.{SelectQuery}
-use Rattle.vers_wavelet.specs.inside.Levels.{final_place, start}
+use Rattle.vers_wavelet.specs.inside.Levels.{final_position, start}
 use Rattle.vers_wavelet.specs.inside.Walks.{HasClimbed}
 
 -- R relates each of the first j elements of xs to the element of ys at the same position; all others are the same
@@ -16,7 +16,7 @@ pub record Changed {Q : Type 0} (R : Q → Q → Type 0) (xs ys : List Q) (j : �
 
 -- the answer of a query so far is the position at level k on the climb from the final position of its occurrence
 abbrev pub IsClimbing : List (List Bool) → ℕ → ℕ → SelectQuery → Type 0
-IsClimbing ls n k query = HasClimbed ls n query.symbol (final_place ls query.symbol 0 + query.rank) k query.answer
+IsClimbing ls n k query = HasClimbed ls n query.symbol (final_position ls query.symbol 0 + query.rank) k query.answer
 
 -- a query for positions past the end of a list of queries
 abbrev pub no_query : SelectQuery
@@ -34,8 +34,8 @@ pub record HasNumber (l : List Bool) (i : ℕ) (query : SelectQuery) (j : ℕ) (
       → slice_index (asked (digit query.symbol i) group).numbers (slice_index group.slots j) ≡ p - start (digit query.symbol i) l
 
 -- the slot of query j has the position at level l of the bit with this number
-pub record HasPlace (l : List Bool) (i : ℕ) (query : SelectQuery) (j : ℕ) (group : Group) : Type 0 where
+pub record HasPosition (l : List Bool) (i : ℕ) (query : SelectQuery) (j : ℕ) (group : Group) : Type 0 where
   pub slot : slice_index group.slots j < 64
-  pub place : (p : ℕ) → query.answer ≡ Some p → start (digit query.symbol i) l ≤ p
+  pub position : (p : ℕ) → query.answer ≡ Some p → start (digit query.symbol i) l ≤ p
       → slice_index (asked (digit query.symbol i) group).numbers (slice_index group.slots j)
       ≡ select (digit query.symbol i) l (p - start (digit query.symbol i) l)

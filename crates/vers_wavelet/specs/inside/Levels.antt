@@ -33,6 +33,6 @@ pub record AreLevels (ls : List (List Bool)) (n : ℕ) : Type 0 where
 
 -- the final position of a symbol s from position i: the position, in the order after all levels, of the first s among
 -- the symbols from position i, or the one that it would have; each level leads to the next by its digit of s
-unfoldable pub final_place : List (List Bool) → ℕ → ℕ → ℕ
-final_place [] s i = i
-final_place (l ∷ ls) s i = final_place ls s (next (digit s (length ls)) l i)
+unfoldable pub final_position : List (List Bool) → ℕ → ℕ → ℕ
+final_position [] s i = i
+final_position (l ∷ ls) s i = final_position ls s (next (digit s (length ls)) l i)

@@ -3,7 +3,7 @@ ghost use Rattle.std.specs.Prelude.{◌≡◌, ◌%◌, ◌^◌, ◌≤◌, ◌=
 ghost use Rattle.vers_bits.specs.Bits.{number};
 ghost use Rattle.vers_tally.specs.Reads.{AddsAtMost};
 ghost use Rattle.vers_wavelet.specs.Symbols.{as_word, occurrences};
-ghost use Rattle.vers_wavelet.specs.Numbers.{place_from};
+ghost use Rattle.vers_wavelet.specs.Numbers.{position_from};
 ghost use Rattle.vers_wavelet.specs.Reads.{query_reads};
 
 use crate::wavelet::WaveletMatrix;
@@ -54,7 +54,7 @@ impl<A: Allocator + Copy> WaveletMatrix<A> {
             (occurrences self.now.items offset (length self.now.items) (number symbol.now)) rank
             (length self.now.items) }
     {
-        self.place_from(offset, rank, symbol)
+        self.position_from(offset, rank, symbol)
     }
 
     /// Returns the position of occurrence `rank` (from 0) of a symbol. `None` if the symbol has another width,
@@ -103,7 +103,7 @@ impl<A: Allocator + Copy> WaveletMatrix<A> {
     /// bits of `symbol` count. `None` if the symbols have more than 64 bits, `offset` is at or past the end, or
     /// there are fewer occurrences.
     pub fn select_offset_u64(&self, offset: usize, rank: usize, symbol: u64) -> Option<usize>
-        ensures { result ≡ as_word self.now.width (place_from self.now offset rank symbol) }
+        ensures { result ≡ as_word self.now.width (position_from self.now offset rank symbol) }
     {
         let mut tally = Tally::new();
         self.select_offset_u64_counted(offset, rank, symbol, &mut tally)
@@ -119,7 +119,7 @@ impl<A: Allocator + Copy> WaveletMatrix<A> {
         symbol: u64,
         tally: &mut Tally,
     ) -> Option<usize>
-        ensures value { result ≡ as_word self.now.width (place_from self.now offset rank symbol) }
+        ensures value { result ≡ as_word self.now.width (position_from self.now offset rank symbol) }
         ensures adds { AddsAtMost tally.old tally.new (query_reads self.now) }
     {
         if !self.fits_word() || offset >= self.len() {
@@ -138,13 +138,13 @@ impl<A: Allocator + Copy> WaveletMatrix<A> {
             (occurrences self.now.items offset (length self.now.items)
             (symbol % 2 ^ self.now.width)) rank (length self.now.items) }
     {
-        self.place_from(offset, rank, &symbol)
+        self.position_from(offset, rank, &symbol)
     }
 
     /// Returns the position of occurrence `rank` (from 0) of a symbol. Only the low bits of `symbol` count.
     /// `None` if the symbols have more than 64 bits, or there are fewer occurrences.
     pub fn select_u64(&self, rank: usize, symbol: u64) -> Option<usize>
-        ensures { result ≡ as_word self.now.width (place_from self.now 0 rank symbol) }
+        ensures { result ≡ as_word self.now.width (position_from self.now 0 rank symbol) }
     {
         let mut tally = Tally::new();
         self.select_u64_counted(rank, symbol, &mut tally)
@@ -154,7 +154,7 @@ impl<A: Allocator + Copy> WaveletMatrix<A> {
     /// what one select of a level does.
     #[inline(always)]
     pub fn select_u64_counted(&self, rank: usize, symbol: u64, tally: &mut Tally) -> Option<usize>
-        ensures value { result ≡ as_word self.now.width (place_from self.now 0 rank symbol) }
+        ensures value { result ≡ as_word self.now.width (position_from self.now 0 rank symbol) }
         ensures adds { AddsAtMost tally.old tally.new (query_reads self.now) }
     {
         if !self.fits_word() {

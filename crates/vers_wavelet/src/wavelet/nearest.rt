@@ -4,12 +4,12 @@ ghost use Rattle.vers_bits.specs.Bits.{bit_value};
 ghost use Rattle.vers_tally.specs.Reads.{AddsAtMost, times};
 ghost use Rattle.vers_rank.specs.Queries.{rank_reads};
 ghost use Rattle.vers_wavelet.specs.Makers.{AllHaveLength};
-ghost use Rattle.vers_wavelet.specs.inside.Levels.{values, final_place, AreLevels};
+ghost use Rattle.vers_wavelet.specs.inside.Levels.{values, final_position, AreLevels};
 ghost use Rattle.vers_wavelet.specs.inside.Counts.{count_below, IsKthInRange};
 ghost use Rattle.vers_wavelet.specs.inside.Nearest.{IsTrail, HasBeside, nearest};
 
 use crate::wavelet::digits::{Digits, copy_digits};
-use crate::wavelet::level::{Part, chosen_place, part_of_bit, zeros_before_both};
+use crate::wavelet::level::{Part, chosen_position, part_of_bit, zeros_before_both};
 use crate::wavelet::walk::find_kth;
 use std::alloc::Allocator;
 use vers_rank::fast_rs_vec::RsVec;
@@ -59,8 +59,8 @@ fn follow_level<A: Allocator + Copy, D: Digits>(
     let zeros = zeros_before_both(level, part.start, part.end, tally);
     let left = Beside {
         level: k + 1,
-        start: chosen_place(level, is_up, part.start, zeros.first),
-        end: chosen_place(level, is_up, part.end, zeros.last),
+        start: chosen_position(level, is_up, part.start, zeros.first),
+        end: chosen_position(level, is_up, part.end, zeros.last),
     };
     let next = part_of_bit(level, bit, part, zeros);
     if bit == is_up || left.start == left.end {
@@ -91,8 +91,8 @@ fn follow<A: Allocator + Copy, D: Digits>(
     requires within { end ≤ len }
     requires wide { length levels.now ≤ D.width symbol.now }
     ensures order { result.part.start ≤ result.part.end }
-    ensures kept { result.part.start + final_place levels.now (D.number symbol.now) end
-        ≡ result.part.end + final_place levels.now (D.number symbol.now) start }
+    ensures kept { result.part.start + final_position levels.now (D.number symbol.now) end
+        ≡ result.part.end + final_position levels.now (D.number symbol.now) start }
     ensures less { result.part.less
         + count_below levels.now (D.number symbol.now % 2 ^ length levels.now) start
         ≡ count_below levels.now (D.number symbol.now % 2 ^ length levels.now) end }

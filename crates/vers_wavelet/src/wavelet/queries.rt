@@ -74,7 +74,7 @@ impl<A: Allocator + Copy> WaveletMatrix<A> {
     // Does the same, but returns the length if there are fewer.
     #[inline(always)]
     #[tactic(auto, using(crate::proofs::Items::found))]
-    pub(super) fn place_from<D: Digits>(&self, offset: usize, rank: usize, symbol: &D) -> usize
+    pub(super) fn position_from<D: Digits>(&self, offset: usize, rank: usize, symbol: &D) -> usize
         requires within { offset ≤ length self.now.items }
         requires wide { self.now.width ≤ D.width symbol.now }
         ensures { result ≡ slice_index_or
@@ -88,15 +88,15 @@ impl<A: Allocator + Copy> WaveletMatrix<A> {
 
     // Writes the symbol at a position into a number that is 0.
     #[inline(always)]
-    pub(super) fn read_at<D: Digits>(&self, place: usize, answer: &mut D, tally: &mut Tally)
-        requires within { place < length self.now.items }
+    pub(super) fn read_at<D: Digits>(&self, position: usize, answer: &mut D, tally: &mut Tally)
+        requires within { position < length self.now.items }
         requires zero { D.number answer.old ≡ 0 }
         requires wide { self.now.width ≤ D.width answer.old }
-        ensures value { D.number answer.new ≡ slice_index self.now.items place }
+        ensures value { D.number answer.new ≡ slice_index self.now.items position }
         ensures same { D.width answer.new ≡ D.width answer.old }
         ensures adds { AddsAtMost tally.old tally.new (walk_reads self.now) }
     {
-        read_symbol(self.levels(), self.len(), place, answer, tally);
+        read_symbol(self.levels(), self.len(), position, answer, tally);
     }
 
     // Writes the `i`-th smallest member of a range into a number that is 0.

@@ -11,87 +11,87 @@ use vers_tally::tally::Tally;
 
 #[tactic(auto, using(crate::proofs::Digits::symbols))]
 impl<A: Allocator + Copy> WaveletMatrix<A> {
-    /// Returns the symbol at `place`, or `None` if `place` is out of bounds. Errors: `AllocError` if the
+    /// Returns the symbol at `position`, or `None` if `position` is out of bounds. Errors: `AllocError` if the
     /// allocator refuses a request.
-    pub fn get_value(&self, place: usize) -> Result<Option<BitVec<A>>, AllocError>
+    pub fn get_value(&self, position: usize) -> Result<Option<BitVec<A>>, AllocError>
         ensures value { IfOk result (λ o. IfSome o (λ v.
-            (slice_get self.now.items place ≡ Some (number v)) × (length v ≡ self.now.width))) }
-        ensures answered { IfOk result (λ o. IsSome o ↔ (place < length self.now.items)) }
-        ensures past { length self.now.items ≤ place → result ≡ Ok None }
+            (slice_get self.now.items position ≡ Some (number v)) × (length v ≡ self.now.width))) }
+        ensures answered { IfOk result (λ o. IsSome o ↔ (position < length self.now.items)) }
+        ensures past { length self.now.items ≤ position → result ≡ Ok None }
     {
         let mut tally = Tally::new();
-        self.get_value_counted(place, &mut tally)
+        self.get_value_counted(position, &mut tally)
     }
 
-    /// Returns `get_value(place)`. Reads at most two ranks of each level: `2k` rank calls for symbols of `k`
+    /// Returns `get_value(position)`. Reads at most two ranks of each level: `2k` rank calls for symbols of `k`
     /// bits.
     #[inline(always)]
     pub fn get_value_counted(
         &self,
-        place: usize,
+        position: usize,
         tally: &mut Tally,
     ) -> Result<Option<BitVec<A>>, AllocError>
         ensures value { IfOk result (λ o. IfSome o (λ v.
-            (slice_get self.now.items place ≡ Some (number v)) × (length v ≡ self.now.width))) }
-        ensures answered { IfOk result (λ o. IsSome o ↔ (place < length self.now.items)) }
-        ensures past { length self.now.items ≤ place → result ≡ Ok None }
+            (slice_get self.now.items position ≡ Some (number v)) × (length v ≡ self.now.width))) }
+        ensures answered { IfOk result (λ o. IsSome o ↔ (position < length self.now.items)) }
+        ensures past { length self.now.items ≤ position → result ≡ Ok None }
         ensures adds { AddsAtMost tally.old tally.new (walk_reads self.now) }
     {
-        if place >= self.len() {
+        if position >= self.len() {
             return Ok(None);
         }
         let mut answer = self.zero_symbol()?;
-        self.read_at(place, &mut answer, tally);
+        self.read_at(position, &mut answer, tally);
         Ok(Some(answer))
     }
 
-    /// Returns the symbol at `place`. Precondition: `place` is below the length. Errors: `AllocError` if the
+    /// Returns the symbol at `position`. Precondition: `position` is below the length. Errors: `AllocError` if the
     /// allocator refuses a request.
-    pub fn get_value_unchecked(&self, place: usize) -> Result<BitVec<A>, AllocError>
-        requires within { place < length self.now.items }
-        ensures { IfOk result (λ v. (number v ≡ slice_index self.now.items place)
+    pub fn get_value_unchecked(&self, position: usize) -> Result<BitVec<A>, AllocError>
+        requires within { position < length self.now.items }
+        ensures { IfOk result (λ v. (number v ≡ slice_index self.now.items position)
             × (length v ≡ self.now.width)) }
     {
         let mut tally = Tally::new();
         let mut answer = self.zero_symbol()?;
-        self.read_at(place, &mut answer, &mut tally);
+        self.read_at(position, &mut answer, &mut tally);
         Ok(answer)
     }
 
-    /// Returns the symbol at `place`. `None` if the symbols have more than 64 bits, or `place` is out of bounds.
-    pub fn get_u64(&self, place: usize) -> Option<u64>
-        ensures value { IfSome result (λ x. slice_get self.now.items place ≡ Some x) }
-        ensures answered { IsSome result ↔ (self.now.width ≤ 64) × (place < length self.now.items) }
+    /// Returns the symbol at `position`. `None` if the symbols have more than 64 bits, or `position` is out of bounds.
+    pub fn get_u64(&self, position: usize) -> Option<u64>
+        ensures value { IfSome result (λ x. slice_get self.now.items position ≡ Some x) }
+        ensures answered { IsSome result ↔ (self.now.width ≤ 64) × (position < length self.now.items) }
     {
         let mut tally = Tally::new();
-        self.get_u64_counted(place, &mut tally)
+        self.get_u64_counted(position, &mut tally)
     }
 
-    /// Returns `get_u64(place)`. Reads at most two ranks of each level: `2k` rank calls for symbols of `k` bits.
+    /// Returns `get_u64(position)`. Reads at most two ranks of each level: `2k` rank calls for symbols of `k` bits.
     #[inline(always)]
-    pub fn get_u64_counted(&self, place: usize, tally: &mut Tally) -> Option<u64>
-        ensures value { IfSome result (λ x. slice_get self.now.items place ≡ Some x) }
-        ensures answered { IsSome result ↔ (self.now.width ≤ 64) × (place < length self.now.items) }
+    pub fn get_u64_counted(&self, position: usize, tally: &mut Tally) -> Option<u64>
+        ensures value { IfSome result (λ x. slice_get self.now.items position ≡ Some x) }
+        ensures answered { IsSome result ↔ (self.now.width ≤ 64) × (position < length self.now.items) }
         ensures adds { AddsAtMost tally.old tally.new (walk_reads self.now) }
     {
-        if !self.fits_word() || place >= self.len() {
+        if !self.fits_word() || position >= self.len() {
             return None;
         }
         let mut answer: u64 = 0;
-        self.read_at(place, &mut answer, tally);
+        self.read_at(position, &mut answer, tally);
         Some(answer)
     }
 
-    /// Returns the symbol at `place`. Precondition: `place` is below the length, and the symbols have at most
+    /// Returns the symbol at `position`. Precondition: `position` is below the length, and the symbols have at most
     /// 64 bits.
-    pub fn get_u64_unchecked(&self, place: usize) -> u64
-        requires within { place < length self.now.items }
+    pub fn get_u64_unchecked(&self, position: usize) -> u64
+        requires within { position < length self.now.items }
         requires wide { self.now.width ≤ 64 }
-        ensures { result ≡ slice_index self.now.items place }
+        ensures { result ≡ slice_index self.now.items position }
     {
         let mut tally = Tally::new();
         let mut answer: u64 = 0;
-        self.read_at(place, &mut answer, &mut tally);
+        self.read_at(position, &mut answer, &mut tally);
         answer
     }
 }

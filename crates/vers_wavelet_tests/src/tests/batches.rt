@@ -6,22 +6,22 @@ use test_alloc::{Check, is_made_right};
 use vers_wavelet::wavelet::{GetQuery, QuantileQuery, RankQuery, SelectQuery, WaveletMatrix};
 
 // More positions than a list has, so that a batch also queries past the end.
-const PLACES: usize = 16;
+const POSITIONS: usize = 16;
 
 // Symbols to be searched. Of 3 digits they are all eight, and two of them again.
 const SYMBOLS: [u64; 10] = [0, 1, 2, 3, 4, 5, 6, 7, 8, 12];
 
 // Returns true if the symbols at all positions, past the end too, are those of a plain list.
 fn gets_are_right<A: Allocator + Copy>(list: &WaveletMatrix<A>, numbers: &[u64]) -> bool {
-    let mut queries = [GetQuery::new(0); PLACES];
-    for (place, query) in queries.iter_mut().enumerate() {
-        *query = GetQuery::new(place);
+    let mut queries = [GetQuery::new(0); POSITIONS];
+    for (position, query) in queries.iter_mut().enumerate() {
+        *query = GetQuery::new(position);
         query.answer = Some(9);
     }
     list.get_u64_each(&mut queries);
-    for (place, query) in queries.iter().enumerate() {
-        let wanted = numbers.get(place).copied();
-        if query.answer != wanted || list.get_u64(place) != wanted {
+    for (position, query) in queries.iter().enumerate() {
+        let wanted = numbers.get(position).copied();
+        if query.answer != wanted || list.get_u64(position) != wanted {
             return false;
         }
     }
@@ -65,8 +65,8 @@ fn selects_are_right<A: Allocator + Copy>(
     }
     list.select_u64_each(&mut queries);
     for (query, symbol) in queries.iter().zip(&SYMBOLS) {
-        let place = query.answer.map(|it| it as u64);
-        if place != found(numbers, rank, *symbol % 8)
+        let position = query.answer.map(|it| it as u64);
+        if position != found(numbers, rank, *symbol % 8)
             || query.answer != list.select_u64(rank, *symbol)
         {
             return false;
@@ -82,7 +82,7 @@ fn quantiles_are_right<A: Allocator + Copy>(
     start: usize,
     i: usize,
 ) -> bool {
-    let mut queries = [QuantileQuery::new(start, 0, i); PLACES];
+    let mut queries = [QuantileQuery::new(start, 0, i); POSITIONS];
     for (end, query) in queries.iter_mut().enumerate() {
         *query = QuantileQuery::new(start, end, i);
         query.answer = Some(9);
@@ -102,8 +102,8 @@ fn quantiles_are_right<A: Allocator + Copy>(
 
 // Returns true if that holds for each range and each number of a member.
 fn all_quantiles_are_right<A: Allocator + Copy>(list: &WaveletMatrix<A>, numbers: &[u64]) -> bool {
-    for start in 0..PLACES {
-        for i in 0..PLACES {
+    for start in 0..POSITIONS {
+        for i in 0..POSITIONS {
             if !quantiles_are_right(list, numbers, start, i) {
                 return false;
             }
@@ -118,7 +118,7 @@ struct Plain<'a>(&'a [u64]);
 
 impl<A: Allocator + Copy> Check<WaveletMatrix<A>> for Plain<'_> {
     fn is_right(&self, list: &mut WaveletMatrix<A>) -> bool {
-        for n in 0..PLACES {
+        for n in 0..POSITIONS {
             if !ranks_are_right(list, self.0, n) || !selects_are_right(list, self.0, n) {
                 return false;
             }
@@ -150,8 +150,8 @@ impl<A: Allocator + Copy> Check<WaveletMatrix<A>> for Twice {
         }
         list.select_u64_each(&mut queries);
         for (i, query) in queries.iter().enumerate() {
-            let place = (128 + i / 70).checked_sub(i % 70 * 2);
-            if query.answer != if i / 70 < 2 { place } else { None } {
+            let position = (128 + i / 70).checked_sub(i % 70 * 2);
+            if query.answer != if i / 70 < 2 { position } else { None } {
                 return false;
             }
         }

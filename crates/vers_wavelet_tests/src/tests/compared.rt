@@ -41,10 +41,10 @@ pub fn kth(numbers: &[u64], i: usize) -> Option<u64> {
 /// Returns the position of occurrence `rank` of a number.
 pub fn found(numbers: &[u64], rank: usize, number: u64) -> Option<u64> {
     let mut left = rank;
-    for (place, it) in numbers.iter().enumerate() {
+    for (position, it) in numbers.iter().enumerate() {
         if *it == number {
             if left == 0 {
-                return Some(place as u64);
+                return Some(position as u64);
             }
             left -= 1;
         }

@@ -27,8 +27,8 @@ fn seen(numbers: &[u64], end: usize, symbol: u64) -> usize {
 }
 
 // Returns the gathered position of the first of a symbol from a position on.
-fn gathered(numbers: &[u64], place: usize, symbol: u64) -> usize {
-    let mut before = seen(numbers, place, symbol % 8);
+fn gathered(numbers: &[u64], position: usize, symbol: u64) -> usize {
+    let mut before = seen(numbers, position, symbol % 8);
     for it in numbers {
         if turned(*it) < turned(symbol) {
             before = before.saturating_add(1);
@@ -47,42 +47,42 @@ fn ends(range: Option<Range<usize>>) -> Option<(usize, usize)> {
 fn is_gathered<A: Allocator + Copy>(
     list: &WaveletMatrix<A>,
     numbers: &[u64],
-    place: usize,
+    position: usize,
 ) -> bool {
     let mut tally = Tally::new();
-    let wanted = match numbers.get(place) {
+    let wanted = match numbers.get(position) {
         Some(symbol) => Some(Gathered {
             symbol: *symbol,
-            place: gathered(numbers, place, *symbol),
+            position: gathered(numbers, position, *symbol),
         }),
         None => None,
     };
-    list.get_gathered_u64(place) == wanted
-        && list.get_gathered_u64_counted(place, &mut tally) == wanted
+    list.get_gathered_u64(position) == wanted
+        && list.get_gathered_u64_counted(position, &mut tally) == wanted
         && tally.rank_calls() <= MOST
 }
 
 // Returns true if all forms of the call return the gathered position of the first of each symbol from a
 // position on, within their bounds.
-fn is_place_gathered<A: Allocator + Copy>(
+fn is_position_gathered<A: Allocator + Copy>(
     list: &WaveletMatrix<A>,
     numbers: &[u64],
-    place: usize,
+    position: usize,
 ) -> bool {
     for symbol in 0..10 {
         let mut tally = Tally::new();
-        let wanted = match numbers.get(0..place) {
-            Some(_) => Some(gathered(numbers, place, symbol)),
+        let wanted = match numbers.get(0..position) {
+            Some(_) => Some(gathered(numbers, position, symbol)),
             None => None,
         };
-        if list.gathered_u64(place, symbol) != wanted
-            || list.gathered_u64_counted(place, symbol, &mut tally) != wanted
+        if list.gathered_u64(position, symbol) != wanted
+            || list.gathered_u64_counted(position, symbol, &mut tally) != wanted
             || tally.rank_calls() > MOST / 2
         {
             return false;
         }
-        if place <= list.len() && list.bits_per_element() <= 64 {
-            let is_same = Some(list.gathered_u64_unchecked(place, symbol)) == wanted;
+        if position <= list.len() && list.bits_per_element() <= 64 {
+            let is_same = Some(list.gathered_u64_unchecked(position, symbol)) == wanted;
             if !is_same {
                 return false;
             }
@@ -95,16 +95,16 @@ fn is_place_gathered<A: Allocator + Copy>(
 fn are_gathered_together<A: Allocator + Copy>(
     list: &WaveletMatrix<A>,
     numbers: &[u64],
-    place: usize,
+    position: usize,
 ) -> bool {
-    let mut queries = [GatheredQuery::new(place, 0); 10];
+    let mut queries = [GatheredQuery::new(position, 0); 10];
     for (symbol, query) in queries.iter_mut().enumerate() {
-        *query = GatheredQuery::new(place, symbol as u64);
+        *query = GatheredQuery::new(position, symbol as u64);
     }
     list.gathered_u64_each(&mut queries);
     for (symbol, query) in queries.iter().enumerate() {
-        let wanted = match numbers.get(0..place) {
-            Some(_) => Some(gathered(numbers, place, symbol as u64)),
+        let wanted = match numbers.get(0..position) {
+            Some(_) => Some(gathered(numbers, position, symbol as u64)),
             None => None,
         };
         if query.answer != wanted {
@@ -157,7 +157,7 @@ impl<A: Allocator + Copy> Check<WaveletMatrix<A>> for Plain<'_> {
         let end = self.0.len().saturating_add(3);
         for a in 0..end {
             if !is_gathered(list, self.0, a)
-                || !is_place_gathered(list, self.0, a)
+                || !is_position_gathered(list, self.0, a)
                 || !are_gathered_together(list, self.0, a)
             {
                 return false;

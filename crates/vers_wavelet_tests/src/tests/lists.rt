@@ -1,7 +1,7 @@
 //! Symbols that are lists of their bits, with the same queries as numbers.
 //!
 //! A refused request is an error: it is never taken for none.
-use crate::tests::numbers::{Query, answer, as_number, is_within, place_below};
+use crate::tests::numbers::{Query, answer, as_number, is_within, position_below};
 use std::alloc::{AllocError, Allocator};
 use test_alloc::{Check, is_made_right};
 use vers_bits::bit_vec::{BitVec, GrowError};
@@ -9,7 +9,7 @@ use vers_tally::tally::Tally;
 use vers_wavelet::wavelet::WaveletMatrix;
 
 /// The result of a query for lists of bits, as a number.
-pub type Told = Result<Option<u64>, AllocError>;
+pub type FoundNumber = Result<Option<u64>, AllocError>;
 
 /// Returns the low bits of a number.
 pub fn symbol_of<A: Allocator + Copy>(
@@ -51,7 +51,10 @@ fn number_by<A: Allocator + Copy>(coding: Coding, symbol: &BitVec<A>) -> u64 {
 }
 
 // Returns the number in an answer, or `None`.
-fn told<A: Allocator + Copy>(coding: Coding, found: Result<Option<BitVec<A>>, AllocError>) -> Told {
+fn found_number<A: Allocator + Copy>(
+    coding: Coding,
+    found: Result<Option<BitVec<A>>, AllocError>,
+) -> FoundNumber {
     Ok(match found? {
         Some(symbol) => Some(number_by(coding, &symbol)),
         None => None,
@@ -59,7 +62,10 @@ fn told<A: Allocator + Copy>(coding: Coding, found: Result<Option<BitVec<A>>, Al
 }
 
 // Returns the number in an answer.
-fn told_one<A: Allocator + Copy>(coding: Coding, found: Result<BitVec<A>, AllocError>) -> Told {
+fn symbol_number<A: Allocator + Copy>(
+    coding: Coding,
+    found: Result<BitVec<A>, AllocError>,
+) -> FoundNumber {
     Ok(Some(number_by(coding, &found?)))
 }
 
@@ -69,15 +75,15 @@ fn answer_for<A: Allocator + Copy>(
     query: Query,
     coding: Coding,
     symbol: &BitVec<A>,
-) -> Told {
+) -> FoundNumber {
     match query {
         Query::RankRange(a, b, _) => Ok(as_number(list.rank_range(a..b, symbol))),
         Query::RankOffset(a, b, _) => Ok(as_number(list.rank_offset(a, b, symbol))),
         Query::Rank(i, _) => Ok(as_number(list.rank(i, symbol))),
         Query::SelectOffset(o, r, _) => Ok(as_number(list.select_offset(o, r, symbol))),
         Query::Select(r, _) => Ok(as_number(list.select(r, symbol))),
-        Query::Predecessor(a, b, _) => told(coding, list.predecessor(a..b, symbol)),
-        Query::Successor(a, b, _) => told(coding, list.successor(a..b, symbol)),
+        Query::Predecessor(a, b, _) => found_number(coding, list.predecessor(a..b, symbol)),
+        Query::Successor(a, b, _) => found_number(coding, list.successor(a..b, symbol)),
         _ => Ok(None),
     }
 }
@@ -89,7 +95,7 @@ fn counted_for<A: Allocator + Copy>(
     coding: Coding,
     symbol: &BitVec<A>,
     tally: &mut Tally,
-) -> Told {
+) -> FoundNumber {
     match query {
         Query::RankRange(a, b, _) => Ok(as_number(list.rank_range_counted(a..b, symbol, tally))),
         Query::RankOffset(a, b, _) => Ok(as_number(list.rank_offset_counted(a, b, symbol, tally))),
@@ -98,8 +104,14 @@ fn counted_for<A: Allocator + Copy>(
             Ok(as_number(list.select_offset_counted(o, r, symbol, tally)))
         }
         Query::Select(r, _) => Ok(as_number(list.select_counted(r, symbol, tally))),
-        Query::Predecessor(a, b, _) => told(coding, list.predecessor_counted(a..b, symbol, tally)),
-        Query::Successor(a, b, _) => told(coding, list.successor_counted(a..b, symbol, tally)),
+        Query::Predecessor(a, b, _) => found_number(
+            coding,
+            list.predecessor_counted(a..b, symbol, tally),
+        ),
+        Query::Successor(a, b, _) => found_number(
+            coding,
+            list.successor_counted(a..b, symbol, tally),
+        ),
         _ => Ok(None),
     }
 }
@@ -110,7 +122,7 @@ fn unchecked_for<A: Allocator + Copy>(
     query: Query,
     coding: Coding,
     symbol: &BitVec<A>,
-) -> Told {
+) -> FoundNumber {
     let len = list.len();
     if symbol.len() != list.bits_per_element() {
         return answer_for(list, query, coding, symbol);
@@ -124,9 +136,9 @@ fn unchecked_for<A: Allocator + Copy>(
         }
         Query::Rank(i, _) if i <= len => Ok(Some(list.rank_unchecked(i, symbol) as u64)),
         Query::SelectOffset(o, r, _) if o <= len => {
-            Ok(place_below(list.select_offset_unchecked(o, r, symbol), len))
+            Ok(position_below(list.select_offset_unchecked(o, r, symbol), len))
         }
-        Query::Select(r, _) => Ok(place_below(list.select_unchecked(r, symbol), len)),
+        Query::Select(r, _) => Ok(position_below(list.select_unchecked(r, symbol), len)),
         _ => answer_for(list, query, coding, symbol),
     }
 }
@@ -136,14 +148,14 @@ fn symbol_answer<A: Allocator + Copy>(
     list: &WaveletMatrix<A>,
     query: Query,
     coding: Coding,
-) -> Told {
+) -> FoundNumber {
     match query {
-        Query::Get(i) => told(coding, list.get_value(i)),
-        Query::Quantile(a, b, i) => told(coding, list.quantile(a..b, i)),
-        Query::Sorted(i) => told(coding, list.get_sorted(i)),
-        Query::Min(a, b) => told(coding, list.range_min(a..b)),
-        Query::Max(a, b) => told(coding, list.range_max(a..b)),
-        Query::Median(a, b) => told(coding, list.range_median(a..b)),
+        Query::Get(i) => found_number(coding, list.get_value(i)),
+        Query::Quantile(a, b, i) => found_number(coding, list.quantile(a..b, i)),
+        Query::Sorted(i) => found_number(coding, list.get_sorted(i)),
+        Query::Min(a, b) => found_number(coding, list.range_min(a..b)),
+        Query::Max(a, b) => found_number(coding, list.range_max(a..b)),
+        Query::Median(a, b) => found_number(coding, list.range_median(a..b)),
         _ => Ok(answer(list, query)),
     }
 }
@@ -154,14 +166,14 @@ fn counted_symbol<A: Allocator + Copy>(
     query: Query,
     coding: Coding,
     tally: &mut Tally,
-) -> Told {
+) -> FoundNumber {
     match query {
-        Query::Get(i) => told(coding, list.get_value_counted(i, tally)),
-        Query::Quantile(a, b, i) => told(coding, list.quantile_counted(a..b, i, tally)),
-        Query::Sorted(i) => told(coding, list.get_sorted_counted(i, tally)),
-        Query::Min(a, b) => told(coding, list.range_min_counted(a..b, tally)),
-        Query::Max(a, b) => told(coding, list.range_max_counted(a..b, tally)),
-        Query::Median(a, b) => told(coding, list.range_median_counted(a..b, tally)),
+        Query::Get(i) => found_number(coding, list.get_value_counted(i, tally)),
+        Query::Quantile(a, b, i) => found_number(coding, list.quantile_counted(a..b, i, tally)),
+        Query::Sorted(i) => found_number(coding, list.get_sorted_counted(i, tally)),
+        Query::Min(a, b) => found_number(coding, list.range_min_counted(a..b, tally)),
+        Query::Max(a, b) => found_number(coding, list.range_max_counted(a..b, tally)),
+        Query::Median(a, b) => found_number(coding, list.range_median_counted(a..b, tally)),
         _ => Ok(answer(list, query)),
     }
 }
@@ -171,18 +183,24 @@ fn unchecked_symbol<A: Allocator + Copy>(
     list: &WaveletMatrix<A>,
     query: Query,
     coding: Coding,
-) -> Told {
+) -> FoundNumber {
     let len = list.len();
     match query {
-        Query::Get(i) if i < len => told_one(coding, list.get_value_unchecked(i)),
+        Query::Get(i) if i < len => symbol_number(coding, list.get_value_unchecked(i)),
         Query::Quantile(a, b, i) if a < b && b <= len && i < b - a => {
-            told_one(coding, list.quantile_unchecked(a..b, i))
+            symbol_number(coding, list.quantile_unchecked(a..b, i))
         }
-        Query::Sorted(i) if i < len => told_one(coding, list.get_sorted_unchecked(i)),
-        Query::Min(a, b) if a < b && b <= len => told_one(coding, list.range_min_unchecked(a..b)),
-        Query::Max(a, b) if a < b && b <= len => told_one(coding, list.range_max_unchecked(a..b)),
+        Query::Sorted(i) if i < len => symbol_number(coding, list.get_sorted_unchecked(i)),
+        Query::Min(a, b) if a < b && b <= len => symbol_number(
+            coding,
+            list.range_min_unchecked(a..b),
+        ),
+        Query::Max(a, b) if a < b && b <= len => symbol_number(
+            coding,
+            list.range_max_unchecked(a..b),
+        ),
         Query::Median(a, b) if a < b && b <= len => {
-            told_one(coding, list.range_median_unchecked(a..b))
+            symbol_number(coding, list.range_median_unchecked(a..b))
         }
         _ => symbol_answer(list, query, coding),
     }
@@ -216,7 +234,7 @@ pub fn answer_in<A: Allocator + Copy>(
     query: Query,
     form: Form,
     symbol: &BitVec<A>,
-) -> Told {
+) -> FoundNumber {
     let is_for_symbol = symbol_asked(query).is_some();
     let coding = Coding::Bits;
     match form {

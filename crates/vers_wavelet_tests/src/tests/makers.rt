@@ -58,8 +58,8 @@ pub fn has_numbers<A: Allocator + Copy>(
     width: u16,
     numbers: &[u64],
 ) -> bool {
-    for (place, number) in numbers.iter().enumerate() {
-        if symbols.get_u64(place) != Some(*number) {
+    for (position, number) in numbers.iter().enumerate() {
+        if symbols.get_u64(position) != Some(*number) {
             return false;
         }
     }

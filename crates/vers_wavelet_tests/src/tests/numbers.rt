@@ -62,11 +62,11 @@ impl Falling {
     }
 
     // Returns the number at a position.
-    fn number(&self, place: usize) -> u64 {
+    fn number(&self, position: usize) -> u64 {
         if self.is_by_size {
-            place as u64 / 2
+            position as u64 / 2
         } else {
-            self.count.saturating_sub(place).saturating_sub(1) as u64 / 2
+            self.count.saturating_sub(position).saturating_sub(1) as u64 / 2
         }
     }
 
@@ -76,9 +76,9 @@ impl Falling {
             self.from = self.to;
             return None;
         }
-        let place = self.from.saturating_add(n);
-        self.from = place.saturating_add(1);
-        Some(self.number(place))
+        let position = self.from.saturating_add(n);
+        self.from = position.saturating_add(1);
+        Some(self.number(position))
     }
 
     // Does the same from the back.
@@ -199,8 +199,8 @@ pub fn counted_answer<A: Allocator + Copy>(
 }
 
 /// Returns the position that an unchecked select returns, or `None` if it is the length.
-pub fn place_below(place: usize, len: usize) -> Option<u64> {
-    (place != len).then_some(place as u64)
+pub fn position_below(position: usize, len: usize) -> Option<u64> {
+    (position != len).then_some(position as u64)
 }
 
 // Returns the answer of the unchecked form of a query by size, or of its plain form if the precondition doesn't
@@ -239,9 +239,9 @@ pub fn unchecked_answer<A: Allocator + Copy>(list: &WaveletMatrix<A>, query: Que
         }
         Query::Rank(i, s) if i <= len => Some(list.rank_u64_unchecked(i, s) as u64),
         Query::SelectOffset(o, r, s) if o <= len => {
-            place_below(list.select_offset_u64_unchecked(o, r, s), len)
+            position_below(list.select_offset_u64_unchecked(o, r, s), len)
         }
-        Query::Select(r, s) => place_below(list.select_u64_unchecked(r, s), len),
+        Query::Select(r, s) => position_below(list.select_u64_unchecked(r, s), len),
         _ => unchecked_by_size(list, query),
     }
 }

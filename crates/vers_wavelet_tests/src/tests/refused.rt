@@ -1,6 +1,6 @@
 //! Symbols that are returned as lists of bits, each of their requests refused in turn. A refused item of a walk
 //! counts as passed.
-use crate::tests::lists::{Form, Told, answer_in, symbol_of};
+use crate::tests::lists::{Form, FoundNumber, answer_in, symbol_of};
 use crate::tests::memory::{Heap, LENGTHS, sorted_walk_over, walk_over};
 use crate::tests::numbers::{Falling, Query, WIDTH, falling_numbers, symbols_of};
 use crate::tests::walks::{Walk, goes_on};
@@ -103,7 +103,7 @@ impl Making for Answer<'_, '_, '_> {
 
     type Fault = AllocError;
 
-    fn make(&self) -> Told {
+    fn make(&self) -> FoundNumber {
         let query = self.asking.topic.query(self.list.len());
         answer_in(self.list, query, self.asking.form, self.symbol)
     }
@@ -242,9 +242,9 @@ fn tried_step<B: Allocator, W: Walk>(
     let wanted = plain.take(step);
     heap.start();
     let found = if is_counted {
-        walk.told_counted(step, &mut Tally::new())
+        walk.step_counted(step, &mut Tally::new())
     } else {
-        walk.told(step)
+        walk.step(step)
     };
     heap.allow_all();
     match found {
@@ -256,7 +256,7 @@ fn tried_step<B: Allocator, W: Walk>(
 fn tried_last<B: Allocator, W: Walk>(heap: &Refusing<B>, walk: W, plain: Falling) -> Ending {
     let mut plain = plain;
     heap.start();
-    match walk.told_last() {
+    match walk.last_step() {
         Ok(number) => done_if(number == plain.take(Step::NextBack)),
         Err(AllocError) => Ending::OutOfMemory,
     }

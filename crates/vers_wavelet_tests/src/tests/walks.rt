@@ -1,5 +1,5 @@
 //! Iterators over symbols, compared with a plain list from both ends.
-use crate::tests::lists::{Told, number_of};
+use crate::tests::lists::{FoundNumber, number_of};
 use crate::tests::memory::{
     number_walk_over, sorted_number_walk_over, sorted_walk_over, walk_over,
 };
@@ -15,20 +15,20 @@ use vers_wavelet::wavelet::WaveletMatrix;
 /// A walk over symbols, whose items are compared as numbers.
 pub trait Walk: Drop {
     /// Returns the answer of a step, in its plain form.
-    fn told(&mut self, step: Step) -> Told;
+    fn step(&mut self, step: Step) -> FoundNumber;
 
     /// Returns the answer of a step, in its counted form.
-    fn told_counted(&mut self, step: Step, tally: &mut Tally) -> Told;
+    fn step_counted(&mut self, step: Step, tally: &mut Tally) -> FoundNumber;
 
     /// Returns the last item.
-    fn told_last(self) -> Told;
+    fn last_step(self) -> FoundNumber;
 
     /// Returns true if a `for` loop over it returns what a plain list has left.
     fn loops(self, plain: Falling) -> bool;
 }
 
 impl<S: Source<Item = u64>> Walk for BothEnds<S> {
-    fn told(&mut self, step: Step) -> Told {
+    fn step(&mut self, step: Step) -> FoundNumber {
         Ok(match step {
             Step::Next => self.next(),
             Step::NextBack => self.next_back(),
@@ -38,7 +38,7 @@ impl<S: Source<Item = u64>> Walk for BothEnds<S> {
         })
     }
 
-    fn told_counted(&mut self, step: Step, tally: &mut Tally) -> Told {
+    fn step_counted(&mut self, step: Step, tally: &mut Tally) -> FoundNumber {
         Ok(match step {
             Step::Next => self.next_counted(tally),
             Step::NextBack => self.next_back_counted(tally),
@@ -48,7 +48,7 @@ impl<S: Source<Item = u64>> Walk for BothEnds<S> {
         })
     }
 
-    fn told_last(self) -> Told {
+    fn last_step(self) -> FoundNumber {
         Ok(self.last())
     }
 
@@ -64,7 +64,7 @@ impl<S: Source<Item = u64>> Walk for BothEnds<S> {
 }
 
 // Returns the number of an item, if there is one, or why it was refused.
-fn told_item<A: Allocator + Copy>(item: Option<Result<BitVec<A>, AllocError>>) -> Told {
+fn item_number<A: Allocator + Copy>(item: Option<Result<BitVec<A>, AllocError>>) -> FoundNumber {
     match item {
         Some(Ok(symbol)) => Ok(Some(number_of(&symbol))),
         Some(Err(fault)) => Err(fault),
@@ -73,34 +73,34 @@ fn told_item<A: Allocator + Copy>(item: Option<Result<BitVec<A>, AllocError>>) -
 }
 
 impl<A: Allocator + Copy, M: Maker<Item = BitVec<A>>> Walk for MadeEnds<M> {
-    fn told(&mut self, step: Step) -> Told {
+    fn step(&mut self, step: Step) -> FoundNumber {
         match step {
-            Step::Next => told_item(self.next()),
-            Step::NextBack => told_item(self.next_back()),
-            Step::Nth(n) => told_item(self.nth(n)),
-            Step::NthBack(n) => told_item(self.nth_back(n)),
+            Step::Next => item_number(self.next()),
+            Step::NextBack => item_number(self.next_back()),
+            Step::Nth(n) => item_number(self.nth(n)),
+            Step::NthBack(n) => item_number(self.nth_back(n)),
             Step::Len => Ok(Some(self.len() as u64)),
         }
     }
 
-    fn told_counted(&mut self, step: Step, tally: &mut Tally) -> Told {
+    fn step_counted(&mut self, step: Step, tally: &mut Tally) -> FoundNumber {
         match step {
-            Step::Next => told_item(self.next_counted(tally)),
-            Step::NextBack => told_item(self.next_back_counted(tally)),
-            Step::Nth(n) => told_item(self.nth_counted(n, tally)),
-            Step::NthBack(n) => told_item(self.nth_back_counted(n, tally)),
+            Step::Next => item_number(self.next_counted(tally)),
+            Step::NextBack => item_number(self.next_back_counted(tally)),
+            Step::Nth(n) => item_number(self.nth_counted(n, tally)),
+            Step::NthBack(n) => item_number(self.nth_back_counted(n, tally)),
             Step::Len => Ok(Some(self.len() as u64)),
         }
     }
 
-    fn told_last(self) -> Told {
-        told_item(self.last())
+    fn last_step(self) -> FoundNumber {
+        item_number(self.last())
     }
 
     fn loops(self, plain: Falling) -> bool {
         let mut plain = plain;
         for item in self {
-            if told_item(Some(item)) != Ok(plain.take(Step::Next)) {
+            if item_number(Some(item)) != Ok(plain.take(Step::Next)) {
                 return false;
             }
         }
@@ -125,11 +125,11 @@ const STEPS: [Step; 12] = [
 ];
 
 // Returns a step of a walk, in its counted form in two of five turns.
-fn taken<W: Walk>(walk: &mut W, turn: usize, step: Step, tally: &mut Tally) -> Told {
+fn taken<W: Walk>(walk: &mut W, turn: usize, step: Step, tally: &mut Tally) -> FoundNumber {
     if turn % 5 < 2 {
-        walk.told_counted(step, tally)
+        walk.step_counted(step, tally)
     } else {
-        walk.told(step)
+        walk.step(step)
     }
 }
 
@@ -166,7 +166,7 @@ pub fn is_walked<W: Walk>(walk: W, plain: Falling, pass: Pass) -> bool {
     let mut walk = walk;
     match pass {
         Pass::Steps => goes_on(&mut walk, plain),
-        Pass::Last => walk.told_last() == Ok(plain.take(Step::NextBack)),
+        Pass::Last => walk.last_step() == Ok(plain.take(Step::NextBack)),
         Pass::Loop => walk.loops(plain),
     }
 }

@@ -63,10 +63,10 @@ const ROWS_OF_NONE: [(Query, Option<u64>); 8] = [
 ];
 
 // Returns true if a position of the symbol for a number has a one.
-fn is_one(number: u64, place: usize, width: usize) -> bool {
-    (place == 0 && number % 2 == 1)
-        || (place == width / 2 && number / 2 % 2 == 1)
-        || (place == width.saturating_sub(1) && number / 4 % 2 == 1)
+fn is_one(number: u64, position: usize, width: usize) -> bool {
+    (position == 0 && number % 2 == 1)
+        || (position == width / 2 && number / 2 % 2 == 1)
+        || (position == width.saturating_sub(1) && number / 4 % 2 == 1)
 }
 
 // Returns the symbols for some numbers, one after another.
@@ -77,8 +77,8 @@ fn bits_of<A: Allocator + Copy>(
 ) -> Result<BitVec<A>, GrowError> {
     let mut bits = BitVec::new(alloc);
     for number in numbers.iter() {
-        for place in 0..width {
-            bits.append(is_one(*number, place, width))?;
+        for position in 0..width {
+            bits.append(is_one(*number, position, width))?;
         }
     }
     Ok(bits)
@@ -135,7 +135,7 @@ fn has_none<A: Allocator + Copy>(list: &WaveletMatrix<A>, rows: &[(Query, Option
 // Returns true if no query of a batch has an answer, also if it had one before.
 fn batches_have_none<A: Allocator + Copy>(list: &WaveletMatrix<A>) -> bool {
     let mut gets = [GetQuery {
-        place: 0,
+        position: 0,
         answer: Some(9),
     }];
     list.get_u64_each(&mut gets);

@@ -172,10 +172,10 @@ fn clone_is_walked<S: Source<Item = u64> + Borrowing>(
 // Returns true if a walk over lists has that many items, and none past its end.
 fn is_as_long<W: Walk>(walk: W, len: usize) -> bool {
     let mut walk = walk;
-    walk.told(Step::Len) == Ok(Some(len as u64))
-        && walk.told(Step::Nth(len)) == Ok(None)
-        && walk.told_counted(Step::NextBack, &mut Tally::new()) == Ok(None)
-        && walk.told_last() == Ok(None)
+    walk.step(Step::Len) == Ok(Some(len as u64))
+        && walk.step(Step::Nth(len)) == Ok(None)
+        && walk.step_counted(Step::NextBack, &mut Tally::new()) == Ok(None)
+        && walk.last_step() == Ok(None)
 }
 
 fn clones_are_right<A: Allocator + Copy>(list: &WaveletMatrix<A>, plain: Falling) -> bool {

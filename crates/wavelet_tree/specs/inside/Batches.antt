@@ -4,7 +4,7 @@ use Rattle.vers_bits.specs.Bits.{count}
 use Rattle.vers_tally.specs.Reads.{Reads, AddsAtMost, IsWithin, no_reads, only_items, times}
 use Rattle.vers_wavelet.specs.Symbols.{Symbols}
 use Rattle.word_rank.specs.Ranks.{word_rank_reads}
-use Rattle.wavelet_tree.specs.Queries.{IsSortedRange, fork_reads, query_reads, sorted_place, sum_reads}
+use Rattle.wavelet_tree.specs.Queries.{IsSortedRange, fork_reads, query_reads, sorted_position, sum_reads}
 use Rattle.wavelet_tree.specs.Trees.{depth, tree_of}
 use Rattle.wavelet_tree.specs.inside.Nodes.{Walks, weight}
 use Rattle.wavelet_tree.specs.declared.batch.RangeQuery.{RangeQuery}
@@ -44,7 +44,7 @@ pub record IsWalking (symbols : Symbols) (starts : List ℕ) (nodes : List Node)
   pub symbol : now.symbol ≡ asked.symbol
   pub some : asked.start ≢ asked.end
   pub walks : Walks starts nodes bits (weight (tree_of symbols) symbols.items) false fork_reads asked.symbol (depth (tree_of symbols) asked.symbol)
-      (sorted_place symbols.items asked.start asked.symbol) (sorted_place symbols.items asked.end asked.symbol) (only_items 2) own now.link now.start now.end
+      (sorted_position symbols.items asked.start asked.symbol) (sorted_position symbols.items asked.end asked.symbol) (only_items 2) own now.link now.start now.end
 
 -- and has the ranks of both
 pub record IsRanked (symbols : Symbols) (starts : List ℕ) (nodes : List Node) (bits : List Bool) (turn : ℕ) (asked now : RangeQuery) (own : Reads) : Type 0 where

@@ -61,11 +61,11 @@ no_node = record { low = 0; high = 0; low_link = 0; high_link = 0; split = 0 }
 
 -- the symbol that the bits from a position of a tree on lead to, in at most n steps
 unfoldable pub led : ℕ → List Node → List Bool → ℕ → ℕ → ℕ
-led zero nodes bits link place = link - LEAVES
-led (suc n) nodes bits link place =
+led zero nodes bits link position = link - LEAVES
+led (suc n) nodes bits link position =
     if nat_le LEAVES link then link - LEAVES else
-    if slice_index_or bits place false then led n nodes bits (slice_index_or nodes link no_node).high_link ((count true bits place + (slice_index_or nodes link no_node).high) % 2 ^ 64) else
-    led n nodes bits (slice_index_or nodes link no_node).low_link ((place - count true bits place + (slice_index_or nodes link no_node).low) % 2 ^ 64)
+    if slice_index_or bits position false then led n nodes bits (slice_index_or nodes link no_node).high_link ((count true bits position + (slice_index_or nodes link no_node).high) % 2 ^ 64) else
+    led n nodes bits (slice_index_or nodes link no_node).low_link ((position - count true bits position + (slice_index_or nodes link no_node).low) % 2 ^ 64)
 
 -- the symbols at the first positions
 abbrev pub symbols_in : List Node → List Bool → ℕ → ℕ → List ℕ
@@ -86,7 +86,7 @@ pub record IsTreeOf (symbols : Symbols) (starts : List ℕ) (nodes : List Node) 
   pub root_is : root ≡ link (tree_of symbols) 0
   pub stands : Stands (tree_of symbols) starts nodes bits (weight (tree_of symbols) symbols.items) 0 0 symbols.items
 
--- a walk to a symbol came to places a and b of a tree below: as many occurrences of the symbol are before them as the goals say, and its reads are within those of each fork so far; if `here`, the symbol is at place a
+-- a walk to a symbol came to positions a and b of a tree below: as many occurrences of the symbol are before them as the goals say, and its reads are within those of each fork so far; if `here`, the symbol is at position a
 pub record WalksIn (tree : Tree) (starts : List ℕ) (nodes : List Node) (bits : List Bool) (used : ℕ) (here : Bool) (each : Reads) (s all goal other : ℕ) (old new : Reads) (at a b : ℕ) : Type 0 where
   pub first : ℕ
   pub start : ℕ

@@ -25,4 +25,4 @@ mod walks;
 
 pub use fault::{ColumnError, TextError};
 pub use index::{DEFAULT_STEP, MAX_LEN, TextIndex};
-pub use places::{PatternPlaces, PlacesIter};
+pub use places::{PatternPositions, PlacesIter};

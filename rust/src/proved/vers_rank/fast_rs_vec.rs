@@ -16,9 +16,9 @@ mod select_iter;
 use crate::proved::vers_rank::build::{add_entries, samples};
 pub use bit_set_iter::BitSetIter;
 pub use iter::{RsVecIter, RsVecRefIter};
-pub use pair::PlacePair;
+pub use pair::PositionPair;
 pub use rank::RankedBit;
-pub use select_iter::{Places, SelectIntoIter, SelectIter};
+pub use select_iter::{Positions, SelectIntoIter, SelectIter};
 use crate::rattle::AllocError;
 use crate::rattle::Allocator;
 use crate::proved::vers_bits::bit_vec::{BitVec, MAX_LEN};
@@ -132,63 +132,63 @@ impl<A: Allocator + Copy> RsVec<A> {
             + 8 * self.one_samples.len()
     }
 
-    /// Returns the bit at `place`, 1 or 0, or `None` if `place` is out of bounds.
+    /// Returns the bit at `position`, 1 or 0, or `None` if `position` is out of bounds.
     #[inline]
-    pub fn get(&self, place: usize) -> Option<u64> {
+    pub fn get(&self, position: usize) -> Option<u64> {
         let mut tally = Tally::new();
-        self.get_counted(place, &mut tally)
+        self.get_counted(position, &mut tally)
     }
 
-    /// Returns `get(place)`. Reads at most one data word.
+    /// Returns `get(position)`. Reads at most one data word.
     #[inline(always)]
-    pub fn get_counted(&self, place: usize, tally: &mut Tally) -> Option<u64> {
+    pub fn get_counted(&self, position: usize, tally: &mut Tally) -> Option<u64> {
         tally.add_rank_call();
-        self.bits.get(place, tally)
+        self.bits.get(position, tally)
     }
 
-    /// Returns the bit at `place`, 1 or 0. Precondition: `place` is below the length.
+    /// Returns the bit at `position`, 1 or 0. Precondition: `position` is below the length.
     #[inline]
-    pub fn get_unchecked(&self, place: usize) -> u64 {
+    pub fn get_unchecked(&self, position: usize) -> u64 {
         let mut tally = Tally::new();
-        u64::from(self.is_one_counted(place, &mut tally))
+        u64::from(self.is_one_counted(position, &mut tally))
     }
 
-    /// Returns true if the bit at `place` is a one. Reads one data word. Precondition: `place` is below the
+    /// Returns true if the bit at `position` is a one. Reads one data word. Precondition: `position` is below the
     /// length.
     #[inline(always)]
-    pub fn is_one_counted(&self, place: usize, tally: &mut Tally) -> bool {
+    pub fn is_one_counted(&self, position: usize, tally: &mut Tally) -> bool {
         tally.add_rank_call();
-        self.bits.is_one(place, tally)
+        self.bits.is_one(position, tally)
     }
 
-    /// Returns the `n` bits from position `place` as a number; 0 if `n` is 0. `None` if there are fewer, or `n`
+    /// Returns the `n` bits from `position` on as a number; 0 if `n` is 0. `None` if there are fewer, or `n`
     /// is above 64.
     #[inline]
-    pub fn get_bits(&self, place: usize, n: usize) -> Option<u64> {
+    pub fn get_bits(&self, position: usize, n: usize) -> Option<u64> {
         let mut tally = Tally::new();
-        self.get_bits_counted(place, n, &mut tally)
+        self.get_bits_counted(position, n, &mut tally)
     }
 
-    /// Returns `get_bits(place, n)`. Reads at most two data words.
+    /// Returns `get_bits(position, n)`. Reads at most two data words.
     #[inline(always)]
-    pub fn get_bits_counted(&self, place: usize, n: usize, tally: &mut Tally) -> Option<u64> {
+    pub fn get_bits_counted(&self, position: usize, n: usize, tally: &mut Tally) -> Option<u64> {
         tally.add_rank_call();
         if n == 0 {
-            return if place <= self.bits.len() {
+            return if position <= self.bits.len() {
                 Some(0)
             } else {
                 None
             };
         }
-        self.bits.get_bits(place, n, tally)
+        self.bits.get_bits(position, n, tally)
     }
 
-    /// Returns the `n` bits from position `place` as a number; 0 if `n` is 0. Precondition: `n` is at most 64,
-    /// and `place + n` at most the length.
+    /// Returns the `n` bits from `position` on as a number; 0 if `n` is 0. Precondition: `n` is at most 64,
+    /// and `position + n` at most the length.
     #[inline]
-    pub fn get_bits_unchecked(&self, place: usize, n: usize) -> u64 {
+    pub fn get_bits_unchecked(&self, position: usize, n: usize) -> u64 {
         let mut tally = Tally::new();
-        self.get_bits_counted(place, n, &mut tally).unwrap()
+        self.get_bits_counted(position, n, &mut tally).unwrap()
     }
 }
 

@@ -34,8 +34,8 @@ pub fn held_in_word(word: u64, bit: bool) -> usize {
 /// Returns the position in a word of occurrence `r` (from 0) of `bit`: its byte, and its position there, each
 /// in a fixed number of steps.
 #[inline(always)]
-pub fn place_in_word(word: u64, bit: bool, r: usize) -> usize {
-    place_of_one(marks(bit, word), r)
+pub fn position_in_word(word: u64, bit: bool, r: usize) -> usize {
+    position_of_one(marks(bit, word), r)
 }
 
 /// Returns the word in which the positions that have the bit are ones.
@@ -46,10 +46,10 @@ pub fn marks(bit: bool, word: u64) -> u64 {
 
 // Returns the position in a word of its one `r`.
 #[inline(always)]
-fn place_of_one(word: u64, r: usize) -> usize {
+fn position_of_one(word: u64, r: usize) -> usize {
     let byte = byte_with(word, r);
     let before = ones_before(word, byte);
-    8 * byte + place_in_byte(word >> (8 * byte), r - before)
+    8 * byte + position_in_byte(word >> (8 * byte), r - before)
 }
 
 // Returns the byte of one `r`: the number of bytes that have, with the bytes below, at most `r` ones.
@@ -68,19 +68,19 @@ fn ones_before(word: u64, byte: usize) -> usize {
 
 // Returns the position of one `r`, which is in the lowest byte.
 #[inline(always)]
-fn place_in_byte(word: u64, r: usize) -> usize {
+fn position_in_byte(word: u64, r: usize) -> usize {
     let byte = (word & 0xff) as usize;
-    place_at(8 * byte + r) as usize
+    position_at(8 * byte + r) as usize
 }
 
 // Returns an entry of the table of positions.
 #[inline(always)]
-fn place_at(i: usize) -> u8 {
-    PLACES[i]
+fn position_at(i: usize) -> u8 {
+    POSITIONS[i]
 }
 
 // At 8 times a byte plus a number, the position in the byte of that one, or 0 if it has no such one.
-static PLACES: [u8; 2048] = [
+static POSITIONS: [u8; 2048] = [
     0, 0, 0, 0, 0, 0, 0, 0, 0, 0, 0, 0, 0, 0, 0, 0, 1, 0, 0, 0, 0, 0, 0, 0, 0, 1, 0, 0, 0, 0, 0, 0,
     2, 0, 0, 0, 0, 0, 0, 0, 0, 2, 0, 0, 0, 0, 0, 0, 1, 2, 0, 0, 0, 0, 0, 0, 0, 1, 2, 0, 0, 0, 0, 0,
     3, 0, 0, 0, 0, 0, 0, 0, 0, 3, 0, 0, 0, 0, 0, 0, 1, 3, 0, 0, 0, 0, 0, 0, 0, 1, 3, 0, 0, 0, 0, 0,

@@ -8,4 +8,4 @@ pub fn one_first_least() {}
 
 /// The least position of a range is the first position of its least item: no item of the range is below the one
 /// there, and those before it are above.
-pub fn least_place_is_first() {}
+pub fn least_position_is_first() {}

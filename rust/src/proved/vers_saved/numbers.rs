@@ -31,10 +31,10 @@ fn drop_first<A: Allocator + Copy>(members: &mut EliasFanoRefIter<'_, A>, n: usi
 // Returns the number that a walk returned, or if it returned none, that at a position of the others, which come
 // after `count`.
 #[inline(always)]
-fn given_or(given: Option<u64>, others: &[u64], place: usize, count: usize) -> u64 {
+fn given_or(given: Option<u64>, others: &[u64], position: usize, count: usize) -> u64 {
     match given {
         Some(number) => number,
-        None => others[place - count],
+        None => others[position - count],
     }
 }
 

@@ -15,23 +15,23 @@ use crate::proved::vers_wavelet::wavelet::WaveletMatrix;
 
 // A limb of a level.
 #[derive(Clone, Copy)]
-struct Place {
+struct Position {
     level: usize,
     limb: usize,
 }
 
-// Returns the place of the next limb, where each level has as many limbs.
+// Returns the position of the next limb, where each level has as many limbs.
 #[inline(always)]
-fn place_after(place: Place, limbs: usize) -> Place {
-    let limb = place.limb + 1;
+fn position_after(position: Position, limbs: usize) -> Position {
+    let limb = position.limb + 1;
     if limb == limbs {
-        return Place {
-            level: place.level + 1,
+        return Position {
+            level: position.level + 1,
             limb: 0,
         };
     }
-    Place {
-        level: place.level,
+    Position {
+        level: position.level,
         limb,
     }
 }
@@ -46,13 +46,13 @@ fn copy_level<A: Allocator + Copy>(level: &RsVec<A>, from: usize, out: &mut [u64
 // Copies the limbs of the levels from limb `from` on, as many as the slice has, which may be of several levels.
 fn copy_across<A: Allocator + Copy>(list: &WaveletMatrix<A>, from: usize, out: &mut [u64]) {
     let limbs = list.len().div_ceil(64).max(1);
-    let mut place = Place {
+    let mut position = Position {
         level: from / limbs,
         limb: from % limbs,
     };
     for j in 0..out.len() {
-        out[j] = limb_of(list.level(place.level), place.limb);
-        place = place_after(place, limbs);
+        out[j] = limb_of(list.level(position.level), position.limb);
+        position = position_after(position, limbs);
     }
 }
 

@@ -41,27 +41,27 @@ impl<A: Allocator + Copy> SparseRSVec<A> {
 
     /// Returns the same bits in sparse form. Errors: `AllocError` only if the allocator refuses a request.
     pub fn from_bitvec(bits: &BitVec<A>) -> Result<Self, AllocError> {
-        SparseRSVec::from_places(bits, true)
+        SparseRSVec::from_positions(bits, true)
     }
 
     /// Returns the bits of another list with ones and zeros exchanged. Errors: `AllocError` only if the
     /// allocator refuses a request.
     pub fn from_bitvec_inverted(bits: &BitVec<A>) -> Result<Self, AllocError> {
-        SparseRSVec::from_places(bits, false)
+        SparseRSVec::from_positions(bits, false)
     }
 
     // Returns the list with ones where another has `bit`.
-    fn from_places(bits: &BitVec<A>, bit: bool) -> Result<Self, AllocError> {
+    fn from_positions(bits: &BitVec<A>, bit: bool) -> Result<Self, AllocError> {
         let len = count_of(bits, bit);
         // A list of more members needs more memory than there can be.
         if len > MAX_LEN {
             return Err(AllocError);
         }
-        let places = Places { bits, bit, from: 0 };
+        let positions = Positions { bits, bit, from: 0 };
         let from = last_start(bits, bit);
-        let last = last_left(Places { bits, bit, from });
+        let last = last_left(Positions { bits, bit, from });
         Ok(SparseRSVec {
-            ones: EliasFanoVec::from_numbers(bits.allocator(), places, len, last)?,
+            ones: EliasFanoVec::from_numbers(bits.allocator(), positions, len, last)?,
             len: bits.len() as u64,
         })
     }
@@ -84,56 +84,56 @@ impl<A: Allocator + Copy> SparseRSVec<A> {
         self.ones.heap_size()
     }
 
-    /// Returns true if the bit at `place` is a one, or `None` if `place` is out of bounds.
+    /// Returns true if the bit at `position` is a one, or `None` if `position` is out of bounds.
     #[inline]
-    pub fn is_set(&self, place: u64) -> Option<bool> {
+    pub fn is_set(&self, position: u64) -> Option<bool> {
         let mut tally = Tally::new();
-        self.is_set_counted(place, &mut tally)
+        self.is_set_counted(position, &mut tally)
     }
 
-    /// Returns `is_set(place)`. Reads at most what one search among the positions of the ones does.
+    /// Returns `is_set(position)`. Reads at most what one search among the positions of the ones does.
     #[inline(always)]
-    pub fn is_set_counted(&self, place: u64, tally: &mut Tally) -> Option<bool> {
-        if place >= self.len() {
+    pub fn is_set_counted(&self, position: u64, tally: &mut Tally) -> Option<bool> {
+        if position >= self.len() {
             return None;
         }
-        Some(self.holds_one(place, tally))
+        Some(self.holds_one(position, tally))
     }
 
-    // Returns true if the bit at `place` is a one. Precondition: `place` is below the length.
+    // Returns true if the bit at `position` is a one. Precondition: `position` is below the length.
     #[inline(always)]
-    fn holds_one(&self, place: u64, tally: &mut Tally) -> bool {
+    fn holds_one(&self, position: u64, tally: &mut Tally) -> bool {
         let _ = &self.len;
-        self.ones.has_counted(place, tally)
+        self.ones.has_counted(position, tally)
     }
 
-    /// Returns true if the bit at `place` is a one. Precondition: `place` is below the length.
+    /// Returns true if the bit at `position` is a one. Precondition: `position` is below the length.
     #[inline]
-    pub fn is_set_unchecked(&self, place: u64) -> bool {
+    pub fn is_set_unchecked(&self, position: u64) -> bool {
         let mut tally = Tally::new();
-        self.holds_one(place, &mut tally)
+        self.holds_one(position, &mut tally)
     }
 
-    /// Returns the bit at `place`, 1 or 0, or `None` if `place` is out of bounds.
+    /// Returns the bit at `position`, 1 or 0, or `None` if `position` is out of bounds.
     #[inline]
-    pub fn get(&self, place: u64) -> Option<u64> {
+    pub fn get(&self, position: u64) -> Option<u64> {
         let mut tally = Tally::new();
-        self.get_counted(place, &mut tally)
+        self.get_counted(position, &mut tally)
     }
 
-    /// Returns `get(place)`. Reads at most what one search among the positions of the ones does.
+    /// Returns `get(position)`. Reads at most what one search among the positions of the ones does.
     #[inline(always)]
-    pub fn get_counted(&self, place: u64, tally: &mut Tally) -> Option<u64> {
-        if place >= self.len() {
+    pub fn get_counted(&self, position: u64, tally: &mut Tally) -> Option<u64> {
+        if position >= self.len() {
             return None;
         }
-        Some(u64::from(self.holds_one(place, tally)))
+        Some(u64::from(self.holds_one(position, tally)))
     }
 
-    /// Returns the bit at `place`, 1 or 0. Precondition: `place` is below the length.
+    /// Returns the bit at `position`, 1 or 0. Precondition: `position` is below the length.
     #[inline]
-    pub fn get_unchecked(&self, place: u64) -> u64 {
-        u64::from(self.is_set_unchecked(place))
+    pub fn get_unchecked(&self, position: u64) -> u64 {
+        u64::from(self.is_set_unchecked(position))
     }
 
     /// Returns the position of one `r` (from 0), or the length if there are fewer.
@@ -148,37 +148,37 @@ impl<A: Allocator + Copy> SparseRSVec<A> {
     pub fn select1_counted(&self, r: usize, tally: &mut Tally) -> u64 {
         let _ = &self.len;
         match self.ones.get_counted(r, tally) {
-            Some(place) => place,
+            Some(position) => position,
             None => self.len,
         }
     }
 
-    /// Returns the number of ones below `place`.
+    /// Returns the number of ones below `position`.
     #[inline]
-    pub fn rank1(&self, place: u64) -> u64 {
+    pub fn rank1(&self, position: u64) -> u64 {
         let mut tally = Tally::new();
-        self.rank1_counted(place, &mut tally)
+        self.rank1_counted(position, &mut tally)
     }
 
-    /// Returns `rank1(place)`. Reads at most what one search among the positions of the ones does.
+    /// Returns `rank1(position)`. Reads at most what one search among the positions of the ones does.
     #[inline(always)]
-    pub fn rank1_counted(&self, place: u64, tally: &mut Tally) -> u64 {
+    pub fn rank1_counted(&self, position: u64, tally: &mut Tally) -> u64 {
         let _ = &self.len;
-        self.ones.rank_counted(place, tally)
+        self.ones.rank_counted(position, tally)
     }
 
-    /// Returns the number of zeros below `place`.
+    /// Returns the number of zeros below `position`.
     #[inline]
-    pub fn rank0(&self, place: u64) -> u64 {
+    pub fn rank0(&self, position: u64) -> u64 {
         let mut tally = Tally::new();
-        self.rank0_counted(place, &mut tally)
+        self.rank0_counted(position, &mut tally)
     }
 
-    /// Returns `rank0(place)`. Reads at most what one search among the positions of the ones does.
+    /// Returns `rank0(position)`. Reads at most what one search among the positions of the ones does.
     #[inline(always)]
-    pub fn rank0_counted(&self, place: u64, tally: &mut Tally) -> u64 {
-        let ones = self.rank1_counted(place, tally);
-        place.min(self.len()) - ones
+    pub fn rank0_counted(&self, position: u64, tally: &mut Tally) -> u64 {
+        let ones = self.rank1_counted(position, tally);
+        position.min(self.len()) - ones
     }
 
     /// Returns the positions of the ones, an ascending list.
@@ -196,19 +196,19 @@ impl<A: Allocator + Copy> SparseRSVec<A> {
 
 // The positions of the ones or the zeros of a list, from position `from` on.
 #[derive(Clone, Copy)]
-struct Places<'a, A: Allocator + Copy> {
+struct Positions<'a, A: Allocator + Copy> {
     bits: &'a BitVec<A>,
     bit: bool,
     from: usize,
 }
 
-impl<A: Allocator + Copy> Numbers for Places<'_, A> {
+impl<A: Allocator + Copy> Numbers for Positions<'_, A> {
     #[inline(always)]
     fn next(&mut self) -> Option<u64> {
         let _ = self.bits.len();
-        let place = place_from(self.bits, self.bit, self.from)?;
-        self.from = place + 1;
-        Some(place as u64)
+        let position = position_from(self.bits, self.bit, self.from)?;
+        self.from = position + 1;
+        Some(position as u64)
     }
 }
 
@@ -223,24 +223,28 @@ fn count_of<A: Allocator + Copy>(bits: &BitVec<A>, bit: bool) -> usize {
 
 // Returns the first position from `from` on of a one or a zero. `None` if there is none.
 #[inline(always)]
-fn place_from<A: Allocator + Copy>(bits: &BitVec<A>, bit: bool, from: usize) -> Option<usize> {
-    let mut place = from;
-    while place < bits.len() {
-        if let Some(found) = place_in_limb(bits, bit, place) {
+fn position_from<A: Allocator + Copy>(bits: &BitVec<A>, bit: bool, from: usize) -> Option<usize> {
+    let mut position = from;
+    while position < bits.len() {
+        if let Some(found) = position_in_limb(bits, bit, position) {
             return Some(found);
         }
-        place = 64 * (place / 64) + 64;
+        position = 64 * (position / 64) + 64;
     }
     None
 }
 
-// Returns the first position from `place` on in its limb of a one or a zero. `None` if there is none.
+// Returns the first position from `position` on in its limb of a one or a zero. `None` if there is none.
 #[inline(always)]
-fn place_in_limb<A: Allocator + Copy>(bits: &BitVec<A>, bit: bool, place: usize) -> Option<usize> {
-    let word = marks_of(bits, bit, place / 64) >> (place % 64);
+fn position_in_limb<A: Allocator + Copy>(
+    bits: &BitVec<A>,
+    bit: bool,
+    position: usize,
+) -> Option<usize> {
+    let word = marks_of(bits, bit, position / 64) >> (position % 64);
     let skip = word.trailing_zeros() as usize;
-    if skip < (bits.len() - place).min(64 - place % 64) {
-        return Some(place + skip);
+    if skip < (bits.len() - position).min(64 - position % 64) {
+        return Some(position + skip);
     }
     None
 }
@@ -250,7 +254,7 @@ fn last_start<A: Allocator + Copy>(bits: &BitVec<A>, bit: bool) -> usize {
     let mut k = bits.len().div_ceil(64);
     while k > 0 {
         k -= 1;
-        if place_in_limb(bits, bit, 64 * k).is_some() {
+        if position_in_limb(bits, bit, 64 * k).is_some() {
             return 64 * k;
         }
     }

@@ -164,42 +164,42 @@ impl<A: Allocator + Copy> CountedBits<A> {
         block
     }
 
-    /// Returns the bit at `place`, 1 or 0. Reads one data word. `None`, and reads nothing, if `place` is out of
+    /// Returns the bit at `position`, 1 or 0. Reads one data word. `None`, and reads nothing, if `position` is out of
     /// bounds.
     #[inline]
-    pub fn get(&self, place: usize, tally: &mut Tally) -> Option<u64> {
-        if place < self.bits.len() {
+    pub fn get(&self, position: usize, tally: &mut Tally) -> Option<u64> {
+        if position < self.bits.len() {
             tally.data_words = tally.data_words.saturating_add(1);
         }
-        self.bits.get(place)
+        self.bits.get(position)
     }
 
-    /// Returns true if the bit at `place` is a one. Reads one data word. Precondition: `place` is below the
+    /// Returns true if the bit at `position` is a one. Reads one data word. Precondition: `position` is below the
     /// length.
     #[inline]
-    pub fn is_one(&self, place: usize, tally: &mut Tally) -> bool {
+    pub fn is_one(&self, position: usize, tally: &mut Tally) -> bool {
         tally.data_words = tally.data_words.saturating_add(1);
-        self.bits.is_bit_set(place).unwrap()
+        self.bits.is_bit_set(position).unwrap()
     }
 
-    /// Returns the `n` bits from position `place` as a number. Reads two data words, the limb of the first bit
+    /// Returns the `n` bits from `position` on as a number. Reads two data words, the limb of the first bit
     /// and that of the last: bits of one limb are read from it twice, and both reads count. `None`, and reads
     /// nothing, if there are fewer bits, or `n` is 0 or above 64.
     #[inline(always)]
-    pub fn get_bits(&self, place: usize, n: usize, tally: &mut Tally) -> Option<u64> {
-        let number = self.bits.get_bits(place, n);
+    pub fn get_bits(&self, position: usize, n: usize, tally: &mut Tally) -> Option<u64> {
+        let number = self.bits.get_bits(position, n);
         // No branch: some of it would remain if the count is unused.
         let reads = 2 * u64::from(number.is_some());
         tally.data_words = tally.data_words.saturating_add(reads);
         number
     }
 
-    /// Returns the `n` bits from position `place` as a number, 0 if `n` is 0. Reads one low part, however many
-    /// limbs it spans, also if `n` is 0. Precondition: `n` is at most 64, and `place + n` at most the length.
+    /// Returns the `n` bits from `position` on as a number, 0 if `n` is 0. Reads one low part, however many
+    /// limbs it spans, also if `n` is 0. Precondition: `n` is at most 64, and `position + n` at most the length.
     #[inline(always)]
-    pub fn low_part(&self, place: usize, n: usize, tally: &mut Tally) -> u64 {
+    pub fn low_part(&self, position: usize, n: usize, tally: &mut Tally) -> u64 {
         tally.low_parts = tally.low_parts.saturating_add(1);
-        self.bits.get_bits_unchecked(place, n)
+        self.bits.get_bits_unchecked(position, n)
     }
 }
 

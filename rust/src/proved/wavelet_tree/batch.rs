@@ -60,8 +60,8 @@ impl RangeQuery {
     #[inline(always)]
     fn below(self, node: Node) -> Self {
         let is_high = self.symbol >= u64::from(node.split);
-        let start = node.place_below(is_high, self.start, self.start_ones);
-        let end = node.place_below(is_high, self.end, self.end_ones);
+        let start = node.position_below(is_high, self.start, self.start_ones);
+        let end = node.position_below(is_high, self.end, self.end_ones);
         RangeQuery::at(node.link_below(is_high), start..end, self.symbol)
     }
 }

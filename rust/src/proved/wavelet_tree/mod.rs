@@ -19,4 +19,4 @@ mod walk;
 pub use batch::RangeQuery;
 pub use fault::PartsError;
 pub use tree::WaveletTree;
-pub use walk::SortedPlace;
+pub use walk::SortedPosition;

@@ -19,11 +19,11 @@ pub(crate) struct Node {
 impl Node {
     // Returns the position of a subtree to which a position leads. It has `ones` ones before it.
     #[inline(always)]
-    pub(crate) fn place_below(self, is_high: bool, place: usize, ones: usize) -> usize {
+    pub(crate) fn position_below(self, is_high: bool, position: usize, ones: usize) -> usize {
         let (before, shift) = if is_high {
             (ones, self.high)
         } else {
-            (place - ones, self.low)
+            (position - ones, self.low)
         };
         before.wrapping_add(shift as usize)
     }

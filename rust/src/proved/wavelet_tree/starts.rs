@@ -49,13 +49,13 @@ fn put_starts<T: Integer>(items: &[T], starts: &mut [u64]) {
 fn count_symbols<T: Integer>(items: &[T], counts: &mut [u64]) {
     counts.fill(0);
     let len = T::len_of(items);
-    for place in 0..len {
-        counts[number_at(items, place)] += 1;
+    for position in 0..len {
+        counts[number_at(items, position)] += 1;
     }
 }
 
 // Returns the number at a position.
 #[inline(always)]
-fn number_at<T: Integer>(items: &[T], place: usize) -> usize {
-    items[place].number()
+fn number_at<T: Integer>(items: &[T], position: usize) -> usize {
+    items[position].number()
 }

@@ -11,11 +11,11 @@ use crate::proved::vers_tally::tally::Tally;
 /// The symbol at a position, and its sorted position: its index when all elements are sorted, and equal ones keep their
 /// order.
 #[derive(Clone, Copy, PartialEq, Eq, Debug)]
-pub struct SortedPlace {
+pub struct SortedPosition {
     /// The symbol.
     pub symbol: u64,
     /// The sorted position.
-    pub place: usize,
+    pub position: usize,
 }
 
 impl<A: Allocator + Copy> WaveletTree<A> {
@@ -52,23 +52,23 @@ impl<A: Allocator + Copy> WaveletTree<A> {
         Some(found)
     }
 
-    /// Returns the number of occurrences of a symbol in the first `place` positions. Precondition: `place` is at most
+    /// Returns the number of occurrences of a symbol before `position`. Precondition: `position` is at most
     /// the length.
     #[inline(always)]
-    pub fn rank(&self, place: usize, symbol: u64) -> usize {
+    pub fn rank(&self, position: usize, symbol: u64) -> usize {
         let mut tally = Tally::new();
-        self.rank_counted(place, symbol, &mut tally)
+        self.rank_counted(position, symbol, &mut tally)
     }
 
     /// Returns `rank(..)`. Reads two numbers of lesser elements, and at most a node and a rank for each fork that leads
     /// to the symbol.
     #[inline(always)]
-    pub fn rank_counted(&self, place: usize, symbol: u64, tally: &mut Tally) -> usize {
+    pub fn rank_counted(&self, position: usize, symbol: u64, tally: &mut Tally) -> usize {
         let all = self.sorted_all(symbol, tally);
         if all.start == all.end {
             return 0;
         }
-        self.descend_from(place, symbol, tally) - all.start
+        self.descend_from(position, symbol, tally) - all.start
     }
 
     // Returns the sorted positions of all occurrences of a symbol.
@@ -94,56 +94,56 @@ impl<A: Allocator + Copy> WaveletTree<A> {
             let is_high = symbol >= u64::from(node.split);
             let from_ones = self.bits.get_and_rank1_counted(from, tally).ones;
             let to_ones = self.bits.get_and_rank1_counted(to, tally).ones;
-            from = node.place_below(is_high, from, from_ones);
-            to = node.place_below(is_high, to, to_ones);
+            from = node.position_below(is_high, from, from_ones);
+            to = node.position_below(is_high, to, to_ones);
             link = node.link_below(is_high);
         }
         from..to
     }
 
-    // Returns the sorted position of the first occurrence of a symbol from `place` on. Precondition: the symbol occurs.
+    // Returns the sorted position of the first occurrence of a symbol from `position` on. Precondition: there is one.
     #[inline(always)]
-    fn descend_from(&self, place: usize, symbol: u64, tally: &mut Tally) -> usize {
+    fn descend_from(&self, position: usize, symbol: u64, tally: &mut Tally) -> usize {
         let mut link = self.root;
-        let mut at = place;
+        let mut at = position;
         while link < LEAVES {
             let node = self.nodes.read(link as usize, tally);
             let is_high = symbol >= u64::from(node.split);
             let ones = self.bits.get_and_rank1_counted(at, tally).ones;
-            at = node.place_below(is_high, at, ones);
+            at = node.position_below(is_high, at, ones);
             link = node.link_below(is_high);
         }
         at
     }
 
-    /// Returns the symbol at a position. Precondition: `place` is below the length.
+    /// Returns the symbol at a position. Precondition: `position` is below the length.
     #[inline(always)]
-    pub fn get(&self, place: usize) -> u64 {
-        self.get_sorted(place).symbol
+    pub fn get(&self, position: usize) -> u64 {
+        self.get_sorted(position).symbol
     }
 
     /// Returns the symbol at a position, and its sorted position: its index when all elements are sorted, and equal
-    /// ones keep their order. Precondition: `place` is below the length.
+    /// ones keep their order. Precondition: `position` is below the length.
     #[inline(always)]
-    pub fn get_sorted(&self, place: usize) -> SortedPlace {
+    pub fn get_sorted(&self, position: usize) -> SortedPosition {
         let mut tally = Tally::new();
-        self.get_sorted_counted(place, &mut tally)
+        self.get_sorted_counted(position, &mut tally)
     }
 
-    /// Returns `get_sorted(place)`. Reads at most a node and a rank for each fork that leads to the symbol.
+    /// Returns `get_sorted(position)`. Reads at most a node and a rank for each fork that leads to the symbol.
     #[inline(always)]
-    pub fn get_sorted_counted(&self, place: usize, tally: &mut Tally) -> SortedPlace {
+    pub fn get_sorted_counted(&self, position: usize, tally: &mut Tally) -> SortedPosition {
         let mut link = self.root;
-        let mut at = place;
+        let mut at = position;
         while link < LEAVES {
             let node = self.nodes.read(link as usize, tally);
             let found = self.bits.get_and_rank1_counted(at, tally);
-            at = node.place_below(found.is_one, at, found.ones);
+            at = node.position_below(found.is_one, at, found.ones);
             link = node.link_below(found.is_one);
         }
-        SortedPlace {
+        SortedPosition {
             symbol: u64::from(link - LEAVES),
-            place: at,
+            position: at,
         }
     }
 }

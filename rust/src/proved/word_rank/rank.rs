@@ -93,56 +93,56 @@ impl<A: Allocator + Copy> WordRank<A> {
         8 * self.bits.len().div_ceil(WORD) + 2 * self.words.len() + 8 * self.superblocks.len()
     }
 
-    /// Returns true if the bit at `place` is a one. Precondition: `place` is below the length.
+    /// Returns true if the bit at `position` is a one. Precondition: `position` is below the length.
     #[inline(always)]
-    pub fn is_one(&self, place: usize) -> bool {
+    pub fn is_one(&self, position: usize) -> bool {
         let mut tally = Tally::new();
-        self.is_one_counted(place, &mut tally)
+        self.is_one_counted(position, &mut tally)
     }
 
-    /// Returns `is_one(place)`. Reads one data word. Precondition: `place` is below the length.
+    /// Returns `is_one(position)`. Reads one data word. Precondition: `position` is below the length.
     #[inline(always)]
-    pub fn is_one_counted(&self, place: usize, tally: &mut Tally) -> bool {
-        self.bits.is_one(place, tally)
+    pub fn is_one_counted(&self, position: usize, tally: &mut Tally) -> bool {
+        self.bits.is_one(position, tally)
     }
 
-    /// Returns the number of ones below `place`; all ones if `place` is past the end.
+    /// Returns the number of ones below `position`; all ones if `position` is past the end.
     #[inline(always)]
-    pub fn rank1(&self, place: usize) -> usize {
+    pub fn rank1(&self, position: usize) -> usize {
         let mut tally = Tally::new();
-        self.rank1_counted(place, &mut tally)
+        self.rank1_counted(position, &mut tally)
     }
 
-    /// Returns `rank1(place)`. Reads at most one data word, one block entry and one superblock entry.
+    /// Returns `rank1(position)`. Reads at most one data word, one block entry and one superblock entry.
     #[inline(always)]
-    pub fn rank1_counted(&self, place: usize, tally: &mut Tally) -> usize {
+    pub fn rank1_counted(&self, position: usize, tally: &mut Tally) -> usize {
         let len = self.len();
         if len == 0 {
             return 0;
         }
         // Past the end the last bit counts too. No branch depends on the position.
         let last = len - 1;
-        let below = self.get_and_rank1_counted(place.min(last), tally);
-        below.ones + usize::from(below.is_one & (place > last))
+        let below = self.get_and_rank1_counted(position.min(last), tally);
+        below.ones + usize::from(below.is_one & (position > last))
     }
 
-    /// Returns the bit at `place`, and the number of ones below `place`. Precondition: `place` is below the
+    /// Returns the bit at `position`, and the number of ones below `position`. Precondition: `position` is below the
     /// length.
     #[inline(always)]
-    pub fn get_and_rank1(&self, place: usize) -> BitAndRank {
+    pub fn get_and_rank1(&self, position: usize) -> BitAndRank {
         let mut tally = Tally::new();
-        self.get_and_rank1_counted(place, &mut tally)
+        self.get_and_rank1_counted(position, &mut tally)
     }
 
-    /// Returns `get_and_rank1(place)`. Reads one data word, one block entry and one superblock entry.
-    /// Precondition: `place` is below the length.
+    /// Returns `get_and_rank1(position)`. Reads one data word, one block entry and one superblock entry.
+    /// Precondition: `position` is below the length.
     #[inline(always)]
-    pub fn get_and_rank1_counted(&self, place: usize, tally: &mut Tally) -> BitAndRank {
-        let word = place / WORD;
+    pub fn get_and_rank1_counted(&self, position: usize, tally: &mut Tally) -> BitAndRank {
+        let word = position / WORD;
         let limb = self.bits.limb(word, tally);
         BitAndRank {
-            is_one: limb >> (place % WORD) & 1 == 1,
-            ones: self.ones_before(word, tally) + ones_of_part(limb, place),
+            is_one: limb >> (position % WORD) & 1 == 1,
+            ones: self.ones_before(word, tally) + ones_of_part(limb, position),
         }
     }
 
@@ -155,6 +155,6 @@ impl<A: Allocator + Copy> WordRank<A> {
 
 // Returns the number of ones in a word below a position in it.
 #[inline(always)]
-fn ones_of_part(word: u64, place: usize) -> usize {
-    (word & ((1 << (place % WORD)) - 1)).count_ones() as usize
+fn ones_of_part(word: u64, position: usize) -> usize {
+    (word & ((1 << (position % WORD)) - 1)).count_ones() as usize
 }

@@ -220,7 +220,7 @@ fn joined(
 /// Returns the number of occurrences of a pattern in a text.
 pub fn count(kept: &Kept, pattern: &[u64]) -> Answer {
     match kept {
-        Kept::Other(Structure::Text(text)) => Answer::place(text.count(pattern)),
+        Kept::Other(Structure::Text(text)) => Answer::position(text.count(pattern)),
         _ => Answer::Unknown,
     }
 }
@@ -230,8 +230,8 @@ pub fn count(kept: &Kept, pattern: &[u64]) -> Answer {
 pub fn places(kept: &Kept, alloc: Global, pattern: &[u64]) -> Result<Option<Kept>, AllocError> {
     match kept {
         Kept::Other(Structure::Text(text)) => {
-            let places = text.places_ascending(pattern)?;
-            Ok(Some(numbers(as_numbers(alloc, &places)?)))
+            let positions = text.places_ascending(pattern)?;
+            Ok(Some(numbers(as_numbers(alloc, &positions)?)))
         }
         _ => Ok(None),
     }
@@ -247,8 +247,8 @@ pub fn first_places(
 ) -> Result<Option<Kept>, AllocError> {
     match kept {
         Kept::Other(Structure::Text(text)) => {
-            let places = text.first_places(pattern, limit)?;
-            Ok(Some(numbers(as_numbers(alloc, &places)?)))
+            let positions = text.first_places(pattern, limit)?;
+            Ok(Some(numbers(as_numbers(alloc, &positions)?)))
         }
         _ => Ok(None),
     }

@@ -35,27 +35,27 @@ fn ask_as(
 pub fn vers_quick_bits_get(
     alloc: Global,
     handle: &mut VersHandle,
-    place: u64,
+    position: u64,
 ) -> VersAnswer {
-    ask_as(alloc, handle, Kind::Bits, Query::Get, place, 0, 0)
+    ask_as(alloc, handle, Kind::Bits, Query::Get, position, 0, 0)
 }
 
 /// Returns the number of zeros below a position, fastest for bits with rank and select.
 pub fn vers_quick_bits_rank0(
     alloc: Global,
     handle: &mut VersHandle,
-    place: u64,
+    position: u64,
 ) -> VersAnswer {
-    ask_as(alloc, handle, Kind::Bits, Query::Rank0, place, 0, 0)
+    ask_as(alloc, handle, Kind::Bits, Query::Rank0, position, 0, 0)
 }
 
 /// Returns the number of ones below a position, fastest for bits with rank and select.
 pub fn vers_quick_bits_rank1(
     alloc: Global,
     handle: &mut VersHandle,
-    place: u64,
+    position: u64,
 ) -> VersAnswer {
-    ask_as(alloc, handle, Kind::Bits, Query::Rank1, place, 0, 0)
+    ask_as(alloc, handle, Kind::Bits, Query::Rank1, position, 0, 0)
 }
 
 /// Returns the position of a zero by its number, fastest for bits with rank and select.
@@ -80,9 +80,9 @@ pub fn vers_quick_bits_select1(
 pub fn vers_quick_sorted_get(
     alloc: Global,
     handle: &mut VersHandle,
-    place: u64,
+    position: u64,
 ) -> VersAnswer {
-    ask_as(alloc, handle, Kind::Sorted, Query::Get, place, 0, 0)
+    ask_as(alloc, handle, Kind::Sorted, Query::Get, position, 0, 0)
 }
 
 /// Returns the number of members below a number, fastest for ascending lists.
@@ -124,27 +124,27 @@ pub fn vers_quick_sorted_successor(
 pub fn vers_quick_symbols_get(
     alloc: Global,
     handle: &mut VersHandle,
-    place: u64,
+    position: u64,
 ) -> VersAnswer {
-    ask_as(alloc, handle, Kind::Symbols, Query::Get, place, 0, 0)
+    ask_as(alloc, handle, Kind::Symbols, Query::Get, position, 0, 0)
 }
 
 /// Returns 1 if a parenthesis opens, otherwise 0, fastest for parentheses.
 pub fn vers_quick_tree_get(
     alloc: Global,
     handle: &mut VersHandle,
-    place: u64,
+    position: u64,
 ) -> VersAnswer {
-    ask_as(alloc, handle, Kind::Tree, Query::Get, place, 0, 0)
+    ask_as(alloc, handle, Kind::Tree, Query::Get, position, 0, 0)
 }
 
 /// Returns the value at a position, fastest for values with blocks.
 pub fn vers_quick_values_get(
     alloc: Global,
     handle: &mut VersHandle,
-    place: u64,
+    position: u64,
 ) -> VersAnswer {
-    ask_as(alloc, handle, Kind::Fast, Query::Get, place, 0, 0)
+    ask_as(alloc, handle, Kind::Fast, Query::Get, position, 0, 0)
 }
 
 /// Returns the first position of a least value from one position to another, both included, fastest for values
@@ -199,14 +199,14 @@ pub fn vers_quick_symbols_quantile(
 pub fn vers_quick_tree_close(
     alloc: Global,
     handle: &mut VersHandle,
-    place: u64,
+    position: u64,
 ) -> VersAnswer {
     ask_as(
         alloc,
         handle,
         Kind::Tree,
         Query::Tree(TreeQuery::Close),
-        place,
+        position,
         0,
         0,
     )

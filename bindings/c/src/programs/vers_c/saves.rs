@@ -51,7 +51,7 @@ pub fn vers_saved_size(alloc: Global, handle: &mut VersHandle) -> VersAnswer {
     let size = owner.saved_size();
     put(handle, owner);
     match size {
-        Some(size) => VersAnswer::of(Answer::place(size)),
+        Some(size) => VersAnswer::of(Answer::position(size)),
         None => VersAnswer::of(Answer::Absent),
     }
 }

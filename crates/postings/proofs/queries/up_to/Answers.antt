@@ -1,5 +1,5 @@
 use Rattle.postings.proofs.Names.{◌+◌, ◌<◌, ◌∙◌, inl, inr, arith, cases_lt}
-use Rattle.postings.proofs.Places.{below_all}
+use Rattle.postings.proofs.Positions.{below_all}
 use Rattle.postings.proofs.queries.up_to.Goals as goal
 
 pub returns-in-None-clause-value : goal.returns-in-None-clause-value

@@ -36,8 +36,8 @@ struct Masking<'a, A: Allocator + Copy> {
 }
 
 impl<A: Allocator + Copy> Bits for Masking<'_, A> {
-    fn bit_at(&self, place: usize) -> bool {
-        masked_bit(self.mask, bit(place), bit_from(5, place))
+    fn bit_at(&self, position: usize) -> bool {
+        masked_bit(self.mask, bit(position), bit_from(5, position))
     }
 }
 
@@ -85,8 +85,8 @@ impl<A: Allocator + Copy> Check<BitVec<A>> for Start {
 // Checks whether a walk returns the bits of the pattern and ends.
 impl<A: Allocator + Copy> Check<BitVecIter<A>> for Start {
     fn is_right(&self, bits: &mut BitVecIter<A>) -> bool {
-        for place in 0..self.len {
-            if bits.next() != Some(u64::from(bit(place))) {
+        for position in 0..self.len {
+            if bits.next() != Some(u64::from(bit(position))) {
                 return false;
             }
         }

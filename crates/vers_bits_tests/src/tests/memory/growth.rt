@@ -272,7 +272,7 @@ const GROWN: [(Query, Option<u64>); 2] = [(Query::Len, Some(65)), (Query::Get(64
 
 // Returns true if a refused `append` keeps a list of one limb in memory for exactly as many bits, a granted one
 // appends, and a bit that the last limb has room for then needs no memory.
-fn appends_as_told<A: Allocator + Copy, B: Allocator>(
+fn append_can_be_refused<A: Allocator + Copy, B: Allocator>(
     heap: &Refusing<B>,
     list: &mut BitVec<A>,
 ) -> bool {
@@ -293,9 +293,12 @@ fn appends_as_told<A: Allocator + Copy, B: Allocator>(
         && heap.asked() == asked
 }
 
-fn limb_appends_as_told<A: Allocator + Copy, B: Allocator>(heap: &Refusing<B>, alloc: A) -> bool {
+fn limb_append_can_be_refused<A: Allocator + Copy, B: Allocator>(
+    heap: &Refusing<B>,
+    alloc: A,
+) -> bool {
     match BitVec::from_limbs(alloc, &[6]) {
-        Ok(mut list) => appends_as_told(heap, &mut list),
+        Ok(mut list) => append_can_be_refused(heap, &mut list),
         Err(_) => false,
     }
 }
@@ -303,5 +306,5 @@ fn limb_appends_as_told<A: Allocator + Copy, B: Allocator>(heap: &Refusing<B>, a
 #[test]
 fn a_refused_append_keeps_the_list(rt: HostRuntime) {
     let heap = Refusing::none(rt.alloc());
-    assert!(rt; limb_appends_as_told(&heap, &heap));
+    assert!(rt; limb_append_can_be_refused(&heap, &heap));
 }

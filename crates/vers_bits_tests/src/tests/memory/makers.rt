@@ -60,21 +60,21 @@ fn width(maker: Maker) -> usize {
 
 // Returns the bits that a constructor makes.
 impl Bits for Maker {
-    fn bit_at(&self, place: usize) -> bool {
+    fn bit_at(&self, position: usize) -> bool {
         match *self {
             Maker::FromZeros => false,
             Maker::FromOnes => true,
-            _ => digit(place, width(*self)),
+            _ => digit(position, width(*self)),
         }
     }
 }
 
 // Returns the bit at a position of the items of the pattern, of `width` bits each.
-fn digit(place: usize, width: usize) -> bool {
-    if width == 0 || place % width > 7 {
+fn digit(position: usize, width: usize) -> bool {
+    if width == 0 || position % width > 7 {
         return false;
     }
-    (item(place / width) >> (place % width)) % 2 == 1
+    (item(position / width) >> (position % width)) % 2 == 1
 }
 
 // A constructor, and its items, of which there are `len`.

@@ -75,17 +75,17 @@ fn queries_work<A: Allocator + Copy>(list: &BitVec<A>, len: usize) -> bool {
 }
 
 // Returns true if a position is read as the pattern has it, or as none past the end.
-fn reads_work<A: Allocator + Copy>(list: &BitVec<A>, place: usize) -> bool {
-    let wanted = (place < list.len()).then_some(u64::from(bit(place)));
+fn reads_work<A: Allocator + Copy>(list: &BitVec<A>, position: usize) -> bool {
+    let wanted = (position < list.len()).then_some(u64::from(bit(position)));
     for query in &[
-        Query::Get(place),
-        Query::IsBitSet(place),
-        Query::GetBits(place, 1),
-        Query::UnpackElement(place, 1),
-        Query::GetUnchecked(place),
-        Query::IsBitSetUnchecked(place),
-        Query::GetBitsUnchecked(place, 1),
-        Query::UnpackElementUnchecked(place, 1),
+        Query::Get(position),
+        Query::IsBitSet(position),
+        Query::GetBits(position, 1),
+        Query::UnpackElement(position, 1),
+        Query::GetUnchecked(position),
+        Query::IsBitSetUnchecked(position),
+        Query::GetBitsUnchecked(position, 1),
+        Query::UnpackElementUnchecked(position, 1),
     ] {
         if answer(list, *query) != wanted {
             return false;
@@ -125,20 +125,20 @@ fn steps_work<A: Allocator + Copy>(bits: &mut BitVecIter<A>, len: usize) -> bool
 }
 
 // Returns true if the bit at a position of the list is changed as expected, and none past the end is.
-fn edits_work<A: Allocator + Copy>(list: &mut BitVec<A>, place: usize) -> bool {
-    if place >= list.len() {
-        return !is_made(list, Change::Set(place, 1));
+fn edits_work<A: Allocator + Copy>(list: &mut BitVec<A>, position: usize) -> bool {
+    if position >= list.len() {
+        return !is_made(list, Change::Set(position, 1));
     }
-    let number = u64::from(bit(place));
+    let number = u64::from(bit(position));
     let script = [
-        Line::Make(Change::FlipBit(place)),
-        Line::Ask(Query::Get(place), Some(1 - number)),
-        Line::Make(Change::FlipBitUnchecked(place)),
-        Line::Ask(Query::Get(place), Some(number)),
-        Line::Make(Change::SetUnchecked(place, 0)),
-        Line::Ask(Query::Get(place), Some(0)),
-        Line::Make(Change::Set(place, 1)),
-        Line::Ask(Query::Get(place), Some(1)),
+        Line::Make(Change::FlipBit(position)),
+        Line::Ask(Query::Get(position), Some(1 - number)),
+        Line::Make(Change::FlipBitUnchecked(position)),
+        Line::Ask(Query::Get(position), Some(number)),
+        Line::Make(Change::SetUnchecked(position, 0)),
+        Line::Ask(Query::Get(position), Some(0)),
+        Line::Make(Change::Set(position, 1)),
+        Line::Ask(Query::Get(position), Some(1)),
     ];
     first_wrong_line(list, &script).is_none()
 }

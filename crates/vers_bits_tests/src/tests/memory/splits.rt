@@ -82,7 +82,7 @@ enum At {
     End,
 }
 
-fn place_of(at: At, len: usize) -> usize {
+fn position_of(at: At, len: usize) -> usize {
     match at {
         At::Start => 0,
         At::Second => len.min(1),
@@ -121,11 +121,11 @@ fn tried<B: Allocator, A: Allocator + Copy>(
     let made = pattern(alloc, 0, len);
     match split {
         Split::Checked(at) => {
-            let at = place_of(at, len);
+            let at = position_of(at, len);
             try_conversion(heap, made, &Checked { len, at })
         }
         Split::Unchecked(at) => {
-            let at = place_of(at, len);
+            let at = position_of(at, len);
             try_conversion(heap, made, &Unchecked { len, at })
         }
     }
@@ -140,8 +140,8 @@ impl Trial<Global> for Split {
     fn takes_memory(self, len: usize) -> bool {
         match self {
             Split::Checked(at) | Split::Unchecked(at) => {
-                let place = place_of(at, len);
-                0 < place && place < len
+                let position = position_of(at, len);
+                0 < position && position < len
             }
         }
     }

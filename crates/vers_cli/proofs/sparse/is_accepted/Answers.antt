@@ -5,7 +5,7 @@ use Rattle.vers_cli.proofs.sparse.is_accepted.Goals as goal
 
 pub returns-in-Some-rise_of : goal.returns-in-Some-rise_of
 returns-in-Some-rise_of c =
-    let ones = first_numbers (words_in c.in-Some.places.now) in
+    let ones = first_numbers (words_in c.in-Some.positions.now) in
     let told = c.in-Some-rise_of.ensures in
     let numbers : all_numbers (words_in c.args.arguments.now) ≡ Some (c.in-Some-number.len ∷ ones) =
     rw (c.in-Some.ensures.words, ← c.number.ensures, c.in-Some-number.is, told.all) refl in

@@ -5,7 +5,7 @@ ghost use Rattle.vers_tally.specs.Reads.{only_data_words, AddsAtMost};
 ghost use Rattle.vers_rank.specs.inside.Index.{held, held_in, IsLimbWith, IsAmongLimbs};
 
 use crate::fast_rs_vec::{BLOCK, LIMB, RsVec};
-use crate::word::{held_in_word, held_of, place_in_word};
+use crate::word::{held_in_word, held_of, position_in_word};
 use std::alloc::Allocator;
 use vers_tally::tally::Tally;
 
@@ -35,7 +35,7 @@ pub(crate) struct InLimb {
 pub(crate) struct InWord {
     pub(crate) limb: usize,
     pub(crate) word: u64,
-    pub(crate) place: usize,
+    pub(crate) position: usize,
 }
 
 impl<A: Allocator + Copy> RsVec<A> {
@@ -69,23 +69,23 @@ impl<A: Allocator + Copy> RsVec<A> {
 
     // Returns the location of a number in a limb.
     #[inline(always)]
-    pub(crate) fn place_in_limb(&self, bit: bool, at: InLimb, tally: &mut Tally) -> InWord
+    pub(crate) fn position_in_limb(&self, bit: bool, at: InLimb, tally: &mut Tally) -> InWord
         requires within { 64 * at.limb < length self.now }
         requires few { at.rest < held_in bit (limb self.now at.limb) 64 }
         requires some { held bit self.now (64 * at.limb) + at.rest
             < count bit self.now (length self.now) }
-        ensures value { 64 * result.limb + result.place
+        ensures value { 64 * result.limb + result.position
             ≡ select bit self.now (held bit self.now (64 * at.limb) + at.rest) }
-        ensures within { (64 * result.limb < length self.now) × (result.place < 64) }
+        ensures within { (64 * result.limb < length self.now) × (result.position < 64) }
         ensures word { result.word ≡ limb self.now result.limb }
         ensures adds { AddsAtMost tally.old tally.new (only_data_words 1) }
     {
         let word = self.bits.limb(at.limb, tally);
-        let place = place_in_word(word, bit, at.rest);
+        let position = position_in_word(word, bit, at.rest);
         InWord {
             limb: at.limb,
             word,
-            place,
+            position,
         }
     }
 
@@ -123,7 +123,7 @@ impl<A: Allocator + Copy> RsVec<A> {
     {
         let _ = self.len();
         let limb = 8 * block;
-        // The last first, so that a test of its place serves all.
+        // The last first, so that a test of its position serves all.
         let third = self.ones_of_two(limb + 4, tally);
         let second = self.ones_of_two(limb + 2, tally);
         let first = self.ones_of_two(limb, tally);

@@ -2,9 +2,9 @@
 ghost use Rattle.std.specs.Prelude.{◌≡◌, ◌+◌, ◌*◌, ◌^◌, ◌<◌, ◌≤◌, length, IfOk};
 ghost use Rattle.vers_rmq.specs.Layout.{clog};
 ghost use Rattle.vers_rmq.specs.Minima.{IsFirstLeast};
-ghost use Rattle.vers_rmq.specs.inside.Tables.{reach, HoldsPlaces, IsTable};
+ghost use Rattle.vers_rmq.specs.inside.Tables.{reach, HoldsPositions, IsTable};
 
-use crate::rmq::least::lesser_place;
+use crate::rmq::least::lesser_position;
 use std::alloc::{AllocError, Allocator};
 
 // Returns the exponent of the greatest power of two that is at most `a`.
@@ -41,8 +41,8 @@ fn level_count(n: usize) -> usize
 
 // Returns the entry of level `k + 1` for the range from `i` on, from two entries of level `k`.
 #[tactic(auto, using(crate::proofs::Tables::next_joined, crate::proofs::Tables::next_same))]
-fn next_place(items: &[u64], table: &[u32], k: usize, i: usize) -> u32
-    requires places { HoldsPlaces items.now table.now }
+fn next_position(items: &[u64], table: &[u32], k: usize, i: usize) -> u32
+    requires positions { HoldsPositions items.now table.now }
     requires inside { length items.now * k + length items.now ≤ length table.now }
     requires width { 2 ^ k < length items.now }
     requires few { length items.now < 2 ^ 32 }
@@ -53,14 +53,14 @@ fn next_place(items: &[u64], table: &[u32], k: usize, i: usize) -> u32
     let m = table[items.len() * k + i];
     let h = i + width(k);
     if h < items.len() {
-        return lesser_place(items, m as usize, table[items.len() * k + h] as usize) as u32;
+        return lesser_position(items, m as usize, table[items.len() * k + h] as usize) as u32;
     }
     m
 }
 
 // Returns the table: a level for each power of two up to the first that is at least the number of items, and on
 // it an entry for each item. Allocates once.
-pub(super) fn places<A: Allocator + Copy>(
+pub(super) fn positions<A: Allocator + Copy>(
     items: &[u64],
     alloc: A,
 ) -> Result<Vec<u32, A>, AllocError>
@@ -74,8 +74,8 @@ pub(super) fn places<A: Allocator + Copy>(
     let mut k = 0;
     'levels: while width(k) < items.len() {
         for j in 0..items.len() {
-            let place = next_place(items, table.as_slice(), k, j);
-            table.push(place)?;
+            let position = next_position(items, table.as_slice(), k, j);
+            table.push(position)?;
         }
         k += 1;
     }

@@ -19,7 +19,7 @@ pub(super) struct BlockMasks {
 #[derive(Drop)]
 pub(super) struct Blocks<A: Allocator + Copy> {
     pub(super) minima: Vec<u64, A>,
-    pub(super) places: Vec<u8, A>,
+    pub(super) positions: Vec<u8, A>,
     pub(super) masks: Vec<BlockMasks, A>,
 }
 
@@ -52,16 +52,16 @@ fn add_block<A: Allocator + Copy>(
 ) -> Result<(), AllocError>
     requires few { length items.now ≤ MAX_LEN }
     requires inside { BLOCK * b < length items.now }
-    requires before { AreBlocks items.now b blocks.old.minima.items blocks.old.places.items
+    requires before { AreBlocks items.now b blocks.old.minima.items blocks.old.positions.items
         blocks.old.masks.items }
     ensures { IfOk result (λ _. AreBlocks items.now (b + 1)
-        blocks.new.minima.items blocks.new.places.items blocks.new.masks.items) }
+        blocks.new.minima.items blocks.new.positions.items blocks.new.masks.items) }
 {
     let start = BLOCK * b;
     let end = items.len().min(start + BLOCK);
     let (masks, least) = block_masks(items, start, end);
     blocks.minima.push(items[least])?;
-    blocks.places.push((least - start) as u8)?;
+    blocks.positions.push((least - start) as u8)?;
     blocks.masks.push(masks)?;
     Ok(())
 }
@@ -73,13 +73,13 @@ pub(super) fn all_blocks<A: Allocator + Copy>(
     alloc: A,
 ) -> Result<Blocks<A>, AllocError>
     requires { length items.now ≤ MAX_LEN }
-    ensures { IfOk result (λ v. AreAllBlocks items.now v.minima.items v.places.items
+    ensures { IfOk result (λ v. AreAllBlocks items.now v.minima.items v.positions.items
         v.masks.items) }
 {
     let count = items.len().div_ceil(BLOCK);
     let mut blocks = Blocks {
         minima: Vec::with_capacity(alloc, count)?,
-        places: Vec::with_capacity(alloc, count)?,
+        positions: Vec::with_capacity(alloc, count)?,
         masks: Vec::with_capacity(alloc, count)?,
     };
     for b in 0..count {

@@ -29,6 +29,6 @@ returns g c = λ j h.
     (rw (c.div_ceil.ensures, c.len.ensures.value) at c.max-limbs.ensures) (div-add-mod' c.args.from c.max-limbs.result) (omega (arith, some, all, c.requires.within)) small in
     let whole = div-add-mod' c.args.from c.max-limbs.result in
     let first : c.args.from / c.max-limbs.result * limb_count (length c.args.list.now.items) ≡ c.args.from / c.max-limbs.result * c.max-limbs.result = ap (λ n. c.args.from / c.max-limbs.result * n) (sym p.0) in
-    let place : c.args.from / c.max-limbs.result * limb_count (length c.args.list.now.items) + (c.args.from % c.max-limbs.result + j) ≡ c.args.from + j = omega (arith, whole, first) in
+    let position : c.args.from / c.max-limbs.result * limb_count (length c.args.list.now.items) + (c.args.from % c.max-limbs.result + j) ≡ c.args.from + j = omega (arith, whole, first) in
     c.copy_level.ensures j h
-    ∙ sym (level_limb c.args.list.now (c.args.from + j) (c.args.from / c.max-limbs.result) (c.args.from % c.max-limbs.result + j) c.level.result.now place (omega (arith, h, some, c.if-out-limbs.false, p.0)) p.1 c.level.ensures.value)
+    ∙ sym (level_limb c.args.list.now (c.args.from + j) (c.args.from / c.max-limbs.result) (c.args.from % c.max-limbs.result + j) c.level.result.now position (omega (arith, h, some, c.if-out-limbs.false, p.0)) p.1 c.level.ensures.value)

@@ -16,9 +16,9 @@ returns-clause-sites g c =
     let others = c.in-Some.others.now in
     let old = c.args.line.now.items in
     let after : List ℕ → List ℕ = flat_map (λ other. 32 ∷ site_of text feeds other) in
-    let all : take c.loop-place.place-index others ≡ others = take_all c.loop-place.place-index others (omega arith) in
+    let all : take c.loop-position.position-index others ≡ others = take_all c.loop-position.position-index others (omega arith) in
     let first : c.append_site.new.line.items ≡ old ++ site_of text feeds c.in-Some.first.now = if_true c.in_ok-append_site.field-0 _ (grind arith) c.in_ok-append_site.ensures.site in
-    c.loop-place.invariant.sites
+    c.loop-position.invariant.sites
     ∙ ap (λ l. c.append_site.new.line.items ++ after l) all
     ∙ ap (λ l. l ++ after others) first
     ∙ append_assoc old (site_of text feeds c.in-Some.first.now) (after others)

@@ -5,7 +5,7 @@ use super::BpTree;
 use crate::trees::{IsAncestor, LevelTree, SubtreeSize, Tree};
 use std::alloc::Allocator;
 
-#[tactic(auto, using(crate::proofs::kin::Kin::same_place, crate::proofs::kin::Kin::handle_by))]
+#[tactic(auto, using(crate::proofs::kin::Kin::same_position, crate::proofs::kin::Kin::handle_by))]
 impl<const BLOCK_SIZE: usize, A: Allocator + Copy> Tree for BpTree<BLOCK_SIZE, A> {
     type NodeHandle = usize;
 
@@ -15,7 +15,7 @@ impl<const BLOCK_SIZE: usize, A: Allocator + Copy> Tree for BpTree<BLOCK_SIZE, A
 
     ghost forest = { λ t. forest_of t };
 
-    ghost place = { λ t v. v };
+    ghost position = { λ t v. v };
 
     fn root(&self) -> Option<usize> {
         self.root()
@@ -78,7 +78,7 @@ impl<const BLOCK_SIZE: usize, A: Allocator + Copy> IsAncestor for BpTree<BLOCK_S
     }
 }
 
-#[tactic(auto, using(crate::proofs::kin::Kin::same_place))]
+#[tactic(auto, using(crate::proofs::kin::Kin::same_position))]
 impl<const BLOCK_SIZE: usize, A: Allocator + Copy> LevelTree for BpTree<BLOCK_SIZE, A> {
     fn level_ancestor(&self, node: usize, levels: u64) -> Option<usize> {
         self.level_ancestor(node, levels)

@@ -34,26 +34,26 @@ impl<const BLOCK_SIZE: usize, A: Allocator + Copy> BpTree<BLOCK_SIZE, A> {
         self.tree.root_counted(tally).is_level()
     }
 
-    /// Returns true if the parentheses are balanced and a node opens at `place`: the precondition of the
+    /// Returns true if the parentheses are balanced and a node opens at `position`: the precondition of the
     /// functions on nodes.
     #[inline]
-    pub fn has_node(&self, place: usize) -> bool
-        ensures value { result ≡ has_node self.now place }
+    pub fn has_node(&self, position: usize) -> bool
+        ensures value { result ≡ has_node self.now position }
         ensures balanced { IsTrue result → IsBalanced self.now }
-        ensures node { IsTrue result → IsNode (forest_of self.now) place }
+        ensures node { IsTrue result → IsNode (forest_of self.now) position }
     {
         let mut tally = Tally::new();
-        self.has_node_counted(place, &mut tally)
+        self.has_node_counted(position, &mut tally)
     }
 
-    /// Returns `has_node(place)`. Reads at most one node and one bit.
+    /// Returns `has_node(position)`. Reads at most one node and one bit.
     #[inline(always)]
-    pub fn has_node_counted(&self, place: usize, tally: &mut Tally) -> bool
-        ensures value { result ≡ has_node self.now place }
+    pub fn has_node_counted(&self, position: usize, tally: &mut Tally) -> bool
+        ensures value { result ≡ has_node self.now position }
         ensures balanced { IsTrue result → IsBalanced self.now }
-        ensures node { IsTrue result → IsNode (forest_of self.now) place }
+        ensures node { IsTrue result → IsNode (forest_of self.now) position }
         ensures adds { AddsAtMost tally.old tally.new (plus (only_nodes 1) get_reads) }
     {
-        self.is_balanced_counted(tally) && self.is_open_counted(place, tally).unwrap_or(false)
+        self.is_balanced_counted(tally) && self.is_open_counted(position, tally).unwrap_or(false)
     }
 }

@@ -1,6 +1,6 @@
 //! Lookup tables for whole bytes of parentheses.
 ghost use Rattle.std.specs.Prelude.{◌≡◌, ℕ, ◌+◌, ◌*◌, ◌-◌, ◌^◌, ◌<◌, ◌≤◌, ◌⊎◌, ℤ, ◌+ℤ◌, ◌-ℤ◌, ◌≤ℤ◌, ◌≢◌, Bool, true, false, List, length, pos, negsuc, min, max, slice_index_or, slice_set, MatchOption};
-ghost use Rattle.vers_trees.specs.Bytes.{IsByte, IsEntry, place_along, place_in, least_in, greatest_in};
+ghost use Rattle.vers_trees.specs.Bytes.{IsByte, IsEntry, position_along, position_in, least_in, greatest_in};
 ghost use Rattle.vers_trees.specs.inside.Bytes.{step_along, octal};
 
 use std::marker::Model;
@@ -102,24 +102,24 @@ impl ByteTables {
 // sum, 7 if there is none.
 #[derive(Drop)]
 struct Met {
-    places: [u64; 17],
+    positions: [u64; 17],
     least: usize,
     greatest: usize,
 }
 
 impl Met {
     // Records a sum, plus 8, at a position.
-    fn meet(&mut self, value: usize, place: u64)
+    fn meet(&mut self, value: usize, position: u64)
         requires { value < 17 }
         ensures least { self.new.least ≡ min self.old.least value }
         ensures greatest { self.new.greatest ≡ max self.old.greatest value }
         ensures again { self.old.least ≤ value → value ≤ self.old.greatest
-            → self.new.places ≡ self.old.places }
+            → self.new.positions ≡ self.old.positions }
         ensures first { (value < self.old.least) ⊎ (self.old.greatest < value)
-            → self.new.places ≡ slice_set self.old.places value place }
+            → self.new.positions ≡ slice_set self.old.positions value position }
     {
         if value < self.least || value > self.greatest {
-            self.places[value] = place;
+            self.positions[value] = position;
         }
         self.least = self.least.min(value);
         self.greatest = self.greatest.max(value);
@@ -127,14 +127,14 @@ impl Met {
 
     // Returns the entry of the recorded sums.
     fn entry(&self) -> u64
-        requires places { (x : ℕ) → slice_index_or self.now.places x 7 < 8 }
+        requires positions { (x : ℕ) → slice_index_or self.now.positions x 7 < 8 }
         requires least { self.now.least < 32 }
         requires greatest { self.now.greatest < 32 }
         ensures greatest { greatest_in result ≡ self.now.greatest }
         ensures least { least_in result ≡ self.now.least }
-        ensures places { (x : ℕ) → x < 17 → place_in result x ≡ slice_index_or self.now.places x 7 }
+        ensures positions { (x : ℕ) → x < 17 → position_in result x ≡ slice_index_or self.now.positions x 7 }
     {
-        1024 * number_of(&self.places) + 32 * self.least as u64 + self.greatest as u64
+        1024 * number_of(&self.positions) + 32 * self.least as u64 + self.greatest as u64
     }
 }
 
@@ -154,9 +154,9 @@ fn number_of(digits: &[u64; 17]) -> u64
 }
 
 // Returns the position of the bit at which a step along a byte is made.
-fn place_of(step: u64, from_end: bool) -> u64
+fn position_of(step: u64, from_end: bool) -> u64
     requires { step < 8 }
-    ensures { result ≡ place_along from_end step }
+    ensures { result ≡ position_along from_end step }
 {
     if from_end { 7 - step } else { step }
 }
@@ -180,15 +180,15 @@ fn entry_of(byte: usize, from_end: bool) -> u64
     ensures { (bits : List Bool) → IsByte bits byte → IsEntry from_end bits result }
 {
     let mut met = Met {
-        places: [7; 17],
+        positions: [7; 17],
         least: 9,
         greatest: 7,
     };
     let mut value = 8;
     for step in 0..8 {
-        let place = place_of(step, from_end);
-        value = stepped(value, (byte >> place) % 2 == 1, from_end);
-        met.meet(value, place);
+        let position = position_of(step, from_end);
+        value = stepped(value, (byte >> position) % 2 == 1, from_end);
+        met.meet(value, position);
     }
     met.entry()
 }
@@ -218,7 +218,7 @@ fn above(rise: i64, target: i64) -> u64
 
 // Returns the position in a byte of the given entry at which a sum that begins at `rise` first is `target`.
 #[inline(always)]
-pub(super) fn place_met(entry: Entry, rise: i64, target: i64) -> Option<usize>
+pub(super) fn position_met(entry: Entry, rise: i64, target: i64) -> Option<usize>
     requires bounded { greatest_in entry ≤ 16 }
     requires ordered { least_in entry ≤ greatest_in entry }
     requires low { negsuc 9223372036854775799 ≤ℤ rise }
@@ -226,11 +226,11 @@ pub(super) fn place_met(entry: Entry, rise: i64, target: i64) -> Option<usize>
     ensures { MatchOption
         result
         ((x : ℕ) → least_in entry ≤ x → x ≤ greatest_in entry → rise +ℤ (pos x -ℤ pos 8) ≢ target)
-        (λ place. (x : ℕ)
+        (λ position. (x : ℕ)
         × (least_in entry ≤ x)
         × (x ≤ greatest_in entry)
         × (rise +ℤ (pos x -ℤ pos 8) ≡ target)
-        × (place ≡ place_in entry x)) }
+        × (position ≡ position_in entry x)) }
 {
     let packed = entry.packed;
     if target < sum_at(rise, packed / 32 % 32) {

@@ -26,7 +26,7 @@ pub struct Direction<const FORWARD: bool>;
 pub struct Siblings<'a, const BLOCK_SIZE: usize, D, A: Allocator + Copy> {
     searched: Searched<'a, BLOCK_SIZE, A>,
     forward: bool,
-    place: usize,
+    position: usize,
     direction: PhantomData<D>,
 }
 
@@ -40,13 +40,13 @@ impl<'a, const BLOCK_SIZE: usize, D, A: Allocator + Copy> Model for Siblings<'a,
     ghost Value = { Walking ℕ };
 
     ghost view = { λ s. record {
-      left = siblings_left s.searched.bits.now s.forward s.place;
+      left = siblings_left s.searched.bits.now s.forward s.position;
       step = enclose_reads BLOCK_SIZE (length s.searched.bits.now);
     } };
 
     ghost invariant = { λ s. IsIndexed s.searched.bits.now BLOCK_SIZE
         s.searched.tree.now.first s.searched.tree.now.nodes
-        × IsWalkOfSiblings s.searched.bits.now s.forward s.place };
+        × IsWalkOfSiblings s.searched.bits.now s.forward s.position };
 }
 
 /// An iterator over the children of a node: in order if `FORWARD` is true, otherwise in reverse.
@@ -58,19 +58,19 @@ pub type ChildrenIter<'a, const BLOCK_SIZE: usize, const FORWARD: bool, A> = Sib
 >;
 
 impl<'a, const BLOCK_SIZE: usize, D, A: Allocator + Copy> Siblings<'a, BLOCK_SIZE, D, A> {
-    fn new(searched: Searched<'a, BLOCK_SIZE, A>, forward: bool, place: usize) -> Self
+    fn new(searched: Searched<'a, BLOCK_SIZE, A>, forward: bool, position: usize) -> Self
         requires indexed { IsIndexed searched.bits.now BLOCK_SIZE searched.tree.now.first
             searched.tree.now.nodes }
-        requires walk { IsWalkOfSiblings searched.bits.now forward place }
+        requires walk { IsWalkOfSiblings searched.bits.now forward position }
         ensures { result ≡ record {
-          left = siblings_left searched.entry.bits.now forward place;
+          left = siblings_left searched.entry.bits.now forward position;
           step = enclose_reads BLOCK_SIZE (length searched.entry.bits.now);
         } }
     {
         Siblings {
             searched,
             forward,
-            place,
+            position,
             direction: PhantomData,
         }
     }
@@ -92,8 +92,10 @@ impl<'a, const BLOCK_SIZE: usize, D, A: Allocator + Copy> Siblings<'a, BLOCK_SIZ
         ensures same_step { self.new.step ≡ self.old.step }
         ensures adds { AddsAtMost tally.old tally.new self.old.step }
     {
-        let (node, place) = self.searched.tree_beside(self.forward, self.place, tally)?;
-        self.place = place;
+        let (node, position) = self
+            .searched
+            .tree_beside(self.forward, self.position, tally)?;
+        self.position = position;
         Some(node)
     }
 }
@@ -115,49 +117,54 @@ impl<'a, const BLOCK_SIZE: usize, D, A: Allocator + Copy> Iterator
 impl<'a, const BLOCK_SIZE: usize, A: Allocator + Copy> Searched<'a, BLOCK_SIZE, A> {
     // Returns the next tree forwards or backwards from a position, and the position on its other side.
     #[inline(always)]
-    fn tree_beside(self, forward: bool, place: usize, tally: &mut Tally) -> Option<(usize, usize)>
+    fn tree_beside(
+        self,
+        forward: bool,
+        position: usize,
+        tally: &mut Tally,
+    ) -> Option<(usize, usize)>
         requires { IsIndexed self.bits.now BLOCK_SIZE self.tree.now.first self.tree.now.nodes }
-        ensures value { result ≡ tree_beside self.entry.bits.now forward place }
+        ensures value { result ≡ tree_beside self.entry.bits.now forward position }
         ensures adds { AddsAtMost tally.old tally.new (enclose_reads BLOCK_SIZE (length self.entry.bits.now)) }
     {
         if forward {
-            self.tree_from(place, tally)
+            self.tree_from(position, tally)
         } else {
-            self.tree_before(place, tally)
+            self.tree_before(position, tally)
         }
     }
 
     // Returns the tree that opens at a position, and the position past it.
     #[inline(always)]
-    fn tree_from(self, place: usize, tally: &mut Tally) -> Option<(usize, usize)>
+    fn tree_from(self, position: usize, tally: &mut Tally) -> Option<(usize, usize)>
         requires { IsIndexed self.bits.now BLOCK_SIZE self.tree.now.first self.tree.now.nodes }
-        ensures value { result ≡ tree_from self.entry.bits.now place }
+        ensures value { result ≡ tree_from self.entry.bits.now position }
         ensures adds { AddsAtMost tally.old tally.new (enclose_reads BLOCK_SIZE (length self.entry.bits.now)) }
     {
-        if place >= self.bits.len() {
+        if position >= self.bits.len() {
             return None;
         }
-        if !self.bits.is_one_counted(place, tally) {
+        if !self.bits.is_one_counted(position, tally) {
             return None;
         }
-        let close = self.forward(place, -1, tally)?;
-        Some((place, close + 1))
+        let close = self.forward(position, -1, tally)?;
+        Some((position, close + 1))
     }
 
     // Returns the tree that closes right before a position, and the position where it opens.
     #[inline(always)]
-    fn tree_before(self, place: usize, tally: &mut Tally) -> Option<(usize, usize)>
+    fn tree_before(self, position: usize, tally: &mut Tally) -> Option<(usize, usize)>
         requires { IsIndexed self.bits.now BLOCK_SIZE self.tree.now.first self.tree.now.nodes }
-        ensures value { result ≡ tree_before self.entry.bits.now place }
+        ensures value { result ≡ tree_before self.entry.bits.now position }
         ensures adds { AddsAtMost tally.old tally.new (enclose_reads BLOCK_SIZE (length self.entry.bits.now)) }
     {
-        if place == 0 || place > self.bits.len() {
+        if position == 0 || position > self.bits.len() {
             return None;
         }
-        if self.bits.is_one_counted(place - 1, tally) {
+        if self.bits.is_one_counted(position - 1, tally) {
             return None;
         }
-        let open = self.backward(place - 1, -1, tally)?;
+        let open = self.backward(position - 1, -1, tally)?;
         Some((open, open))
     }
 }

@@ -1,6 +1,6 @@
 //! The iterator over the nodes of a tree in preorder.
 ghost use Rattle.std.specs.Prelude.{◌≡◌, true, length};
-ghost use Rattle.vers_bits.specs.Bits.{places};
+ghost use Rattle.vers_bits.specs.Bits.{positions};
 ghost use Rattle.vers_rank.specs.Queries.{superblock_count, select_reads};
 
 use super::BpTree;
@@ -15,7 +15,7 @@ impl<const BLOCK_SIZE: usize, A: Allocator + Copy> BpTree<BLOCK_SIZE, A> {
     /// preorder.
     pub fn iter(&self) -> DfsIter<'_, A>
         ensures { result ≡ record {
-          left = places true self.now;
+          left = positions true self.now;
           step = select_reads (superblock_count (length self.now));
         } }
     {
@@ -25,7 +25,7 @@ impl<const BLOCK_SIZE: usize, A: Allocator + Copy> BpTree<BLOCK_SIZE, A> {
     /// Returns an iterator over the positions of the ones, ascending, as `iter` does.
     pub fn dfs_iter(&self) -> DfsIter<'_, A>
         ensures { result ≡ record {
-          left = places true self.now;
+          left = positions true self.now;
           step = select_reads (superblock_count (length self.now));
         } }
     {

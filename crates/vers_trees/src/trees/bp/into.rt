@@ -1,6 +1,6 @@
 //! Conversions of a tree.
 ghost use Rattle.std.specs.Prelude.{◌≡◌, true, length};
-ghost use Rattle.vers_bits.specs.Bits.{places};
+ghost use Rattle.vers_bits.specs.Bits.{positions};
 ghost use Rattle.vers_rank.specs.Queries.{superblock_count, select_reads};
 
 use super::BpTree;
@@ -42,7 +42,7 @@ impl<const BLOCK_SIZE: usize, A: Allocator + Copy> IntoIterator for BpTree<BLOCK
     type IntoIter = SelectIntoIter<false, A>;
 
     ghost into_iter_gives = { λ t items. items ≡ record {
-      left = places true t;
+      left = positions true t;
       step = select_reads (superblock_count (length t));
     } };
 

@@ -156,17 +156,17 @@ impl<A: Allocator + Copy> MinMaxTree<A> {
         self.node_counted(0, tally)
     }
 
-    // Returns the first block below the node at `place` that has a position with the sum of a search, whose
+    // Returns the first block below the node at `position` that has a position with the sum of a search, whose
     // remainder there is `left`; and the remainder at that block.
     #[inline(always)]
-    fn descend_counted(&self, place: usize, mut left: i64, tally: &mut Tally) -> (usize, i64)
-        requires within { place ≤ 2 * self.now.first }
-        requires leads { (s : Sought) × LeadsTo false s self.now.first self.now.nodes place left }
-        ensures found { (s : Sought) → LeadsTo false s self.now.first self.now.nodes place left
+    fn descend_counted(&self, position: usize, mut left: i64, tally: &mut Tally) -> (usize, i64)
+        requires within { position ≤ 2 * self.now.first }
+        requires leads { (s : Sought) × LeadsTo false s self.now.first self.now.nodes position left }
+        ensures found { (s : Sought) → LeadsTo false s self.now.first self.now.nodes position left
             → IsAhead false s result.0 (result.0 + 1) result.1 }
         ensures adds { AddsAtMost tally.old tally.new (only_nodes (digits self.now.first)) }
     {
-        let mut node = place;
+        let mut node = position;
         while node < self.first {
             // No branch on where the sum is, which would often be mispredicted.
             let below = self.node_counted(2 * node + 1, tally);
@@ -207,17 +207,22 @@ impl<A: Allocator + Copy> MinMaxTree<A> {
         None
     }
 
-    // Returns the last block below the node at `place` that has a position with the sum of a search, whose
+    // Returns the last block below the node at `position` that has a position with the sum of a search, whose
     // remainder at the node's end is `left`; and the remainder at that block's end.
     #[inline(always)]
-    fn descend_back_counted(&self, place: usize, mut left: i64, tally: &mut Tally) -> (usize, i64)
-        requires within { place ≤ 2 * self.now.first }
-        requires leads { (s : Sought) × LeadsTo true s self.now.first self.now.nodes place left }
-        ensures found { (s : Sought) → LeadsTo true s self.now.first self.now.nodes place left
+    fn descend_back_counted(
+        &self,
+        position: usize,
+        mut left: i64,
+        tally: &mut Tally,
+    ) -> (usize, i64)
+        requires within { position ≤ 2 * self.now.first }
+        requires leads { (s : Sought) × LeadsTo true s self.now.first self.now.nodes position left }
+        ensures found { (s : Sought) → LeadsTo true s self.now.first self.now.nodes position left
             → IsAhead true s result.0 (result.0 + 1) result.1 }
         ensures adds { AddsAtMost tally.old tally.new (only_nodes (digits self.now.first)) }
     {
-        let mut node = place;
+        let mut node = position;
         while node < self.first {
             let below = self.node_counted(2 * node + 2, tally);
             let before = left + below.total;

@@ -241,8 +241,8 @@ impl<const BLOCK_SIZE: usize, A: Allocator + Copy> BpTree<BLOCK_SIZE, A> {
         ensures adds { AddsAtMost tally.old tally.new (search_reads BLOCK_SIZE (length self.now)) }
     {
         let close = self.end_counted(node, tally);
-        let places = close - node;
-        Some(places.div_ceil(2))
+        let positions = close - node;
+        Some(positions.div_ceil(2))
     }
 
     /// Returns true if the first node is an ancestor of the second; each node is its own. Never `None`.
@@ -304,15 +304,15 @@ impl<const BLOCK_SIZE: usize, A: Allocator + Copy> BpTree<BLOCK_SIZE, A> {
         self.close_counted(node, tally).unwrap_or(node)
     }
 
-    // Returns the position after `place`, if it has a one.
+    // Returns the position after `position`, if it has a one.
     #[inline(always)]
-    fn opens_after(&self, place: usize, tally: &mut Tally) -> Option<usize>
-        requires { place < length self.now }
-        ensures value { result ≡ opened_after self.now place }
+    fn opens_after(&self, position: usize, tally: &mut Tally) -> Option<usize>
+        requires { position < length self.now }
+        ensures value { result ≡ opened_after self.now position }
         ensures adds { AddsAtMost tally.old tally.new get_reads }
     {
         let len = self.len();
-        let next = place + 1;
+        let next = position + 1;
         if next >= len {
             return None;
         }

@@ -1,6 +1,6 @@
 //! Iterators over nodes in postorder.
 ghost use Rattle.std.specs.Prelude.{◌≡◌, ◌+◌, ◌≤◌, false, length};
-ghost use Rattle.vers_bits.specs.Bits.{places};
+ghost use Rattle.vers_bits.specs.Bits.{positions};
 ghost use Rattle.vers_trees.specs.Forest.{IsBalanced, forest_of};
 ghost use Rattle.vers_trees.specs.inside.Closed.{closed_by};
 ghost use Rattle.vers_trees.specs.Nodes.{IsNode};
@@ -11,7 +11,7 @@ use super::BpTree;
 use super::search::Searched;
 use std::alloc::Allocator;
 use std::marker::Model;
-use vers_rank::fast_rs_vec::{Places, RsVec};
+use vers_rank::fast_rs_vec::{Positions, RsVec};
 use vers_tally::ends::{Borrowing, BothEnds, Source};
 use vers_tally::tally::Tally;
 
@@ -20,7 +20,7 @@ use vers_tally::tally::Tally;
 #[derive(Drop)]
 pub struct ClosedNodes<'a, const BLOCK_SIZE: usize, A: Allocator + Copy> {
     searched: Searched<'a, BLOCK_SIZE, A>,
-    zeros: Places<(), &'a RsVec<A>>,
+    zeros: Positions<(), &'a RsVec<A>>,
     first: usize,
     count: usize,
 }
@@ -28,7 +28,7 @@ pub struct ClosedNodes<'a, const BLOCK_SIZE: usize, A: Allocator + Copy> {
 impl<'a, const BLOCK_SIZE: usize, A: Allocator + Copy> Model for ClosedNodes<'a, BLOCK_SIZE, A> {
     ghost use Rattle.std.specs.Prelude.{ℕ, length};
     ghost use Rattle.vers_tally.specs.Ends.{Walking};
-    ghost use Rattle.vers_trees.specs.inside.Closed.{closed_by, ArePlacesOfZeros};
+    ghost use Rattle.vers_trees.specs.inside.Closed.{closed_by, ArePositionsOfZeros};
     ghost use Rattle.vers_trees.specs.inside.Index.{IsIndexed};
     ghost use Rattle.vers_trees.specs.WalkReads.{post_reads};
 
@@ -41,7 +41,7 @@ impl<'a, const BLOCK_SIZE: usize, A: Allocator + Copy> Model for ClosedNodes<'a,
 
     ghost invariant = { λ s. IsIndexed s.searched.bits.now BLOCK_SIZE
         s.searched.tree.now.first s.searched.tree.now.nodes
-        × ArePlacesOfZeros s.searched.bits.now s.zeros.bit s.zeros.bits s.first s.count };
+        × ArePositionsOfZeros s.searched.bits.now s.zeros.bit s.zeros.bits s.first s.count };
 }
 
 #[tactic(auto, using(crate::proofs::walks::WalksOfNodes::closed))]
@@ -113,7 +113,7 @@ impl<const BLOCK_SIZE: usize, A: Allocator + Copy> BpTree<BLOCK_SIZE, A> {
 
     // Returns an iterator over the nodes that `count` zeros close, from zero `first` on.
     fn closed_by(&self, first: usize, count: usize) -> PostIter<'_, BLOCK_SIZE, A>
-        requires { first + count ≤ length (places false self.now) }
+        requires { first + count ≤ length (positions false self.now) }
         ensures { result ≡ record {
           left = closed_by self.now first count;
           step = post_reads BLOCK_SIZE (length self.now);
@@ -122,7 +122,7 @@ impl<const BLOCK_SIZE: usize, A: Allocator + Copy> BpTree<BLOCK_SIZE, A> {
         let searched = self.searched();
         BothEnds::new(ClosedNodes {
             searched,
-            zeros: Places::new(searched.bits, false),
+            zeros: Positions::new(searched.bits, false),
             first,
             count,
         })

@@ -6,7 +6,7 @@ ghost use Rattle.vers_trees.specs.Excess.{bit_step};
 ghost use Rattle.vers_trees.specs.inside.Scans.{IsRise, HasNoRise, falls, rises, scan_reads, block_reads};
 ghost use Rattle.vers_trees.specs.inside.MinMax.{IsPart, IsNumberAt};
 
-use crate::trees::bp::bytes::{ByteTables, place_met};
+use crate::trees::bp::bytes::{ByteTables, position_met};
 use crate::trees::bp::min_max::Node;
 use std::alloc::Allocator;
 use vers_bits::bit_vec::BitVec;
@@ -77,14 +77,14 @@ fn bits_forward<A: Allocator + Copy>(
     requires passed { (from : ℕ) × (from ≤ begin) × HasNoRise false bits.now from begin target rise }
     ensures value { (from : ℕ) → from ≤ begin → HasNoRise false bits.now from begin target rise → MatchResult
         result
-        (λ place. IsRise false bits.now from end target place)
+        (λ position. IsRise false bits.now from end target position)
         (λ rise. HasNoRise false bits.now from end target rise) }
     ensures adds { AddsAtMost tally.old tally.new (scan_reads (end - begin)) }
 {
-    for place in begin..end {
-        rise += step(bits.is_one_counted(place, tally));
+    for position in begin..end {
+        rise += step(bits.is_one_counted(position, tally));
         if rise == target {
-            return Ok(place);
+            return Ok(position);
         }
     }
     Err(rise)
@@ -107,7 +107,7 @@ fn bytes_forward<A: Allocator + Copy>(
     requires short { length bits.now < 2 ^ 63 }
     ensures value { MatchResult
         result
-        (λ place. IsRise false bits.now begin end target place)
+        (λ position. IsRise false bits.now begin end target position)
         (λ rise. HasNoRise false bits.now begin end target rise) }
     ensures adds { AddsAtMost tally.old tally.new (scan_reads (end - begin)) }
 {
@@ -124,8 +124,8 @@ fn bytes_forward<A: Allocator + Copy>(
         let mut within = 0;
         while within < size {
             let byte = ((word >> within) % 256) as u8;
-            if let Some(place) = place_met(tables.met_forward(byte), rise, target) {
-                return Ok(start + within + place);
+            if let Some(position) = position_met(tables.met_forward(byte), rise, target) {
+                return Ok(start + within + position);
             }
             rise += byte_step(byte);
             within += 8;
@@ -152,7 +152,7 @@ pub(super) fn scan_forward<A: Allocator + Copy>(
     requires short { length bits.now < 2 ^ 63 }
     ensures value { MatchResult
         result
-        (λ place. IsRise false bits.now from end target place)
+        (λ position. IsRise false bits.now from end target position)
         (λ rise. HasNoRise false bits.now from end target rise) }
     ensures begun { tally.new.blocks ≡ one_more tally.old.blocks }
     ensures adds { AddsAtMost tally.old tally.new (block_reads (end - from)) }
@@ -160,7 +160,7 @@ pub(super) fn scan_forward<A: Allocator + Copy>(
     let tail = from + (end - from) / 8 * 8;
     tally.add_block();
     let rise = match bytes_forward(bits, tables, from, tail, target, tally) {
-        Ok(place) => return Ok(place),
+        Ok(position) => return Ok(position),
         Err(rise) => rise,
     };
     bits_forward(bits, tail, end, rise, target, tally)
@@ -184,16 +184,16 @@ fn bits_backward<A: Allocator + Copy>(
     ensures value { (to : ℕ) → end ≤ to → to ≤ length bits.now
         → HasNoRise true bits.now to end target rise → MatchResult
         result
-        (λ place. IsRise true bits.now to begin target place)
+        (λ position. IsRise true bits.now to begin target position)
         (λ rise. HasNoRise true bits.now to begin target rise) }
     ensures adds { AddsAtMost tally.old tally.new (scan_reads (end - begin)) }
 {
-    let mut place = end;
-    while place > begin {
-        place -= 1;
-        rise -= step(bits.is_one_counted(place, tally));
+    let mut position = end;
+    while position > begin {
+        position -= 1;
+        rise -= step(bits.is_one_counted(position, tally));
         if rise == target {
-            return Ok(place);
+            return Ok(position);
         }
     }
     Err(rise)
@@ -216,7 +216,7 @@ fn bytes_backward<A: Allocator + Copy>(
     requires short { length bits.now < 2 ^ 63 }
     ensures value { MatchResult
         result
-        (λ place. IsRise true bits.now end begin target place)
+        (λ position. IsRise true bits.now end begin target position)
         (λ rise. HasNoRise true bits.now end begin target rise) }
     ensures adds { AddsAtMost tally.old tally.new (scan_reads (end - begin)) }
 {
@@ -235,8 +235,8 @@ fn bytes_backward<A: Allocator + Copy>(
         while within > 0 {
             within -= 8;
             let byte = ((word >> within) % 256) as u8;
-            if let Some(place) = place_met(tables.met_backward(byte), rise, target) {
-                return Ok(start + within + place);
+            if let Some(position) = position_met(tables.met_backward(byte), rise, target) {
+                return Ok(start + within + position);
             }
             rise -= byte_step(byte);
         }
@@ -262,7 +262,7 @@ pub(super) fn scan_backward<A: Allocator + Copy>(
     requires short { length bits.now < 2 ^ 63 }
     ensures value { MatchResult
         result
-        (λ place. IsRise true bits.now end from target place)
+        (λ position. IsRise true bits.now end from target position)
         (λ rise. HasNoRise true bits.now end from target rise) }
     ensures begun { tally.new.blocks ≡ one_more tally.old.blocks }
     ensures adds { AddsAtMost tally.old tally.new (block_reads (end - from)) }
@@ -270,7 +270,7 @@ pub(super) fn scan_backward<A: Allocator + Copy>(
     let head = end - (end - from) / 8 * 8;
     tally.add_block();
     let rise = match bytes_backward(bits, tables, head, end, target, tally) {
-        Ok(place) => return Ok(place),
+        Ok(position) => return Ok(position),
         Err(rise) => rise,
     };
     bits_backward(bits, from, head, rise, target, tally)
@@ -342,8 +342,8 @@ pub(super) fn node_of<A: Allocator + Copy>(
         node = node.followed_by(node_of_byte(tables, byte));
         start += 8;
     }
-    for place in start..end {
-        node = node.followed_by(node_of_bit(bits.is_bit_set_unchecked(place)));
+    for position in start..end {
+        node = node.followed_by(node_of_bit(bits.is_bit_set_unchecked(position)));
     }
     node
 }

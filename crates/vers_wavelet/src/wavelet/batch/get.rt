@@ -17,39 +17,39 @@ use vers_tally::tally::Tally;
 #[derive(Clone, Copy, Drop)]
 pub struct GetQuery {
     /// The position. Answering overwrites it.
-    pub place: usize,
+    pub position: usize,
     /// The symbol at the position, once the query is answered.
     pub answer: Option<u64>,
 }
 
 impl GetQuery {
-    /// Returns a query for the symbol at `place`.
+    /// Returns a query for the symbol at `position`.
     #[inline]
-    pub fn new(place: usize) -> Self
-        ensures place { result.place ≡ place }
+    pub fn new(position: usize) -> Self
+        ensures position { result.position ≡ position }
         ensures answer { result.answer ≡ None }
     {
         GetQuery {
-            place,
+            position,
             answer: None,
         }
     }
 }
 
 impl Query for GetQuery {
-    ghost keeps = { λ n k q. IfSome q.answer (λ y. (q.place < n) × (k ≤ 64) × HasRoom 64 k y) };
+    ghost keeps = { λ n k q. IfSome q.answer (λ y. (q.position < n) × (k ≤ 64) × HasRoom 64 k y) };
 
     ghost stays = { λ _. (0, 0) };
 
-    ghost outcome = { λ ls q. option_map (λ y. y + value ls q.place) q.answer };
+    ghost outcome = { λ ls q. option_map (λ y. y + value ls q.position) q.answer };
 
-    ghost meaning = { λ ls n q. if nat_le (length ls) 64 then slice_get (values ls n) q.place else None };
+    ghost meaning = { λ ls n q. if nat_le (length ls) 64 then slice_get (values ls n) q.position else None };
 
     #[inline(always)]
     fn begin(self, levels: usize, len: usize) -> Self {
-        let is_known = levels <= 64 && self.place < len;
+        let is_known = levels <= 64 && self.position < len;
         GetQuery {
-            place: self.place,
+            position: self.position,
             answer: if is_known { Some(0) } else { None },
         }
     }
@@ -59,10 +59,10 @@ impl Query for GetQuery {
         let Some(mut number) = self.answer else {
             return self;
         };
-        let step = read_level(level, self.place, tally);
+        let step = read_level(level, self.position, tally);
         number.put_digit(i, step.bit);
         GetQuery {
-            place: step.place,
+            position: step.position,
             answer: Some(number),
         }
     }
@@ -73,7 +73,7 @@ impl<A: Allocator + Copy> WaveletMatrix<A> {
     /// than one after another if there are many.
     pub fn get_u64_each(&self, queries: &mut [GetQuery])
         ensures { map (λ q. q.answer) queries.new ≡ map (λ q.
-            if nat_le self.now.width 64 then slice_get self.now.items q.place else None)
+            if nat_le self.now.width 64 then slice_get self.now.items q.position else None)
             queries.old }
     {
         let mut tally = Tally::new();
@@ -84,7 +84,7 @@ impl<A: Allocator + Copy> WaveletMatrix<A> {
     #[inline(always)]
     pub fn get_u64_each_counted(&self, queries: &mut [GetQuery], tally: &mut Tally)
         ensures value { map (λ q. q.answer) queries.new ≡ map (λ q.
-            if nat_le self.now.width 64 then slice_get self.now.items q.place else None)
+            if nat_le self.now.width 64 then slice_get self.now.items q.position else None)
             queries.old }
         ensures adds { AddsAtMost tally.old tally.new
             (times (length queries.old) (walk_reads self.now)) }

@@ -3,7 +3,7 @@ ghost use Rattle.std.specs.Prelude.{◌≡◌, ℕ, ◌+◌, ◌<◌, ◌≤◌,
 ghost use Rattle.vers_bits.specs.Bits.{select};
 ghost use Rattle.vers_tally.specs.Reads.{AddsAtMost, times};
 ghost use Rattle.vers_rank.specs.Queries.{select_reads, superblock_count};
-ghost use Rattle.vers_wavelet.specs.inside.Batches.{asked, HasNumber, HasPlace, no_query};
+ghost use Rattle.vers_wavelet.specs.inside.Batches.{asked, HasNumber, HasPosition, no_query};
 
 use crate::wavelet::batch::select::SelectQuery;
 use crate::wavelet::digits::Digits;
@@ -139,8 +139,8 @@ impl Group {
     )
         requires all { self.old.zeros.count + self.old.ones.count ≡ n }
         requires few { n ≤ 64 }
-        ensures places { (i j : ℕ) (q : SelectQuery) → HasNumber level.now i q j self.old
-            → HasPlace level.now i q j self.new }
+        ensures positions { (i j : ℕ) (q : SelectQuery) → HasNumber level.now i q j self.old
+            → HasPosition level.now i q j self.new }
         ensures adds { AddsAtMost tally.old tally.new
             (times n (select_reads (superblock_count (length level.now)))) }
     {

@@ -2,13 +2,13 @@
 ghost use Rattle.std.specs.Prelude.{◌≡◌, ℕ, ◌-◌, ◌%◌, ◌^◌, ◌≤◌, ◌&&◌, List, Bool, Option, Some, None, length, map, nat_le, option_map, IfSome, if◌then◌else◌};
 ghost use Rattle.vers_tally.specs.Reads.{AddsAtMost, times};
 ghost use Rattle.vers_wavelet.specs.Symbols.{occurrences};
-ghost use Rattle.vers_wavelet.specs.inside.Levels.{values, final_place};
+ghost use Rattle.vers_wavelet.specs.inside.Levels.{values, final_position};
 ghost use Rattle.vers_wavelet.specs.Reads.{walk_reads};
 
 use crate::wavelet::WaveletMatrix;
 use crate::wavelet::batch::{Query, ask_each};
 use crate::wavelet::digits::Digits;
-use crate::wavelet::level::next_place;
+use crate::wavelet::level::next_position;
 use std::alloc::Allocator;
 use vers_rank::fast_rs_vec::RsVec;
 use vers_tally::tally::Tally;
@@ -45,8 +45,8 @@ impl Query for RankQuery {
 
     ghost stays = { λ _. (0, 0) };
 
-    ghost outcome = { λ ls q. option_map (λ c. final_place ls q.symbol q.end
-        - final_place ls q.symbol (q.end - c)) q.answer };
+    ghost outcome = { λ ls q. option_map (λ c. final_position ls q.symbol q.end
+        - final_position ls q.symbol (q.end - c)) q.answer };
 
     ghost meaning = { λ ls n q. if nat_le (length ls) 64 && nat_le q.end (length (values ls n))
         then Some (length (occurrences (values ls n) 0 q.end (q.symbol % 2 ^ length ls)))
@@ -73,8 +73,8 @@ impl Query for RankQuery {
             return self;
         }
         let bit = self.symbol.digit(i);
-        let start = next_place(level, bit, self.end - count, tally);
-        let end = next_place(level, bit, self.end, tally);
+        let start = next_position(level, bit, self.end - count, tally);
+        let end = next_position(level, bit, self.end, tally);
         RankQuery {
             end,
             symbol: self.symbol,

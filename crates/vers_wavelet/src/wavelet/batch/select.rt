@@ -9,14 +9,14 @@ ghost use Rattle.vers_rank.specs.Batches.{Changed};
 ghost use Rattle.vers_bits.specs.Bits.{select};
 ghost use Rattle.vers_wavelet.specs.Symbols.{occurrences};
 ghost use Rattle.vers_wavelet.specs.Makers.{digit};
-ghost use Rattle.vers_wavelet.specs.inside.Levels.{start, values, final_place, AreLevels};
+ghost use Rattle.vers_wavelet.specs.inside.Levels.{start, values, final_position, AreLevels};
 ghost use Rattle.vers_wavelet.specs.Reads.{query_reads};
 
 use crate::wavelet::WaveletMatrix;
 use crate::wavelet::batch::group::{GROUP, Group};
 use crate::wavelet::batch::{Query, ask_each};
 use crate::wavelet::digits::Digits;
-use crate::wavelet::level::{is_of_bit, next_place};
+use crate::wavelet::level::{is_of_bit, next_position};
 use std::alloc::Allocator;
 use vers_rank::fast_rs_vec::RsVec;
 use vers_tally::tally::Tally;
@@ -54,8 +54,8 @@ impl SelectQuery {
         ensures rank { result.rank ≡ self.rank }
         ensures symbol { result.symbol ≡ self.symbol }
         ensures seeks { (ls : List (List Bool)) → AreLevels ls len
-            → self.answer ≡ Some (final_place ls self.symbol 0)
-            → HasClimbed ls len result.symbol (final_place ls result.symbol 0 + result.rank) (length ls)
+            → self.answer ≡ Some (final_position ls self.symbol 0)
+            → HasClimbed ls len result.symbol (final_position ls result.symbol 0 + result.rank) (length ls)
             result.answer }
     {
         let Some(first) = self.answer else {
@@ -81,13 +81,13 @@ impl SelectQuery {
         ensures { (p : ℕ) → self.answer ≡ Some p → start bit level.now ≤ p
             → result ≡ p - start bit level.now }
     {
-        let Some(place) = self.answer else {
+        let Some(position) = self.answer else {
             return 0;
         };
         if bit {
-            place.saturating_sub(level.zeros())
+            position.saturating_sub(level.zeros())
         } else {
-            place
+            position
         }
     }
 
@@ -113,11 +113,11 @@ impl SelectQuery {
         ensures symbol { result.symbol ≡ self.symbol }
         ensures seeks { IsClimbing levels.now len k result }
     {
-        let Some(place) = self.answer else {
+        let Some(position) = self.answer else {
             return self;
         };
         let bit = self.symbol.digit(levels.len() - (k + 1));
-        if !is_of_bit(&levels[k], bit, place) {
+        if !is_of_bit(&levels[k], bit, position) {
             return SelectQuery {
                 rank: self.rank,
                 symbol: self.symbol,
@@ -137,9 +137,9 @@ impl Query for SelectQuery {
 
     ghost stays = { λ q. (q.rank, q.symbol) };
 
-    ghost outcome = { λ ls q. option_map (λ p. final_place ls q.symbol p) q.answer };
+    ghost outcome = { λ ls q. option_map (λ p. final_position ls q.symbol p) q.answer };
 
-    ghost meaning = { λ ls n q. if nat_le (length ls) 64 then Some (final_place ls q.symbol 0) else None };
+    ghost meaning = { λ ls n q. if nat_le (length ls) 64 then Some (final_position ls q.symbol 0) else None };
 
     #[inline(always)]
     fn begin(self, levels: usize, len: usize) -> Self {
@@ -153,14 +153,14 @@ impl Query for SelectQuery {
     #[inline(always)]
     #[tactic(auto, using(crate::proofs::Values::parts))]
     fn step<A: Allocator + Copy>(self, level: &RsVec<A>, i: usize, tally: &mut Tally) -> Self {
-        let Some(place) = self.answer else {
+        let Some(position) = self.answer else {
             return self;
         };
         let bit = self.symbol.digit(i);
         SelectQuery {
             rank: self.rank,
             symbol: self.symbol,
-            answer: Some(next_place(level, bit, place, tally)),
+            answer: Some(next_position(level, bit, position, tally)),
         }
     }
 }
@@ -169,8 +169,8 @@ impl Query for SelectQuery {
 #[inline(always)]
 fn turn_each(queries: &mut [SelectQuery], len: usize)
     ensures { Become (λ q r. (r.rank ≡ q.rank) × (r.symbol ≡ q.symbol)
-        × ((ls : List (List Bool)) → AreLevels ls len → q.answer ≡ Some (final_place ls q.symbol 0)
-        → HasClimbed ls len r.symbol (final_place ls r.symbol 0 + r.rank) (length ls) r.answer))
+        × ((ls : List (List Bool)) → AreLevels ls len → q.answer ≡ Some (final_position ls q.symbol 0)
+        → HasClimbed ls len r.symbol (final_position ls r.symbol 0 + r.rank) (length ls) r.answer))
         queries.old queries.new }
 {
     for j in 0..queries.len() {
@@ -250,9 +250,9 @@ fn climb_each<A: Allocator + Copy>(
 )
     requires levels { AreLevels levels.now len }
     requires few { length levels.now ≤ 64 }
-    requires begun { All (λ q. q.answer ≡ Some (final_place levels.now q.symbol 0)) queries.old }
+    requires begun { All (λ q. q.answer ≡ Some (final_position levels.now q.symbol 0)) queries.old }
     ensures each { Become (λ q r. (r.rank ≡ q.rank) × (r.symbol ≡ q.symbol)
-        × HasClimbed levels.now len r.symbol (final_place levels.now r.symbol 0 + r.rank) 0 r.answer)
+        × HasClimbed levels.now len r.symbol (final_position levels.now r.symbol 0 + r.rank) 0 r.answer)
         queries.old queries.new }
     ensures adds { AddsAtMost tally.old tally.new (times (length levels.now)
         (times (length queries.old) (select_reads (superblock_count len)))) }

@@ -14,14 +14,14 @@ returns-clause-words c =
     let some : 0 < length (drop start t) = omega (arith, length-drop start t, here.0) in
     let same : start + 0 ≡ start = omega arith in
     let other : is_other (get_or (drop start t) 0 0) ≡ true = rw (get_or-drop start t 0 0, same) here.1 in
-    let place = sym (rw take_rest at c.place_of.ensures) in
+    let found = sym (rw take_rest at c.position_of.ensures) in
     let len = rw take_rest at c.unwrap_or-len.ensures in
-    rw (take_rest, take_rest) (words_in-from t start from ∙ (words_in-first (drop start t) _ _ place len some other).1)
+    rw (take_rest, take_rest) (words_in-from t start from ∙ (words_in-first (drop start t) _ _ found len some other).1)
 
 pub returns-clause-parts : goal.returns-clause-parts
 returns-clause-parts c =
     let t = c.args.text.now in
     let from : position is_other t ≡ Some c.in_ok-from_word.field-0 = sym c.first_of_word.ensures ∙ c.in_ok-from_word.was in
-    let place = sym (rw take_rest at c.place_of.ensures) in
+    let found = sym (rw take_rest at c.position_of.ensures) in
     let len = rw take_rest at c.unwrap_or-len.ensures in
-    rw (take_rest, take_rest) (first_word-from t _ _ _ from place len)
+    rw (take_rest, take_rest) (first_word-from t _ _ _ from found len)

@@ -7,9 +7,9 @@ use Rattle.wavelet_tree.proofs.read.merge.Goals as goal
 
 -- the next element
 next : (g : Over) (c : After-source g)
-    → Comes c.args.bits.now c.args.start c.args.low_len (length c.args.merged.now) (c.loop-place.place + c.loop-k.k) c.loop-k.low c.loop-k.high (eqb (bit_and (c.get_bits_unchecked-word.result / 2 ^ c.loop-k.k) 1) 1)
+    → Comes c.args.bits.now c.args.start c.args.low_len (length c.args.merged.now) (c.loop-position.position + c.loop-k.k) c.loop-k.low c.loop-k.high (eqb (bit_and (c.get_bits_unchecked-word.result / 2 ^ c.loop-k.k) 1) 1)
 next g c =
-    comes_next c.args.bits.now c.args.start c.args.low_len (length c.args.merged.now) c.loop-place.place c.min-many.result c.loop-k.k c.loop-k.low c.loop-k.high c.get_bits_unchecked-word.result
+    comes_next c.args.bits.now c.args.start c.args.low_len (length c.args.merged.now) c.loop-position.position c.min-many.result c.loop-k.k c.loop-k.low c.loop-k.high c.get_bits_unchecked-word.result
     c.requires.within c.requires.ones (omega arith) c.loop-k-test.true c.get_bits_unchecked-word.ensures c.loop-k.invariant.next
 
 pub offset_bounds-parts-source : goal.offset_bounds-parts-source
@@ -32,10 +32,10 @@ pub loop-k-preserved : goal.loop-k-preserved
 loop-k-preserved g c =
     let is = next g (goal.at.loop-k-preserved g c).After-source in
     let bit = eqb (bit_and (c.get_bits_unchecked-word.result / 2 ^ c.loop-k.k) 1) 1 in
-    let more : c.loop-place.place + (c.loop-k.k + 1) ≡ c.loop-place.place + c.loop-k.k + 1 = omega arith in
+    let more : c.loop-position.position + (c.loop-k.k + 1) ≡ c.loop-position.position + c.loop-k.k + 1 = omega arith in
     record {
       merges = rw more
-          (merged_more c.args.bits.now c.args.start c.args.low_len (length c.args.merged.now) c.args.parts.now c.loop-k.merged (c.loop-place.place + c.loop-k.k) c.loop-k.low c.loop-k.high c.source.result bit c.index-parts-source.result
+          (merged_more c.args.bits.now c.args.start c.args.low_len (length c.args.merged.now) c.args.parts.now c.loop-k.merged (c.loop-position.position + c.loop-k.k) c.loop-k.low c.loop-k.high c.source.result bit c.index-parts-source.result
           (omega arith) c.requires.long c.loop-k.invariant.next is c.source.ensures c.index-parts-source.is c.loop-k.invariant.merges);
       next = rw (more, c.from-low.ensures, c.from-high.ensures, byte_value (not bit), byte_value bit) is.after;
     }

@@ -18,8 +18,8 @@ pub enum Answer {
 impl Answer {
     /// Returns an answer with a position.
     #[inline(always)]
-    pub fn place(place: usize) -> Answer {
-        Answer::Found(place as u64)
+    pub fn position(position: usize) -> Answer {
+        Answer::Found(position as u64)
     }
 
     /// Returns an answer with a boolean, as 1 or 0.
@@ -39,9 +39,9 @@ impl Answer {
 
     /// Returns an answer with the position, or that there is none.
     #[inline(always)]
-    pub fn place_or_absent(place: Option<usize>) -> Answer {
-        match place {
-            Some(n) => Answer::place(n),
+    pub fn position_or_absent(position: Option<usize>) -> Answer {
+        match position {
+            Some(n) => Answer::position(n),
             None => Answer::Absent,
         }
     }

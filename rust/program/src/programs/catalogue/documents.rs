@@ -22,8 +22,8 @@ pub const JOINTS: [Joint; 3] = [Joint::Intersection, Joint::Union, Joint::Differ
 
 impl Joint {
     // Returns the entry at a position of a table.
-    fn at(table: &[Joint], place: usize) -> Option<Joint> {
-        table.get(place).copied()
+    fn at(table: &[Joint], position: usize) -> Option<Joint> {
+        table.get(position).copied()
     }
 
     /// Returns the `Joint` of a code, or `None` if there is none.

@@ -12,9 +12,9 @@ impl<A: Allocator + Copy> Queryable for InvertedIndex<A> {
     #[inline(always)]
     fn answer(&self, query: Query, a: u64, b: u64, c: u64) -> Answer {
         match query {
-            Query::Len => Answer::place(self.len()),
+            Query::Len => Answer::position(self.len()),
             Query::Get => Answer::number_or_absent(self.pair_number(a as usize)),
-            Query::HeapSize => Answer::place(self.heap_size()),
+            Query::HeapSize => Answer::position(self.heap_size()),
             Query::Terms => Answer::Found(self.terms()),
             Query::Universe => Answer::Found(self.universe()),
             Query::Term(query) => answer_of(self, query, a, b),

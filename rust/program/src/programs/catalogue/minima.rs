@@ -13,10 +13,10 @@ impl<A: Allocator + Copy> Queryable for FastRmq<A> {
     #[inline(always)]
     fn answer(&self, query: Query, a: u64, b: u64, c: u64) -> Answer {
         match query {
-            Query::Len => Answer::place(self.len()),
+            Query::Len => Answer::position(self.len()),
             Query::Get => Answer::number_or_absent(self.as_slice().get(a as usize).copied()),
-            Query::HeapSize => Answer::place(self.heap_size()),
-            Query::RangeMin => Answer::place_or_absent(fast_least(self, a as usize, b as usize)),
+            Query::HeapSize => Answer::position(self.heap_size()),
+            Query::RangeMin => Answer::position_or_absent(fast_least(self, a as usize, b as usize)),
             _ => Answer::Unknown,
         }
     }
@@ -36,10 +36,12 @@ impl<A: Allocator + Copy> Queryable for BinaryRmq<A> {
     #[inline(always)]
     fn answer(&self, query: Query, a: u64, b: u64, c: u64) -> Answer {
         match query {
-            Query::Len => Answer::place(self.len()),
+            Query::Len => Answer::position(self.len()),
             Query::Get => Answer::number_or_absent(self.as_slice().get(a as usize).copied()),
-            Query::HeapSize => Answer::place(self.heap_size()),
-            Query::RangeMin => Answer::place_or_absent(binary_least(self, a as usize, b as usize)),
+            Query::HeapSize => Answer::position(self.heap_size()),
+            Query::RangeMin => Answer::position_or_absent(binary_least(
+                self, a as usize, b as usize,
+            )),
             _ => Answer::Unknown,
         }
     }
@@ -59,7 +61,7 @@ impl<A: Allocator + Copy> Queryable for Vec<u64, A> {
     #[inline(always)]
     fn answer(&self, query: Query, a: u64, b: u64, c: u64) -> Answer {
         match query {
-            Query::Len => Answer::place(self.len()),
+            Query::Len => Answer::position(self.len()),
             Query::Get => Answer::number_or_absent(self.as_slice().get(a as usize).copied()),
             _ => Answer::Unknown,
         }

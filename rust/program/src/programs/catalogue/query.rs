@@ -199,8 +199,8 @@ pub const QUERIES: [Query; 60] = [
 
 impl Query {
     // Returns the query at a position of a table.
-    fn at(table: &[Query], place: usize) -> Option<Query> {
-        table.get(place).copied()
+    fn at(table: &[Query], position: usize) -> Option<Query> {
+        table.get(position).copied()
     }
 
     /// Returns the query of a code, or `None` if there is none.

@@ -195,8 +195,8 @@ pub const KINDS: [Kind; 11] = [
 
 impl Kind {
     // Returns the kind at a position of a table.
-    fn at(table: &[Kind], place: usize) -> Option<Kind> {
-        table.get(place).copied()
+    fn at(table: &[Kind], position: usize) -> Option<Kind> {
+        table.get(position).copied()
     }
 
     /// Returns the kind of a code, or `None` if there is none.

@@ -12,10 +12,10 @@ impl<A: Allocator + Copy> Queryable for TextIndex<A> {
     #[inline(always)]
     fn answer(&self, query: Query, _a: u64, _b: u64, _c: u64) -> Answer {
         match query {
-            Query::Len => Answer::place(self.len()),
+            Query::Len => Answer::position(self.len()),
             Query::Width => Answer::Found(u64::from(self.bits_per_symbol())),
-            Query::HeapSize => Answer::place(self.heap_size()),
-            Query::Step => Answer::place(self.step()),
+            Query::HeapSize => Answer::position(self.heap_size()),
+            Query::Step => Answer::position(self.step()),
             _ => Answer::Unknown,
         }
     }

@@ -15,10 +15,10 @@ impl<A: Allocator> Queryable for BpTree<512, &A> {
     fn answer(&self, query: Query, a: u64, b: u64, _c: u64) -> Answer {
         match query {
             Query::Node(which) if self.has_node(a as usize) => {
-                Answer::place_or_absent(self.relative(a as usize, which))
+                Answer::position_or_absent(self.relative(a as usize, which))
             }
             Query::LevelAncestor if self.has_node(a as usize) => {
-                Answer::place_or_absent(self.level_ancestor(a as usize, b))
+                Answer::position_or_absent(self.level_ancestor(a as usize, b))
             }
             Query::Measure(which) if self.has_node(a as usize) => {
                 Answer::Found(self.measure(a as usize, which))
@@ -38,10 +38,10 @@ impl Queryable for BpTree<512, Global> {
     fn answer(&self, query: Query, node: u64, other: u64, _c: u64) -> Answer {
         match query {
             Query::Node(which) if self.has_node(node as usize) => {
-                Answer::place_or_absent(self.relative(node as usize, which))
+                Answer::position_or_absent(self.relative(node as usize, which))
             }
             Query::LevelAncestor if self.has_node(node as usize) => {
-                Answer::place_or_absent(self.level_ancestor(node as usize, other))
+                Answer::position_or_absent(self.level_ancestor(node as usize, other))
             }
             Query::Measure(which) if self.has_node(node as usize) => {
                 Answer::Found(self.measure(node as usize, which))
@@ -65,28 +65,28 @@ fn whole_answer<const BLOCK_SIZE: usize, A: Allocator + Copy>(
     b: u64,
 ) -> Answer {
     match query {
-        Query::Len => Answer::place(tree.len()),
+        Query::Len => Answer::position(tree.len()),
         Query::Get => Answer::bit_or_absent(tree.is_open(a)),
-        Query::HeapSize => Answer::place(tree.heap_size()),
+        Query::HeapSize => Answer::position(tree.heap_size()),
         Query::HasNode => Answer::truth(tree.has_node(a)),
         Query::Level(which) => {
             if tree.is_balanced() {
-                Answer::place_or_absent(tree.level_end(a as u64, which))
+                Answer::position_or_absent(tree.level_end(a as u64, which))
             } else {
                 Answer::Refused
             }
         }
         Query::Tree(query) => match query {
-            TreeQuery::Size => Answer::place(tree.size()),
+            TreeQuery::Size => Answer::position(tree.size()),
             TreeQuery::IsBalanced => Answer::truth(tree.is_balanced()),
             TreeQuery::Excess => excess(tree, a),
-            TreeQuery::Close => Answer::place_or_absent(tree.close(a)),
-            TreeQuery::Open => Answer::place_or_absent(tree.open(a)),
-            TreeQuery::Enclose => Answer::place_or_absent(tree.enclose(a)),
-            TreeQuery::NodeHandle => Answer::place(tree.node_handle(a)),
-            TreeQuery::FwdSearch => Answer::place_or_absent(tree.fwd_search(a, b.cast_signed())),
-            TreeQuery::BwdSearch => Answer::place_or_absent(tree.bwd_search(a, b.cast_signed())),
-            TreeQuery::Root => Answer::place_or_absent(root(tree)),
+            TreeQuery::Close => Answer::position_or_absent(tree.close(a)),
+            TreeQuery::Open => Answer::position_or_absent(tree.open(a)),
+            TreeQuery::Enclose => Answer::position_or_absent(tree.enclose(a)),
+            TreeQuery::NodeHandle => Answer::position(tree.node_handle(a)),
+            TreeQuery::FwdSearch => Answer::position_or_absent(tree.fwd_search(a, b.cast_signed())),
+            TreeQuery::BwdSearch => Answer::position_or_absent(tree.bwd_search(a, b.cast_signed())),
+            TreeQuery::Root => Answer::position_or_absent(root(tree)),
         },
         _ => Answer::Unknown,
     }
@@ -95,10 +95,10 @@ fn whole_answer<const BLOCK_SIZE: usize, A: Allocator + Copy>(
 // Returns the excess behind a position, which is refused past the end.
 fn excess<const BLOCK_SIZE: usize, A: Allocator + Copy>(
     tree: &BpTree<BLOCK_SIZE, A>,
-    place: usize,
+    position: usize,
 ) -> Answer {
-    if place < tree.len() {
-        Answer::Found(tree.excess(place).cast_unsigned())
+    if position < tree.len() {
+        Answer::Found(tree.excess(position).cast_unsigned())
     } else {
         Answer::Refused
     }

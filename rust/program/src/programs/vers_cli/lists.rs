@@ -67,13 +67,13 @@ fn symbols_reply<A: Allocator + Copy>(
 }
 
 // Returns the numbers that an iterator over positions has left.
-fn places_left<A: Allocator + Copy, I: Iterator<Item = usize>>(
+fn positions_left<A: Allocator + Copy, I: Iterator<Item = usize>>(
     alloc: A,
-    places: I,
+    positions: I,
 ) -> Result<Vec<u64, A>, AllocError> {
     let mut numbers = Vec::new(alloc);
-    for place in places {
-        numbers.push(place as u64)?;
+    for position in positions {
+        numbers.push(position as u64)?;
     }
     Ok(numbers)
 }
@@ -96,7 +96,7 @@ fn preorder<A: Allocator + Copy>(
     alloc: A,
     tree: &BpTree<512, &A>,
 ) -> Result<Vec<u64, A>, AllocError> {
-    places_left(alloc, tree.dfs_iter())
+    positions_left(alloc, tree.dfs_iter())
 }
 
 // Returns the reply with all nodes in postorder.
@@ -107,7 +107,7 @@ fn postorder_reply<A: Allocator + Copy>(
     if !tree.is_balanced() {
         return Ok(Reply::Refused);
     }
-    Ok(Reply::Numbers(places_left(alloc, tree.dfs_post_iter())?))
+    Ok(Reply::Numbers(positions_left(alloc, tree.dfs_post_iter())?))
 }
 
 /// Returns the reply with the nodes that a walk from a node passes. Errors: `AllocError` if the allocator refuses a
@@ -135,10 +135,10 @@ fn walk<A: Allocator + Copy>(
     node: usize,
 ) -> Result<Vec<u64, A>, AllocError> {
     match nodes {
-        Nodes::Children => places_left(alloc, tree.children(node)),
-        Nodes::RevChildren => places_left(alloc, tree.rev_children(node)),
-        Nodes::Subtree => places_left(alloc, tree.subtree_iter(node)),
-        Nodes::SubtreePost => places_left(alloc, tree.subtree_post_iter(node)),
+        Nodes::Children => positions_left(alloc, tree.children(node)),
+        Nodes::RevChildren => positions_left(alloc, tree.rev_children(node)),
+        Nodes::Subtree => positions_left(alloc, tree.subtree_iter(node)),
+        Nodes::SubtreePost => positions_left(alloc, tree.subtree_post_iter(node)),
     }
 }
 

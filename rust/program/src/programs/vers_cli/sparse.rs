@@ -14,13 +14,13 @@ use crate::programs::vers_words::text::{number, split_first_word};
 
 /// Returns true if the load line `sparse LEN p ..` is accepted.
 pub fn is_accepted(arguments: &[u8]) -> bool {
-    let Some((word, places)) = split_first_word(arguments) else {
+    let Some((word, positions)) = split_first_word(arguments) else {
         return false;
     };
     let Some(len) = number(word) else {
         return false;
     };
-    match rise_of(places, true) {
+    match rise_of(positions, true) {
         None => false,
         Some(rise) => rise.is_below(len),
     }
@@ -32,14 +32,14 @@ pub fn load<'a, A: Allocator + Copy>(
     alloc: &'a A,
     arguments: &[u8],
 ) -> Result<Loading<Structure<'a, A>>, AllocError> {
-    let Some((word, places)) = split_first_word(arguments) else {
+    let Some((word, positions)) = split_first_word(arguments) else {
         return Ok(Loading::Malformed);
     };
     let Some(len) = number(word) else {
         return Ok(Loading::Malformed);
     };
-    let Some(rise) = rise_of(places, true) else {
-        if count_numbers(places).is_none() {
+    let Some(rise) = rise_of(positions, true) else {
+        if count_numbers(positions).is_none() {
             return Ok(Loading::Malformed);
         }
         return Ok(Loading::Inadmissible);
@@ -47,7 +47,7 @@ pub fn load<'a, A: Allocator + Copy>(
     if !rise.is_below(len) {
         return Ok(Loading::Inadmissible);
     }
-    match members_of(*alloc, places, rise) {
+    match members_of(*alloc, positions, rise) {
         Ok(ones) => Ok(Loading::Accepted(Structure::Sparse(SparseRSVec::from_sorted(ones, len)))),
         Err(error) => Err(error),
     }

@@ -8,7 +8,7 @@ use crate::rattle::Allocator;
 use std::io::Read;
 use std::io::Write;
 use crate::programs::vers_io::{Device, Sink, Source};
-use crate::programs::vers_words::text::place_of;
+use crate::programs::vers_words::text::position_of;
 
 /// Why a run ended before the end of its input.
 #[derive(Clone, Copy, PartialEq, Eq, Debug)]
@@ -81,7 +81,7 @@ impl<S: Answerer<A>, A: Allocator> Session<S, A> {
     // Takes bytes up to the first end of a line and answers that line, or takes them all as pending. Returns
     // the number of bytes taken.
     fn take_line(&mut self, bytes: &[u8]) -> Result<usize, AllocError> {
-        match place_of(b'\n', bytes) {
+        match position_of(b'\n', bytes) {
             Some(end) => {
                 self.answer_line(&bytes[..end])?;
                 Ok(end + 1)

@@ -4,7 +4,7 @@ use crate::rattle::prelude::*;
 
 use crate::rattle::AllocError;
 use crate::rattle::Allocator;
-use crate::programs::vers_words::text::{place_of, without_return};
+use crate::programs::vers_words::text::{position_of, without_return};
 
 /// Why a FASTA file has no text.
 #[derive(Clone, Copy, PartialEq, Eq, Debug)]
@@ -61,7 +61,7 @@ fn appended<A: Allocator>(
 
 // Returns the first line of a text without its end, and the text after it, if its end is not that of the text.
 fn split_line(text: &[u8]) -> (&[u8], Option<&[u8]>) {
-    match place_of(b'\n', text) {
+    match position_of(b'\n', text) {
         Some(end) => (without_return(&text[..end]), Some(&text[end + 1..])),
         None => (without_return(text), None),
     }

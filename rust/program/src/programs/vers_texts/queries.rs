@@ -27,9 +27,9 @@ pub fn reply<A: Allocator + Copy>(
             None => Ok(Reply::BadLine),
             Some(pattern) => Ok(Reply::Number(text.count(pattern.as_slice()) as u64)),
         },
-        Query::Places => match pattern(alloc, arguments)? {
+        Query::Positions => match pattern(alloc, arguments)? {
             None => Ok(Reply::BadLine),
-            Some(pattern) => places_reply(alloc, text, pattern.as_slice()),
+            Some(pattern) => positions_reply(alloc, text, pattern.as_slice()),
         },
         Query::First => match number_and_pattern(alloc, arguments)? {
             None => Ok(Reply::BadLine),
@@ -51,13 +51,13 @@ pub fn reply<A: Allocator + Copy>(
 }
 
 // Returns the reply with the positions of a pattern, ascending.
-fn places_reply<A: Allocator + Copy>(
+fn positions_reply<A: Allocator + Copy>(
     alloc: A,
     text: &TextIndex<A>,
     pattern: &[u64],
 ) -> Result<Reply<A>, AllocError> {
-    let places = text.places_ascending(pattern)?;
-    Ok(Reply::Numbers(numbers_of(alloc, places.as_slice())?))
+    let positions = text.places_ascending(pattern)?;
+    Ok(Reply::Numbers(numbers_of(alloc, positions.as_slice())?))
 }
 
 // Returns the reply with the first positions of a pattern in suffix-array order, at most `limit`.
@@ -67,15 +67,15 @@ fn first_reply<A: Allocator + Copy>(
     limit: usize,
     pattern: &[u64],
 ) -> Result<Reply<A>, AllocError> {
-    let places = text.first_places(pattern, limit)?;
-    Ok(Reply::Numbers(numbers_of(alloc, places.as_slice())?))
+    let positions = text.first_places(pattern, limit)?;
+    Ok(Reply::Numbers(numbers_of(alloc, positions.as_slice())?))
 }
 
 // Returns positions as numbers of 64 bits.
-fn numbers_of<A: Allocator>(alloc: A, places: &[usize]) -> Result<Vec<u64, A>, AllocError> {
-    let mut numbers = Vec::with_capacity(alloc, places.len())?;
-    for place in places {
-        numbers.push(*place as u64)?;
+fn numbers_of<A: Allocator>(alloc: A, positions: &[usize]) -> Result<Vec<u64, A>, AllocError> {
+    let mut numbers = Vec::with_capacity(alloc, positions.len())?;
+    for position in positions {
+        numbers.push(*position as u64)?;
     }
     Ok(numbers)
 }

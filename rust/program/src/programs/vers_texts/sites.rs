@@ -25,9 +25,9 @@ pub fn sites_reply<A: Allocator + Copy>(
     if !has_pairs_of_feeds(text.is_empty(), feeds.as_slice()) {
         return Ok(Reply::Refused);
     }
-    let places = text.places_ascending(pattern)?;
+    let positions = text.places_ascending(pattern)?;
     let mut line = Vec::new(alloc);
-    if !append_sites(text, feeds.as_slice(), places.as_slice(), &mut line)? {
+    if !append_sites(text, feeds.as_slice(), positions.as_slice(), &mut line)? {
         return Ok(Reply::Refused);
     }
     Ok(Reply::Text(line))
@@ -44,8 +44,8 @@ fn are_residues(symbols: &[u64]) -> bool {
 }
 
 // Returns the number of line feeds before a position.
-fn feeds_before(feeds: &[usize], place: usize) -> usize {
-    feeds.partition_point(|feed| *feed < place)
+fn feeds_before(feeds: &[usize], position: usize) -> usize {
+    feeds.partition_point(|feed| *feed < position)
 }
 
 // Returns true if line feeds are those of a FASTA text: two for each sequence, the first at the text's start unless
@@ -59,18 +59,18 @@ fn has_pairs_of_feeds(is_empty: bool, feeds: &[usize]) -> bool {
 fn append_sites<A: Allocator + Copy>(
     text: &TextIndex<A>,
     feeds: &[usize],
-    places: &[usize],
+    positions: &[usize],
     line: &mut Vec<u8, A>,
 ) -> Result<bool, AllocError> {
-    let Some((first, others)) = places.split_first() else {
+    let Some((first, others)) = positions.split_first() else {
         return Ok(true);
     };
     if !append_site(text, feeds, *first, line)? {
         return Ok(false);
     }
-    for place in others {
+    for position in others {
         line.push(b' ')?;
-        if !append_site(text, feeds, *place, line)? {
+        if !append_site(text, feeds, *position, line)? {
             return Ok(false);
         }
     }
@@ -82,10 +82,10 @@ fn append_sites<A: Allocator + Copy>(
 fn append_site<A: Allocator + Copy>(
     text: &TextIndex<A>,
     feeds: &[usize],
-    place: usize,
+    position: usize,
     line: &mut Vec<u8, A>,
 ) -> Result<bool, AllocError> {
-    let number = feeds_before(feeds, place);
+    let number = feeds_before(feeds, position);
     if number < 2 || number % 2 != 0 {
         return Ok(false);
     }
@@ -95,7 +95,7 @@ fn append_site<A: Allocator + Copy>(
     };
     append_low_bits(name.as_slice(), line)?;
     line.push(b' ')?;
-    append_number(place.saturating_sub(to).saturating_sub(1) as u64, line)?;
+    append_number(position.saturating_sub(to).saturating_sub(1) as u64, line)?;
     Ok(true)
 }
 

@@ -3,7 +3,7 @@
 use crate::rattle::prelude::*;
 
 use crate::programs::vers_words::reply::append_number;
-use crate::programs::vers_words::text::{number, place_of, split_first_word};
+use crate::programs::vers_words::text::{number, position_of, split_first_word};
 use crate::rattle::AllocError;
 use crate::rattle::Allocator;
 
@@ -17,9 +17,9 @@ use crate::rattle::Allocator;
 pub fn pattern<A: Allocator>(alloc: A, text: &[u8]) -> Result<Option<Vec<u64, A>>, AllocError> {
     let mut symbols = Vec::with_capacity(alloc, room_for(text))?;
     let mut rest = text;
-    while let Some(start) = place_of(b'"', rest) {
+    while let Some(start) = position_of(b'"', rest) {
         let quoted = &rest[start + 1..];
-        let Some(end) = place_of(b'"', quoted) else {
+        let Some(end) = position_of(b'"', quoted) else {
             return Ok(None);
         };
         if append_words(&mut symbols, &rest[..start])?.is_none() {
@@ -59,7 +59,7 @@ pub fn number_and_pattern<A: Allocator>(
 // Returns the number of symbols to reserve memory for: at least as many as a pattern of decimal numbers has, or as
 // its bytes if it has quotes.
 fn room_for(text: &[u8]) -> usize {
-    if place_of(b'"', text).is_some() {
+    if position_of(b'"', text).is_some() {
         return text.len();
     }
     let mut words = 1usize;

@@ -3,7 +3,7 @@
 use crate::rattle::prelude::*;
 
 /// Returns the first position of a byte in a text, or `None` if there is none.
-pub fn place_of(byte: u8, text: &[u8]) -> Option<usize> {
+pub fn position_of(byte: u8, text: &[u8]) -> Option<usize> {
     text.iter().position(|other| *other == byte)
 }
 
@@ -15,7 +15,7 @@ fn first_of_word(text: &[u8]) -> Option<usize> {
 /// Returns the first word of a text and the text after it, or `None` if the text has no word.
 pub fn split_first_word(text: &[u8]) -> Option<(&[u8], &[u8])> {
     let from_word = &text[first_of_word(text)?..];
-    let len = place_of(b' ', from_word).unwrap_or(from_word.len());
+    let len = position_of(b' ', from_word).unwrap_or(from_word.len());
     Some((&from_word[..len], &from_word[len..]))
 }
 

@@ -19,29 +19,29 @@ impl<A: Allocator + Copy> BitVec<A> {
         self.truncate(len.saturating_sub(n));
     }
 
-    /// Flips the bit at `place`. Precondition: `place` is below the length.
-    pub fn flip_bit(&mut self, place: usize) {
-        flip(&mut self.data, place);
+    /// Flips the bit at `position`. Precondition: `position` is below the length.
+    pub fn flip_bit(&mut self, position: usize) {
+        flip(&mut self.data, position);
     }
 
-    /// Flips the bit at `place`. Precondition: `place` is below the length.
-    pub fn flip_bit_unchecked(&mut self, place: usize) {
-        self.flip_bit(place);
+    /// Flips the bit at `position`. Precondition: `position` is below the length.
+    pub fn flip_bit_unchecked(&mut self, position: usize) {
+        self.flip_bit(position);
     }
 
-    /// Sets the bit at `place` to the lowest bit of `value`. Errors: `OutOfRange` if `place` is out of bounds;
+    /// Sets the bit at `position` to the lowest bit of `value`. Errors: `OutOfRange` if `position` is out of bounds;
     /// the list is then unchanged.
-    pub fn set(&mut self, place: usize, value: u64) -> Result<(), OutOfRange> {
-        if place >= self.len() {
+    pub fn set(&mut self, position: usize, value: u64) -> Result<(), OutOfRange> {
+        if position >= self.len() {
             return Err(OutOfRange);
         }
-        self.set_unchecked(place, value);
+        self.set_unchecked(position, value);
         Ok(())
     }
 
-    /// Sets the bit at `place` to the lowest bit of `value`. Precondition: `place` is below the length.
-    pub fn set_unchecked(&mut self, place: usize, value: u64) {
-        put_bit(&mut self.data, place, value % 2 == 1);
+    /// Sets the bit at `position` to the lowest bit of `value`. Precondition: `position` is below the length.
+    pub fn set_unchecked(&mut self, position: usize, value: u64) {
+        put_bit(&mut self.data, position, value % 2 == 1);
     }
 
     /// Returns the first `at` bits, and the others. If `at` is 0 or the length, one list is empty and the call

@@ -390,8 +390,8 @@ fn equal_word(bit: bool) -> u64 {
 // Returns the number whose digits are the lowest bits of the items, the first item's lowest.
 fn parities<T: Item>(items: &[T]) -> u64 {
     let mut word = 0;
-    for place in (0..items.len()).rev() {
-        word = 2 * word + u64::from(items[place].is_odd());
+    for position in (0..items.len()).rev() {
+        word = 2 * word + u64::from(items[position].is_odd());
     }
     word
 }

@@ -35,59 +35,59 @@ impl<'a, 'b, F: Fn(u64, u64) -> u64, A: Allocator + Copy> MaskedBitVec<'a, 'b, F
         self.limb(k).count_ones() as u64
     }
 
-    // Returns the `n` bits from `place` as a number. Precondition: they are in one limb.
-    fn part(&self, place: usize, n: usize) -> u64 {
-        (self.limb(place / 64) >> (place % 64)) & (u64::MAX >> (64 - n))
+    // Returns the `n` bits from `position` as a number. Precondition: they are in one limb.
+    fn part(&self, position: usize, n: usize) -> u64 {
+        (self.limb(position / 64) >> (position % 64)) & (u64::MAX >> (64 - n))
     }
 
-    /// Returns true if the bit at `place` is a one, or `None` if `place` is out of bounds.
-    pub fn is_bit_set(&self, place: usize) -> Option<bool> {
-        if place >= self.left.len() {
+    /// Returns true if the bit at `position` is a one, or `None` if `position` is out of bounds.
+    pub fn is_bit_set(&self, position: usize) -> Option<bool> {
+        if position >= self.left.len() {
             return None;
         }
-        Some(self.is_bit_set_unchecked(place))
+        Some(self.is_bit_set_unchecked(position))
     }
 
-    /// Returns the bit at `place`, 1 or 0, or `None` if `place` is out of bounds.
-    pub fn get(&self, place: usize) -> Option<u64> {
-        if place >= self.left.len() {
+    /// Returns the bit at `position`, 1 or 0, or `None` if `position` is out of bounds.
+    pub fn get(&self, position: usize) -> Option<u64> {
+        if position >= self.left.len() {
             return None;
         }
-        Some(self.get_unchecked(place))
+        Some(self.get_unchecked(position))
     }
 
-    /// Returns true if the bit at `place` is a one. Precondition: `place` is below the length.
-    pub fn is_bit_set_unchecked(&self, place: usize) -> bool {
-        (self.answer(place / 64) >> (place % 64)) & 1 == 1
+    /// Returns true if the bit at `position` is a one. Precondition: `position` is below the length.
+    pub fn is_bit_set_unchecked(&self, position: usize) -> bool {
+        (self.answer(position / 64) >> (position % 64)) & 1 == 1
     }
 
-    /// Returns the bit at `place`, 1 or 0. Precondition: `place` is below the length.
-    pub fn get_unchecked(&self, place: usize) -> u64 {
-        u64::from(self.is_bit_set_unchecked(place))
+    /// Returns the bit at `position`, 1 or 0. Precondition: `position` is below the length.
+    pub fn get_unchecked(&self, position: usize) -> u64 {
+        u64::from(self.is_bit_set_unchecked(position))
     }
 
-    /// Returns the `n` bits from position `place` as a number. `None` if there are fewer, or `n` is 0 or above
+    /// Returns the `n` bits from `position` on as a number. `None` if there are fewer, or `n` is 0 or above
     /// 64.
-    pub fn get_bits(&self, place: usize, n: usize) -> Option<u64> {
+    pub fn get_bits(&self, position: usize, n: usize) -> Option<u64> {
         let len = self.left.len();
-        if n == 0 || n > 64 || place > len || n > len - place {
+        if n == 0 || n > 64 || position > len || n > len - position {
             return None;
         }
-        Some(self.get_bits_unchecked(place, n))
+        Some(self.get_bits_unchecked(position, n))
     }
 
-    /// Returns the `n` bits from position `place` as a number: 0 if `n` is 0. Precondition: `n` is at most 64,
-    /// and `place + n` at most the length.
-    pub fn get_bits_unchecked(&self, place: usize, n: usize) -> u64 {
+    /// Returns the `n` bits from `position` on as a number: 0 if `n` is 0. Precondition: `n` is at most 64,
+    /// and `position + n` at most the length.
+    pub fn get_bits_unchecked(&self, position: usize, n: usize) -> u64 {
         let len = self.left.len();
-        if n == 0 || place >= len {
+        if n == 0 || position >= len {
             return 0;
         }
-        let room = 64 - place % 64;
+        let room = 64 - position % 64;
         if n <= room {
-            return self.part(place, n);
+            return self.part(position, n);
         }
-        self.part(place, room) | (self.part(place + room, n - room) << room)
+        self.part(position, room) | (self.part(position + room, n - room) << room)
     }
 
     /// Returns the number of ones.
@@ -163,72 +163,72 @@ pub struct BitMask<'s, 'b, A: Allocator + Copy> {
 }
 
 impl<'s, 'b, A: Allocator + Copy> BitMask<'s, 'b, A> {
-    /// Returns true if the bit at `place` is a one, or `None` if `place` is out of bounds.
-    pub fn is_bit_set(&self, place: usize) -> Option<bool> {
+    /// Returns true if the bit at `position` is a one, or `None` if `position` is out of bounds.
+    pub fn is_bit_set(&self, position: usize) -> Option<bool> {
         let kind = self.kind;
         MaskedBitVec {
             left: self.left,
             right: self.right,
             mask: |x: u64, y: u64| kind.combine(x, y),
         }
-        .is_bit_set(place)
+        .is_bit_set(position)
     }
 
-    /// Returns the bit at `place`, 1 or 0, or `None` if `place` is out of bounds.
-    pub fn get(&self, place: usize) -> Option<u64> {
+    /// Returns the bit at `position`, 1 or 0, or `None` if `position` is out of bounds.
+    pub fn get(&self, position: usize) -> Option<u64> {
         let kind = self.kind;
         MaskedBitVec {
             left: self.left,
             right: self.right,
             mask: |x: u64, y: u64| kind.combine(x, y),
         }
-        .get(place)
+        .get(position)
     }
 
-    /// Returns true if the bit at `place` is a one. Precondition: `place` is below the length.
-    pub fn is_bit_set_unchecked(&self, place: usize) -> bool {
+    /// Returns true if the bit at `position` is a one. Precondition: `position` is below the length.
+    pub fn is_bit_set_unchecked(&self, position: usize) -> bool {
         let kind = self.kind;
         MaskedBitVec {
             left: self.left,
             right: self.right,
             mask: |x: u64, y: u64| kind.combine(x, y),
         }
-        .is_bit_set_unchecked(place)
+        .is_bit_set_unchecked(position)
     }
 
-    /// Returns the bit at `place`, 1 or 0. Precondition: `place` is below the length.
-    pub fn get_unchecked(&self, place: usize) -> u64 {
+    /// Returns the bit at `position`, 1 or 0. Precondition: `position` is below the length.
+    pub fn get_unchecked(&self, position: usize) -> u64 {
         let kind = self.kind;
         MaskedBitVec {
             left: self.left,
             right: self.right,
             mask: |x: u64, y: u64| kind.combine(x, y),
         }
-        .get_unchecked(place)
+        .get_unchecked(position)
     }
 
-    /// Returns the `n` bits from position `place` as a number. `None` if there are fewer, or `n` is 0 or above
+    /// Returns the `n` bits from `position` on as a number. `None` if there are fewer, or `n` is 0 or above
     /// 64.
-    pub fn get_bits(&self, place: usize, n: usize) -> Option<u64> {
+    pub fn get_bits(&self, position: usize, n: usize) -> Option<u64> {
         let kind = self.kind;
         MaskedBitVec {
             left: self.left,
             right: self.right,
             mask: |x: u64, y: u64| kind.combine(x, y),
         }
-        .get_bits(place, n)
+        .get_bits(position, n)
     }
 
-    /// Returns the `n` bits from position `place` as a number: 0 if `n` is 0. Precondition: `n` is at most 64,
-    /// and `place + n` at most the length.
-    pub fn get_bits_unchecked(&self, place: usize, n: usize) -> u64 {
+    /// Returns the `n` bits from `position` on as a number: 0 if `n` is 0. Precondition: `n` is at most 64,
+    /// and `position + n` at most the length.
+    pub fn get_bits_unchecked(&self, position: usize, n: usize) -> u64 {
         let kind = self.kind;
         MaskedBitVec {
             left: self.left,
             right: self.right,
             mask: |x: u64, y: u64| kind.combine(x, y),
         }
-        .get_bits_unchecked(place, n)
+        .get_bits_unchecked(position, n)
     }
 
     /// Returns the number of ones.

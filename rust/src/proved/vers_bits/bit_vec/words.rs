@@ -100,17 +100,17 @@ pub(super) fn cut<A: Allocator + Copy>(words: &mut Vec<u64, A>, len: usize) {
     words[len / 64] = low_part(last, used);
 }
 
-// Sets the bit at `place` to `bit`.
-pub(super) fn put_bit<A: Allocator + Copy>(words: &mut Vec<u64, A>, place: usize, bit: bool) {
-    let mask = 1 << (place % 64);
+// Sets the bit at `position` to `bit`.
+pub(super) fn put_bit<A: Allocator + Copy>(words: &mut Vec<u64, A>, position: usize, bit: bool) {
+    let mask = 1 << (position % 64);
     if bit {
-        words[place / 64] |= mask;
+        words[position / 64] |= mask;
         return;
     }
-    words[place / 64] &= !mask;
+    words[position / 64] &= !mask;
 }
 
-// Flips the bit at `place`.
-pub(super) fn flip<A: Allocator + Copy>(words: &mut Vec<u64, A>, place: usize) {
-    words[place / 64] ^= 1 << (place % 64);
+// Flips the bit at `position`.
+pub(super) fn flip<A: Allocator + Copy>(words: &mut Vec<u64, A>, position: usize) {
+    words[position / 64] ^= 1 << (position % 64);
 }

@@ -72,7 +72,7 @@ impl<A: Allocator + Copy> RsVec<A> {
         self.level_each::<Superblock>(BIT, numbers, from, n, tally);
         self.level_each::<Block>(BIT, numbers, from, n, tally);
         self.level_each::<Limb>(BIT, numbers, from, n, tally);
-        self.level_each::<Place>(BIT, numbers, from, n, tally);
+        self.level_each::<Position>(BIT, numbers, from, n, tally);
     }
 
     // Maps each of `n` numbers through one level.
@@ -121,16 +121,16 @@ impl Level for Block {
     fn lead<A: Allocator + Copy>(
         bits: &RsVec<A>,
         bit: bool,
-        place: usize,
+        position: usize,
         tally: &mut Tally,
     ) -> usize {
         let len = bits.len();
-        if place >= len {
-            return place;
+        if position >= len {
+            return position;
         }
-        let s = place / SUPERBLOCK;
+        let s = position / SUPERBLOCK;
         let is_whole = len - SUPERBLOCK * s >= SUPERBLOCK;
-        let found = bits.block_with(bit, (place % SUPERBLOCK) as u16, s, is_whole, tally);
+        let found = bits.block_with(bit, (position % SUPERBLOCK) as u16, s, is_whole, tally);
         BLOCK * (BLOCKS * s + found.block as usize) + found.rest as usize
     }
 }
@@ -143,39 +143,39 @@ impl Level for Limb {
     fn lead<A: Allocator + Copy>(
         bits: &RsVec<A>,
         bit: bool,
-        place: usize,
+        position: usize,
         tally: &mut Tally,
     ) -> usize {
         let len = bits.len();
-        if place >= len {
-            return place;
+        if position >= len {
+            return position;
         }
-        let block = place / BLOCK;
+        let block = position / BLOCK;
         let is_whole = len - BLOCK * block >= BLOCK;
-        let at = bits.limb_in_block(bit, place % BLOCK, block, is_whole, tally);
+        let at = bits.limb_in_block(bit, position % BLOCK, block, is_whole, tally);
         LIMB * at.limb + at.rest
     }
 }
 
 // Maps the start of a limb plus a number there to its position.
-pub(super) struct Place;
+pub(super) struct Position;
 
-impl Level for Place {
+impl Level for Position {
     #[inline(always)]
     fn lead<A: Allocator + Copy>(
         bits: &RsVec<A>,
         bit: bool,
-        place: usize,
+        position: usize,
         tally: &mut Tally,
     ) -> usize {
-        if place >= bits.len() {
-            return place;
+        if position >= bits.len() {
+            return position;
         }
         let number = InLimb {
-            limb: place / LIMB,
-            rest: place % LIMB,
+            limb: position / LIMB,
+            rest: position % LIMB,
         };
-        let at = bits.place_in_limb(bit, number, tally);
-        LIMB * at.limb + at.place
+        let at = bits.position_in_limb(bit, number, tally);
+        LIMB * at.limb + at.position
     }
 }

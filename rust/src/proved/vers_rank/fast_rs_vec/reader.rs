@@ -3,7 +3,7 @@
 use crate::rattle::prelude::*;
 
 use super::{LIMB, RsVec};
-use crate::proved::vers_rank::word::{marks, place_in_word};
+use crate::proved::vers_rank::word::{marks, position_in_word};
 use crate::rattle::Allocator;
 use crate::proved::vers_tally::tally::Tally;
 
@@ -33,7 +33,7 @@ impl Reader {
     // Returns the position of number `r`: mostly from the current word, otherwise from a word of the same
     // block, or by a select.
     #[inline(always)]
-    pub(super) fn place<A: Allocator + Copy>(
+    pub(super) fn position<A: Allocator + Copy>(
         &mut self,
         bit: bool,
         r: usize,
@@ -80,8 +80,8 @@ impl Reader {
             ones = self.word.count_ones() as usize;
         }
         if self.next < r {
-            let place = place_in_word(self.word, true, r - self.next);
-            self.word &= u64::MAX << place;
+            let position = position_in_word(self.word, true, r - self.next);
+            self.word &= u64::MAX << position;
             self.next = r;
         }
     }
@@ -97,7 +97,7 @@ impl Reader {
     ) {
         tally.add_rank_call();
         let at = bits.locate(bit, r, tally);
-        self.word = marks(bit, at.word) & (u64::MAX << at.place);
+        self.word = marks(bit, at.word) & (u64::MAX << at.position);
         self.limb = at.limb;
         self.next = r;
         let edge = bits.count_at_block(bit, at.limb / 8 + 1, tally);
@@ -106,7 +106,7 @@ impl Reader {
 
     // Returns the position of number `r`, in a walk from the back.
     #[inline(always)]
-    pub(super) fn place_back<A: Allocator + Copy>(
+    pub(super) fn position_back<A: Allocator + Copy>(
         &mut self,
         bit: bool,
         r: usize,
@@ -159,8 +159,8 @@ impl Reader {
             ones = self.word.count_ones() as usize;
         }
         if end < self.next {
-            let place = place_in_word(self.word, true, ones - 1 - (self.next - end));
-            self.word &= u64::MAX >> (63 - place);
+            let position = position_in_word(self.word, true, ones - 1 - (self.next - end));
+            self.word &= u64::MAX >> (63 - position);
             self.next = end;
         }
     }
@@ -176,7 +176,7 @@ impl Reader {
     ) {
         tally.add_rank_call();
         let at = bits.locate(bit, end - 1, tally);
-        self.word = marks(bit, at.word) & (u64::MAX >> (63 - at.place));
+        self.word = marks(bit, at.word) & (u64::MAX >> (63 - at.position));
         self.limb = at.limb;
         self.next = end;
         let edge = bits.count_at_block(bit, at.limb / 8, tally);

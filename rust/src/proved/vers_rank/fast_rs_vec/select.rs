@@ -45,18 +45,18 @@ impl<A: Allocator + Copy> RsVec<A> {
     #[inline(always)]
     pub fn select_counted(&self, bit: bool, r: usize, tally: &mut Tally) -> usize {
         tally.add_rank_call();
-        self.place_of(bit, r, tally)
+        self.position_of(bit, r, tally)
     }
 
     // Returns the position of zero or one `r`, or the length, as a part of a query.
     #[inline(always)]
-    pub(super) fn place_of(&self, bit: bool, r: usize, tally: &mut Tally) -> usize {
+    pub(super) fn position_of(&self, bit: bool, r: usize, tally: &mut Tally) -> usize {
         let len = self.len();
         if r >= self.total(bit) {
             return len;
         }
         let at = self.locate(bit, r, tally);
-        LIMB * at.limb + at.place
+        LIMB * at.limb + at.position
     }
 
     // Returns the location of zero or one `r`.
@@ -70,7 +70,7 @@ impl<A: Allocator + Copy> RsVec<A> {
         } else {
             self.limb_of(bit, r_in_superblock, s, false, tally)
         };
-        self.place_in_limb(bit, at, tally)
+        self.position_in_limb(bit, at, tally)
     }
 
     // Returns the number within its superblock of number `r`.

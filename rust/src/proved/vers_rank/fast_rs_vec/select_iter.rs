@@ -16,7 +16,7 @@ pub struct Kind<const ZERO: bool>;
 
 /// The positions of one kind of bit of an indexed list, which iterators of type `K` read one by one. It keeps
 /// the current limb of each end.
-pub struct Places<K, L: Indexed> {
+pub struct Positions<K, L: Indexed> {
     list: L,
     bit: bool,
     front: Reader,
@@ -24,11 +24,11 @@ pub struct Places<K, L: Indexed> {
     kind: PhantomData<K>,
 }
 
-impl<K, L: Indexed> Places<K, L> {
+impl<K, L: Indexed> Positions<K, L> {
     /// Returns the positions of the ones of a list if `bit` is true, otherwise of its zeros. Reads nothing yet.
     pub fn new(list: L, bit: bool) -> Self {
         let nothing = Reader::new();
-        Places {
+        Positions {
             list,
             bit,
             front: nothing,
@@ -38,7 +38,7 @@ impl<K, L: Indexed> Places<K, L> {
     }
 }
 
-impl<K, L: Indexed> Source for Places<K, L> {
+impl<K, L: Indexed> Source for Positions<K, L> {
     type Item = usize;
 
     #[inline]
@@ -49,40 +49,41 @@ impl<K, L: Indexed> Source for Places<K, L> {
 
     #[inline(always)]
     fn item_at(&mut self, i: usize, tally: &mut Tally) -> usize {
-        self.front.place(self.bit, i, self.list.list(), tally)
+        self.front.position(self.bit, i, self.list.list(), tally)
     }
 
     #[inline(always)]
     fn item_at_back(&mut self, i: usize, tally: &mut Tally) -> usize {
-        self.back.place_back(self.bit, i, self.list.list(), tally)
+        self.back
+            .position_back(self.bit, i, self.list.list(), tally)
     }
 }
 
-impl<'a, K, A: Allocator + Copy> Borrowing for Places<K, &'a RsVec<A>> {
+impl<'a, K, A: Allocator + Copy> Borrowing for Positions<K, &'a RsVec<A>> {
     fn second(&self) -> Self {
-        Places::new(self.list, self.bit)
+        Positions::new(self.list, self.bit)
     }
 }
 
-impl<K, A: Allocator + Copy> Owning for Places<K, RsVec<A>> {
+impl<K, A: Allocator + Copy> Owning for Positions<K, RsVec<A>> {
     fn second(&self) -> Result<Self, AllocError> {
         let list = self.list.clone()?;
-        Ok(Places::new(list, self.bit))
+        Ok(Positions::new(list, self.bit))
     }
 }
 
 /// An iterator over the positions of the zeros of a list if `ZERO` is true, otherwise of its ones, ascending.
 /// Each step reads at most what one select does.
-pub type SelectIter<'a, const ZERO: bool, A> = BothEnds<Places<Kind<ZERO>, &'a RsVec<A>>>;
+pub type SelectIter<'a, const ZERO: bool, A> = BothEnds<Positions<Kind<ZERO>, &'a RsVec<A>>>;
 
 /// An iterator over the positions of the zeros of a list that it owns if `ZERO` is true, otherwise of its ones,
 /// ascending. Each step reads at most what one select does.
-pub type SelectIntoIter<const ZERO: bool, A> = BothEnds<Places<Kind<ZERO>, RsVec<A>>>;
+pub type SelectIntoIter<const ZERO: bool, A> = BothEnds<Positions<Kind<ZERO>, RsVec<A>>>;
 
 impl<A: Allocator + Copy> RsVec<A> {
     /// Returns an iterator over the positions of the zeros if `ZERO` is true, otherwise of the ones.
     pub fn select_iter<const ZERO: bool>(&self) -> SelectIter<'_, ZERO, A> {
-        BothEnds::new(Places::new(self, !ZERO))
+        BothEnds::new(Positions::new(self, !ZERO))
     }
 
     /// Returns an iterator over the positions of the zeros.
@@ -98,17 +99,17 @@ impl<A: Allocator + Copy> RsVec<A> {
     /// Returns an iterator over the positions of the zeros if `ZERO` is true, otherwise of the ones, which owns
     /// the list.
     pub fn into_select_iter<const ZERO: bool>(self) -> SelectIntoIter<ZERO, A> {
-        let places = Places::new(self, !ZERO);
-        BothEnds::new(places)
+        let positions = Positions::new(self, !ZERO);
+        BothEnds::new(positions)
     }
 
     /// Returns an iterator over the positions of the zeros, which owns the list.
     pub fn into_iter0(self) -> SelectIntoIter<true, A> {
-        BothEnds::new(Places::new(self, false))
+        BothEnds::new(Positions::new(self, false))
     }
 
     /// Returns an iterator over the positions of the ones, which owns the list.
     pub fn into_iter1(self) -> SelectIntoIter<false, A> {
-        BothEnds::new(Places::new(self, true))
+        BothEnds::new(Positions::new(self, true))
     }
 }

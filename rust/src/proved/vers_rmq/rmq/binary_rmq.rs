@@ -4,8 +4,8 @@ use crate::rattle::prelude::*;
 
 mod table;
 
-use crate::proved::vers_rmq::rmq::binary_rmq::table::{log2, places, width};
-use crate::proved::vers_rmq::rmq::bounds::{end_place, start_place};
+use crate::proved::vers_rmq::rmq::binary_rmq::table::{log2, positions, width};
+use crate::proved::vers_rmq::rmq::bounds::{end_position, start_position};
 use crate::proved::vers_rmq::rmq::gather::gathered;
 pub use crate::proved::vers_rmq::rmq::least::PlacedItem;
 use crate::proved::vers_rmq::rmq::least::{lesser_of, read_at};
@@ -47,7 +47,7 @@ impl<A: Allocator + Copy> BinaryRmq<A> {
     /// the allocator refuses a request; the items are then dropped.
     pub fn from_vec(items: Vec<u64, A>) -> Result<Self, AllocError> {
         let alloc = *items.allocator();
-        let table = places(items.as_slice(), alloc)?;
+        let table = positions(items.as_slice(), alloc)?;
         Ok(BinaryRmq {
             items: CountedItems::new(items),
             table,
@@ -100,17 +100,17 @@ impl<A: Allocator + Copy> BinaryRmq<A> {
         self.table[self.items.len() * k + i] as usize
     }
 
-    /// Returns the item at `place`. Precondition: `place` is below the length.
+    /// Returns the item at `position`. Precondition: `position` is below the length.
     #[inline]
-    pub fn item(&self, place: usize) -> u64 {
+    pub fn item(&self, position: usize) -> u64 {
         let mut tally = Tally::new();
-        self.item_counted(place, &mut tally)
+        self.item_counted(position, &mut tally)
     }
 
-    /// Returns `item(place)`. Reads one item.
+    /// Returns `item(position)`. Reads one item.
     #[inline(always)]
-    pub fn item_counted(&self, place: usize, tally: &mut Tally) -> u64 {
-        self.items.read(place, tally)
+    pub fn item_counted(&self, position: usize, tally: &mut Tally) -> u64 {
+        self.items.read(position, tally)
     }
 
     /// Returns the first least item from position `i` to position `j`, both included, with its position.
@@ -134,7 +134,7 @@ impl<A: Allocator + Copy> BinaryRmq<A> {
     /// Returns `range_min(i, j)`. Reads at most 2 items.
     #[inline(always)]
     pub fn range_min_counted(&self, i: usize, j: usize, tally: &mut Tally) -> usize {
-        self.range_min_item_counted(i, j, tally).place
+        self.range_min_item_counted(i, j, tally).position
     }
 
     /// Returns the first position of a least item from position `i` to position `j`, both included.
@@ -154,7 +154,7 @@ impl<A: Allocator + Copy> BinaryRmq<A> {
         tally: &mut Tally,
     ) -> usize {
         let n = self.len();
-        self.range_min_counted(start_place(start, n), end_place(end, n), tally)
+        self.range_min_counted(start_position(start, n), end_position(end, n), tally)
     }
 
     /// Returns the first position of a least item in a range whose ends are clamped to the positions of the

@@ -6,7 +6,7 @@ mod block;
 mod mask;
 
 use crate::proved::vers_rmq::rmq::binary_rmq::BinaryRmq;
-use crate::proved::vers_rmq::rmq::bounds::{end_place, start_place};
+use crate::proved::vers_rmq::rmq::bounds::{end_position, start_position};
 use crate::proved::vers_rmq::rmq::fast_rmq::block::{BlockMasks, Blocks, all_blocks};
 use crate::proved::vers_rmq::rmq::fast_rmq::mask::{first_set, last_set};
 use crate::proved::vers_rmq::rmq::gather::gathered;
@@ -40,22 +40,22 @@ pub const MAX_LEN: usize = 549755813760;
 pub struct FastRmq<A: Allocator + Copy> {
     items: CountedItems<A>,
     minima: BinaryRmq<A>,
-    places: Vec<u8, A>,
+    positions: Vec<u8, A>,
     masks: Vec<BlockMasks, A>,
 }
 
 impl<A: Allocator + Copy> Clone for FastRmq<A> {
     /// Returns a copy of the items and the data of the blocks.
     fn clone(&self) -> Result<Self, AllocError> {
-        let alloc = *self.places.allocator();
+        let alloc = *self.positions.allocator();
         let items = Vec::from_slice(alloc, self.items.as_slice(Uncounted))?;
-        let places = Vec::from_slice(alloc, self.places.as_slice())?;
+        let positions = Vec::from_slice(alloc, self.positions.as_slice())?;
         let masks = Vec::from_slice(alloc, self.masks.as_slice())?;
         let minima = self.minima.clone()?;
         Ok(FastRmq {
             items: CountedItems::new(items),
             minima,
-            places,
+            positions,
             masks,
         })
     }
@@ -68,14 +68,14 @@ impl<A: Allocator + Copy> FastRmq<A> {
         let alloc = *items.allocator();
         let Blocks {
             minima,
-            places,
+            positions,
             masks,
         } = all_blocks(items.as_slice(), alloc)?;
         let minima = BinaryRmq::from_vec(minima)?;
         Ok(FastRmq {
             items: CountedItems::new(items),
             minima,
-            places,
+            positions,
             masks,
         })
     }
@@ -118,36 +118,36 @@ impl<A: Allocator + Copy> FastRmq<A> {
     /// Returns a copy of the allocator.
     #[inline]
     pub fn allocator(&self) -> A {
-        *self.places.allocator()
+        *self.positions.allocator()
     }
 
     /// Returns the number of bytes that the items and the data of the blocks take.
     pub fn heap_size(&self) -> usize {
-        let kept = self.places.len() + 64 * self.masks.len();
+        let kept = self.positions.len() + 64 * self.masks.len();
         8 * self.items.len() + self.minima.heap_size() + kept
     }
 
     // Returns the first position of a least item from the start of the block of `j` to `j`.
     #[inline(always)]
-    fn prefix_place(&self, j: usize) -> usize {
+    fn prefix_position(&self, j: usize) -> usize {
         BLOCK * (j / BLOCK) + last_set(self.masks[j / BLOCK].whole.prefixes, j % BLOCK)
     }
 
     // Returns the first position of a least item from `i` to the end of its block.
     #[inline(always)]
-    fn suffix_place(&self, i: usize) -> usize {
+    fn suffix_position(&self, i: usize) -> usize {
         BLOCK * (i / BLOCK) + first_set(self.masks[i / BLOCK].whole.suffixes, i % BLOCK)
     }
 
     // Returns the first position of a least item from the start of the part of `j` to `j`.
     #[inline(always)]
-    fn part_prefix_place(&self, j: usize) -> usize {
+    fn part_prefix_position(&self, j: usize) -> usize {
         BLOCK * (j / BLOCK) + last_set(self.masks[j / BLOCK].parts.prefixes, j % BLOCK)
     }
 
     // Returns the first position of a least item from `i` to the end of its part.
     #[inline(always)]
-    fn part_suffix_place(&self, i: usize) -> usize {
+    fn part_suffix_position(&self, i: usize) -> usize {
         BLOCK * (i / BLOCK) + first_set(self.masks[i / BLOCK].parts.suffixes, i % BLOCK)
     }
 
@@ -157,7 +157,7 @@ impl<A: Allocator + Copy> FastRmq<A> {
         let _ = self.items.len();
         let least = self.minima.range_min_item_counted(a, c, tally);
         PlacedItem {
-            place: BLOCK * least.place + self.places[least.place] as usize,
+            position: BLOCK * least.position + self.positions[least.position] as usize,
             value: least.value,
         }
     }
@@ -165,40 +165,40 @@ impl<A: Allocator + Copy> FastRmq<A> {
     // Returns the first position of a least item of a range in one part: by its masks, or by reading its items.
     #[inline(always)]
     fn least_in_part(&self, i: usize, j: usize, tally: &mut Tally) -> usize {
-        let last = self.part_prefix_place(j);
+        let last = self.part_prefix_position(j);
         if i <= last {
             return last;
         }
-        let first = self.part_suffix_place(i);
+        let first = self.part_suffix_position(i);
         if first <= j {
             return first;
         }
-        scan(&self.items, i, j, tally).place
+        scan(&self.items, i, j, tally).position
     }
 
     // Returns the first position of a least item of a range over parts of one block: by the masks of the block,
     // or by reading the least items of the suffix of a part, of whole parts and of the prefix of a part.
     #[inline(always)]
     fn least_in_block(&self, i: usize, j: usize, tally: &mut Tally) -> usize {
-        let last = self.prefix_place(j);
+        let last = self.prefix_position(j);
         if i <= last {
             return last;
         }
-        let first = self.suffix_place(i);
+        let first = self.suffix_position(i);
         if first <= j {
             return first;
         }
-        let mut least = read_at(&self.items, self.part_suffix_place(i), tally);
+        let mut least = read_at(&self.items, self.part_suffix_position(i), tally);
         for part in i / PART + 1..j / PART {
             let here = read_at(
                 &self.items,
-                self.part_prefix_place(PART * part + (PART - 1)),
+                self.part_prefix_position(PART * part + (PART - 1)),
                 tally,
             );
             least = lesser_of(least, here);
         }
-        let here = read_at(&self.items, self.part_prefix_place(j), tally);
-        lesser_of(least, here).place
+        let here = read_at(&self.items, self.part_prefix_position(j), tally);
+        lesser_of(least, here).position
     }
 
     // Returns the least item of block `b`. Reads one item.
@@ -216,7 +216,7 @@ impl<A: Allocator + Copy> FastRmq<A> {
         if after.value < least {
             return after;
         }
-        lesser_of(read_at(&self.items, self.suffix_place(i), tally), after)
+        lesser_of(read_at(&self.items, self.suffix_position(i), tally), after)
     }
 
     // Returns the first least item up to `j`, if `before` is that up to the end of the previous block. Reads no
@@ -227,7 +227,7 @@ impl<A: Allocator + Copy> FastRmq<A> {
         if before.value <= least {
             return before;
         }
-        lesser_of(before, read_at(&self.items, self.prefix_place(j), tally))
+        lesser_of(before, read_at(&self.items, self.prefix_position(j), tally))
     }
 
     // Returns the first position of a least item of a range over blocks, by the least items of whole blocks,
@@ -235,13 +235,13 @@ impl<A: Allocator + Copy> FastRmq<A> {
     #[inline(always)]
     fn least_over_blocks(&self, i: usize, j: usize, tally: &mut Tally) -> usize {
         if i / BLOCK + 1 == j / BLOCK {
-            let first = read_at(&self.items, self.suffix_place(i), tally);
-            let last = read_at(&self.items, self.prefix_place(j), tally);
-            return lesser_of(first, last).place;
+            let first = read_at(&self.items, self.suffix_position(i), tally);
+            let last = read_at(&self.items, self.prefix_position(j), tally);
+            return lesser_of(first, last).position;
         }
         let middle = self.between(i / BLOCK + 1, j / BLOCK - 1, tally);
         let from = self.least_from(i, middle, tally);
-        self.least_up_to(from, j, tally).place
+        self.least_up_to(from, j, tally).position
     }
 
     /// Returns `range_min(i, j)`. Reads at most 18 items: at most 6 over more than one block, 8 over parts of
@@ -274,7 +274,7 @@ impl<A: Allocator + Copy> FastRmq<A> {
         tally: &mut Tally,
     ) -> usize {
         let n = self.len();
-        self.range_min_counted(start_place(start, n), end_place(end, n), tally)
+        self.range_min_counted(start_position(start, n), end_position(end, n), tally)
     }
 
     /// Returns the first position of a least item in a range whose ends are clamped to the positions of the

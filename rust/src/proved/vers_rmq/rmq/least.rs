@@ -9,7 +9,7 @@ use crate::proved::vers_tally::tally::{CountedItems, Tally};
 #[derive(Clone, Copy)]
 pub struct PlacedItem {
     /// The position.
-    pub place: usize,
+    pub position: usize,
     /// The item.
     pub value: u64,
 }
@@ -25,27 +25,27 @@ pub(super) fn lesser_of(first: PlacedItem, second: PlacedItem) -> PlacedItem {
 }
 
 // Returns the one of two positions that has the lesser item, the first if they are equal.
-pub(super) fn lesser_place(items: &[u64], m: usize, n: usize) -> usize {
+pub(super) fn lesser_position(items: &[u64], m: usize, n: usize) -> usize {
     let first = PlacedItem {
-        place: m,
+        position: m,
         value: items[m],
     };
     let second = PlacedItem {
-        place: n,
+        position: n,
         value: items[n],
     };
-    lesser_of(first, second).place
+    lesser_of(first, second).position
 }
 
 // Returns the item at a position. Reads one item.
 #[inline(always)]
 pub(super) fn read_at<A: Allocator + Copy>(
     items: &CountedItems<A>,
-    place: usize,
+    position: usize,
     tally: &mut Tally,
 ) -> PlacedItem {
-    let value = items.read(place, tally);
-    PlacedItem { place, value }
+    let value = items.read(position, tally);
+    PlacedItem { position, value }
 }
 
 // Returns the first least item from `i` to `j`. Reads each of them once.

@@ -6,10 +6,10 @@ use super::EliasFanoVec;
 use crate::rattle::Allocator;
 use crate::proved::vers_tally::tally::Tally;
 
-// Bits of the high parts: `len` of them from `place` on, as a number. No ones if nothing was read.
+// Bits of the high parts: `len` of them from `position` on, as a number. No ones if nothing was read.
 #[derive(Clone, Copy)]
 pub(super) struct Ahead {
-    pub(super) place: usize,
+    pub(super) position: usize,
     pub(super) len: usize,
     pub(super) word: u64,
 }
@@ -19,7 +19,7 @@ impl Ahead {
     #[inline]
     pub(super) fn none() -> Ahead {
         Ahead {
-            place: 0,
+            position: 0,
             len: 0,
             word: 0,
         }
@@ -29,37 +29,37 @@ impl Ahead {
 impl<A: Allocator + Copy> EliasFanoVec<A> {
     // Returns the position of the one of a member, which mostly was read ahead with those before it.
     #[inline(always)]
-    pub(super) fn place_ahead(&self, i: usize, ahead: &mut Ahead, tally: &mut Tally) -> usize {
+    pub(super) fn position_ahead(&self, i: usize, ahead: &mut Ahead, tally: &mut Tally) -> usize {
         let bits = self.high.len();
         if ahead.word != 0 {
-            return self.place_read(i, ahead);
+            return self.position_read(i, ahead);
         }
-        let place = self.high.select1_counted(i, tally);
-        let len = (bits - place - 1).min(64);
-        ahead.place = place + 1;
+        let position = self.high.select1_counted(i, tally);
+        let len = (bits - position - 1).min(64);
+        ahead.position = position + 1;
         ahead.len = len;
         ahead.word = self
             .high
-            .get_bits_counted(place + 1, len, tally)
+            .get_bits_counted(position + 1, len, tally)
             .unwrap_or(0);
-        place
+        position
     }
 
     // Returns the position of the one of a member, which was read ahead.
     #[inline(always)]
-    pub(super) fn place_read(&self, i: usize, ahead: &mut Ahead) -> usize {
+    pub(super) fn position_read(&self, i: usize, ahead: &mut Ahead) -> usize {
         let _ = self.high.len();
         let skip = ahead.word.trailing_zeros() as usize;
         ahead.word = (ahead.word >> skip) >> 1;
-        ahead.place += skip + 1;
+        ahead.position += skip + 1;
         ahead.len -= skip + 1;
-        ahead.place - 1
+        ahead.position - 1
     }
 
     // Returns a member, by the position of its one.
     #[inline(always)]
     pub(super) fn member_ahead(&self, i: usize, ahead: &mut Ahead, tally: &mut Tally) -> u64 {
-        let high = (self.place_ahead(i, ahead, tally) - i - 1) as u64;
+        let high = (self.position_ahead(i, ahead, tally) - i - 1) as u64;
         self.with_low_part(high, i, tally)
     }
 }

@@ -13,40 +13,40 @@ pub(super) const GROUP: usize = 64;
 
 // Computes the numbers of the ones of the members at `n` positions, past all ones for each `None`.
 #[inline(always)]
-fn ask_each(places: &[Option<u64>], from: usize, n: usize, ones: &mut [usize; GROUP]) {
+fn ask_each(positions: &[Option<u64>], from: usize, n: usize, ones: &mut [usize; GROUP]) {
     for j in 0..n {
-        ones[j] = places[from + j].unwrap_or(u64::MAX) as usize;
+        ones[j] = positions[from + j].unwrap_or(u64::MAX) as usize;
     }
 }
 
 // Returns true if the last of `n` positions is n - 1 past the first, as in a run.
 #[inline(always)]
-fn is_run(places: &[Option<u64>], from: usize, n: usize) -> bool {
+fn is_run(positions: &[Option<u64>], from: usize, n: usize) -> bool {
     if n < 2 {
         return false;
     }
-    match (places[from], places[from + n - 1]) {
+    match (positions[from], positions[from + n - 1]) {
         (Some(first), Some(last)) => last.wrapping_sub(first) == (n - 1) as u64,
         _ => false,
     }
 }
 
 impl<A: Allocator + Copy> EliasFanoVec<A> {
-    /// Replaces each `Some(i)` in `places` by `get(i)`; each `None` stays. Allocates nothing.
-    pub fn get_each(&self, places: &mut [Option<u64>]) {
+    /// Replaces each `Some(i)` in `positions` by `get(i)`; each `None` stays. Allocates nothing.
+    pub fn get_each(&self, positions: &mut [Option<u64>]) {
         let mut tally = Tally::new();
-        self.get_each_counted(places, &mut tally)
+        self.get_each_counted(positions, &mut tally)
     }
 
     /// Does what `get_each` does. Reads at most what as many calls of `get` do.
     #[inline(always)]
-    pub fn get_each_counted(&self, places: &mut [Option<u64>], tally: &mut Tally) {
+    pub fn get_each_counted(&self, positions: &mut [Option<u64>], tally: &mut Tally) {
         let _ = self.len();
-        let len = places.len();
+        let len = positions.len();
         let mut from = 0;
         while from < len {
             let n = GROUP.min(len - from);
-            self.get_group(places, from, n, tally);
+            self.get_group(positions, from, n, tally);
             from += n;
         }
     }
@@ -54,23 +54,23 @@ impl<A: Allocator + Copy> EliasFanoVec<A> {
     // Replaces each of `n` positions by the member there: in turn if they are a run, otherwise all selects first, level
     // by level.
     #[inline(always)]
-    fn get_group(&self, places: &mut [Option<u64>], from: usize, n: usize, tally: &mut Tally) {
-        if is_run(places, from, n) {
-            self.get_in_turn(places, from, n, tally);
+    fn get_group(&self, positions: &mut [Option<u64>], from: usize, n: usize, tally: &mut Tally) {
+        if is_run(positions, from, n) {
+            self.get_in_turn(positions, from, n, tally);
             return;
         }
         let _ = &self.len;
         let mut ones = [0; GROUP];
-        ask_each(places, from, n, &mut ones);
+        ask_each(positions, from, n, &mut ones);
         self.high.select1_each_counted(&mut ones[..n], tally);
-        self.members_each(places, from, n, &ones, tally);
+        self.members_each(positions, from, n, &ones, tally);
     }
 
     // Replaces each of `n` positions by the member there, as an iterator reads them.
-    fn get_in_turn(&self, places: &mut [Option<u64>], from: usize, n: usize, tally: &mut Tally) {
+    fn get_in_turn(&self, positions: &mut [Option<u64>], from: usize, n: usize, tally: &mut Tally) {
         let mut members = Members::new(self);
         for j in 0..n {
-            places[from + j] = members.member_of(places[from + j], tally);
+            positions[from + j] = members.member_of(positions[from + j], tally);
         }
     }
 
@@ -78,21 +78,21 @@ impl<A: Allocator + Copy> EliasFanoVec<A> {
     #[inline(always)]
     fn members_each(
         &self,
-        places: &mut [Option<u64>],
+        positions: &mut [Option<u64>],
         from: usize,
         n: usize,
         ones: &[usize; GROUP],
         tally: &mut Tally,
     ) {
         for j in 0..n {
-            places[from + j] = self.member_at(places[from + j], ones[j], tally);
+            positions[from + j] = self.member_at(positions[from + j], ones[j], tally);
         }
     }
 
     // Returns the member at a position, by the position of its one.
     #[inline(always)]
-    fn member_at(&self, place: Option<u64>, one: usize, tally: &mut Tally) -> Option<u64> {
-        let number = match place { Some(number) => number, _ => {
+    fn member_at(&self, position: Option<u64>, one: usize, tally: &mut Tally) -> Option<u64> {
+        let number = match position { Some(number) => number, _ => {
             return None;
         } };
         let i = number as usize;

@@ -55,8 +55,8 @@ impl<L: Sorted> Members<L> {
 
     // Returns the member at a position, if there is one. It is read fastest at the position after the last one.
     #[inline(always)]
-    pub(super) fn member_of(&mut self, place: Option<u64>, tally: &mut Tally) -> Option<u64> {
-        let i = place? as usize;
+    pub(super) fn member_of(&mut self, position: Option<u64>, tally: &mut Tally) -> Option<u64> {
+        let i = position? as usize;
         if i >= self.count_items() {
             return None;
         }

@@ -116,7 +116,7 @@ fn next_part<L: Limbs>(low: &L, width: usize, bits: &mut Bits) -> u64 {
 #[derive(Clone, Copy)]
 struct Walk {
     lows: Bits,
-    place: usize,
+    position: usize,
     least: u64,
 }
 
@@ -130,25 +130,25 @@ impl Walk {
         };
         Walk {
             lows,
-            place: 0,
+            position: 0,
             least: 0,
         }
     }
 }
 
-// Reads the low part of the next member, whose one is at `place`. Returns true if the member may follow the last one.
+// Reads the low part of the next member, whose one is at `position`. Returns true if it may follow the last one.
 #[inline(always)]
 fn read_member<L: Limbs, const RISING: bool>(
     low: &L,
     width: usize,
-    place: usize,
+    position: usize,
     walk: &mut Walk,
 ) -> bool {
     let part = next_part(low, width, &mut walk.lows);
-    let past = walk.place + usize::from(part < walk.least);
-    walk.place = place;
+    let past = walk.position + usize::from(part < walk.least);
+    walk.position = position;
     walk.least = part + u64::from(RISING);
-    past < place
+    past < position
 }
 
 // Reads the members whose ones are in limb `k` of the high parts. Returns true if each may follow the one before it.
@@ -163,9 +163,9 @@ fn read_limb<L: Limbs, H: Limbs, const RISING: bool>(
     let _ = high.len();
     let mut word = high.limb(k);
     while word != 0 {
-        let place = 64 * k + word.trailing_zeros() as usize;
+        let position = 64 * k + word.trailing_zeros() as usize;
         word &= word - 1;
-        if !read_member::<L, RISING>(low, width, place, walk) {
+        if !read_member::<L, RISING>(low, width, position, walk) {
             return false;
         }
     }
@@ -184,11 +184,11 @@ fn count_ones_in<L: Limbs>(bits: &L) -> usize {
 // Returns how far a member is above the first, by the position of its one and its low part. `None` if it is too far,
 // or there is no zero before that one.
 #[inline(always)]
-fn above_of(i: usize, place: usize, low: u64, width: usize, span: u64) -> Option<u64> {
-    if place <= i {
+fn above_of(i: usize, position: usize, low: u64, width: usize, span: u64) -> Option<u64> {
+    if position <= i {
         return None;
     }
-    let high = (place - i - 1) as u64;
+    let high = (position - i - 1) as u64;
     if high > span >> width {
         return None;
     }
@@ -220,7 +220,7 @@ fn are_decodable<L: Limbs, H: Limbs, const RISING: bool>(
     }
     let part = walk.least - u64::from(RISING);
     let span = ends.span();
-    let end = match above_of(ends.len - 1, walk.place, part, width, span) { Some(end) => end, _ => {
+    let end = match above_of(ends.len - 1, walk.position, part, width, span) { Some(end) => end, _ => {
         return false;
     } };
     end == span

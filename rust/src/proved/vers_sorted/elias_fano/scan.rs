@@ -11,13 +11,13 @@ use crate::proved::vers_tally::tally::Tally;
 pub(super) fn zero_after<A: Allocator + Copy>(
     high: &RsVec<A>,
     h: usize,
-    place: usize,
+    position: usize,
     tally: &mut Tally,
 ) -> usize {
     let _ = high.len();
-    if let Some(word) = high.get_bits_counted(place + 1, 64, tally) {
+    if let Some(word) = high.get_bits_counted(position + 1, 64, tally) {
         if word != u64::MAX {
-            return place + 1 + word.trailing_ones() as usize;
+            return position + 1 + word.trailing_ones() as usize;
         }
     }
     high.select0_counted(h + 1, tally)

@@ -129,8 +129,8 @@ impl<A: Allocator + Copy> EliasFanoVec<A> {
         let _ = &self.len;
         let _ = self.high.len();
         let i = bucket.end;
-        let place = one_from(&self.high, i, bucket.high as usize + i + 2, tally);
-        self.with_low_part((place - i - 1) as u64, i, tally)
+        let position = one_from(&self.high, i, bucket.high as usize + i + 2, tally);
+        self.with_low_part((position - i - 1) as u64, i, tally)
     }
 
     // Returns the last member before a bucket. Mostly its one is among the 64 high parts before.
@@ -139,8 +139,8 @@ impl<A: Allocator + Copy> EliasFanoVec<A> {
         let _ = &self.len;
         let _ = self.high.len();
         let i = bucket.start - 1;
-        let place = one_before(&self.high, i, bucket.high as usize + i + 1, tally);
-        self.with_low_part((place - i - 1) as u64, i, tally)
+        let position = one_before(&self.high, i, bucket.high as usize + i + 1, tally);
+        self.with_low_part((position - i - 1) as u64, i, tally)
     }
 
     /// Returns `has(v)`. Reads at most as many low parts, and queries the high parts at most as often, as the

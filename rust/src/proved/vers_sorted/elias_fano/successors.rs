@@ -107,7 +107,7 @@ impl<A: Allocator + Copy> EliasFanoVec<A> {
     // Does the same if the successor isn't among the members whose ones were read.
     #[inline(never)]
     fn successor_on(&self, v: u64, passed: &mut Passed, tally: &mut Tally) -> u64 {
-        let zeros = passed.ahead.place.saturating_sub(passed.next);
+        let zeros = passed.ahead.position.saturating_sub(passed.next);
         if self.high_number(v).saturating_sub(zeros) < FAR {
             if let Some(member) = self.successor_near(v, passed, tally) {
                 return member;
@@ -135,7 +135,7 @@ impl<A: Allocator + Copy> EliasFanoVec<A> {
         let mut parts = 0;
         while passed.ahead.word != 0 {
             let i = passed.next;
-            let part = self.place_read(i, &mut passed.ahead) - i - 1;
+            let part = self.position_read(i, &mut passed.ahead) - i - 1;
             passed.next = i + 1;
             if part >= high {
                 let member = self.with_low_part(part as u64, i, tally);
@@ -155,7 +155,7 @@ impl<A: Allocator + Copy> EliasFanoVec<A> {
     #[inline(always)]
     fn member_read(&self, passed: &mut Passed, tally: &mut Tally) -> u64 {
         let i = passed.next;
-        let part = self.place_read(i, &mut passed.ahead) - i - 1;
+        let part = self.position_read(i, &mut passed.ahead) - i - 1;
         passed.next = i + 1;
         self.with_low_part(part as u64, i, tally)
     }
@@ -177,15 +177,15 @@ impl<A: Allocator + Copy> EliasFanoVec<A> {
     #[inline(always)]
     fn pass_word(&self, v: u64, passed: &mut Passed, tally: &mut Tally) {
         let _ = self.high.len();
-        let ahead = self.bits_from(passed.ahead.place + passed.ahead.len, passed.next, tally);
-        let end = ahead.place + ahead.len;
+        let ahead = self.bits_from(passed.ahead.position + passed.ahead.len, passed.next, tally);
+        let end = ahead.position + ahead.len;
         let next = passed.next + ahead.word.count_ones() as usize;
         if end - next > self.high_number(v) {
             passed.ahead = ahead;
         } else {
             passed.next = next;
             passed.ahead = Ahead {
-                place: end,
+                position: end,
                 len: 0,
                 word: 0,
             };
@@ -197,20 +197,24 @@ impl<A: Allocator + Copy> EliasFanoVec<A> {
     fn successor_searched(&self, v: u64, passed: &mut Passed, tally: &mut Tally) -> u64 {
         let _ = self.high.len();
         let k = self.rank_counted(v, tally) as usize;
-        let place = self.high.select1_counted(k, tally);
+        let position = self.high.select1_counted(k, tally);
         passed.next = k + 1;
-        passed.ahead = self.bits_from(place + 1, k + 1, tally);
-        self.with_low_part((place - k - 1) as u64, k, tally)
+        passed.ahead = self.bits_from(position + 1, k + 1, tally);
+        self.with_low_part((position - k - 1) as u64, k, tally)
     }
 
-    // Returns the bits of the high parts from a place on, up to 64 of them.
+    // Returns the bits of the high parts from a position on, up to 64 of them.
     #[inline(always)]
-    fn bits_from(&self, place: usize, next: usize, tally: &mut Tally) -> Ahead {
-        let len = (self.high.len() - place).min(64);
-        match self.high.get_bits_counted(place, len, tally) {
-            Some(word) => Ahead { place, len, word },
+    fn bits_from(&self, position: usize, next: usize, tally: &mut Tally) -> Ahead {
+        let len = (self.high.len() - position).min(64);
+        match self.high.get_bits_counted(position, len, tally) {
+            Some(word) => Ahead {
+                position,
+                len,
+                word,
+            },
             None => Ahead {
-                place,
+                position,
                 len: 0,
                 word: 0,
             },

@@ -34,7 +34,7 @@ impl<A: Allocator + Copy> WaveletMatrix<A> {
     /// Returns the position of occurrence `rank` (from 0) of a symbol from position `offset` on, or the length
     /// if there are fewer. Precondition: `offset` is at most the length, and the symbol has the list's width.
     pub fn select_offset_unchecked(&self, offset: usize, rank: usize, symbol: &BitVec<A>) -> usize {
-        self.place_from(offset, rank, symbol)
+        self.position_from(offset, rank, symbol)
     }
 
     /// Returns the position of occurrence `rank` (from 0) of a symbol. `None` if the symbol has another width,
@@ -93,7 +93,7 @@ impl<A: Allocator + Copy> WaveletMatrix<A> {
     /// if there are fewer. Only the low bits of `symbol` count. Precondition: `offset` is at most the length,
     /// and the symbols have at most 64 bits.
     pub fn select_offset_u64_unchecked(&self, offset: usize, rank: usize, symbol: u64) -> usize {
-        self.place_from(offset, rank, &symbol)
+        self.position_from(offset, rank, &symbol)
     }
 
     /// Returns the position of occurrence `rank` (from 0) of a symbol. Only the low bits of `symbol` count.

@@ -6,36 +6,36 @@ use crate::rattle::Allocator;
 use crate::proved::vers_rank::fast_rs_vec::RsVec;
 use crate::proved::vers_tally::tally::Tally;
 
-// Returns where the positions from `place` on that have the bit begin in the next level, the zeros at `zeros`.
+// Returns where the positions from `position` on that have the bit begin in the next level, the zeros at `zeros`.
 // No branch on the bit, which would be mispredicted.
 #[inline(always)]
-pub(super) fn chosen_place<A: Allocator + Copy>(
+pub(super) fn chosen_position<A: Allocator + Copy>(
     level: &RsVec<A>,
     bit: bool,
-    place: usize,
+    position: usize,
     zeros: usize,
 ) -> usize {
-    let ones = level.zeros() + (place - zeros);
+    let ones = level.zeros() + (position - zeros);
     if bit { ones } else { zeros }
 }
 
-// Returns where the positions from `place` on that have the bit begin in the next level: by one rank, which
+// Returns where the positions from `position` on that have the bit begin in the next level: by one rank, which
 // serves both bits.
 #[inline(always)]
-pub(super) fn next_place<A: Allocator + Copy>(
+pub(super) fn next_position<A: Allocator + Copy>(
     level: &RsVec<A>,
     bit: bool,
-    place: usize,
+    position: usize,
     tally: &mut Tally,
 ) -> usize {
-    let zeros = zeros_before(level, place, tally);
-    chosen_place(level, bit, place, zeros)
+    let zeros = zeros_before(level, position, tally);
+    chosen_position(level, bit, position, zeros)
 }
 
 // Returns where the zeros from a position on begin in the next level.
 #[inline(always)]
-fn zeros_before<A: Allocator + Copy>(level: &RsVec<A>, place: usize, tally: &mut Tally) -> usize {
-    level.rank0_counted(place, tally)
+fn zeros_before<A: Allocator + Copy>(level: &RsVec<A>, position: usize, tally: &mut Tally) -> usize {
+    level.rank0_counted(position, tally)
 }
 
 // Where the zeros from either end of a range on begin in the next level.
@@ -68,25 +68,25 @@ pub(super) fn zeros_before_both<A: Allocator + Copy>(
 
 // Returns true if a position of the next level is one of those of the bit.
 #[inline(always)]
-pub(super) fn is_of_bit<A: Allocator + Copy>(level: &RsVec<A>, bit: bool, place: usize) -> bool {
+pub(super) fn is_of_bit<A: Allocator + Copy>(level: &RsVec<A>, bit: bool, position: usize) -> bool {
     if bit {
-        level.zeros() <= place
+        level.zeros() <= position
     } else {
-        place < level.zeros()
+        position < level.zeros()
     }
 }
 
-// Returns the position whose position in the next level is `place`, if that one is among those of the bit. One
+// Returns the position whose position in the next level is `position`, if that one is among those of the bit. One
 // select serves both bits: one for each would be too large to be inlined.
 #[inline(always)]
-pub(super) fn place_above<A: Allocator + Copy>(
+pub(super) fn position_above<A: Allocator + Copy>(
     level: &RsVec<A>,
     bit: bool,
-    place: usize,
+    position: usize,
     tally: &mut Tally,
 ) -> usize {
     let start = if bit { level.zeros() } else { 0 };
-    level.select_counted(bit, place - start, tally)
+    level.select_counted(bit, position - start, tally)
 }
 
 // A range of positions of a level, and the number of symbols below the symbol that were left behind.
@@ -107,8 +107,8 @@ pub(super) fn part_of_bit<A: Allocator + Copy>(
     zeros: Zeros,
 ) -> Part {
     Part {
-        start: chosen_place(level, bit, part.start, zeros.first),
-        end: chosen_place(level, bit, part.end, zeros.last),
+        start: chosen_position(level, bit, part.start, zeros.first),
+        end: chosen_position(level, bit, part.end, zeros.last),
         less: if bit {
             part.less + (zeros.last - zeros.first)
         } else {
@@ -150,8 +150,8 @@ pub(super) fn choose_level<A: Allocator + Copy>(
     let passed = zeros.last - zeros.first;
     let bit = from.left >= passed;
     Choice {
-        start: chosen_place(level, bit, from.start, zeros.first),
-        end: chosen_place(level, bit, from.end, zeros.last),
+        start: chosen_position(level, bit, from.start, zeros.first),
+        end: chosen_position(level, bit, from.end, zeros.last),
         left: if bit { from.left - passed } else { from.left },
         bit,
     }
@@ -161,17 +161,17 @@ pub(super) fn choose_level<A: Allocator + Copy>(
 #[derive(Clone, Copy)]
 pub(super) struct Step {
     pub(super) bit: bool,
-    pub(super) place: usize,
+    pub(super) position: usize,
 }
 
 // Reads one level of the symbol at a position.
 #[inline(always)]
 pub(super) fn read_level<A: Allocator + Copy>(
     level: &RsVec<A>,
-    place: usize,
+    position: usize,
     tally: &mut Tally,
 ) -> Step {
-    let bit = level.is_one_counted(place, tally);
-    let place = next_place(level, bit, place, tally);
-    Step { bit, place }
+    let bit = level.is_one_counted(position, tally);
+    let position = next_position(level, bit, position, tally);
+    Step { bit, position }
 }

@@ -3,7 +3,7 @@
 use crate::rattle::prelude::*;
 
 use crate::proved::vers_wavelet::wavelet::digits::{Digits, copy_digits};
-use crate::proved::vers_wavelet::wavelet::level::{Part, chosen_place, part_of_bit, zeros_before_both};
+use crate::proved::vers_wavelet::wavelet::level::{Part, chosen_position, part_of_bit, zeros_before_both};
 use crate::proved::vers_wavelet::wavelet::walk::find_kth;
 use crate::rattle::Allocator;
 use crate::proved::vers_rank::fast_rs_vec::RsVec;
@@ -42,8 +42,8 @@ fn follow_level<A: Allocator + Copy, D: Digits>(
     let zeros = zeros_before_both(level, part.start, part.end, tally);
     let left = Beside {
         level: k + 1,
-        start: chosen_place(level, is_up, part.start, zeros.first),
-        end: chosen_place(level, is_up, part.end, zeros.last),
+        start: chosen_position(level, is_up, part.start, zeros.first),
+        end: chosen_position(level, is_up, part.end, zeros.last),
     };
     let next = part_of_bit(level, bit, part, zeros);
     if bit == is_up || left.start == left.end {

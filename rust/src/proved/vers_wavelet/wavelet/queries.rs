@@ -52,7 +52,7 @@ impl<A: Allocator + Copy> WaveletMatrix<A> {
 
     // Does the same, but returns the length if there are fewer.
     #[inline(always)]
-    pub(super) fn place_from<D: Digits>(&self, offset: usize, rank: usize, symbol: &D) -> usize {
+    pub(super) fn position_from<D: Digits>(&self, offset: usize, rank: usize, symbol: &D) -> usize {
         let mut tally = Tally::new();
         self.find_from(offset, rank, symbol, &mut tally)
             .unwrap_or(self.len())
@@ -60,8 +60,8 @@ impl<A: Allocator + Copy> WaveletMatrix<A> {
 
     // Writes the symbol at a position into a number that is 0.
     #[inline(always)]
-    pub(super) fn read_at<D: Digits>(&self, place: usize, answer: &mut D, tally: &mut Tally) {
-        read_symbol(self.levels(), self.len(), place, answer, tally);
+    pub(super) fn read_at<D: Digits>(&self, position: usize, answer: &mut D, tally: &mut Tally) {
+        read_symbol(self.levels(), self.len(), position, answer, tally);
     }
 
     // Writes the `i`-th smallest member of a range into a number that is 0.

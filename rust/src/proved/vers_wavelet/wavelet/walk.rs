@@ -4,7 +4,7 @@ use crate::rattle::prelude::*;
 
 use crate::proved::vers_wavelet::wavelet::digits::Digits;
 use crate::proved::vers_wavelet::wavelet::level::{
-    Choice, Part, choose_level, is_of_bit, narrow_level, next_place, place_above, read_level,
+    Choice, Part, choose_level, is_of_bit, narrow_level, next_position, position_above, read_level,
 };
 use crate::rattle::Allocator;
 use crate::proved::vers_rank::fast_rs_vec::RsVec;
@@ -36,19 +36,19 @@ pub(super) fn narrow<A: Allocator + Copy, D: Digits>(
     part
 }
 
-// Returns where the positions from `place` on that have a symbol begin below the last level.
+// Returns where the positions from `position` on that have a symbol begin below the last level.
 #[inline(always)]
 pub(super) fn descend<A: Allocator + Copy, D: Digits>(
     levels: &[RsVec<A>],
     len: usize,
-    place: usize,
+    position: usize,
     symbol: &D,
     tally: &mut Tally,
 ) -> usize {
-    let mut at = place;
+    let mut at = position;
     for k in 0..levels.len() {
         let bit = symbol.digit(levels.len() - (k + 1));
-        at = next_place(&levels[k], bit, at, tally);
+        at = next_position(&levels[k], bit, at, tally);
     }
     at
 }
@@ -63,16 +63,16 @@ pub(super) fn climb<A: Allocator + Copy, D: Digits>(
     target: usize,
     tally: &mut Tally,
 ) -> Option<usize> {
-    let mut place = target;
+    let mut position = target;
     for i in 0..levels.len() {
         let k = levels.len() - (i + 1);
         let bit = symbol.digit(i);
-        if !is_of_bit(&levels[k], bit, place) {
+        if !is_of_bit(&levels[k], bit, position) {
             return None;
         }
-        place = place_above(&levels[k], bit, place, tally);
+        position = position_above(&levels[k], bit, position, tally);
     }
-    Some(place)
+    Some(position)
 }
 
 // Adds the symbol at a position of some levels to a number, whose digits of these levels are zeros, and returns
@@ -81,15 +81,15 @@ pub(super) fn climb<A: Allocator + Copy, D: Digits>(
 pub(super) fn read_symbol<A: Allocator + Copy, D: Digits>(
     levels: &[RsVec<A>],
     len: usize,
-    place: usize,
+    position: usize,
     answer: &mut D,
     tally: &mut Tally,
 ) -> usize {
-    let mut at = place;
+    let mut at = position;
     for k in 0..levels.len() {
         let step = read_level(&levels[k], at, tally);
         answer.put_digit(levels.len() - (k + 1), step.bit);
-        at = step.place;
+        at = step.position;
     }
     at
 }

@@ -47,7 +47,7 @@ impl Batch<WaveletMatrix<Global>, RankQuery> for Ranks {
 
     #[inline(always)]
     fn answer(self, query: RankQuery) -> Answer {
-        Answer::place_or_absent(query.answer)
+        Answer::position_or_absent(query.answer)
     }
 }
 
@@ -68,7 +68,7 @@ impl Batch<WaveletMatrix<Global>, SelectQuery> for Selects {
 
     #[inline(always)]
     fn answer(self, query: SelectQuery) -> Answer {
-        Answer::place_or_absent(query.answer)
+        Answer::position_or_absent(query.answer)
     }
 }
 

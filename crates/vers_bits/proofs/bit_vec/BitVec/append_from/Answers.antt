@@ -20,8 +20,8 @@ returns-clause-grown g c =
     let n : ℕ = (c.len.result - c.args.start) % 64 in
     let before = take m (drop c.args.start l) in
     let word = c.get_bits_unchecked-2.result in
-    let place : c.args.start + (c.len.result - c.args.start - n) ≡ c.args.start + m = omega arith in
-    let read : word ≡ number (take n (drop (c.args.start + m) l)) = c.get_bits_unchecked-2.ensures ∙ ap (λ p. number (take n (drop p l))) place in
+    let position : c.args.start + (c.len.result - c.args.start - n) ≡ c.args.start + m = omega arith in
+    let read : word ≡ number (take n (drop (c.args.start + m) l)) = c.get_bits_unchecked-2.ensures ∙ ap (λ p. number (take n (drop p l))) position in
     let last = last_bits l c.args.start m n (omega arith) in
     IfOk-equal c.append_bits.result c.append_bits.new.self (c.loop-k.self ++ low_bits word n) _ c.append_bits.ensures.grown
     (ap (λ xs. xs ++ low_bits word n) c.loop-k.invariant ∙ append_assoc c.args.self.now before (low_bits word n)

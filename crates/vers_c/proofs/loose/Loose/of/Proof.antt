@@ -61,12 +61,12 @@ module _ (E : Bx) (drops : Dict) where
         use1 𝓛 (later (some (λ (pair : Ptr × E.al.row.Denot). (tokens ⊛ ‵ ((Tuple (RawPtr ∷ P E ∷ [])).own_val pair (u ∷ [])))
         ⊛ some (λ (_ : (Unit {0} × (Unit {0} × Unit {0})) × Unit {0}). ‵ (fsep (fsep ftrue (fsep ftrue ftrue)) ftrue) ⊛ (raw (fact 𝓤 (pair.1 ≡ owner.alloc)) ⊛ Owned pair.0))))) (id⊢ 𝓤 _) $
         await ! tt $ pick ! (λ pair. split ! $ move ! (1 ∷ []) $ pick ! (λ _. split3 ! $ drop ! $ heard ! (pair.1 ≡ owner.alloc) (λ same.
-        in_a_block ! pair.0 (λ p. box_owns (token E.al owner.alloc) (R E) p owner.value) (fst∗ 𝓤 (never 𝓤) (sem 𝓛 (token E.al owner.alloc (bare (τ E)) null_ptr))) (λ b' o' place.
+        in_a_block ! pair.0 (λ p. box_owns (token E.al owner.alloc) (R E) p owner.value) (fst∗ 𝓤 (never 𝓤) (sem 𝓛 (token E.al owner.alloc (bare (τ E)) null_ptr))) (λ b' o' position.
         move ! (1 ∷ []) $ split ! $ move ! (1 ∷ []) $ pair_is_word E ! pair u (λ hw both fits'.
         rewrite ! 0 (λ (a : E.al.row.Denot). ‵ (handle E a hw)) same refl $
         let made : Made.Denot = record { at = block_ptr b' o'; alloc = owner.alloc; value = owner.value } in
         let as_box : D E = record { ptr = block_ptr b' o'; alloc = owner.alloc; value = owner.value } in
-        lands_as ! (ap only (both ∙ ap (λ (p : Ptr). vstruct (of_list (ptr_val p ∷ hw ∷ [])) ∷ []) place)) refl (box_typed E hw b' o' fits') $
+        lands_as ! (ap only (both ∙ ap (λ (p : Ptr). vstruct (of_list (ptr_val p ∷ hw ∷ [])) ∷ []) position)) refl (box_typed E hw b' o' fits') $
         sets ! (of_opd ! (get_in ! (fld ! refl (stop !)) (sub ! 0 refl (whole !)))) refl (tt, tt) $
         sets ! (of_opd ! (get_in ! (fld ! refl (stop !)) (sub ! 1 refl (whole !)))) refl fits' $
         sets ! (of_opd ! (get ! refl)) refl fits' $

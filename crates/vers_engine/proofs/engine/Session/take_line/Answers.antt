@@ -23,11 +23,11 @@ returns-in_ok-answer_line-in-Some-clause-taken g c =
     let s = c.args.self.now in
     let bs = c.args.bytes.now in
     let i = c.in-Some.end in
-    let place : position (λ b. b == 10) bs ≡ Some i = sym c.in-Some.ensures in (
+    let found : position (λ b. b == 10) bs ≡ Some i = sym c.in-Some.ensures in (
       a.0,
       a.1,
-      rw (through_byte 10 bs i place, c.in_ok-answer_line-in-Some.ensures.pending)
-          (TakesOrFails-line g.S.Answerer.answering s.store s.pending.items (take i bs) a.0 _ (lacks_before 10 bs i place) a.2.0 a.2.1),
+      rw (through_byte 10 bs i found, c.in_ok-answer_line-in-Some.ensures.pending)
+          (TakesOrFails-line g.S.Answerer.answering s.store s.pending.items (take i bs) a.0 _ (lacks_before 10 bs i found) a.2.0 a.2.1),
     )
 
 pub returns-in_ok-extend_from_slice-in-None-clause-taken : goal.returns-in_ok-extend_from_slice-in-None-clause-taken

@@ -1,5 +1,5 @@
 use Rattle.vers_rank.proofs.Names.{select_past, ◌≡◌, ℕ, ◌+◌, ◌/◌, ◌<◌, ◌≤◌, ap, sym, ◌∙◌, arith, rules, count, length, adds_then, adds_weaker}
-use Rattle.vers_rank.proofs.Pairs.{none_after, place_after}
+use Rattle.vers_rank.proofs.Pairs.{none_after, position_after}
 use Rattle.vers_rank.proofs.Selects.{select_le}
 use Rattle.vers_rank.proofs.fast_rs_vec.RsVec.pair_of.Goals as goal
 
@@ -15,11 +15,11 @@ returns-then-r-total g c =
       near = search rules;
     }
 
-pub overflow_mul-place : goal.overflow_mul-place
-overflow_mul-place g c = omega (arith, select_le)
+pub overflow_mul-position : goal.overflow_mul-position
+overflow_mul-position g c = omega (arith, select_le)
 
-pub overflow_add-place : goal.overflow_add-place
-overflow_add-place g c = omega (arith, select_le)
+pub overflow_add-position : goal.overflow_add-position
+overflow_add-position g c = omega (arith, select_le)
 
 pub overflow_add-second : goal.overflow_add-second
 overflow_add-second g c = omega (arith, select_le)
@@ -48,7 +48,7 @@ returns-then-after-ne0 g c =
     let after = rw word at c.if-after-ne0.true in
     record {
       first = first;
-      second = c.min.ensures ∙ rw (c.len-len.ensures.value, word) (place_after c.args.bit c.args.self.now _ _ (omega (arith, after)) c.args.r (rw is at known.some) first);
+      second = c.min.ensures ∙ rw (c.len-len.ensures.value, word) (position_after c.args.bit c.args.self.now _ _ (omega (arith, after)) c.args.r (rw is at known.some) first);
       within = (omega (arith, first, select_le c.args.bit c.args.self.now c.args.r), omega (arith, c.min.ensures, c.len-len.ensures.value));
       counted = search rules;
       adds = adds_then known.adds at.adds (search rules);
@@ -72,7 +72,7 @@ pub loop-number-preserved : goal.loop-number-preserved
 loop-number-preserved g c =
     let at = c.locate-at.ensures in
     let is : c.loop-number.number ≡ c.args.r = omega (arith, c.loop-number.invariant.from, c.if-number-r.false) in
-    let place = rw is at at.value in
+    let position = rw is at at.value in
     let word = rw at.word at c.marks.ensures in
     let more : c.args.r + 1 < count c.args.bit c.args.self.now (length c.args.self.now) = omega (arith, c.total-total.ensures, c.if-number-total.false) in
     let begun = c.loop-number.invariant.begun (omega (arith, is)) in
@@ -80,8 +80,8 @@ loop-number-preserved g c =
       from = omega arith;
       to = omega arith;
       some = more;
-      first_is = λ _. place;
-      apart = λ _. none_after c.args.bit c.args.self.now c.args.r _ _ at.within.1 more place (rw word at c.if-after-ne0.false);
+      first_is = λ _. position;
+      apart = λ _. none_after c.args.bit c.args.self.now c.args.r _ _ at.within.1 more position (rw word at c.if-after-ne0.false);
       counted = omega (arith, c.loop-number.invariant.counted, at.adds.rank_calls);
       begun = λ again. absurd (omega (arith, again));
       adds = adds_then begun at.adds (search rules);

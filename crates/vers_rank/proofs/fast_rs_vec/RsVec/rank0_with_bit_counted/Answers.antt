@@ -5,4 +5,4 @@ use Rattle.vers_rank.proofs.fast_rs_vec.RsVec.rank0_with_bit_counted.Goals as go
 pub returns-in-Some-clause-bit : goal.returns-in-Some-clause-bit
 returns-in-Some-clause-bit g c =
     let limbs = rw c.self.view_is at c.in-Some.ensures.limbs in
-    rw (limb_of_block c.args.self.now (c.args.place / 512) c.in-Some.limbs.now (c.args.place / 64) limbs (omega arith) (omega arith)) (bit_of_limb c.args.self.now c.args.place)
+    rw (limb_of_block c.args.self.now (c.args.position / 512) c.in-Some.limbs.now (c.args.position / 64) limbs (omega arith) (omega arith)) (bit_of_limb c.args.self.now c.args.position)

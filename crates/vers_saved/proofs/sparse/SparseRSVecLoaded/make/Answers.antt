@@ -16,5 +16,5 @@ from_sorted-requires-clause-within g c =
 pub returns : goal.returns
 returns g c =
     let again = sparse_again c.args.held.now.items c.args.of.count c.args.of.width c.requires c.in_ok-ones.ones c.in_ok-ones.ensures.ascending (rw c.as_slice-words.ensures.value at c.in_ok-ones.ensures.words)
-    c.from_sorted.result (rw c.as_slice-words.ensures.value at c.from_sorted.ensures.length) c.from_sorted.ensures.places in
+    c.from_sorted.result (rw c.as_slice-words.ensures.value at c.from_sorted.ensures.length) c.from_sorted.ensures.positions in
     (again.0, (sparse_few c.args.held.now.items c.args.of.count c.args.of.width c.requires).2, again.1, tt)

@@ -4,7 +4,7 @@ use Rattle.vers_sorted.proofs.elias_fano.EliasFanoVec.get_each_counted.Given as 
 abbrev pub invariant-loop-from : goal.invariant-loop-from
 invariant-loop-from g l = record {
   within : l.from ≤ l.len;
-  changed : Changed None (λ place m. m ≡ option_and_then (slice_get l.self) place) 0 l.from l.fn.places l.places;
+  changed : Changed None (λ position m. m ≡ option_and_then (slice_get l.self) position) 0 l.from l.fn.positions l.positions;
   adds : AddsAtMost l.fn.tally l.tally (times l.from (member_reads l.self));
 }
 

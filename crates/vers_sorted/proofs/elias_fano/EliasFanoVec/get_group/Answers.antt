@@ -7,4 +7,4 @@ members_each-requires-clause-ones g c =
     λ j h i is within.
     (grind (arith, length-take, length-map, get_or_append_left, get_or-map, get_or-take))
     ∙ ap (select true c.self.inside.high) (c.ask_each.ensures j h ∙ ap (λ o. unwrap_or o 18446744073709551615) is)
-    ∙ packed.high_parts.place i within
+    ∙ packed.high_parts.position i within

@@ -6,21 +6,21 @@ use Rattle.vers_sorted.proofs.elias_fano.EliasFanoVec.successor_read.Goals as go
 pub returns-then-member-v-clause-some : goal.returns-then-member-v-clause-some
 returns-then-member-v-clause-some g c =
     let is = c.with_low_part-member.ensures.value in
-    let found = succ_found c.args.self.now c.args.v c.loop-passed.passed.next c.high_number-high.ensures.ascending c.place_read.ensures.within c.loop-passed.invariant.passed.few (omega (arith, is, c.if-member-v.true)) in
+    let found = succ_found c.args.self.now c.args.v c.loop-passed.passed.next c.high_number-high.ensures.ascending c.position_read.ensures.within c.loop-passed.invariant.passed.few (omega (arith, is, c.if-member-v.true)) in
     found.0 ∙ ap Some (sym is)
 
 pub returns-then-parts-eq-PARTS-clause-none : goal.returns-then-parts-eq-PARTS-clause-none
 returns-then-parts-eq-PARTS-clause-none g c = record {
-  few = below_from c.args.self.now c.args.v c.loop-passed.passed.next c.high_number-high.ensures.ascending c.place_read.ensures.within (omega (arith, c.with_low_part-member.ensures.value, c.if-member-v.false));
-  read = c.place_read.ensures.read;
+  few = below_from c.args.self.now c.args.v c.loop-passed.passed.next c.high_number-high.ensures.ascending c.position_read.ensures.within (omega (arith, c.with_low_part-member.ensures.value, c.if-member-v.false));
+  read = c.position_read.ensures.read;
 }
 
 pub loop-passed-preserved-else-parts-eq-PARTS : goal.loop-passed-preserved-else-parts-eq-PARTS
 loop-passed-preserved-else-parts-eq-PARTS g c = record {
   high_is = c.high_number-high.ensures.value;
   passed = record {
-    few = below_from c.args.self.now c.args.v c.loop-passed.passed.next c.high_number-high.ensures.ascending c.place_read.ensures.within (omega (arith, c.with_low_part-member.ensures.value, c.if-member-v.false));
-    read = c.place_read.ensures.read;
+    few = below_from c.args.self.now c.args.v c.loop-passed.passed.next c.high_number-high.ensures.ascending c.position_read.ensures.within (omega (arith, c.with_low_part-member.ensures.value, c.if-member-v.false));
+    read = c.position_read.ensures.read;
   };
   few = omega arith;
   adds = adds_then c.loop-passed.invariant.adds c.with_low_part-member.ensures.adds (grind arith);
@@ -30,8 +30,8 @@ pub loop-passed-preserved : goal.loop-passed-preserved
 loop-passed-preserved g c = record {
   high_is = c.high_number-high.ensures.value;
   passed = record {
-    few = lesser_below c.args.self.now c.args.v c.loop-passed.passed.next c.high_number-high.ensures.ascending c.requires.from c.place_read.ensures.within (omega (arith, c.place_read.ensures.value, c.high_number-high.ensures.value, c.if-part-high.false));
-    read = c.place_read.ensures.read;
+    few = lesser_below c.args.self.now c.args.v c.loop-passed.passed.next c.high_number-high.ensures.ascending c.requires.from c.position_read.ensures.within (omega (arith, c.position_read.ensures.value, c.high_number-high.ensures.value, c.if-part-high.false));
+    read = c.position_read.ensures.read;
   };
   few = c.loop-passed.invariant.few;
   adds = c.loop-passed.invariant.adds;

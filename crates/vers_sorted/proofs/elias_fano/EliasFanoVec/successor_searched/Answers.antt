@@ -8,43 +8,43 @@ pub overflow_add-passed : goal.overflow_add-passed
 overflow_add-passed g c =
     let packed = rw c.self.view_is at c.self.invariant in
     let short : c.rank_counted-k.result < length c.args.self.now = omega (arith, c.rank_counted-k.ensures.value, some_left c.args.self.now c.args.v packed.ascending c.requires.inside.some c.requires.inside.to) in
-    omega (arith, (part_at packed c.rank_counted-k.result c.select1_counted-place.result short c.select1_counted-place.ensures.value), c.select1_counted-place.ensures.within)
+    omega (arith, (part_at packed c.rank_counted-k.result c.select1_counted-position.result short c.select1_counted-position.ensures.value), c.select1_counted-position.ensures.within)
 
-pub overflow_add-place : goal.overflow_add-place
-overflow_add-place g c =
+pub overflow_add-position : goal.overflow_add-position
+overflow_add-position g c =
     let packed = rw c.self.view_is at c.self.invariant in
     let short : c.rank_counted-k.result < length c.args.self.now = omega (arith, c.rank_counted-k.ensures.value, some_left c.args.self.now c.args.v packed.ascending c.requires.inside.some c.requires.inside.to) in
-    omega (arith, (one_past packed c.rank_counted-k.result c.select1_counted-place.result short c.select1_counted-place.ensures.value).0, ap length (high_same packed), c.len-passed.ensures.value, c.len-passed.ensures.bounded)
+    omega (arith, (one_past packed c.rank_counted-k.result c.select1_counted-position.result short c.select1_counted-position.ensures.value).0, ap length (high_same packed), c.len-passed.ensures.value, c.len-passed.ensures.bounded)
 
 pub overflow_add-k : goal.overflow_add-k
 overflow_add-k g c =
     let packed = rw c.self.view_is at c.self.invariant in
     let short : c.rank_counted-k.result < length c.args.self.now = omega (arith, c.rank_counted-k.ensures.value, some_left c.args.self.now c.args.v packed.ascending c.requires.inside.some c.requires.inside.to) in
-    omega (arith, (part_at packed c.rank_counted-k.result c.select1_counted-place.result short c.select1_counted-place.ensures.value), c.select1_counted-place.ensures.within)
+    omega (arith, (part_at packed c.rank_counted-k.result c.select1_counted-position.result short c.select1_counted-position.ensures.value), c.select1_counted-position.ensures.within)
 
 pub bits_from-passed-requires-clause-within : goal.bits_from-passed-requires-clause-within
 bits_from-passed-requires-clause-within g c =
     let packed = rw c.self.view_is at c.self.invariant in
     let short : c.rank_counted-k.result < length c.args.self.now = omega (arith, c.rank_counted-k.ensures.value, some_left c.args.self.now c.args.v packed.ascending c.requires.inside.some c.requires.inside.to) in
-    (one_past packed c.rank_counted-k.result c.select1_counted-place.result short c.select1_counted-place.ensures.value).0
+    (one_past packed c.rank_counted-k.result c.select1_counted-position.result short c.select1_counted-position.ensures.value).0
 
 pub bits_from-passed-requires-clause-next : goal.bits_from-passed-requires-clause-next
 bits_from-passed-requires-clause-next g c =
     let packed = rw c.self.view_is at c.self.invariant in
     let short : c.rank_counted-k.result < length c.args.self.now = omega (arith, c.rank_counted-k.ensures.value, some_left c.args.self.now c.args.v packed.ascending c.requires.inside.some c.requires.inside.to) in
-    (one_past packed c.rank_counted-k.result c.select1_counted-place.result short c.select1_counted-place.ensures.value).1
+    (one_past packed c.rank_counted-k.result c.select1_counted-position.result short c.select1_counted-position.ensures.value).1
 
-pub overflow_sub-place : goal.overflow_sub-place
-overflow_sub-place g c =
+pub overflow_sub-position : goal.overflow_sub-position
+overflow_sub-position g c =
     let packed = rw c.self.view_is at c.self.invariant in
     let short : c.rank_counted-k.result < length c.args.self.now = omega (arith, c.rank_counted-k.ensures.value, some_left c.args.self.now c.args.v packed.ascending c.requires.inside.some c.requires.inside.to) in
-    omega (arith, (part_at packed c.rank_counted-k.result c.select1_counted-place.result short c.select1_counted-place.ensures.value))
+    omega (arith, (part_at packed c.rank_counted-k.result c.select1_counted-position.result short c.select1_counted-position.ensures.value))
 
-pub overflow_sub-place-2 : goal.overflow_sub-place-2
-overflow_sub-place-2 g c =
+pub overflow_sub-position-2 : goal.overflow_sub-position-2
+overflow_sub-position-2 g c =
     let packed = rw c.self.view_is at c.self.invariant in
     let short : c.rank_counted-k.result < length c.args.self.now = omega (arith, c.rank_counted-k.ensures.value, some_left c.args.self.now c.args.v packed.ascending c.requires.inside.some c.requires.inside.to) in
-    omega (arith, (part_at packed c.rank_counted-k.result c.select1_counted-place.result short c.select1_counted-place.ensures.value))
+    omega (arith, (part_at packed c.rank_counted-k.result c.select1_counted-position.result short c.select1_counted-position.ensures.value))
 
 pub with_low_part-requires-clause-within : goal.with_low_part-requires-clause-within
 with_low_part-requires-clause-within g c =
@@ -56,7 +56,7 @@ pub with_low_part-requires-clause-high : goal.with_low_part-requires-clause-high
 with_low_part-requires-clause-high g c =
     let packed = rw c.self.view_is at c.self.invariant in
     let short : c.rank_counted-k.result < length c.args.self.now = omega (arith, c.rank_counted-k.ensures.value, some_left c.args.self.now c.args.v packed.ascending c.requires.inside.some c.requires.inside.to) in
-    omega (arith, (part_at packed c.rank_counted-k.result c.select1_counted-place.result short c.select1_counted-place.ensures.value))
+    omega (arith, (part_at packed c.rank_counted-k.result c.select1_counted-position.result short c.select1_counted-position.ensures.value))
 
 pub returns-clause-value : goal.returns-clause-value
 returns-clause-value g c =

@@ -1,7 +1,7 @@
 use Rattle.vers_sorted.proofs.Names.{◌≡◌, ◌+◌, ◌*◌, length, ap, ◌∙◌, arith, low_width, first_high_parts, first_low_parts}
 use Rattle.vers_sorted.proofs.Lengths.{high_fits, low_fits}
 use Rattle.vers_sorted.proofs.Gathers.{none_gathered, so_many}
-use Rattle.vers_sorted.proofs.Makes.{taken_at, all_taken, taken_above, one_place, one_more, high_len_is, high_sum_fits, high_start, high_all, length-first_high_parts, low_start, low_length, low_all, low_next}
+use Rattle.vers_sorted.proofs.Makes.{taken_at, all_taken, taken_above, one_position, one_more, high_len_is, high_sum_fits, high_start, high_all, length-first_high_parts, low_start, low_length, low_all, low_next}
 use Rattle.vers_sorted.proofs.elias_fano.make.parts_of.Goals as goal
 
 pub high_length_of-high_len-requires : goal.high_length_of-high_len-requires
@@ -32,21 +32,21 @@ overflow_sub-above g c =
 pub overflow_add-above : goal.overflow_add-above
 overflow_add-above g c =
     let s = g.N.Numbers.left c.args.numbers in
-    let place = one_place s _ _ c.loop-number.i c.in-Some.number c.args.first c.args.width c.requires.ascending c.requires.first c.requires.width c.loop-number.invariant.left c.in-Some.ensures in
-    record { fits = omega (arith, place.0, place.1, high_fits s (omega (arith, c.requires.len))) }
+    let position = one_position s _ _ c.loop-number.i c.in-Some.number c.args.first c.args.width c.requires.ascending c.requires.first c.requires.width c.loop-number.invariant.left c.in-Some.ensures in
+    record { fits = omega (arith, position.0, position.1, high_fits s (omega (arith, c.requires.len))) }
 
 pub overflow_add-above-in-Some : goal.overflow_add-above-in-Some
 overflow_add-above-in-Some g c =
     let s = g.N.Numbers.left c.args.numbers in
-    let place = one_place s _ _ c.loop-number.i c.in-Some.number c.args.first c.args.width c.requires.ascending c.requires.first c.requires.width c.loop-number.invariant.left c.in-Some.ensures in
-    record { fits = omega (arith, place.0, place.1, high_fits s (omega (arith, c.requires.len))) }
+    let position = one_position s _ _ c.loop-number.i c.in-Some.number c.args.first c.args.width c.requires.ascending c.requires.first c.requires.width c.loop-number.invariant.left c.in-Some.ensures in
+    record { fits = omega (arith, position.0, position.1, high_fits s (omega (arith, c.requires.len))) }
 
 pub set_unchecked-requires : goal.set_unchecked-requires
 set_unchecked-requires g c =
     let s = g.N.Numbers.left c.args.numbers in
-    let place = one_place s _ _ c.loop-number.i c.in-Some.number c.args.first c.args.width c.requires.ascending c.requires.first c.requires.width c.loop-number.invariant.left c.in-Some.ensures in
+    let position = one_position s _ _ c.loop-number.i c.in-Some.number c.args.first c.args.width c.requires.ascending c.requires.first c.requires.width c.loop-number.invariant.left c.in-Some.ensures in
     let total = ap length c.loop-number.invariant.high ∙ length-first_high_parts s c.loop-number.i in
-    omega (arith, place.0, place.1, total)
+    omega (arith, position.0, position.1, total)
 
 pub add_part-requires-clause-short : goal.add_part-requires-clause-short
 add_part-requires-clause-short g c =

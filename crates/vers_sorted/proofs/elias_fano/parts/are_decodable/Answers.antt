@@ -4,18 +4,18 @@ use Rattle.std.proofs.lemmas.Bool.{false≢true}
 use Rattle.vers_bits.proofs.PublicLaws.{byte_value}
 use Rattle.vers_sorted.specs.inside.Decoding.{HasRead, low_at}
 use Rattle.vers_sorted.proofs.Decoding.{ones_all}
-use Rattle.vers_sorted.proofs.Steps.{decoded_steps, first_low, first_place, last_read, low_small, none_read, steps_decoded}
+use Rattle.vers_sorted.proofs.Steps.{decoded_steps, first_low, first_position, last_read, low_small, none_read, steps_decoded}
 use Rattle.vers_sorted.proofs.elias_fano.parts.are_decodable.Goals as goal
 
-end_is : (w n place at least part end : ℕ) → end ≡ 2 ^ w * (place - (n - 1) - 1) + least → place ≡ at → least ≡ part → end ≡ 2 ^ w * (at - (n - 1) - 1) + part
-end_is w n place at least part end is same_place same_part = is ∙ rw (same_place, same_part) refl
+end_is : (w n position at least part end : ℕ) → end ≡ 2 ^ w * (position - (n - 1) - 1) + least → position ≡ at → least ≡ part → end ≡ 2 ^ w * (at - (n - 1) - 1) + part
+end_is w n position at least part end is same_position same_part = is ∙ rw (same_position, same_part) refl
 
 pub returns-then-not-begins_at_first-clause-no : goal.returns-then-not-begins_at_first-clause-no
 returns-then-not-begins_at_first-clause-no g c = λ no decoded.
     let high = g.H.Limbs.bits c.args.high.now in
     let low = g.L.Limbs.bits c.args.low.now in
     let span = c.args.ends.last - c.args.ends.first in
-    let first = first_place (not (nat_eq g.row.RISING 0)) high low span c.args.width c.args.ends.len c.requires.some c.requires.ones decoded in
+    let first = first_position (not (nat_eq g.row.RISING 0)) high low span c.args.width c.args.ends.len c.requires.some c.requires.ones decoded in
     let part = first_low (not (nat_eq g.row.RISING 0)) high low span c.args.width c.args.ends.len c.requires.some c.requires.ones decoded in
     absurd (false≢true (sym c.if-not-begins_at_first.true ∙ c.begins_at_first.ensures.1 (first, part)))
 
@@ -72,7 +72,7 @@ returns-clause-yes g c = λ h.
     let part : c.loop-k.walk.least - c.from.result ≡ low_at low c.args.width (n - 1) = omega (arith, last.1, c.from.ensures, byte_value (not (nat_eq g.row.RISING 0))) in
     let first = c.begins_at_first.ensures.0 c.if-not-begins_at_first.false in
     let near = rw (last.0, c.span-span.ensures) at c.in-Some.ensures.near in
-    let end = end_is c.args.width n c.loop-k.walk.place (select true high (n - 1)) (c.loop-k.walk.least - c.from.result) (low_at low c.args.width (n - 1)) c.in-Some.end c.in-Some.ensures.value last.0 part in
+    let end = end_is c.args.width n c.loop-k.walk.position (select true high (n - 1)) (c.loop-k.walk.least - c.from.result) (low_at low c.args.width (n - 1)) c.in-Some.end c.in-Some.ensures.value last.0 part in
     steps_decoded (not (nat_eq g.row.RISING 0)) high low span c.args.width n c.requires.some c.requires.ones read.each first.0 first.1 near (sym end ∙ eqb-true c.in-Some.end c.span-span.result h ∙ c.span-span.ensures)
 
 pub returns-clause-no : goal.returns-clause-no
@@ -84,5 +84,5 @@ returns-clause-no g c = λ h decoded.
     let read = subst (λ (i : ℕ). HasRead (not (nat_eq g.row.RISING 0)) high low c.args.width i c.loop-k.walk) (ones_all high c.loop-k.k past ∙ c.requires.ones) c.loop-k.invariant in
     let last = last_read (not (nat_eq g.row.RISING 0)) high low c.args.width n c.loop-k.walk c.requires.some read in
     let part : c.loop-k.walk.least - c.from.result ≡ low_at low c.args.width (n - 1) = omega (arith, last.1, c.from.ensures, byte_value (not (nat_eq g.row.RISING 0))) in
-    let end = end_is c.args.width n c.loop-k.walk.place (select true high (n - 1)) (c.loop-k.walk.least - c.from.result) (low_at low c.args.width (n - 1)) c.in-Some.end c.in-Some.ensures.value last.0 part in
+    let end = end_is c.args.width n c.loop-k.walk.position (select true high (n - 1)) (c.loop-k.walk.least - c.from.result) (low_at low c.args.width (n - 1)) c.in-Some.end c.in-Some.ensures.value last.0 part in
     absurd (false≢true (sym h ∙ eq-eqb c.in-Some.end c.span-span.result (end ∙ decoded.end ∙ sym c.span-span.ensures)))

@@ -1,28 +1,28 @@
 use Rattle.vers_sorted.proofs.Names.{◌≡◌, ◌+◌, ◌-◌, ◌*◌, ◌∙◌, ap, arith, take, drop, number}
 use Rattle.vers_bits.specs.Bits.{limb}
 use Rattle.vers_sorted.proofs.Decoding.{first_part, rest_part, joined_bits}
-use Rattle.vers_sorted.specs.inside.Decoding.{place_ahead}
+use Rattle.vers_sorted.specs.inside.Decoding.{position_ahead}
 use Rattle.vers_sorted.proofs.elias_fano.parts.next_part.Goals as goal
 
 pub returns-then-bits-width-clause-value : goal.returns-then-bits-width-clause-value
 returns-then-bits-width-clause-value g c =
-    first_part (g.L.Limbs.bits c.args.low.now) (place_ahead c.args.bits.now) c.args.bits.now.len c.args.width c.args.bits.now.word c.requires.narrow c.if-bits-width.true c.requires.read.read
+    first_part (g.L.Limbs.bits c.args.low.now) (position_ahead c.args.bits.now) c.args.bits.now.len c.args.width c.args.bits.now.word c.requires.narrow c.if-bits-width.true c.requires.read.read
 
 pub returns-then-bits-width-clause-read : goal.returns-then-bits-width-clause-read
 returns-then-bits-width-clause-read g c =
     let low = g.L.Limbs.bits c.args.low.now in
-    let at : place_ahead c.args.bits.now + c.args.width ≡ 64 * c.args.bits.now.limbs - (c.args.bits.now.len - c.args.width) = omega (arith, c.requires.read.few, c.if-bits-width.true) in
+    let at : position_ahead c.args.bits.now + c.args.width ≡ 64 * c.args.bits.now.limbs - (c.args.bits.now.len - c.args.width) = omega (arith, c.requires.read.few, c.if-bits-width.true) in
     record {
       few = omega (arith, c.requires.read.few);
-      read = rest_part low (place_ahead c.args.bits.now) c.args.bits.now.len c.args.width c.args.bits.now.word c.if-bits-width.true c.requires.read.read
+      read = rest_part low (position_ahead c.args.bits.now) c.args.bits.now.len c.args.width c.args.bits.now.word c.if-bits-width.true c.requires.read.read
           ∙ ap (λ p. number (take (c.args.bits.now.len - c.args.width) (drop p low))) at;
     }
 
 pub returns-clause-value : goal.returns-clause-value
 returns-clause-value g c =
     let low = g.L.Limbs.bits c.args.low.now in
-    first_part low (place_ahead c.args.bits.now) 64 c.args.width _ c.requires.narrow (omega (arith, c.requires.narrow))
-    (joined_bits low (place_ahead c.args.bits.now) c.args.bits.now.len c.args.bits.now.limbs c.args.bits.now.word c.limb-next.result (omega (arith, c.if-bits-width.false, c.requires.narrow)) (omega (arith, c.requires.read.few)) c.requires.read.read c.limb-next.ensures)
+    first_part low (position_ahead c.args.bits.now) 64 c.args.width _ c.requires.narrow (omega (arith, c.requires.narrow))
+    (joined_bits low (position_ahead c.args.bits.now) c.args.bits.now.len c.args.bits.now.limbs c.args.bits.now.word c.limb-next.result (omega (arith, c.if-bits-width.false, c.requires.narrow)) (omega (arith, c.requires.read.few)) c.requires.read.read c.limb-next.ensures)
 
 pub returns-clause-read : goal.returns-clause-read
 unfolding limb

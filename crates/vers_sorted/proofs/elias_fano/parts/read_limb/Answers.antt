@@ -19,7 +19,7 @@ pub read_member-requires-clause-near : goal.read_member-requires-clause-near
 read_member-requires-clause-near g c =
     let high = g.H.Limbs.bits c.args.high.now in
     let inv = c.loop-word.invariant in
-    omega (arith, inv.3.place, before_within high (count true high (64 * c.args.k + inv.0)) (count_le_all true high (64 * c.args.k + inv.0)), c.len.ensures.value, c.len.ensures.bounded)
+    omega (arith, inv.3.position, before_within high (count true high (64 * c.args.k + inv.0)) (count_le_all true high (64 * c.args.k + inv.0)), c.len.ensures.value, c.len.ensures.bounded)
 
 pub returns-then-not-read_member-clause-no : goal.returns-then-not-read_member-clause-no
 returns-then-not-read_member-clause-no g c = λ no steps.
@@ -37,10 +37,10 @@ loop-word-preserved g c =
     let low = g.L.Limbs.bits c.args.low.now in
     let inv = c.loop-word.invariant in
     let i = count true high (64 * c.args.k + inv.0) in
-    let place = 64 * c.args.k + trailing_zeros w64 c.loop-word.word in
+    let position = 64 * c.args.k + trailing_zeros w64 c.loop-word.word in
     let one = lowest_one high c.args.k inv.0 c.loop-word.word inv.1 inv.2 (omega (arith, c.loop-word-test.true)) (omega (arith, c.loop-word.auto.word-fits)) in
-    let step = passed (not (nat_eq g.row.RISING 0)) high low c.args.width i c.loop-word.walk place inv.3 one.2 c.read_member.result c.read_member.ensures.follows c.if-not-read_member.false in
-    let read = one_read (not (nat_eq g.row.RISING 0)) high low c.args.width i c.loop-word.walk place inv.3 one.2 c.read_member.new.walk step c.read_member.ensures.place c.read_member.ensures.least c.read_member.ensures.part c.read_member.ensures.read in (
+    let step = passed (not (nat_eq g.row.RISING 0)) high low c.args.width i c.loop-word.walk position inv.3 one.2 c.read_member.result c.read_member.ensures.follows c.if-not-read_member.false in
+    let read = one_read (not (nat_eq g.row.RISING 0)) high low c.args.width i c.loop-word.walk position inv.3 one.2 c.read_member.new.walk step c.read_member.ensures.position c.read_member.ensures.least c.read_member.ensures.part c.read_member.ensures.read in (
       trailing_zeros w64 c.loop-word.word + 1,
       omega (arith, one.0),
       rest_left high c.args.k inv.0 c.loop-word.word inv.1 inv.2 (omega (arith, c.loop-word-test.true)) (omega (arith, c.loop-word.auto.word-fits)),

@@ -6,7 +6,7 @@ descend-requires-clause-levels g c = rw c.len.ensures.value c.levels.ensures.lev
 
 pub returns-clause-value : goal.returns-clause-value
 returns-clause-value g c =
-    rw (c.levels.ensures.wide, c.levels.ensures.items) at (gathered_is c.levels.ensures.levels c.args.symbol c.args.place c.descend.result c.requires.within c.descend.ensures.value)
+    rw (c.levels.ensures.wide, c.levels.ensures.items) at (gathered_is c.levels.ensures.levels c.args.symbol c.args.position c.descend.result c.requires.within c.descend.ensures.value)
 
 pub returns-clause-adds : goal.returns-clause-adds
 returns-clause-adds g c = rw (← c.levels.ensures.wide) c.descend.ensures.adds

@@ -1,4 +1,4 @@
-use Rattle.vers_wavelet.proofs.Names.{adds_weaker, adds_then, arith, ◌≡◌, ◌%◌, ◌^◌, ℕ, Bool, List, leb, length, ap, refl, sym, Some, None, ◌∙◌, slice_get, if◌then◌else◌, values, final_place, AreLevels, occurrences}
+use Rattle.vers_wavelet.proofs.Names.{adds_weaker, adds_then, arith, ◌≡◌, ◌%◌, ◌^◌, ℕ, Bool, List, leb, length, ap, refl, sym, Some, None, ◌∙◌, slice_get, if◌then◌else◌, values, final_position, AreLevels, occurrences}
 use Rattle.vers_wavelet.proofs.Batches.{become_map, become_then, become_all}
 use Rattle.vers_wavelet.proofs.Answering.{of_words, of_wide, select_ends, select_answers}
 use Rattle.vers_wavelet.proofs.wavelet.WaveletMatrix.select_u64_each_counted.Goals as goal
@@ -7,7 +7,7 @@ pub climb_each-requires-clause-begun : goal.climb_each-requires-clause-begun
 climb_each-requires-clause-begun g c =
     let ls : List (List Bool) = c.levels-levels.result.now in
     become_all c.ask_each.ensures.each (λ q r t.
-    select_ends r.answer r.symbol ∙ t.2 ∙ sym (of_words (length ls) _ _ c.if-levels-gt64.false refl) ∙ ap (λ s. Some (final_place ls s 0)) (sym (ap (λ p. p.1) t.0)))
+    select_ends r.answer r.symbol ∙ t.2 ∙ sym (of_words (length ls) _ _ c.if-levels-gt64.false refl) ∙ ap (λ s. Some (final_position ls s 0)) (sym (ap (λ p. p.1) t.0)))
 
 pub returns-then-levels-gt64-clause-value : goal.returns-then-levels-gt64-clause-value
 returns-then-levels-gt64-clause-value g c =

@@ -8,4 +8,4 @@ overflow_add-result g c =
 
 pub returns-else-bit-clause-few : goal.returns-else-bit-clause-few
 returns-else-bit-clause-few g c =
-    omega (arith, c.chosen_place.ensures, c.chosen_place-2.ensures, next_near c.args.bit c.args.level.now c.args.part.start c.args.part.end c.requires.order)
+    omega (arith, c.chosen_position.ensures, c.chosen_position-2.ensures, next_near c.args.bit c.args.level.now c.args.part.start c.args.part.end c.requires.order)

@@ -1,4 +1,4 @@
-use Rattle.wavelet_tree.proofs.Names.{◌<◌, true, false, leb, ap, subst, arith, false≢true, count_le, weight, tree_of, depth, sorted_place, access_fork_reads, Symbols, IsTreeOf, Walks, LEAVES, adds_then, within_itself}
+use Rattle.wavelet_tree.proofs.Names.{◌<◌, true, false, leb, ap, subst, arith, false≢true, count_le, weight, tree_of, depth, sorted_position, access_fork_reads, Symbols, IsTreeOf, Walks, LEAVES, adds_then, within_itself}
 use Rattle.wavelet_tree.proofs.Beginning.{walk_begins, bits_fit}
 use Rattle.wavelet_tree.proofs.Walking.{walk_on, walk_inside, walk_ends, smaller}
 use Rattle.wavelet_tree.proofs.tree.WaveletTree.descend_from.Given.{Over}
@@ -8,12 +8,12 @@ use Rattle.wavelet_tree.proofs.tree.WaveletTree.descend_from.Goals as goal
 pub loop-link-init : goal.loop-link-init
 loop-link-init g c =
     let is = subst (λ (s : Symbols). IsTreeOf s c.self.inside.starts c.self.inside.nodes c.self.inside.bits c.self.inside.root c.self.inside.width c.self.inside.len) c.self.view_is c.self.invariant in
-    walk_begins is false access_fork_reads c.args.symbol c.args.place c.args.place c.args.tally.now c.requires.occurs c.requires.within c.requires.within (λ never. absurd (false≢true never))
+    walk_begins is false access_fork_reads c.args.symbol c.args.position c.args.position c.args.tally.now c.requires.occurs c.requires.within c.requires.within (λ never. absurd (false≢true never))
 
 on : (g : Over) (c : After-link_below-link g)
     → Walks c.self.inside.starts c.self.inside.nodes c.self.inside.bits (weight (tree_of c.args.self.now) c.args.self.now.items) false access_fork_reads c.args.symbol (depth (tree_of c.args.self.now) c.args.symbol)
-    (sorted_place c.args.self.now.items c.args.place c.args.symbol) (sorted_place c.args.self.now.items c.args.place c.args.symbol) c.args.tally.now c.get_and_rank1_counted-ones.new.tally
-    c.link_below-link.result c.place_below-at.result c.place_below-at.result
+    (sorted_position c.args.self.now.items c.args.position c.args.symbol) (sorted_position c.args.self.now.items c.args.position c.args.symbol) c.args.tally.now c.get_and_rank1_counted-ones.new.tally
+    c.link_below-link.result c.position_below-at.result c.position_below-at.result
     × (c.link_below-link.result < LEAVES → c.link_below-link.result < c.loop-link.link)
 on g c =
     let is = subst (λ (s : Symbols). IsTreeOf s c.self.inside.starts c.self.inside.nodes c.self.inside.bits c.self.inside.root c.self.inside.width c.self.inside.len) c.self.view_is c.self.invariant in
@@ -23,10 +23,10 @@ on g c =
       ranked_a = c.get_and_rank1_counted-ones.ensures.ones;
       ranked_b = c.get_and_rank1_counted-ones.ensures.ones;
       side = ap (λ n. leb n c.args.symbol) c.from.ensures;
-      high_a = c.place_below-at.ensures.high;
-      low_a = c.place_below-at.ensures.low;
-      high_b = c.place_below-at.ensures.high;
-      low_b = c.place_below-at.ensures.low;
+      high_a = c.position_below-at.ensures.high;
+      low_a = c.position_below-at.ensures.low;
+      high_b = c.position_below-at.ensures.high;
+      low_b = c.position_below-at.ensures.low;
       high_link = c.link_below-link.ensures.high;
       low_link = c.link_below-link.ensures.low;
       adds = adds_then c.read-node.ensures.adds c.get_and_rank1_counted-ones.ensures.adds (within_itself _);
@@ -39,8 +39,8 @@ get_and_rank1_counted-ones-requires g c =
     false access_fork_reads c.args.symbol _ _ _ c.args.tally.now c.loop-link-test.true c.loop-link.invariant in
     omega (arith, within.1, is.bits_are)
 
-pub place_below-at-requires : goal.place_below-at-requires
-place_below-at-requires g c = omega (arith, c.get_and_rank1_counted-ones.ensures.ones, (count_le true c.self.inside.bits c.loop-link.at).0)
+pub position_below-at-requires : goal.position_below-at-requires
+position_below-at-requires g c = omega (arith, c.get_and_rank1_counted-ones.ensures.ones, (count_le true c.self.inside.bits c.loop-link.at).0)
 
 pub loop-link-smaller : goal.loop-link-smaller
 loop-link-smaller g c = smaller _ _ c.loop-link-test.true (on g (goal.at.loop-link-smaller g c).After-link_below-link).1

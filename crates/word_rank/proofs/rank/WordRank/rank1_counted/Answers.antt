@@ -5,4 +5,4 @@ pub returns-clause-value : goal.returns-clause-value
 returns-clause-value g c =
     let l = c.args.self.now in
     let last = length l - 1 in
-    grind (arith, cases_lt last c.args.place, cases_Bool (get_or l last false), count_more_yes true l last, count_more_no true l last, count_past true l c.args.place)
+    grind (arith, cases_lt last c.args.position, cases_Bool (get_or l last false), count_more_yes true l last, count_more_no true l last, count_past true l c.args.position)

@@ -3,7 +3,7 @@
 use crate::rattle::prelude::*;
 
 use crate::proved::vers_rank::fast_rs_vec::{BLOCK, LIMB, RsVec};
-use crate::proved::vers_rank::word::{held_in_word, held_of, place_in_word};
+use crate::proved::vers_rank::word::{held_in_word, held_of, position_in_word};
 use crate::rattle::Allocator;
 use crate::proved::vers_tally::tally::Tally;
 
@@ -33,7 +33,7 @@ pub(crate) struct InLimb {
 pub(crate) struct InWord {
     pub(crate) limb: usize,
     pub(crate) word: u64,
-    pub(crate) place: usize,
+    pub(crate) position: usize,
 }
 
 impl<A: Allocator + Copy> RsVec<A> {
@@ -57,13 +57,13 @@ impl<A: Allocator + Copy> RsVec<A> {
 
     // Returns the location of a number in a limb.
     #[inline(always)]
-    pub(crate) fn place_in_limb(&self, bit: bool, at: InLimb, tally: &mut Tally) -> InWord {
+    pub(crate) fn position_in_limb(&self, bit: bool, at: InLimb, tally: &mut Tally) -> InWord {
         let word = self.bits.limb(at.limb, tally);
-        let place = place_in_word(word, bit, at.rest);
+        let position = position_in_word(word, bit, at.rest);
         InWord {
             limb: at.limb,
             word,
-            place,
+            position,
         }
     }
 
@@ -90,7 +90,7 @@ impl<A: Allocator + Copy> RsVec<A> {
     fn limb_by_halves(&self, bit: bool, r: usize, block: usize, tally: &mut Tally) -> FoundLimb {
         let _ = self.len();
         let limb = 8 * block;
-        // The last first, so that a test of its place serves all.
+        // The last first, so that a test of its position serves all.
         let third = self.ones_of_two(limb + 4, tally);
         let second = self.ones_of_two(limb + 2, tally);
         let first = self.ones_of_two(limb, tally);

@@ -2,7 +2,7 @@
 
 use crate::rattle::prelude::*;
 
-use crate::proved::vers_rmq::rmq::least::lesser_place;
+use crate::proved::vers_rmq::rmq::least::lesser_position;
 use crate::rattle::AllocError;
 use crate::rattle::Allocator;
 
@@ -25,18 +25,18 @@ fn level_count(n: usize) -> usize {
 }
 
 // Returns the entry of level `k + 1` for the range from `i` on, from two entries of level `k`.
-fn next_place(items: &[u64], table: &[u32], k: usize, i: usize) -> u32 {
+fn next_position(items: &[u64], table: &[u32], k: usize, i: usize) -> u32 {
     let m = table[items.len() * k + i];
     let h = i + width(k);
     if h < items.len() {
-        return lesser_place(items, m as usize, table[items.len() * k + h] as usize) as u32;
+        return lesser_position(items, m as usize, table[items.len() * k + h] as usize) as u32;
     }
     m
 }
 
 // Returns the table: a level for each power of two up to the first that is at least the number of items, and on
 // it an entry for each item. Allocates once.
-pub(super) fn places<A: Allocator + Copy>(
+pub(super) fn positions<A: Allocator + Copy>(
     items: &[u64],
     alloc: A,
 ) -> Result<Vec<u32, A>, AllocError> {
@@ -47,8 +47,8 @@ pub(super) fn places<A: Allocator + Copy>(
     let mut k = 0;
     'levels: while width(k) < items.len() {
         for j in 0..items.len() {
-            let place = next_place(items, table.as_slice(), k, j);
-            table.push(place)?;
+            let position = next_position(items, table.as_slice(), k, j);
+            table.push(position)?;
         }
         k += 1;
     }

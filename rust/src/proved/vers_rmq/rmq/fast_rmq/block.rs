@@ -17,7 +17,7 @@ pub(super) struct BlockMasks {
 // For each block the least item, the distance of its first position to the block's start, and the masks.
 pub(super) struct Blocks<A: Allocator + Copy> {
     pub(super) minima: Vec<u64, A>,
-    pub(super) places: Vec<u8, A>,
+    pub(super) positions: Vec<u8, A>,
     pub(super) masks: Vec<BlockMasks, A>,
 }
 
@@ -45,7 +45,7 @@ fn add_block<A: Allocator + Copy>(
     let end = items.len().min(start + BLOCK);
     let (masks, least) = block_masks(items, start, end);
     blocks.minima.push(items[least])?;
-    blocks.places.push((least - start) as u8)?;
+    blocks.positions.push((least - start) as u8)?;
     blocks.masks.push(masks)?;
     Ok(())
 }
@@ -58,7 +58,7 @@ pub(super) fn all_blocks<A: Allocator + Copy>(
     let count = items.len().div_ceil(BLOCK);
     let mut blocks = Blocks {
         minima: Vec::with_capacity(alloc, count)?,
-        places: Vec::with_capacity(alloc, count)?,
+        positions: Vec::with_capacity(alloc, count)?,
         masks: Vec::with_capacity(alloc, count)?,
     };
     for b in 0..count {

@@ -69,16 +69,16 @@ impl ByteTables {
 // The sums along a byte so far: the least and the greatest sum, each plus 8, and the first position of each
 // sum, 7 if there is none.
 struct Met {
-    places: [u64; 17],
+    positions: [u64; 17],
     least: usize,
     greatest: usize,
 }
 
 impl Met {
     // Records a sum, plus 8, at a position.
-    fn meet(&mut self, value: usize, place: u64) {
+    fn meet(&mut self, value: usize, position: u64) {
         if value < self.least || value > self.greatest {
-            self.places[value] = place;
+            self.positions[value] = position;
         }
         self.least = self.least.min(value);
         self.greatest = self.greatest.max(value);
@@ -86,7 +86,7 @@ impl Met {
 
     // Returns the entry of the recorded sums.
     fn entry(&self) -> u64 {
-        1024 * number_of(&self.places) + 32 * self.least as u64 + self.greatest as u64
+        1024 * number_of(&self.positions) + 32 * self.least as u64 + self.greatest as u64
     }
 }
 
@@ -102,7 +102,7 @@ fn number_of(digits: &[u64; 17]) -> u64 {
 }
 
 // Returns the position of the bit at which a step along a byte is made.
-fn place_of(step: u64, from_end: bool) -> u64 {
+fn position_of(step: u64, from_end: bool) -> u64 {
     if from_end { 7 - step } else { step }
 }
 
@@ -118,15 +118,15 @@ fn stepped(value: usize, opens: bool, from_end: bool) -> usize {
 // Returns the entry of a byte, from its end or from its start.
 fn entry_of(byte: usize, from_end: bool) -> u64 {
     let mut met = Met {
-        places: [7; 17],
+        positions: [7; 17],
         least: 9,
         greatest: 7,
     };
     let mut value = 8;
     for step in 0..8 {
-        let place = place_of(step, from_end);
-        value = stepped(value, (byte >> place) % 2 == 1, from_end);
-        met.meet(value, place);
+        let position = position_of(step, from_end);
+        value = stepped(value, (byte >> position) % 2 == 1, from_end);
+        met.meet(value, position);
     }
     met.entry()
 }
@@ -145,7 +145,7 @@ fn above(rise: i64, target: i64) -> u64 {
 
 // Returns the position in a byte of the given entry at which a sum that begins at `rise` first is `target`.
 #[inline(always)]
-pub(super) fn place_met(entry: Entry, rise: i64, target: i64) -> Option<usize> {
+pub(super) fn position_met(entry: Entry, rise: i64, target: i64) -> Option<usize> {
     let packed = entry.packed;
     if target < sum_at(rise, packed / 32 % 32) {
         return None;

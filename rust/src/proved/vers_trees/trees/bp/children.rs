@@ -17,7 +17,7 @@ pub struct Direction<const FORWARD: bool>;
 pub struct Siblings<'a, const BLOCK_SIZE: usize, D, A: Allocator + Copy> {
     searched: Searched<'a, BLOCK_SIZE, A>,
     forward: bool,
-    place: usize,
+    position: usize,
     direction: PhantomData<D>,
 }
 
@@ -30,11 +30,11 @@ pub type ChildrenIter<'a, const BLOCK_SIZE: usize, const FORWARD: bool, A> = Sib
 >;
 
 impl<'a, const BLOCK_SIZE: usize, D, A: Allocator + Copy> Siblings<'a, BLOCK_SIZE, D, A> {
-    fn new(searched: Searched<'a, BLOCK_SIZE, A>, forward: bool, place: usize) -> Self {
+    fn new(searched: Searched<'a, BLOCK_SIZE, A>, forward: bool, position: usize) -> Self {
         Siblings {
             searched,
             forward,
-            place,
+            position,
             direction: PhantomData,
         }
     }
@@ -49,8 +49,10 @@ impl<'a, const BLOCK_SIZE: usize, D, A: Allocator + Copy> Siblings<'a, BLOCK_SIZ
     /// Takes the first of the nodes left. `None` if none is left. Reads at most one bit and what one search does.
     #[inline(always)]
     pub fn next_counted(&mut self, tally: &mut Tally) -> Option<usize> {
-        let (node, place) = self.searched.tree_beside(self.forward, self.place, tally)?;
-        self.place = place;
+        let (node, position) = self
+            .searched
+            .tree_beside(self.forward, self.position, tally)?;
+        self.position = position;
         Some(node)
     }
 }
@@ -68,37 +70,42 @@ impl<'a, const BLOCK_SIZE: usize, D, A: Allocator + Copy> Iterator
 impl<'a, const BLOCK_SIZE: usize, A: Allocator + Copy> Searched<'a, BLOCK_SIZE, A> {
     // Returns the next tree forwards or backwards from a position, and the position on its other side.
     #[inline(always)]
-    fn tree_beside(self, forward: bool, place: usize, tally: &mut Tally) -> Option<(usize, usize)> {
+    fn tree_beside(
+        self,
+        forward: bool,
+        position: usize,
+        tally: &mut Tally,
+    ) -> Option<(usize, usize)> {
         if forward {
-            self.tree_from(place, tally)
+            self.tree_from(position, tally)
         } else {
-            self.tree_before(place, tally)
+            self.tree_before(position, tally)
         }
     }
 
     // Returns the tree that opens at a position, and the position past it.
     #[inline(always)]
-    fn tree_from(self, place: usize, tally: &mut Tally) -> Option<(usize, usize)> {
-        if place >= self.bits.len() {
+    fn tree_from(self, position: usize, tally: &mut Tally) -> Option<(usize, usize)> {
+        if position >= self.bits.len() {
             return None;
         }
-        if !self.bits.is_one_counted(place, tally) {
+        if !self.bits.is_one_counted(position, tally) {
             return None;
         }
-        let close = self.forward(place, -1, tally)?;
-        Some((place, close + 1))
+        let close = self.forward(position, -1, tally)?;
+        Some((position, close + 1))
     }
 
     // Returns the tree that closes right before a position, and the position where it opens.
     #[inline(always)]
-    fn tree_before(self, place: usize, tally: &mut Tally) -> Option<(usize, usize)> {
-        if place == 0 || place > self.bits.len() {
+    fn tree_before(self, position: usize, tally: &mut Tally) -> Option<(usize, usize)> {
+        if position == 0 || position > self.bits.len() {
             return None;
         }
-        if self.bits.is_one_counted(place - 1, tally) {
+        if self.bits.is_one_counted(position - 1, tally) {
             return None;
         }
-        let open = self.backward(place - 1, -1, tally)?;
+        let open = self.backward(position - 1, -1, tally)?;
         Some((open, open))
     }
 }

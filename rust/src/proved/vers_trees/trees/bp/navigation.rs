@@ -154,8 +154,8 @@ impl<const BLOCK_SIZE: usize, A: Allocator + Copy> BpTree<BLOCK_SIZE, A> {
     #[inline(always)]
     pub fn subtree_size_counted(&self, node: usize, tally: &mut Tally) -> Option<usize> {
         let close = self.end_counted(node, tally);
-        let places = close - node;
-        Some(places.div_ceil(2))
+        let positions = close - node;
+        Some(positions.div_ceil(2))
     }
 
     /// Returns true if the first node is an ancestor of the second; each node is its own. Never `None`.
@@ -193,11 +193,11 @@ impl<const BLOCK_SIZE: usize, A: Allocator + Copy> BpTree<BLOCK_SIZE, A> {
         self.close_counted(node, tally).unwrap_or(node)
     }
 
-    // Returns the position after `place`, if it has a one.
+    // Returns the position after `position`, if it has a one.
     #[inline(always)]
-    fn opens_after(&self, place: usize, tally: &mut Tally) -> Option<usize> {
+    fn opens_after(&self, position: usize, tally: &mut Tally) -> Option<usize> {
         let len = self.len();
-        let next = place + 1;
+        let next = position + 1;
         if next >= len {
             return None;
         }

@@ -5,7 +5,7 @@ use crate::rattle::prelude::*;
 use super::BpTree;
 use super::search::Searched;
 use crate::rattle::Allocator;
-use crate::proved::vers_rank::fast_rs_vec::{Places, RsVec};
+use crate::proved::vers_rank::fast_rs_vec::{Positions, RsVec};
 use crate::proved::vers_tally::ends::{Borrowing, BothEnds, Source};
 use crate::proved::vers_tally::tally::Tally;
 
@@ -13,7 +13,7 @@ use crate::proved::vers_tally::tally::Tally;
 /// position of a zero, then by a search where it opens.
 pub struct ClosedNodes<'a, const BLOCK_SIZE: usize, A: Allocator + Copy> {
     searched: Searched<'a, BLOCK_SIZE, A>,
-    zeros: Places<(), &'a RsVec<A>>,
+    zeros: Positions<(), &'a RsVec<A>>,
     first: usize,
     count: usize,
 }
@@ -72,7 +72,7 @@ impl<const BLOCK_SIZE: usize, A: Allocator + Copy> BpTree<BLOCK_SIZE, A> {
         let searched = self.searched();
         BothEnds::new(ClosedNodes {
             searched,
-            zeros: Places::new(searched.bits, false),
+            zeros: Positions::new(searched.bits, false),
             first,
             count,
         })

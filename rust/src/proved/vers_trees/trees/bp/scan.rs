@@ -2,7 +2,7 @@
 
 use crate::rattle::prelude::*;
 
-use crate::proved::vers_trees::trees::bp::bytes::{ByteTables, place_met};
+use crate::proved::vers_trees::trees::bp::bytes::{ByteTables, position_met};
 use crate::proved::vers_trees::trees::bp::min_max::Node;
 use crate::rattle::Allocator;
 use crate::proved::vers_bits::bit_vec::BitVec;
@@ -52,10 +52,10 @@ fn bits_forward<A: Allocator + Copy>(
     target: i64,
     tally: &mut Tally,
 ) -> Result<usize, i64> {
-    for place in begin..end {
-        rise += step(bits.is_one_counted(place, tally));
+    for position in begin..end {
+        rise += step(bits.is_one_counted(position, tally));
         if rise == target {
-            return Ok(place);
+            return Ok(position);
         }
     }
     Err(rise)
@@ -85,8 +85,8 @@ fn bytes_forward<A: Allocator + Copy>(
         let mut within = 0;
         while within < size {
             let byte = ((word >> within) % 256) as u8;
-            if let Some(place) = place_met(tables.met_forward(byte), rise, target) {
-                return Ok(start + within + place);
+            if let Some(position) = position_met(tables.met_forward(byte), rise, target) {
+                return Ok(start + within + position);
             }
             rise += byte_step(byte);
             within += 8;
@@ -111,7 +111,7 @@ pub(super) fn scan_forward<A: Allocator + Copy>(
     let tail = from + (end - from) / 8 * 8;
     tally.add_block();
     let rise = match bytes_forward(bits, tables, from, tail, target, tally) {
-        Ok(place) => return Ok(place),
+        Ok(position) => return Ok(position),
         Err(rise) => rise,
     };
     bits_forward(bits, tail, end, rise, target, tally)
@@ -127,12 +127,12 @@ fn bits_backward<A: Allocator + Copy>(
     target: i64,
     tally: &mut Tally,
 ) -> Result<usize, i64> {
-    let mut place = end;
-    while place > begin {
-        place -= 1;
-        rise -= step(bits.is_one_counted(place, tally));
+    let mut position = end;
+    while position > begin {
+        position -= 1;
+        rise -= step(bits.is_one_counted(position, tally));
         if rise == target {
-            return Ok(place);
+            return Ok(position);
         }
     }
     Err(rise)
@@ -164,8 +164,8 @@ fn bytes_backward<A: Allocator + Copy>(
         while within > 0 {
             within -= 8;
             let byte = ((word >> within) % 256) as u8;
-            if let Some(place) = place_met(tables.met_backward(byte), rise, target) {
-                return Ok(start + within + place);
+            if let Some(position) = position_met(tables.met_backward(byte), rise, target) {
+                return Ok(start + within + position);
             }
             rise -= byte_step(byte);
         }
@@ -189,7 +189,7 @@ pub(super) fn scan_backward<A: Allocator + Copy>(
     let head = end - (end - from) / 8 * 8;
     tally.add_block();
     let rise = match bytes_backward(bits, tables, head, end, target, tally) {
-        Ok(place) => return Ok(place),
+        Ok(position) => return Ok(position),
         Err(rise) => rise,
     };
     bits_backward(bits, from, head, rise, target, tally)
@@ -248,8 +248,8 @@ pub(super) fn node_of<A: Allocator + Copy>(
         node = node.followed_by(node_of_byte(tables, byte));
         start += 8;
     }
-    for place in start..end {
-        node = node.followed_by(node_of_bit(bits.is_bit_set_unchecked(place)));
+    for position in start..end {
+        node = node.followed_by(node_of_bit(bits.is_bit_set_unchecked(position)));
     }
     node
 }

@@ -51,7 +51,7 @@ impl<'a, const BLOCK_SIZE: usize, A: Allocator + Copy> Searched<'a, BLOCK_SIZE, 
         let block = i / BLOCK_SIZE;
         let end = (block * BLOCK_SIZE + BLOCK_SIZE).min(len);
         match scan_forward(self.bits, &self.tree.tables, i + 1, end, r, tally) {
-            Ok(place) => Some(place),
+            Ok(position) => Some(position),
             Err(rise) => self.forward_past(i, r, rise, tally),
         }
     }
@@ -79,7 +79,7 @@ impl<'a, const BLOCK_SIZE: usize, A: Allocator + Copy> Searched<'a, BLOCK_SIZE, 
         let block = (i - 1) / BLOCK_SIZE;
         let begin = block * BLOCK_SIZE;
         match scan_backward(self.bits, &self.tree.tables, begin, i, r, tally) {
-            Ok(place) => Some(place),
+            Ok(position) => Some(position),
             Err(rise) => self.backward_past(i, r, rise, tally),
         }
     }

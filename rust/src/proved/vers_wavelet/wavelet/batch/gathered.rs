@@ -5,7 +5,7 @@ use crate::rattle::prelude::*;
 use crate::proved::vers_wavelet::wavelet::WaveletMatrix;
 use crate::proved::vers_wavelet::wavelet::batch::{Query, ask_each};
 use crate::proved::vers_wavelet::wavelet::digits::Digits;
-use crate::proved::vers_wavelet::wavelet::level::next_place;
+use crate::proved::vers_wavelet::wavelet::level::next_position;
 use crate::rattle::Allocator;
 use crate::proved::vers_rank::fast_rs_vec::RsVec;
 use crate::proved::vers_tally::tally::Tally;
@@ -14,7 +14,7 @@ use crate::proved::vers_tally::tally::Tally;
 #[derive(Clone, Copy)]
 pub struct GatheredQuery {
     /// The position.
-    pub place: usize,
+    pub position: usize,
     /// The symbol, of which only the low bits count.
     pub symbol: u64,
     /// The gathered position of the first such symbol from the position on, once the query is answered.
@@ -22,11 +22,11 @@ pub struct GatheredQuery {
 }
 
 impl GatheredQuery {
-    /// Returns a query for the gathered position of the first of a symbol from `place` on.
+    /// Returns a query for the gathered position of the first of a symbol from `position` on.
     #[inline]
-    pub fn new(place: usize, symbol: u64) -> Self {
+    pub fn new(position: usize, symbol: u64) -> Self {
         GatheredQuery {
-            place,
+            position,
             symbol,
             answer: None,
         }
@@ -36,24 +36,24 @@ impl GatheredQuery {
 impl Query for GatheredQuery {
     #[inline(always)]
     fn begin(self, levels: usize, len: usize) -> Self {
-        let is_known = levels <= 64 && self.place <= len;
+        let is_known = levels <= 64 && self.position <= len;
         GatheredQuery {
-            place: self.place,
+            position: self.position,
             symbol: self.symbol,
-            answer: if is_known { Some(self.place) } else { None },
+            answer: if is_known { Some(self.position) } else { None },
         }
     }
 
     #[inline(always)]
     fn step<A: Allocator + Copy>(self, level: &RsVec<A>, i: usize, tally: &mut Tally) -> Self {
-        let place = match self.answer { Some(place) => place, _ => {
+        let position = match self.answer { Some(position) => position, _ => {
             return self;
         } };
         let bit = self.symbol.digit(i);
         GatheredQuery {
-            place: self.place,
+            position: self.position,
             symbol: self.symbol,
-            answer: Some(next_place(level, bit, place, tally)),
+            answer: Some(next_position(level, bit, position, tally)),
         }
     }
 }

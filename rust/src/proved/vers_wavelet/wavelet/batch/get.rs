@@ -14,17 +14,17 @@ use crate::proved::vers_tally::tally::Tally;
 #[derive(Clone, Copy)]
 pub struct GetQuery {
     /// The position. Answering overwrites it.
-    pub place: usize,
+    pub position: usize,
     /// The symbol at the position, once the query is answered.
     pub answer: Option<u64>,
 }
 
 impl GetQuery {
-    /// Returns a query for the symbol at `place`.
+    /// Returns a query for the symbol at `position`.
     #[inline]
-    pub fn new(place: usize) -> Self {
+    pub fn new(position: usize) -> Self {
         GetQuery {
-            place,
+            position,
             answer: None,
         }
     }
@@ -33,9 +33,9 @@ impl GetQuery {
 impl Query for GetQuery {
     #[inline(always)]
     fn begin(self, levels: usize, len: usize) -> Self {
-        let is_known = levels <= 64 && self.place < len;
+        let is_known = levels <= 64 && self.position < len;
         GetQuery {
-            place: self.place,
+            position: self.position,
             answer: if is_known { Some(0) } else { None },
         }
     }
@@ -45,10 +45,10 @@ impl Query for GetQuery {
         let mut number = match self.answer { Some(number) => number, _ => {
             return self;
         } };
-        let step = read_level(level, self.place, tally);
+        let step = read_level(level, self.position, tally);
         number.put_digit(i, step.bit);
         GetQuery {
-            place: step.place,
+            position: step.position,
             answer: Some(number),
         }
     }

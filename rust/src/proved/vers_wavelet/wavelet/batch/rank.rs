@@ -5,7 +5,7 @@ use crate::rattle::prelude::*;
 use crate::proved::vers_wavelet::wavelet::WaveletMatrix;
 use crate::proved::vers_wavelet::wavelet::batch::{Query, ask_each};
 use crate::proved::vers_wavelet::wavelet::digits::Digits;
-use crate::proved::vers_wavelet::wavelet::level::next_place;
+use crate::proved::vers_wavelet::wavelet::level::next_position;
 use crate::rattle::Allocator;
 use crate::proved::vers_rank::fast_rs_vec::RsVec;
 use crate::proved::vers_tally::tally::Tally;
@@ -54,8 +54,8 @@ impl Query for RankQuery {
             return self;
         }
         let bit = self.symbol.digit(i);
-        let start = next_place(level, bit, self.end - count, tally);
-        let end = next_place(level, bit, self.end, tally);
+        let start = next_position(level, bit, self.end - count, tally);
+        let end = next_position(level, bit, self.end, tally);
         RankQuery {
             end,
             symbol: self.symbol,

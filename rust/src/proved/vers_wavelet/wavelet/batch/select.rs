@@ -6,7 +6,7 @@ use crate::proved::vers_wavelet::wavelet::WaveletMatrix;
 use crate::proved::vers_wavelet::wavelet::batch::group::{GROUP, Group};
 use crate::proved::vers_wavelet::wavelet::batch::{Query, ask_each};
 use crate::proved::vers_wavelet::wavelet::digits::Digits;
-use crate::proved::vers_wavelet::wavelet::level::{is_of_bit, next_place};
+use crate::proved::vers_wavelet::wavelet::level::{is_of_bit, next_position};
 use crate::rattle::Allocator;
 use crate::proved::vers_rank::fast_rs_vec::RsVec;
 use crate::proved::vers_tally::tally::Tally;
@@ -57,13 +57,13 @@ impl SelectQuery {
     // Returns the number of the query's position among the zeros or the ones of the level above.
     #[inline(always)]
     pub(super) fn number_above<A: Allocator + Copy>(self, level: &RsVec<A>, bit: bool) -> usize {
-        let place = match self.answer { Some(place) => place, _ => {
+        let position = match self.answer { Some(position) => position, _ => {
             return 0;
         } };
         if bit {
-            place.saturating_sub(level.zeros())
+            position.saturating_sub(level.zeros())
         } else {
-            place
+            position
         }
     }
 
@@ -77,11 +77,11 @@ impl SelectQuery {
         k: usize,
         above: usize,
     ) -> Self {
-        let place = match self.answer { Some(place) => place, _ => {
+        let position = match self.answer { Some(position) => position, _ => {
             return self;
         } };
         let bit = self.symbol.digit(levels.len() - (k + 1));
-        if !is_of_bit(&levels[k], bit, place) {
+        if !is_of_bit(&levels[k], bit, position) {
             return SelectQuery {
                 rank: self.rank,
                 symbol: self.symbol,
@@ -108,14 +108,14 @@ impl Query for SelectQuery {
 
     #[inline(always)]
     fn step<A: Allocator + Copy>(self, level: &RsVec<A>, i: usize, tally: &mut Tally) -> Self {
-        let place = match self.answer { Some(place) => place, _ => {
+        let position = match self.answer { Some(position) => position, _ => {
             return self;
         } };
         let bit = self.symbol.digit(i);
         SelectQuery {
             rank: self.rank,
             symbol: self.symbol,
-            answer: Some(next_place(level, bit, place, tally)),
+            answer: Some(next_position(level, bit, position, tally)),
         }
     }
 }

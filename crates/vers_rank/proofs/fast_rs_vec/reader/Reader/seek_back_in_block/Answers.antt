@@ -13,14 +13,14 @@ limb-word-requires g c = rw c.bits.view_is (grind (arith, passed_back))
 pub loop-ones-smaller : goal.loop-ones-smaller
 loop-ones-smaller g c = grind (arith, passed_back)
 
-pub place_in_word-place-requires : goal.place_in_word-place-requires
-place_in_word-place-requires g c = whole_word _ _ c.loop-ones.invariant.reading.marks.fits (omega (arith, c.loop-ones.invariant.ones))
+pub position_in_word-position-requires : goal.position_in_word-position-requires
+position_in_word-position-requires g c = whole_word _ _ c.loop-ones.invariant.reading.marks.fits (omega (arith, c.loop-ones.invariant.ones))
 
 pub returns-then-end-self : goal.returns-then-end-self
 returns-then-end-self g c =
     let known = c.loop-ones.invariant in
-    let place = c.place_in_word-place.ensures in
-    let found = backward known.reading c.args.end known.from known.to _ place.within (omega (arith, place.from, known.ones)) (omega (arith, place.to, known.ones)) (omega (arith, known.ones)) in
+    let position = c.position_in_word-position.ensures in
+    let found = backward known.reading c.args.end known.from known.to _ position.within (omega (arith, position.from, known.ones)) (omega (arith, position.to, known.ones)) (omega (arith, known.ones)) in
     record { reading = found.0; next = search rules; some = found.1; adds = search rules }
 
 pub loop-ones-preserved : goal.loop-ones-preserved

@@ -13,14 +13,14 @@ limb-word-requires g c =
     let known = c.loop-ones.invariant in
     rw c.bits.view_is (passed_inside known.reading c.args.r known.from known.to _ known.ones (omega arith)).0
 
-pub place_in_word-place-requires : goal.place_in_word-place-requires
-place_in_word-place-requires g c = whole_word _ _ (c.loop-ones.invariant.reading.marks (omega arith)).fits (omega (arith, c.loop-ones.invariant.ones))
+pub position_in_word-position-requires : goal.position_in_word-position-requires
+position_in_word-position-requires g c = whole_word _ _ (c.loop-ones.invariant.reading.marks (omega arith)).fits (omega (arith, c.loop-ones.invariant.ones))
 
 pub returns-then-self-r : goal.returns-then-self-r
 returns-then-self-r g c =
     let known = c.loop-ones.invariant in
-    let place = c.place_in_word-place.ensures in
-    let found = onward known.reading (omega arith) c.args.r known.from c.requires.some _ place.within place.from place.to in
+    let position = c.position_in_word-position.ensures in
+    let found = onward known.reading (omega arith) c.args.r known.from c.requires.some _ position.within position.from position.to in
     record { reading = found.0; next = search rules; some = found.1; adds = search rules }
 
 pub loop-ones-preserved : goal.loop-ones-preserved

@@ -7,4 +7,4 @@ pub returns-then-i-j-clause-value : goal.returns-then-i-j-clause-value
 returns-then-i-j-clause-value g c = grind (arith, two_parts)
 
 pub returns-clause-value : goal.returns-clause-value
-returns-clause-value g c = (c.least_up_to.ensures.value c.args.i (grind (arith, item_ends))).place
+returns-clause-value g c = (c.least_up_to.ensures.value c.args.i (grind (arith, item_ends))).position

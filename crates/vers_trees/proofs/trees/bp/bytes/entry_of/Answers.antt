@@ -17,13 +17,13 @@ pub loop-step-preserved : goal.loop-step-preserved
 loop-step-preserved c =
     let i = c.loop-step.invariant in let m = c.meet.ensures in
     let u = up_or_down c.args.from_end _ c.loop-step.value c.stepped-value.result c.stepped-value.ensures in
-    let w : IsNoted c.loop-step.met.least c.loop-step.met.greatest c.stepped-value.result c.place_of-place.result c.loop-step.met.places c.meet.new.self.least c.meet.new.self.greatest c.meet.new.self.places = record { lower = m.least; upper = m.greatest; again = m.again; first = m.first } in
+    let w : IsNoted c.loop-step.met.least c.loop-step.met.greatest c.stepped-value.result c.position_of-position.result c.loop-step.met.positions c.meet.new.self.least c.meet.new.self.greatest c.meet.new.self.positions = record { lower = m.least; upper = m.greatest; again = m.again; first = m.first } in
     record {
-      met = λ bits is. met_more c.args.from_end bits c.args.byte c.loop-step.step c.loop-step.value c.loop-step.met.least c.loop-step.met.greatest c.stepped-value.result c.place_of-place.result c.loop-step.met.places _ _ _ is (omega arith) (i.met bits is) c.place_of-place.ensures c.stepped-value.ensures (omega arith) w;
+      met = λ bits is. met_more c.args.from_end bits c.args.byte c.loop-step.step c.loop-step.value c.loop-step.met.least c.loop-step.met.greatest c.stepped-value.result c.position_of-position.result c.loop-step.met.positions _ _ _ is (omega arith) (i.met bits is) c.position_of-position.ensures c.stepped-value.ensures (omega arith) w;
       low = omega arith;
       high = omega arith;
       least = omega arith;
       greatest = omega arith;
       many = (grind (arith, ints, length-set)) ∙ i.many;
-      few = few_more _ _ _ _ c.loop-step.met.places _ _ _ w (omega arith) (rw c.place_of-place.ensures (grind arith)) i.few;
+      few = few_more _ _ _ _ c.loop-step.met.positions _ _ _ w (omega arith) (rw c.position_of-position.ensures (grind arith)) i.few;
     }

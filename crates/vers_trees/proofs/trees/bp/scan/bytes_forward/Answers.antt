@@ -5,8 +5,8 @@ use Rattle.vers_trees.proofs.trees.bp.scan.bytes_forward.Goals as goal
 pub unwrap-word-requires : goal.unwrap-word-requires
 unwrap-word-requires g c = read_some c.args.bits.now c.loop-start.start c.min-size.result _ c.get_bits_counted.ensures.value (omega arith) (omega arith)
 
-pub place_met-requires : goal.place_met-requires
-place_met-requires g c =
+pub position_met-requires : goal.position_met-requires
+position_met-requires g c =
     let entry = c.met_forward.ensures _ (byte_read c.args.bits.now c.loop-start.start c.min-size.result c.loop-within.within _ c.unwrap-word.result c.get_bits_counted.ensures.value c.unwrap-word.ensures (omega arith) (omega arith) (omega arith)) in
     let near = rise_within c.args.bits.now c.args.begin (c.loop-start.start + c.loop-within.within) 9223372036854775799 _ c.loop-within.invariant.passed.risen (omega arith) (omega arith) in
     record { bounded = entry.bounded; ordered = entry_ordered _ _ _ entry; low = near.1; high = near.0 }

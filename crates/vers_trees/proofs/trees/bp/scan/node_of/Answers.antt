@@ -43,14 +43,14 @@ loop-start-2-preserved g c =
     }
 
 -- ---- the next one
-pub followed_by-node-requires-in-loop-place : goal.followed_by-node-requires-in-loop-place
-followed_by-node-requires-in-loop-place g c =
-    let p = c.loop-place.place in
+pub followed_by-node-requires-in-loop-position : goal.followed_by-node-requires-in-loop-position
+followed_by-node-requires-in-loop-position g c =
+    let p = c.loop-position.position in
     let next = c.node_of_bit.ensures c.args.bits.now p (omega arith) c.is_bit_set_unchecked.ensures in
-    next_fits c.args.bits.now c.args.from p (p + 1) _ _ c.loop-place.invariant next c.requires.short (omega arith) (omega arith)
+    next_fits c.args.bits.now c.args.from p (p + 1) _ _ c.loop-position.invariant next c.requires.short (omega arith) (omega arith)
 
-pub loop-place-preserved : goal.loop-place-preserved
-loop-place-preserved g c =
-    let p = c.loop-place.place in
+pub loop-position-preserved : goal.loop-position-preserved
+loop-position-preserved g c =
+    let p = c.loop-position.position in
     let next = c.node_of_bit.ensures c.args.bits.now p (omega arith) c.is_bit_set_unchecked.ensures in
-    more_so_far c.args.bits.now c.args.from p (p + 1) _ _ _ c.loop-place.invariant next c.followed_by-node-in-loop-place.ensures
+    more_so_far c.args.bits.now c.args.from p (p + 1) _ _ _ c.loop-position.invariant next c.followed_by-node-in-loop-position.ensures

@@ -14,5 +14,5 @@ invariant-loop-start-2 g l = record { low : l.from â‰¤ l.start; high : l.start â
 abbrev pub decreases-loop-start-2 : goal.decreases-loop-start-2
 decreases-loop-start-2 g l = l.end - l.start
 
-abbrev pub invariant-loop-place : goal.invariant-loop-place
-invariant-loop-place g l = IsSoFar l.bits l.from l.place l.node
+abbrev pub invariant-loop-position : goal.invariant-loop-position
+invariant-loop-position g l = IsSoFar l.bits l.from l.position l.node

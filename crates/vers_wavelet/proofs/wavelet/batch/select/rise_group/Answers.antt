@@ -1,6 +1,6 @@
-use Rattle.vers_wavelet.proofs.Names.{◌≡◌, ℕ, ◌+◌, ◌-◌, Bool, List, length, get_or, ap, sym, subst, ◌∙◌, arith, any_default, HasPlace, no_query}
+use Rattle.vers_wavelet.proofs.Names.{◌≡◌, ℕ, ◌+◌, ◌-◌, Bool, List, length, get_or, ap, sym, subst, ◌∙◌, arith, any_default, HasPosition, no_query}
 use Rattle.vers_wavelet.specs.declared.wavelet.batch.select.SelectQuery.{SelectQuery}
-use Rattle.vers_wavelet.proofs.Groups.{changed_item, place_above}
+use Rattle.vers_wavelet.proofs.Groups.{changed_item, position_above}
 use Rattle.vers_wavelet.proofs.wavelet.batch.select.rise_group.Goals as goal
 
 pub found-above-requires-clause-slot : goal.found-above-requires-clause-slot
@@ -14,10 +14,10 @@ rise-requires-clause-above g c = λ v p at some from.
     let level : List Bool = c.index-levels-k.result in
     let i : ℕ = length c.args.levels.now - (c.args.k + 1) in
     let same : v ≡ level = at ∙ any_default c.args.levels.now c.args.k v level c.requires.within ∙ sym c.index-levels-k.is in
-    let placed = c.find_all.ensures.places i c.loop-j.j _ (c.new-group.ensures.numbers c.loop-j.j c.loop-j-test.true) in
-    let here : HasPlace level i (get_or c.loop-j.queries (c.args.from + c.loop-j.j) no_query) c.loop-j.j c.find_all.new.self =
-    subst (λ (q : SelectQuery). HasPlace level i q c.loop-j.j c.find_all.new.self) (sym (c.loop-j.invariant.after (c.args.from + c.loop-j.j) (omega arith))) placed in
-    place_above c.found-above.result p c.digit.result same here c.found-above.ensures c.digit.ensures some from
+    let placed = c.find_all.ensures.positions i c.loop-j.j _ (c.new-group.ensures.numbers c.loop-j.j c.loop-j-test.true) in
+    let here : HasPosition level i (get_or c.loop-j.queries (c.args.from + c.loop-j.j) no_query) c.loop-j.j c.find_all.new.self =
+    subst (λ (q : SelectQuery). HasPosition level i q c.loop-j.j c.find_all.new.self) (sym (c.loop-j.invariant.after (c.args.from + c.loop-j.j) (omega arith))) placed in
+    position_above c.found-above.result p c.digit.result same here c.found-above.ensures c.digit.ensures some from
 
 pub loop-j-preserved : goal.loop-j-preserved
 loop-j-preserved g c =

@@ -3,7 +3,7 @@ use Rattle.vers_trees.proofs.trees.bp.min_max.MinMaxTree.descend_counted.Given a
 
 abbrev pub invariant-loop-node : goal.invariant-loop-node
 invariant-loop-node g l = record {
-  every : (s : Sought) → LeadsTo false s l.self.first l.self.nodes l.fn.place l.fn.left → LeadsTo false s l.self.first l.self.nodes l.node l.left;
+  every : (s : Sought) → LeadsTo false s l.self.first l.self.nodes l.fn.position l.fn.left → LeadsTo false s l.self.first l.self.nodes l.node l.left;
   within : l.node ≤ 2 * l.self.first;
   reads : AddsAtMost l.fn.tally l.tally (only_nodes (digits (l.node + 1) - 1));
 }

@@ -9,7 +9,7 @@ returns-then-i-eq0-clause-value g c = grind (arith, ints, none_before, before_pa
 pub returns-in-Ok-clause-value : goal.returns-in-Ok-clause-value
 returns-in-Ok-clause-value g c =
     let p = rw (to_z-of_z w64 c.args.r c.ranges.r) at c.in-Ok.ensures.value in
-    answer_here true _ _ (answer_before c.args.self.bits.now g.row.BLOCK_SIZE c.args.i c.args.r (omega arith)) _ c.in-Ok.place p (omega arith, p.between.1)
+    answer_here true _ _ (answer_before c.args.self.bits.now g.row.BLOCK_SIZE c.args.i c.args.r (omega arith)) _ c.in-Ok.position p (omega arith, p.between.1)
 
 pub backward_past-requires : goal.backward_past-requires
 backward_past-requires g c =

@@ -8,7 +8,7 @@ returns-then-i-len-clause-value g c = sym (none_after c.args.self.bits.now c.arg
 pub returns-in-Ok-clause-value : goal.returns-in-Ok-clause-value
 returns-in-Ok-clause-value g c =
     let p = rw (to_z-of_z w64 c.args.r c.ranges.r) at c.in-Ok.ensures.value in
-    answer_here false _ _ (answer_after c.args.self.bits.now g.row.BLOCK_SIZE c.args.i c.args.r) _ c.in-Ok.place p (p.between.0, omega arith)
+    answer_here false _ _ (answer_after c.args.self.bits.now g.row.BLOCK_SIZE c.args.i c.args.r) _ c.in-Ok.position p (p.between.0, omega arith)
 
 pub forward_past-requires : goal.forward_past-requires
 forward_past-requires g c =

@@ -4,5 +4,5 @@ use Rattle.vers_trees.proofs.trees.bp.search.Searched.tree_from.Goals as goal
 
 pub overflow_add-result : goal.overflow_add-result
 overflow_add-result g c =
-    let f = after_some c.args.self.bits.now c.args.place (negsuc 0) c.in_ok-close.close (sym c.in_ok-close.ensures.value) in
+    let f = after_some c.args.self.bits.now c.args.position (negsuc 0) c.in_ok-close.close (sym c.in_ok-close.ensures.value) in
     record { fits = omega arith }

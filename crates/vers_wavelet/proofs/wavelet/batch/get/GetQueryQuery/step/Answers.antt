@@ -12,5 +12,5 @@ returns-clause-keeps g c =
 pub returns-clause-same : goal.returns-clause-same
 returns-clause-same g c =
     let step = c.read_level-step in
-    λ ls long. rw (step.ensures.place)
-    (get_goes c.args.level.now ls c.args.self.place c.args.i c.in-Some.number c.put_digit.new.self step.result.bit c.args.self.answer c.in-Some.is long (sym step.ensures.bit) c.put_digit.ensures.value)
+    λ ls long. rw (step.ensures.position)
+    (get_goes c.args.level.now ls c.args.self.position c.args.i c.in-Some.number c.put_digit.new.self step.result.bit c.args.self.answer c.in-Some.is long (sym step.ensures.bit) c.put_digit.ensures.value)

@@ -1,0 +1,5 @@
+use Rattle.vers_rmq.proofs.Blocks.{block_prefix_some}
+use Rattle.vers_rmq.proofs.rmq.fast_rmq.FastRmq.prefix_position.Goals as goal
+
+pub last_set-requires-clause-first : goal.last_set-requires-clause-first
+last_set-requires-clause-first g c = block_prefix_some _ _ _ _ _ _ _ c.self.invariant c.self.view_is c.requires c.index.ensures

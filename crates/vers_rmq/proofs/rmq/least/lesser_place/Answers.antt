@@ -1,5 +1,0 @@
-use Rattle.vers_rmq.proofs.Minima.{chosen_place}
-use Rattle.vers_rmq.proofs.rmq.least.lesser_place.Goals as goal
-
-pub returns-clause-value : goal.returns-clause-value
-returns-clause-value c = chosen_place c.args.items.now c.args.m c.args.n c.lesser_of.result c.lesser_of.ensures
