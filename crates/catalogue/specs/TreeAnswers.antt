@@ -21,7 +21,7 @@ abbrev pub first_position : List Bool → Option ℕ
 first_position [] = None
 first_position (bit ∷ bits) = Some 0
 
--- the excess behind a position, as its 64 bits
+-- the excess past a position, as its 64 bits
 abbrev pub excess_answer : List Bool → ℕ → Answer
 excess_answer bits position = answer_if (nat_lt position (length bits)) (Found (cast_unsigned w64 (excess bits (position + 1))))
 

@@ -37,7 +37,7 @@ below_all documents v up less = elim (cases_lt (below documents v) (length docum
   | inr all ↦ omega (arith, all, below_le documents v)
 ]
 
--- the documents of a range stand from where those below its start end to where those not above its end do
+-- the documents of a range begin after those below its start, and end with those not above its end
 pub positions_between-range : (documents : List ℕ) (from to : ℕ) → IsNonDecreasing documents
     → positions_between documents from to ≡ range_with_len (below documents from) (below documents (to + 1) - below documents from)
 unfolding positions_between
@@ -54,7 +54,7 @@ positions_between-range documents from to up =
     ) refl)
     (λ i f t. rw (lt-leb (slice_index documents i) to (omega (arith, below_after documents (to + 1) i up (omega (arith, f)) t))) (and-false _))
 
--- none is cheapest where no document lies in the range
+-- none is cheapest if no document is in the range
 pub cheapest_none : (posted : Posted) (from to : ℕ) → IsNonDecreasing posted.documents → below posted.documents (to + 1) ≤ below posted.documents from → None ≡ cheapest posted from to
 unfolding cheapest first_least_of
 cheapest_none posted from to up empty =

@@ -90,7 +90,7 @@ found_one has x found before there =
 
 -- ---- the loop
 
--- what is known where a search goes on from a number, or has ended
+-- what is known if a search continues from a number, or has ended
 abbrev pub IsSoFar : (ℕ → Bool) → Option ℕ → List ℕ → Type 0
 IsSoFar has (Some at) found = IsFoundBelow has at found
 IsSoFar has None found = IsSetOf has found
@@ -185,7 +185,7 @@ all_taken set begun old new taken = adds_weaker taken.adds (fewer_steps (set.mos
 none_till : (has : ℕ → Bool) (start at x : ℕ) → HasNone has start at → HasNone has at x → HasNone has start x
 none_till has start at x before then y from less = elim (cases_lt y at) [ inl fewer ↦ before y from fewer | inr more ↦ then y more less ]
 
--- a search that goes on has passed none, and one that began past the end stays there
+-- a search that continues has passed none, and one that began past the end stays there
 abbrev pub IsOn : (ℕ → Bool) → Option ℕ → Option ℕ → Type 0
 IsOn has None from = from ≡ None
 IsOn has (Some start) (Some at) = (start ≤ at) × HasNone has start at

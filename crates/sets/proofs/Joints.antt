@@ -17,7 +17,7 @@ use Rattle.sets.specs.Sources.{step_reads_of}
 use Rattle.sets.specs.Steps.{HasNone, HasNoMore, IsNext, IsPast, IsStep, PassesOne, Rises, Searched}
 use Rattle.sets.specs.inside.Joints.{IsEach, earlier_of}
 
--- ---- one source of several, by what f says of each
+-- ---- one source of several, by what f states about each
 
 module _ {S : Type 0} (f : S → Searched) (items old : List S) (i : ℕ) (item : S) (same : map f items ≡ map f old) (is : item ≡ get_or items i item) where
   pub item_same : f item ≡ get_or (map f old) i (f item)
@@ -33,7 +33,7 @@ module _ {S : Type 0} (f : S → Searched) (items old : List S) (i : ℕ) (item 
   pub inside_next : (first : Searched) → i < length old → i + 1 < length (first ∷ map f old)
   inside_next first inside = omega (arith, inside_same inside)
 
-  -- its step keeps what f says of it
+  -- its step keeps what f states about it
   pub sets_same : (next : S) → f next ≡ f item → map f (set items i next) ≡ map f old
   sets_same next kept = map-set_same f items i next item (kept ∙ ap f is) ∙ same
 

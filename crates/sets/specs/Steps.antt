@@ -4,7 +4,7 @@ use Rattle.vers_tally.specs.Reads.{Reads, times}
 use Rattle.sets.specs.declared.step.Step.{Step}
 use Rattle.sets.specs.declared.step.Step.TheVariants.{Ended, Past, Found}
 
--- what contracts know of a source: whether a number is in its set, the bound on the reads of a step, and how much of `most_steps` the steps to below a number have used up
+-- what contracts use of a source: whether a number is in its set, the bound on the reads of a step, and how much of `most_steps` the steps to below a number have used up
 pub record Searched : Type 0 where
   pub has : ℕ → Bool
   pub step_reads : Reads

@@ -4,7 +4,7 @@ use Rattle.std.proofs.lemmas.List.Elements.{All-from_get_or}
 use Rattle.vers_bits.proofs.Count.{count_limb_whole, count_none, count_past}
 use Rattle.vers_bits.proofs.Equal.{get_or-limbs, length-limbs}
 
--- what the chunks hold, and what stands behind them, is the whole
+-- what the chunks hold, and what is after them, is the whole
 pub chunks-sum : (f : ℕ → ℕ) (n k : ℕ) (xs : List ℕ) → sum_by (sum_by f) (first_chunks n k xs) + sum_by f (drop (k * n) xs) ≡ sum_by f xs
 chunks-sum f n zero xs = grind arith
 chunks-sum f n (suc k) xs =

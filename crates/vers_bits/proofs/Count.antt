@@ -1,4 +1,4 @@
--- How many of the first positions hold a bit.
+-- How many of the first positions have a bit.
 use Rattle.vers_bits.proofs.Names.{◌≡◌, ℕ, ◌+◌, ◌-◌, ◌*◌, ◌%◌, ◌^◌, ◌≤◌, min, Bool, true, false, cond, List, [], ◌∷◌, length, take, drop, refl, sym, ap, ◌∙◌, arith, count_by, count_ones, length-take, take_all, take-take, sum_by-cons, sum_by-append, count_by-le-length, take-add, number, is_bit, rules, count, limb}
 use Rattle.vers_bits.proofs.Num.{number-take, ones-number}
 
@@ -34,7 +34,7 @@ both_of [] = refl
 both_of (true ∷ l) = search (rules, sum_by-cons, both_of l)
 both_of (false ∷ l) = search (rules, sum_by-cons, both_of l)
 
--- each position below the length holds one of the two
+-- each position below the length has one of the two
 pub count_both : (l : List Bool) (i : ℕ) → count false l i + count true l i ≡ min i (length l)
 unfolding count
 count_both l i = both_of (take i l) ∙ length-take i l

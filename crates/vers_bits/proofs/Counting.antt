@@ -15,7 +15,7 @@ part_by_digits : (l : List Bool) (p n w : ℕ) → n ≤ 64 → ((i : ℕ) → i
 part_by_digits l p n w few digits =
     rw (low_mask w n few) (same_from_bits_below n _ _ (number_part_lt l p n) (mod_below w (2 ^ n) (pow_pos n)) (λ i h. rw (part_bit l p n i h, bit_at_mod w n i h) (sym (digits i h))))
 
--- the bits of a part that lies in one limb
+-- the bits of a part that is in one limb
 pub part_of_limb : (l : List Bool) (p n : ℕ) → 0 < n → p % 64 + n ≤ 64
     → number (take n (drop p l)) ≡ bit_and (limb l (p / 64) / 2 ^ (p % 64)) (18446744073709551615 / 2 ^ (64 - n))
 part_of_limb l p n some h = part_by_digits l p n _ (omega arith) (λ i small. rw shr-shr (grind (arith, limb_bit l (p / 64) (p % 64 + i))))

@@ -1,4 +1,4 @@
--- What an edit of the words does to the list that they hold.
+-- What an edit of the words does to the list that they have.
 use Rattle.vers_bits.proofs.Names.{◌≡◌, ℕ, ◌+◌, ◌*◌, ◌/◌, ◌%◌, ◌^◌, ◌<◌, ◌≤◌, Bool, true, false, not, eqb, List, length, get_or, set, take, refl, sym, ap, ◌∙◌, arith, w64, bit_at, bit_not, bit_and, bit_or, bit_xor, cases_eq, get_or_default_zero, one_shl, bit_at-lt, bit_at_xor, bit_at-pow_same, bit_at-pow_other, bit_at_set_same, bit_at_set_other, bit_at_clear_same, bit_at_clear_other, get_or-take, get_or-set_same, get_or-set_other, length-take, length-set, limb_count, word_bit, word_bits, HoldsBits, AddsBit, CutsTo, Puts, agree_below_at, rules}
 use Rattle.vers_bits.proofs.Words.{length-word_bits, get_or-word_bits, word_bits_are, take-word_bits, past_words, set_here, set_apart}
 use Rattle.vers_bits.proofs.LowBits.{bit_at_mod, bit_at_mod_above}
@@ -31,7 +31,7 @@ pub put_holds : {ws vs : List ℕ} {p : ℕ} {b : Bool} → Puts ws vs p b → (
 put_holds {ws} {vs} {p} {b} puts n within holds = grind arith
 
 module _ (ws : List ℕ) (p x : ℕ) (b : Bool) (within : p / 64 < length ws) where
-  -- by another word at its limb, with that bit and else the same
+  -- by another word at its limb, with that bit otherwise the same
   puts_by : eqb (bit_at x (p % 64)) 1 ≡ b → ((i : ℕ) → i < 64 → (i ≡ p % 64 → ⊥) → bit_at x i ≡ bit_at (get_or ws (p / 64) 0) i)
       → Puts ws (set ws (p / 64) x) p b
   puts_by on off = grind (arith, length-set, set_here, cases_eq, set_apart)

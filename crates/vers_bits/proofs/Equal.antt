@@ -1,4 +1,4 @@
--- The words follow from the bits that they hold.
+-- The words follow from the bits that they have.
 use Rattle.vers_bits.proofs.Names.{◌≡◌, ℕ, ◌+◌, ◌*◌, ◌/◌, ◌%◌, ◌^◌, ◌<◌, Bool, false, eqb, List, length, get_or, refl, sym, ◌∙◌, ap, arith, fill_by_all, length-map-range_with_len, get_or-map-range_with_len, ext_get_or, false≢true, bit_at, Decides, bit_value, limb, limb_count, word_bits, HoldsBits, pointwise, bytes_eq-Decides, limbs, same_bits, same_bits-Decides, cases_Bool}
 use Rattle.vers_bits.proofs.Words.{length-word_bits, limb-word_bits}
 use Rattle.vers_bits.proofs.Num.{limb_bit}

@@ -1,4 +1,4 @@
--- Words that hold a list of bits: what an edit of the words does to the list.
+-- Words that have a list of bits: what an edit of the words does to the list.
 use Rattle.vers_bits.proofs.Names.{◌≡◌, ℕ, ◌+◌, ◌-◌, ◌*◌, ◌/◌, ◌%◌, ◌^◌, ◌<◌, ◌≤◌, Bool, false, eqb, List, [], ◌∷◌, ◌++◌, length, get_or, set, take, replicate, refl, ◌∙◌, arith, bit_at, bit_or, cases_lt, cases_eq, shr-shr, pow_pos, bit_at-lt, bit_at_or, bit_at_above, bit_at_cat_low, bit_at_cat_high, bit_at-zero, get_or_past, get_or_push, get_or_append_left, get_or-append_right, length-append, length-replicate, get_or-replicate, length_push, length-set, take_all, low_bits, limb_count, word_bit, word_bits, HoldsBits, Holds}
 use Rattle.vers_bits.proofs.Words.{length-word_bits, get_or-word_bits, word_bits_are, past_words, set_here, set_apart}
 use Rattle.vers_bits.proofs.LowBits.{length-low_bits, get_or-low_bits, bit_at_mod, bit_value_test}
@@ -21,7 +21,7 @@ zeros_past : (ws : List ℕ) (k i : ℕ) → word_bit ws i ≡ false → word_bi
 zeros_past ws k i off = grind (arith, get_or_append_left, get_or-append_right, same_default, bit_at-zero)
 
 module _ (ws : List ℕ) (n v k : ℕ) (holds : HoldsBits ws n) (small : v < 2 ^ k) where
-  -- the list with the low k digits of v behind it, position by position
+  -- the list with the low k digits of v after it, position by position
   grown : List Bool
   grown = word_bits ws n ++ low_bits v k
 
@@ -112,7 +112,7 @@ module _ (ws : List ℕ) (n v k : ℕ) (holds : HoldsBits ws n) (small : v < 2 ^
       hold_grown vs (long ∙ omega (arith, holds.counted)) bounded (set_early zs part within (λ j h. get_or_append_left ws (high ∷ []) 0 j h))
       (λ i h. grind (arith, long, cases_eq (i / 64) (n / 64), cases_eq (i / 64) (n / 64 + 1), set_late zs within i h, set_apart zs (n / 64) last_word i, get_or_push ws high 0 (i / 64), shr-shr v (64 - n % 64) (i % 64), past_number vs i h, holds.counted))
 
--- zeros behind the list, in as many words as they fill
+-- zeros after the list, in as many words as they fill
 pub added_zeros : (ws : List ℕ) (n k : ℕ) → HoldsBits ws n → n + k ≤ 18446744073709551552
     → Holds (ws ++ replicate (limb_count (n + k) - length ws) 0) (n + k) (word_bits ws n ++ replicate k false)
 added_zeros ws n k holds bounded =

@@ -25,7 +25,7 @@ pub value-masked : (g : ℕ → ℕ → ℕ) (l r : List Bool) (p : ℕ) → p <
     → bit_value (get_or (masked g l r) p false) ≡ bit_and (g (limb l (p / 64)) (limb r (p / 64)) / 2 ^ (p % 64)) 1
 value-masked g l r p h = grind (arith, shr_and_one, get_or-masked, bit_value_test, bit_at-lt)
 
--- a limb of the masked list has the digits of the answer that lie below the length
+-- a limb of the masked list has the digits of the answer that are below the length
 pub limb-masked : (g : ℕ → ℕ → ℕ) (l r : List Bool) (k : ℕ)
     → limb (masked g l r) k ≡ g (limb l k) (limb r k) % 2 ^ min (length l - 64 * k) 64
 unfolding limb

@@ -37,14 +37,14 @@ module _ (b : Bool) (l : List Bool) where
   unfolding position_after
   after_is p = grind (arith, find_is, nat_lt, positions, count, length-positions, count_le_all, position_number, le-ltb, select_below, lt-ltb, select_not_below)
 
-  -- the neighbour above is number count (p + 1), where there is one
+  -- the neighbour above is number count (p + 1), if there is one
   pub position_after_some : (p : ℕ) → count b l (p + 1) < count b l (length l) → position_after b l p ≡ Some (select b l (count b l (p + 1)))
   position_after_some p h = after_is p ∙ get_position (count b l (p + 1)) h
 
   pub position_after_none : (p : ℕ) → count b l (length l) ≤ count b l (p + 1) → position_after b l p ≡ None
   position_after_none p h = after_is p ∙ slice_get_past (positions b l) (count b l (p + 1)) (omega (arith, length-positions b l))
 
-  -- the neighbour below is number count p - 1, where there is one
+  -- the neighbour below is number count p - 1, if there is one
   pub position_before_some : (p : ℕ) → 0 < count b l p → position_before b l p ≡ Some (select b l (count b l p - 1))
   unfolding position_before
   position_before_some p h =
@@ -57,7 +57,7 @@ module _ (b : Bool) (l : List Bool) where
   unfolding position_before
   position_before_none p h = none_passing None (λ q. nat_lt q p) (positions b l) (λ i small. grind (arith, length-positions b l, position_number, le-ltb, select_not_below))
 
--- the first position at or after a position that holds the bit, or the length
+-- the first position at or after a position that has the bit, or the length
 pub next_position : (b : Bool) (l : List Bool) (i : ℕ) → i ≤ length l → IsNextPosition b l i (select b l (count b l i))
 next_position b l i within =
     let past = select_past b l (count b l i) in
@@ -69,7 +69,7 @@ next_position b l i within =
       holds = λ h. grind arith;
     }
 
--- none stands between a position and its neighbours
+-- none is between a position and its neighbours
 pub none_up : NoneUpToNeighbour
 none_up b l p = elim (cases_lt (count b l (p + 1)) (count b l (length l))) [
   | inl some ↦

@@ -60,7 +60,7 @@ module _ (b : Bool) (l : List Bool) where
   unfolding positions below
   length-positions = length-below (length l) (omega arith)
 
--- position p is number r of those that hold the bit
+-- position p is number r of those that have the bit
 pub record IsPosition (b : Bool) (l : List Bool) (r p : ℕ) : Type 0 where
   pub within : p < length l
   pub holds : is_bit b (get_or l p false) ≡ true
@@ -80,7 +80,7 @@ passes b l r (suc n) h some =
           (n, record { within = omega arith; holds = on; before = omega (arith, count_more_yes b l n (omega arith) on) })
     ]
 
--- where there is a position of number r, `select` is that position
+-- if there is a position of number r, `select` is that position
 pub select_is_position : (b : Bool) (l : List Bool) (r : ℕ) → r < count b l (length l) → IsPosition b l r (select b l r)
 select_is_position b l r some = let found = passes b l r (length l) (omega arith) some in rw (select_from_position found.1) found.1
 
@@ -89,10 +89,10 @@ pub count_at_select : (b : Bool) (l : List Bool) (r : ℕ) → r < count b l (le
     → (select b l r < length l) × (count b l (select b l r) ≡ r) × (count b l (select b l r + 1) ≡ r + 1)
 count_at_select b l r some = grind (arith, select_is_position, count_more_yes)
 
--- number r stands below p where more than r positions below p hold the bit
+-- number r is below p if more than r positions below p have the bit
 pub select_below : (b : Bool) (l : List Bool) (r p : ℕ) → r < count b l p → select b l r < p
 select_below b l r p h = grind (arith, select_is_position, count_le_all, count_up)
 
--- number r stands at or above p where at most r positions below p hold the bit
+-- number r is at or above p if at most r positions below p have the bit
 pub select_not_below : (b : Bool) (l : List Bool) (r p : ℕ) → r < count b l (length l) → count b l p ≤ r → p ≤ select b l r
 select_not_below b l r p some h = grind (arith, count_at_select, count_up)

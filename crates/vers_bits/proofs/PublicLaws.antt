@@ -1,6 +1,6 @@
 -- The laws that proofs of other crates may cite. A crate above imports this file and no other of this folder.
 use Rattle.vers_bits.proofs.Names.{arith, ◌≡◌, ℕ, ◌+◌, ◌-◌, ◌*◌, ◌%◌, ◌/◌, ◌^◌, ◌<◌, ◌≤◌, min, suc, Bool, true, false, cond, eqb, ltb, List, [], ◌∷◌, ◌++◌, length, map, take, drop, get_or, slice_get, Option, None, Some, bool_byte, count_ones, sum_by, filter, find, flat_map, YieldsFirst, YieldsLast, MakesProgress, item_count, bit_at, count_leading_zeros, AllPairs, count_by, last_or, get_or_default, bit_value, number, low_bits, pack, is_bit, count, positions, select, position_after, position_before, limb, limbs, limb_count, Span, TakesNth, TakesNthBack, TakesFirst, TakesLast, items_in}
--- `IsPosition bit bits r p`: position p is number r of those that hold the bit
+-- `IsPosition bit bits r p`: position p is number r of those that have the bit
 pub use Rattle.vers_bits.proofs.Positions.{IsPosition}
 use Rattle.vers_bits.proofs.Num as Num
 use Rattle.vers_bits.proofs.LowBits as LowBits
@@ -26,7 +26,7 @@ count_le = Count.count_le
 pub count_le_all : (bit : Bool) (bits : List Bool) (i : ℕ) → count bit bits i ≤ count bit bits (length bits)
 count_le_all = Count.count_le_all
 
--- nothing stands before the first position
+-- nothing is before the first position
 pub count_none : (bit : Bool) (bits : List Bool) → count bit bits 0 ≡ 0
 count_none = Count.count_none
 
@@ -42,11 +42,11 @@ count_up = Count.count_up
 pub count_near : (bit : Bool) (bits : List Bool) (i j : ℕ) → i ≤ j → count bit bits j ≤ count bit bits i + (j - i)
 count_near = Count.count_near
 
--- each position holds a zero or a one
+-- each position has a zero or a one
 pub count_both : (bits : List Bool) (i : ℕ) → count false bits i + count true bits i ≡ min i (length bits)
 count_both = Count.count_both
 
--- past a position that holds the bit the count is one more, past another it is the same
+-- past a position that has the bit the count is one more, past another it is the same
 pub count_more_yes : (bit : Bool) (bits : List Bool) (p : ℕ) → p < length bits → is_bit bit (get_or bits p false) ≡ true → count bit bits (p + 1) ≡ count bit bits p + 1
 count_more_yes = Positions.count_more_yes
 
@@ -74,11 +74,11 @@ number-positions = PositionSums.number-positions
 pub length-positions : (bit : Bool) (bits : List Bool) → length (positions bit bits) ≡ count bit bits (length bits)
 length-positions = Positions.length-positions
 
--- where there is a position of number r, `select` is that position
+-- if there is a position of number r, `select` is that position
 pub select_is_position : (bit : Bool) (bits : List Bool) (r : ℕ) → r < count bit bits (length bits) → IsPosition bit bits r (select bit bits r)
 select_is_position = Positions.select_is_position
 
--- a position that holds the bit is the one with the number that its count says
+-- a position that has the bit is the one with the number that its count gives
 pub select_at : (bit : Bool) (bits : List Bool) (r p : ℕ) → p < length bits → is_bit bit (get_or bits p false) ≡ true → count bit bits p ≡ r → select bit bits r ≡ p
 select_at = Positions.select_at
 
@@ -91,25 +91,25 @@ pub count_at_select : (bit : Bool) (bits : List Bool) (r : ℕ) → r < count bi
     → (select bit bits r < length bits) × (count bit bits (select bit bits r) ≡ r) × (count bit bits (select bit bits r + 1) ≡ r + 1)
 count_at_select = Positions.count_at_select
 
--- number r stands below p where more than r positions below p hold the bit, and not below p where at most r do
+-- number r is below p if more than r positions below p have the bit, and not below p if at most r do
 pub select_below : (bit : Bool) (bits : List Bool) (r p : ℕ) → r < count bit bits p → select bit bits r < p
 select_below = Positions.select_below
 
 pub select_not_below : (bit : Bool) (bits : List Bool) (r p : ℕ) → r < count bit bits (length bits) → count bit bits p ≤ r → p ≤ select bit bits r
 select_not_below = Positions.select_not_below
 
--- a greater number stands at a later position
+-- a greater number is at a later position
 pub select_up : (bit : Bool) (bits : List Bool) (r q : ℕ) → r < q → q < count bit bits (length bits) → select bit bits r < select bit bits q
 select_up bit bits r q h some = grind (arith, select_below, count_at_select)
 
--- number r of the first n positions stands there, holds the bit, and r stand before it
+-- number r of the first n positions is there, has the bit, and r are before it
 pub select_holds : (bit : Bool) (bits : List Bool) (r n : ℕ) → n ≤ length bits → r < count bit bits n
     → (select bit bits r < n) × (is_bit bit (get_or bits (select bit bits r) false) ≡ true) × (count bit bits (select bit bits r) ≡ r)
 select_holds bit bits r n h few = grind (arith, select_is_position, count_le_all, select_below)
 
 -- ---- neighbours
 
--- the neighbour above p is number `count (p + 1)`, where there is one
+-- the neighbour above p is number `count (p + 1)`, if there is one
 pub position_after_some : (bit : Bool) (bits : List Bool) (p : ℕ) → count bit bits (p + 1) < count bit bits (length bits) → position_after bit bits p ≡ Some (select bit bits (count bit bits (p + 1)))
 position_after_some = Neighbours.position_after_some
 
@@ -137,7 +137,7 @@ number-lt = Num.number-lt
 pub bit_at-number : (bits : List Bool) (i : ℕ) → bit_at (number bits) i ≡ bit_value (get_or bits i false)
 bit_at-number = Num.bit_at-number
 
--- of a number that is not 0 the highest one stands as far below digit 63 as it has leading zeros
+-- of a number that is not 0 the highest one is as far below digit 63 as it has leading zeros
 pub highest_bit : (w : ℕ) → 0 < w → w < 18446744073709551616
     → (count_leading_zeros 64 w < 64) × (bit_at w (63 - count_leading_zeros 64 w) ≡ 1) × ((i : ℕ) → 63 - count_leading_zeros 64 w < i → bit_at w i ≡ 0)
 highest_bit = Highest.highest_bit
@@ -153,7 +153,7 @@ length-low_bits = LowBits.length-low_bits
 pub number-low_bits : (v n : ℕ) → number (low_bits v n) ≡ v % 2 ^ n
 number-low_bits = LowBits.number-low_bits
 
--- they are those of v modulo 2 ^ n, and go on with those of v without them
+-- they are those of v modulo 2 ^ n, and continue with those of v without them
 pub low_bits_of_rest : (v n : ℕ) → low_bits (v % 2 ^ n) n ≡ low_bits v n
 low_bits_of_rest = LowBits.low_bits_of_rest
 
@@ -243,7 +243,7 @@ number-take = Num.number-take
 pub number_below : (l : List Bool) (k : ℕ) → length l ≤ k → number l < 2 ^ k
 number_below = Gather.number_below
 
--- the value of a bit tells it
+-- the value of a bit determines it
 pub bit_value_le : (b : Bool) → bit_value b ≤ 1
 bit_value_le = Num.bit_value_le
 

@@ -16,7 +16,7 @@ pub take-word_bits : (ws : List ℕ) (n k : ℕ) → k ≤ n → take k (word_bi
 unfolding word_bits
 take-word_bits ws n k h = take-map-range_with_len (word_bit ws) 0 n k h
 
--- the words hold the list that they hold position by position
+-- the words have the list that they have position by position
 pub word_bits_are : (ws : List ℕ) (n : ℕ) (l : List Bool) → length l ≡ n → ((i : ℕ) → i < n → word_bit ws i ≡ get_or l i false) → word_bits ws n ≡ l
 word_bits_are ws n l e each =
     ext_get_or false (word_bits ws n) l (length-word_bits ws n ∙ sym e)

@@ -69,6 +69,6 @@ limb_count n = block_count 64 n
 unfoldable pub limbs : List Bool → List ℕ
 limbs bits = map (limb bits) (range_with_len 0 (limb_count (length bits)))
 
--- what g makes of two lists of one length: bit p is bit p % 64 of what g answers of both limbs p / 64
+-- what g makes of two lists of one length: bit p is bit p % 64 of the result of g for both limbs p / 64
 unfoldable pub masked : (ℕ → ℕ → ℕ) → List Bool → List Bool → List Bool
 masked g xs ys = map (λ p. bit_at (g (limb xs (p / 64)) (limb ys (p / 64))) (p % 64) == 1) (range_with_len 0 (length xs))

@@ -1,4 +1,4 @@
--- Iterators from both ends, over the list of the items that are still to come.
+-- Iterators from both ends, over the list of the remaining items.
 use Rattle.std.specs.Prelude.{◌≡◌, ℕ, ◌+◌, ◌-◌, ◌<◌, ◌≤◌, ◌++◌, ◌↔◌, List, [], length, take, drop, reverse, slice_get, slice_range, Option, None, MatchOption}
 use Rattle.std.specs.Option.{option_to_list}
 use Rattle.std.specs.Iterator.{YieldsFirst, YieldsLast}

@@ -19,7 +19,7 @@ one_more f xs want d k x inside each is j below = rw (map-set f xs k x) (elim (c
 pub start_more : (start : ℕ) (ends : List ℕ) (k : ℕ) → slice_index (start ∷ ends) (k + 1) ≡ slice_index ends k
 start_more start ends k = simp unary_clauses refl
 
--- a list with a part that was written, by position: before the part, in it, and behind it
+-- a list with a part that was written, by position: before the part, in it, and after it
 pub put_before : {X : Type 0} (a k : ℕ) (xs ys : List X) (j : ℕ) (d : X) → j < a → a ≤ length xs → get_or (put_mid a k xs ys) j d ≡ get_or xs j d
 put_before a k xs ys j d below fits =
     sym (get_or-take a (put_mid a k xs ys) j d below) ∙ ap (λ l. get_or l j d) (take-put_mid_below a k xs ys a (omega arith) fits) ∙ get_or-take a xs j d below

@@ -5,7 +5,7 @@ use Rattle.vers_c.specs.declared.handle.VersHandle.{VersHandle}
 use Rattle.vers_c.specs.declared.kept.Kept.{Kept}
 use Rattle.vers_c.specs.declared.kept.Kept.TheVariants as kept
 
--- the plain list of what is kept
+-- the plain list of a structure
 abbrev pub content : Kept → Content
 content (kept.Tree tree) = Parentheses tree.value
 content (kept.Other structure) = content_of structure

@@ -44,7 +44,7 @@ abbrev pub piece : Content → ℕ → ℕ → Option Content
 piece (IndexedText text) from to = if nat_le from to && nat_le to (length text.items) then Some (PlainNumbers (slice_range text.items from to)) else None
 piece held from to = None
 
--- one of some patterns that are joined, by the number at which the first begins, and where each ends
+-- one of some joined patterns, by the position at which the first begins, and the end of each
 abbrev pub pattern_at : List ℕ → ℕ → List ℕ → ℕ → List ℕ
 pattern_at symbols start ends k = slice_range symbols (slice_index (start ∷ ends) k) (slice_index ends k)
 

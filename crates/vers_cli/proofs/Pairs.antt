@@ -12,7 +12,7 @@ use Rattle.vers_cli.proofs.Rises.{rise_from, rise, fall}
 abbrev pub posted_then : List ℕ → List ℕ → Option Posted → Option Posted
 posted_then documents costs others = option_map (λ more. record { documents = documents ++ more.documents; costs = costs ++ more.costs }) others
 
--- how documents ascend after others, as `rise_after` tells it of numbers
+-- how documents ascend after others, as `rise_after` determines it of numbers
 abbrev pub documents_after : ℕ → ℕ → Option Posted → Option (ℕ × ℕ)
 documents_after len last found = option_and_then (λ posted. rise_from nat_lt len last posted.documents) found
 

@@ -26,11 +26,11 @@ answer_to held line = by_the_rules.answer_to held line
 abbrev pub holding_after : Holding → List ℕ → Holding
 holding_after held line = by_the_rules.holding_after held line
 
--- the answers to the lines in order, beginning with the given structure
+-- the answers to the lines in order, beginning with this structure
 abbrev pub answers_to : Holding → List (List ℕ) → List ℕ
 answers_to held lines = answers_of by_the_rules held lines
 
--- the output is the answers to the lines that a run read, beginning with the given structure, depending on how the run ended
+-- the output is the answers to the lines that a run read, beginning with this structure, depending on how the run ended
 abbrev pub WrittenFrom : Holding → Result (Unit {0}) RunError → List (List ℕ) → List ℕ → Type 0
 WrittenFrom held result lines text = WrittenOf (answers_to held) result lines text
 

@@ -25,7 +25,7 @@ abbrev pub length_held : Holding → ℕ
 length_held None = 0
 length_held (Some content) = length_of content
 
--- what a load line gives
+-- the result of a load line
 abbrev pub loaded : Load → List (List ℕ) → Loading Content
 loaded load.Bits arguments = map_loading IndexedBits (bits_loaded (bits_of arguments))
 loaded load.Sorted arguments = map_loading SortedMembers (sorted_loaded (all_numbers arguments))
@@ -36,7 +36,7 @@ loaded load.Symbols arguments = map_loading SymbolList (symbols_loaded (all_numb
 loaded load.Postings arguments = map_loading Documents (postings_loaded (all_numbers arguments))
 loaded load.Inverted arguments = map_loading DocumentLists (inverted_loaded (all_numbers arguments))
 
--- what a load line gives, without what it writes
+-- the result of a load line, without what it writes
 abbrev pub outcome_of : {H : Type 0} → Loading H → Loading (Unit {0})
 outcome_of loading = map_loading (λ _. tt) loading
 

@@ -38,7 +38,7 @@ values_31211 = 3 ∷ 1 ∷ 2 ∷ 1 ∷ 1 ∷ []
 abbrev held_0110 : Holding
 held_0110 = Some (IndexedBits (false ∷ true ∷ true ∷ false ∷ []))
 
--- a load line answers the length, and its list is the current structure
+-- the answer to a load line is the length, and its list is the current structure
 pub answer-bits_0110 : answer_to None (codes "bits 0110") ≡ ended (codes "4")
 unfolding answer_to_parts digits
 answer-bits_0110 = refl
@@ -278,7 +278,7 @@ pub answer-level_ancestor_3_2 : answer_to held_tree (codes "level_ancestor 3 2")
 unfolding answer_to_parts number_of digits forest_of closing is_ancestor is_proper_ancestor depth parent nodes_under level level_ancestor subtree node_index
 answer-level_ancestor_3_2 = refl
 
--- a position without a one, parentheses that are not balanced, and malformed arguments, which come first
+-- a position without a one, parentheses that are not balanced, and malformed arguments, which are tested first
 pub answer-parent_2 : answer_to held_tree (codes "parent 2") ≡ ended (codes "refused")
 unfolding answer_to_parts number_of
 answer-parent_2 = refl
@@ -295,7 +295,7 @@ pub answer-parent_x_of_unbalanced : answer_to (Some (Parentheses (false ∷ true
 unfolding answer_to_parts number_of
 answer-parent_x_of_unbalanced = refl
 
--- documents and costs in turn, and a document without a cost
+-- documents and costs alternate, and a document without a cost
 pub posted_of-2735 : posted_of (2 ∷ 7 ∷ 3 ∷ 5 ∷ []) ≡ Some (record { documents = 2 ∷ 3 ∷ []; costs = 7 ∷ 5 ∷ [] })
 posted_of-2735 = refl
 

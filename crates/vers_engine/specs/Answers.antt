@@ -15,7 +15,7 @@ abbrev pub held_after : {H : Type 0} → Answering H → H → List (List ℕ) �
 held_after by held [] = held
 held_after by held (line ∷ lines) = held_after by (by.holding_after held line) lines
 
--- the answers to the lines, in order, beginning with the given structure
+-- the answers to the lines, in order, beginning with this structure
 abbrev pub answers_of : {H : Type 0} → Answering H → H → List (List ℕ) → List ℕ
 answers_of by held [] = []
 answers_of by held (line ∷ lines) = by.answer_to held line ++ answers_of by (by.holding_after held line) lines

@@ -1,4 +1,4 @@
--- The first bytes of a reader, and the others behind them.
+-- The first bytes of a reader, and the others after them.
 use Rattle.std.proofs.Common.{◌≡◌, ℕ, suc, ◌/◌, ◌<◌, ◌≤◌, List, ◌++◌, length, take, drop, Option, None, Some, Result, Ok, Err, append-nil, refl, sym, subst, ap, ◌∙◌, inl, inr, arith}
 use Rattle.std.specs.Prelude.{map, slice_index, IfErr, IfSome}
 use Rattle.std.specs.Simd.{first_chunks}
@@ -17,7 +17,7 @@ third : (bytes : List ℕ) (n : ℕ) → length bytes / 8 ≡ suc (suc (suc n)) 
 unfolding words_of
 third bytes n long = ap (λ k. slice_index (map bytes_word (first_chunks 8 k bytes)) 2) long
 
--- it stands in the first 24 bytes
+-- it is in the first 24 bytes
 same_number : (front rest : List ℕ) → length front ≡ 24 → number_of_kind (front ++ rest) ≡ number_of_kind front
 same_number front rest long =
     third (front ++ rest) (length rest / 8) (omega (arith, length-append front rest))
@@ -64,7 +64,7 @@ front_form (Some xs) (Some ys) front bytes c few end is =
     ] in
     (ap number_of_kind all ∙ same, ap Some (sym all))
 
--- what holds of the bytes in front and those behind holds of all bytes
+-- what is true of the bytes in front and those after is true of all bytes
 pub of_all : (old mid whole : Option (List ℕ)) (front : List ℕ) → whole ≡ option_append (Some front) mid → Consumes old mid front → (P : List ℕ → Type 0) → IfSome whole P → IfSome old P
 of_all None mid whole front is c P holds = tt
 of_all (Some xs) None whole front is c P holds = absurd c

@@ -76,7 +76,7 @@ unindexed (Err e) left symbols items same loaded width (inl memory) = subst (λ 
 unindexed (Err e) left symbols items same loaded width (inr long) =
     subst (λ (f : TextFault). IsNoSymbolText left f) (sym long.0) (symbols, loaded, width, subst (λ (l : List ℕ). MAX_LEN < length l) same long.1)
 
--- a form of the bytes in front and those behind is one of all bytes
+-- a form of the bytes in front and those after is one of all bytes
 form_of_all : (old mid whole : Option (List ℕ)) (front : List ℕ) → whole ≡ option_append (Some front) mid → Consumes old mid front → (held : Content) → IsFormOf whole held → IsFormOf old held
 form_of_all old mid whole front is c held form = (form.0, form.1, of_all old mid whole front is c (IsSomeForm held) form.2, form.3)
 
@@ -85,7 +85,7 @@ pub symbols_loaded : {T : Type 0} (r : Result T TextFault) (symbols : T → Symb
 symbols_loaded (Ok text) symbols old mid whole front is c loaded = inl (form_of_all old mid whole front is c (SymbolList (symbols text)) loaded)
 symbols_loaded (Err e) symbols old mid whole front is c loaded = tt
 
--- the error in a form of an index, read behind its first bytes
+-- the error in a form of an index, read after its first bytes
 index_fault : (old mid whole : Option (List ℕ)) (front : List ℕ) (fault : LoadError) → whole ≡ option_append (Some front) mid → Consumes old mid front
     → IfSome old (λ bytes. number_of_kind bytes ≡ TEXTS) → IsTextRefused whole fault → IsNoTextForm old fault
 index_fault old mid whole front fault is c number why = elim why [
@@ -115,7 +115,7 @@ index_refused (Err e) old mid whole front is c few end number why =
     let named = if_known old _ (λ bytes. number_of_kind bytes ≡ TEXTS) (λ bytes same. same ∙ number) (of_number old mid front c few end) in
     subst (λ (f : TextFault). IsNoText old f) (sym why.1) (index_fault old mid whole front why.0 is c named why.2)
 
--- why there are no symbols behind the first bytes is why there is no text
+-- why there are no symbols after the first bytes is why there is no text
 no_symbols : (old mid whole : Option (List ℕ)) (front : List ℕ) (e : TextFault) → whole ≡ option_append (Some front) mid → Consumes old mid front
     → IfSome old (λ bytes. number_of_kind bytes ≢ TEXTS) → IsNoSymbolText whole e → IsNoText old e
 no_symbols old mid whole front (File fault) is c number why = list_fault old mid whole front fault is c number why

@@ -27,7 +27,7 @@ SaysWhy NoBits loading = (held : Content) × (loading ≡ Accepted held) × (has
 SaysWhy TooLong loading = (held : Content) × (loading ≡ Accepted held) × (has_no_bits held ≡ false) × ¬ HasForm held
 SaysWhy _ loading = ⊤
 
--- the result says that the list has no saved form
+-- the result is that the list has no saved form
 abbrev pub IsFormless : Result (Unit {0}) SaveFault → Type 0
 IsFormless result = (result ≡ Err NoBits) ⊎ (result ≡ Err TooLong)
 

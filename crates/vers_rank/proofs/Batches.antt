@@ -2,7 +2,7 @@
 use Rattle.vers_rank.proofs.Names.{◌≡◌, ℕ, ◌+◌, ◌*◌, ◌/◌, ◌%◌, ◌<◌, ◌≤◌, Bool, List, length, arith, cases_lt, count, limb, select, count_le_all, count_near, count_past, select_past, held, held_in, number_of, IsIn, StandsFor}
 use Rattle.vers_rank.proofs.Selects.{held_is, held_more, count_le_held}
 
--- a number that is reached before position j stands before the end, and so do as many positions as it lies past position i
+-- a number that is reached before position j is before the end, and so do as many positions as it is past position i
 pub inside_by : (b : Bool) (l : List Bool) (i d j : ℕ) → i ≤ j → count b l i + d < count b l j → (i + d < length l) × (i + d < j)
 inside_by b l i d j order h = grind (arith, cases_lt i (length l), count_near b l i (length l), count_near b l i j, count_past b l i, count_le_all b l j)
 
@@ -15,7 +15,7 @@ stands size b l r k rest q at stretch within number near = record {
   past = λ none. absurd (omega (arith, count_le_all b l (size * (k + 1))));
 }
 
--- the same for a number that a position in a wider stretch stands for
+-- the same for a number that a position in a wider stretch is for
 pub narrows : (wide size : ℕ) (b : Bool) (l : List Bool) (p k rest q : ℕ) → p < length l → q ≡ size * k + rest → q / size ≡ k → q % size ≡ rest
     → count b l (size * k) + rest ≡ number_of wide b l p → number_of wide b l p < count b l (size * (k + 1)) → (r : ℕ) → StandsFor wide b l r p → StandsFor size b l r q
 narrows wide size b l p k rest q inside at stretch within number near r is = grind (arith, cases_lt, count, stands)
@@ -24,7 +24,7 @@ narrows wide size b l p k rest q inside at stretch within number near r is = gri
 pub ends : (wide : ℕ) (b : Bool) (l : List Bool) (p : ℕ) → length l ≤ p → (r : ℕ) → StandsFor wide b l r p → p ≡ select b l r
 ends wide b l p past r is = grind (arith, cases_lt r (count b l (length l)), select_past b l r)
 
--- a position that stands for a number is one that the next level takes
+-- a position that is for a number is one that the next level takes
 pub takes : (size : ℕ) (b : Bool) (l : List Bool) (r p : ℕ) → StandsFor size b l r p → IsIn size b l p
 takes size b l r p is inside = grind (arith, cases_lt r (count b l (length l)))
 

@@ -5,7 +5,7 @@ use Rattle.vers_rank.proofs.Tables.{tried, tries}
 use Rattle.vers_rank.specs.declared.word.TheConstants.{POSITIONS}
 use Rattle.vers_rank.proofs.Words.{ones_few, masked_byte}
 
--- number q of the ones of the byte v, if it has one, stands at p
+-- number q of the ones of the byte v, if it has one, is at p
 is_position : ℕ → ℕ → ℕ → Bool
 is_position v q p = not (ltb q (count_ones v)) || (ltb p 8 && (leb (count_ones (v % 2 ^ p)) q && ltb q (count_ones (v % 2 ^ (p + 1)))))
 

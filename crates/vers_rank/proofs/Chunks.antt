@@ -26,7 +26,7 @@ pub positions_from_past : (b : Bool) (bits : List Bool) (p : ℕ) → length bit
 unfolding positions_from
 positions_from_past b bits p h = drop_all (count b bits p) (positions b bits) (omega (arith, length-positions b bits, count_past b bits p h))
 
--- the positions that hold the bit among those from a on, n of them, and those after them
+-- the positions that have the bit among those from a on, n of them, and those after them
 positions_and : (b : Bool) (bits : List Bool) (start w a n : ℕ) → start + a + n ≤ length bits → ((i : ℕ) → a ≤ i → i < a + n → bit_at w i ≡ bit_value (is_bit b (get_or bits (start + i) false)))
     → positions_from b bits (start + a) ≡ map (λ i. start + i) (filter (λ i. eqb (bit_at w i) 1) (range_with_len a n)) ++ positions_from b bits (start + a + n)
 positions_and b bits start w a zero within holds = ap (positions_from b bits) (let e : start + a ≡ start + a + 0 = omega arith in e)

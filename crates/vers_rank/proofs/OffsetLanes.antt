@@ -35,7 +35,7 @@ each_last_first P xs (suc n) all j h = elim (cases_eq j n) [
 range_below : (n : ℕ) → All (λ i. i < n) (range_with_len 0 n)
 range_below n = All-from_get_or (λ i. i < n) (range_with_len 0 n) 0 (λ i h. let small : i < n = omega (arith, h, length-range_with_len 0 n) in omega (arith, small, get_or-range_with_len 0 n i 0 small))
 
--- the offsets in a buffer lie among the bits
+-- the offsets in a buffer are among the bits
 pub offset_below : (xs : List ℕ) (count n w : ℕ) → last_first 0 xs count ≡ ones_below n w → (j : ℕ) → j < count → get_or xs j 0 < n
 offset_below xs count n w listed j h =
     let all : All (λ i. i < n) (last_first 0 xs count) = rw listed (All-filter (λ i. eqb (bit_at w i) 1) (λ i. i < n) (range_with_len 0 n) (range_below n)) in

@@ -1,4 +1,4 @@
--- The position after a position that holds the bit, in the same limb.
+-- The position after a position that has the bit, in the same limb.
 use Rattle.vers_rank.proofs.Names.{◌≡◌, ◌≢◌, ℕ, zero, suc, ◌+◌, ◌-◌, ◌*◌, ◌/◌, ◌%◌, ◌^◌, ◌<◌, ◌≤◌, Bool, true, false, List, length, get_or, refl, sym, ◌∙◌, arith, min, w64, bit_at, trailing_zeros, cases_lt, bit_at-suc, bit_at-zero, bit_at_above, bit_at-trailing_zeros, bit_value, is_bit, count, limb, select, count_more_no, select_at, count_at_select, select_past, select_up, select_holds, value_one, value_none, shr-shr, shr_split, bit_at_cat_low, marked}
 use Rattle.vers_rank.proofs.Marks.{marked_fits, marked_bit}
 
@@ -49,7 +49,7 @@ module _ (b : Bool) (l : List Bool) (k q : ℕ) (after : 0 < marked b (limb l k)
       let d = length l - (64 * k + q + 1) in
       grind (arith, cases_lt next (length l), on, select_at b l (r + 1) next, select_past b l (r + 1), stays r far some position, stays r d some position, count_at_select b l r some)
 
--- where the word of number r holds no other past it, the next stands in another word
+-- if the word of number r has no other past it, the next is in another word
 pub none_after : (b : Bool) (l : List Bool) (r k q : ℕ) → q < 64 → r + 1 < count b l (length l) → 64 * k + q ≡ select b l r → marked b (limb l k) / 2 ^ q / 2 ≡ 0
     → (64 * k + q) / 64 ≢ select b l (r + 1) / 64
 none_after b l r k q small more position none same =

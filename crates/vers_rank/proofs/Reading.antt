@@ -75,7 +75,7 @@ module _ {b : Bool} {l : List Bool} {reader : Reader} {r : ℕ} (here : reader.n
       reading_from is (is.begun left) _ (lowest + 1) (reader.next + 1) (cut_lowest reader.word left fits) (omega (arith, (bit_at-trailing_zeros w64 reader.word left fits).0))
       (omega (arith, ap (count b l) e, count_more_yes b l (64 * reader.limb + lowest) at_lowest.0.inside at_lowest.0.holds, at_lowest.1)) (omega arith)
 
-  -- the position lies in a list, and a list is not as long as a word can count
+  -- the position is in a list, and a list is not as long as a word can count
   pub lowest_fits : {m : List Bool} → length m ≤ 18446744073709551552 → m ≡ l → 64 * reader.limb + trailing_zeros w64 reader.word < 18446744073709551552
   lowest_fits bounded view = omega (arith, ap length view, at_lowest.0.inside)
 

@@ -61,7 +61,7 @@ module _ (b : Bool) (l : List Bool) (reader : Reader) (r : ℕ) (here : reader.n
   pub rest_back_at : IsReadingBack b l (record reader { word = bit_and reader.word (bit_not w64 (1 * 2 ^ (63 - count_leading_zeros 64 reader.word) % 18446744073709551616)); next = r })
   rest_back_at = reading_to is _ highest r (cut_highest reader.word left is.marks.fits) (omega (arith, at_highest)) at_highest.1 (omega arith)
 
-  -- the position lies in a list, and a list is not as long as a word can count
+  -- the position is in a list, and a list is not as long as a word can count
   pub highest_fits : {m : List Bool} → length m ≤ 18446744073709551552 → m ≡ l → 64 * reader.limb + highest < 18446744073709551552
   highest_fits bounded view = omega (arith, ap length view, at_highest.0.inside)
 

@@ -39,7 +39,7 @@ position_found b l r k p seen some counted before small from to =
 pub block_end : (b : Bool) (l : List Bool) (block end : ℕ) → end ≡ min (8 * block + 8) (limb_count (length l)) → count b l (512 * (block + 1)) ≤ held b l (64 * end)
 block_end b l block end e = grind (arith, cases_lt, count_le_held, count_le_all, held_is, held_up)
 
--- number r of a block stands in the limb that the scan has found
+-- number r of a block is in the limb that the scan has found
 pub rest_in_limb : (b : Bool) (l : List Bool) (block r k before : ℕ) → 512 * block < length l → count b l (512 * block) + r < count b l (512 * (block + 1))
     → IsLimbWith b l block r (min (8 * block + 7) ((length l - 1) / 64)) k before → r - before < held_in b (limb l k) 64
 rest_in_limb b l block r k before within to found =
@@ -74,7 +74,7 @@ held_among : (b : Bool) (l : List Bool) (i n ones : ℕ) → count true l i + on
 unfolding held
 held_among b l i n ones counts few = grind (arith, cases_Bool b, count_le true l i)
 
--- half of twice n limbs: the second where the positions of the first don't pass number r, and else the first
+-- half of twice n limbs: the second if the positions of the first don't pass number r, otherwise the first
 pub half_of : (b : Bool) (l : List Bool) (block r n limb before ones : ℕ) → IsAmongLimbs b l block r (2 * n) limb before → count true l (64 * limb) + ones ≡ count true l (64 * (limb + n)) → ones ≤ 64 * n
     → (before + held_of b ones (64 * n) ≤ r → IsAmongLimbs b l block r n (limb + n) (before + held_of b ones (64 * n))) × (r < before + held_of b ones (64 * n) → IsAmongLimbs b l block r n limb before)
 half_of b l block r n limb before ones is counts few =
@@ -87,7 +87,7 @@ half_of b l block r n limb before ones is counts few =
 pub one_limb : (b : Bool) (l : List Bool) (block r limb before : ℕ) → IsAmongLimbs b l block r 1 limb before → IsLimbWith b l block r (8 * block + 7) limb before
 one_limb b l block r limb before is = grind arith
 
--- half of a block: the second where the positions of the first don't pass number r, and else the first
+-- half of a block: the second if the positions of the first don't pass number r, otherwise the first
 pub block_half : (b : Bool) (l : List Bool) (block r ones : ℕ) → count true l (64 * (8 * block)) + ones ≡ count true l (64 * (8 * block + 4)) → ones ≤ 256
     → (held_of b ones 256 ≤ r → IsAmongLimbs b l block r 4 (8 * block + 4) (held_of b ones 256)) × (r < held_of b ones 256 → IsAmongLimbs b l block r 4 (8 * block) 0)
 block_half b l block r ones counts few =

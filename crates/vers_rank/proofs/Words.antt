@@ -34,7 +34,7 @@ turned w (suc j) h hj =
     let size : suc j ≡ j + 1 = omega arith in
     rw size (omega (arith, one_more w j, one_more (18446744073709551615 - w) j, bit_at_not w64 w j h hj, bit_at-lt w j, turned w j h (omega arith)))
 
--- where the positions that hold the bit are ones
+-- if the positions that have the bit are ones
 pub held_in_marked : (b : Bool) (w j : ℕ) → w < 18446744073709551616 → j ≤ 64 → held_in true (marked b w) j ≡ held_in b w j
 unfolding held_in
 held_in_marked b w j h hj = grind (arith, cases_Bool b, turned w j h hj)

@@ -3,7 +3,7 @@ use Rattle.std.specs.Prelude.{ℕ, ◌*◌, List, Bool}
 use Rattle.vers_bits.specs.Bits.{block_count}
 use Rattle.vers_tally.specs.Reads.{Reads, no_reads}
 
--- the list of bits, its positions that are still to come, and how many chunks are still to be loaded
+-- the list of bits, its remaining positions, and how many chunks are not loaded yet
 pub record ChunksOf : Type 0 where
   pub bits : List Bool
   pub left : List ℕ

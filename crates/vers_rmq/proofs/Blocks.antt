@@ -114,7 +114,7 @@ pub two_parts : (xs ys : List ℕ) (i j m n : ℕ) (a b r : PlacedItem) → xs �
     → a.position ≡ m → a.value ≡ get_or xs m 0 → b.position ≡ n → b.value ≡ get_or xs n 0 → r ≡ lesser_item a b → IsLeastItem ys i j r
 two_parts xs ys i j m n a b r e next inside left right pa va pb vb v = grind (arith, item_join, item_at)
 
--- the end of a block before what comes after it
+-- the end of a block before what follows it
 pub end_before : (xs ys : List ℕ) (i m e : ℕ) (a b r : PlacedItem) → xs ≡ ys → 128 * (i / 128) + 128 ≤ length ys
     → IsFirstLeast ys i (min (128 * (i / 128) + 128) (length ys) - 1) m → a.position ≡ m → a.value ≡ get_or xs m 0 → r ≡ lesser_item a b
     → IsLeastItem ys (128 * (i / 128) + 128) e b → IsLeastItem ys i e r

@@ -146,7 +146,7 @@ first_is mask i some fits =
       clear = λ q f l. let e : q ≡ i + (q - i) = omega arith in grind (arith, shifted_bit);
     }
 
--- bits of which none stands from d on
+-- bits of which none is from d on
 narrow : (mask d : ℕ) → ((q : ℕ) → d ≤ q → bit_at mask q ≡ 0) → mask < 2 ^ d
 narrow mask d h =
     let none : mask / 2 ^ d ≡ 0 = same_from_bits (mask / 2 ^ d) 0 (λ i. sym (shifted_bit mask d i) ∙ h (d + i) (omega arith) ∙ sym (bit_at-zero i)) in
@@ -157,7 +157,7 @@ pub few_bits : (bits n o : ℕ) → n + o ≤ 128 → ((q : ℕ) → n ≤ q →
 few_bits bits n o room none = omega (arith, shl_below bits n o (narrow bits n none), pow-le-pow_right {n = 2} (omega arith) {i = n + o} {j = 128} room)
 
 -- ---- the loops over a part
--- one bit more, where none stands from n on
+-- one bit more, if none is from n on
 pub none_above : (bits more d n : ℕ) → d < n → AddsOne bits more d → ((q : ℕ) → n ≤ q → bit_at bits q ≡ 0) → (q : ℕ) → n ≤ q → bit_at more q ≡ 0
 none_above bits more d n dn a none q h = grind arith
 

@@ -19,7 +19,7 @@ pub lesser_inside : (xs : List ℕ) (m n k : ℕ) → m < k → n < k → lesser
 unfolding lesser
 lesser_inside xs m n k h i = grind (arith, nat_tests)
 
--- a least position stays one where the range goes on over items that are not below its item
+-- a least position stays one if the range continues over items that are not below its item
 pub least_longer : (xs : List ℕ) (i k h j e m n : ℕ) → IsFirstLeast xs i k m → IsFirstLeast xs h e n → i ≤ h → h ≤ k + 1 → k ≤ j → j ≤ e
     → get_or xs m 0 ≤ get_or xs n 0 → IsFirstLeast xs i j m
 least_longer xs i k h j e m n a b ih hk kj je le = grind arith

@@ -20,7 +20,7 @@ one_more words out from k x inside each is j h = elim (cases_lt j k) [
   | inr here ↦ let same : j ≡ k = omega (arith, h, here) in rw same (get_or-set_same out k x 0 inside ∙ is)
 ]
 
--- a walk along xs that has come to position p of xs and ys gives the word there, or where it gives none, it is one of ys
+-- a walk along xs that has reached position p of xs and ys gives the word there, or if it gives none, it is one of ys
 pub both_word : (xs ys : List ℕ) {left : List ℕ} (p : ℕ) {n x : ℕ} {given : Option ℕ} → left ≡ drop p xs → n ≡ length xs → given ≡ slice_get left 0 → x ≡ unwrap_or given (get_or ys (p - n) 0)
     → x ≡ get_or (xs ++ ys) p 0
 both_word xs ys {left} p {n} is is_count is_given is_word =

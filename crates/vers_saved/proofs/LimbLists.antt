@@ -36,7 +36,7 @@ ends_small ws n k h (inr small) few =
 pub length-first : (ws : List ℕ) (n : ℕ) → length ws ≡ limb_count n → length (take n (pack ws 64)) ≡ n
 length-first ws n e = length-take n (pack ws 64) ∙ omega (arith, length-pack ws)
 
--- words are the limbs of the bits that they hold
+-- words are the limbs of the bits that they have
 pub limbs-first : (ws : List ℕ) (n : ℕ) → length ws ≡ limb_count n → AreWords ws → EndsPadded n ws → limbs (take n (pack ws 64)) ≡ ws
 limbs-first ws n e h padded =
     let l : List Bool = take n (pack ws 64) in

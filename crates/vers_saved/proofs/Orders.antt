@@ -3,7 +3,7 @@ use Rattle.vers_saved.proofs.Names.{◌≡◌, ℕ, zero, suc, ◌+◌, ◌-◌,
 use Rattle.std.proofs.Math.Bool.{and_assoc, and_comm}
 use Rattle.vers_saved.specs.declared.kind.Order.{Order}
 
--- one word more stands in the order where it does to the last one before it
+-- with one word more they are in the order if that word and the last one before it are
 pub each_next-more : (o : ℕ → ℕ → Bool) (xs : List ℕ) (j : ℕ) → suc j < length xs
     → each_next o (take (suc (suc j)) xs) ≡ (each_next o (take (suc j) xs) && o (get_or xs j 0) (get_or xs (suc j) 0))
 each_next-more o (x ∷ y ∷ xs) zero h = and_comm (o x y) true
@@ -12,7 +12,7 @@ each_next-more o (x ∷ y ∷ xs) (suc j) h =
     ∙ sym (and_assoc (o x y) (each_next o (take (suc j) (y ∷ xs))) (o (get_or (y ∷ xs) j 0) (get_or (y ∷ xs) (suc j) 0)))
 each_next-more o _ j h = absurd (omega arith)
 
--- one word alone stands in any order
+-- one word alone is in any order
 pub each_next-one : (o : ℕ → ℕ → Bool) (xs : List ℕ) → each_next o (take 1 xs) ≡ true
 each_next-one o [] = refl
 each_next-one o (x ∷ xs) = refl
@@ -42,7 +42,7 @@ ordered_more o n words k holds before next long h so_far is_before is_next =
     rw (so_far, first, second)
     (sym (each_next-more o (words_among n words) k (omega (arith, length-words_among n words long))) ∙ ap (λ m. each_next o (take (suc m) (words_among n words))) more)
 
--- the words that have to stand in an order
+-- the words that have to are in an order
 pub ordered_end : (order : Order) (words : List ℕ) (end k : ℕ) → take end words ≡ ordered_words order words → k ≡ end - 1
     → each_next (stands order) (take (suc k) words) ≡ in_steps order words
 ordered_end order words zero k is e = rw e (each_next-one (stands order) words ∙ ap (each_next (stands order)) is)

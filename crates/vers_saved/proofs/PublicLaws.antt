@@ -19,7 +19,7 @@ use Rattle.vers_saved.proofs.SparseLists.{whole_positions}
 use Rattle.vers_saved.proofs.Parentheses.{whole_tree}
 use Rattle.vers_saved.proofs.PostingLists.{whole_postings}
 
--- lists that are whole, and that their words tell, go round
+-- lists that are whole, and that their words determine, go round
 goes_round : {T : Type 0} (kind : Kind) (MayBeSaved : T → Type 0) (count width : T → ℕ) (words : T → List ℕ) → AreBounds kind → at_version kind kind.version ≡ kind
     → ((x : T) → MayBeSaved x → IsWhole kind (count x) (width x) (words x))
     → ((x y : T) → MayBeSaved x → MayBeSaved y → count x ≡ count y → width x ≡ width y → words x ≡ words y → x ≡ y)

@@ -20,13 +20,13 @@ pub known_end : (old new : Option (List ℕ)) (text : List ℕ) (P : List ℕ �
 known_end old None text P h e p = before old None text P h tt
 known_end old (Some ys) text P h e p = before old (Some ys) text P h (subst P (sym (ap (λ l. text ++ l) e ∙ append-nil text)) p)
 
--- the words of a head, and the one behind them
+-- the words of a head, and the one after them
 pub six_words : (ws rest : List ℕ) (a b c d e f : ℕ) → length ws ≡ 6 → a ≡ get_or ws 0 a → b ≡ get_or ws 1 b → c ≡ get_or ws 2 c → d ≡ get_or ws 3 d → e ≡ get_or ws 4 e
     → f ≡ get_or ws 5 f → rest ≡ take 1 (set ws 0 f) → a ∷ b ∷ c ∷ d ∷ e ∷ rest ≡ ws
 six_words (u ∷ v ∷ w ∷ x ∷ y ∷ z ∷ []) rest a b c d e f six p q r s t o is = cc
 six_words _ rest a b c d e f six p q r s t o is = absurd (omega arith)
 
--- what holds of what comes after a first part
+-- what is true of what follows a first part
 behind : (old : Option (List ℕ)) (first : List ℕ) (P : List ℕ → Type 0) → IfSome old (λ l. P (first ++ l)) → IfSome (prepend_known first old) P
 behind None first P p = tt
 behind (Some xs) first P p = p
@@ -38,7 +38,7 @@ filled_more old mid new first after filled n c front d =
     subst (Consumes old new) (ap (λ l. l ++ take n (drop filled after)) (sym front) ∙ sym (take-add filled n after))
     (Consumes-trans old mid new (take filled first) (take n (drop filled after)) c d)
 
--- what a head says is said by its words alone
+-- what a head gives follows from its words alone
 same_head : (kind : Kind) (ws more : List ℕ) → 5 ≤ length ws → (head_tests kind (ws ++ more) ≡ head_tests kind ws) × (words_said kind (ws ++ more) ≡ words_said kind ws)
 same_head kind (a ∷ b ∷ c ∷ d ∷ e ∷ ws) more h = (refl, refl)
 same_head kind _ more h = absurd (omega arith)
@@ -47,7 +47,7 @@ head_holds : (kind : Kind) (ws rest : List ℕ) → AreWords ws → 5 ≤ length
     → (first_failing (head_tests kind (words_of (bytes_of ws ++ rest))) ≡ first_failing (head_tests kind ws)) × (words_said kind (words_of (bytes_of ws ++ rest)) ≡ words_said kind ws)
 head_holds kind ws rest fit long = let same = same_head kind ws (words_of rest) long in rw (words_first ws rest fit) (ap first_failing same.0, same.1)
 
--- one that had fewer bytes than its head says
+-- one that had fewer bytes than its head gives
 pub ended_short : (kind : Kind) (n : ℕ) (old new : Option (List ℕ)) (ws text : List ℕ) → AreWords ws → length ws ≡ 6 → first_failing (head_tests kind ws) ≡ None
     → n ≡ words_said kind ws → Consumes old new text → IsAtEnd new → 8 * length ws + length text < 8 * (n + 6)
     → IfSome (prepend_known (bytes_of ws) old) (λ bytes. version_fault kind bytes ≡ Some TooShort)
@@ -73,7 +73,7 @@ goes_on kind n old mid new ws more text fit long none said c exact d some =
     fault_is kind all ∙ too_long kind (length all) (words_of all) (omega (arith, length-append ws more))
     ((head_holds kind ws tail fit (omega arith)).0 ∙ none) (omega (arith, length-append ws more))))
 
--- bytes that are as many as the head says have the fault of what comes after it
+-- bytes that are as many as the head gives have the fault of what follows it
 rest_tells : (kind : Kind) (n : ℕ) (ws more : List ℕ) → AreWords (ws ++ more) → 5 ≤ length ws → first_failing (head_tests kind ws) ≡ None
     → n ≡ words_said kind ws → length (ws ++ more) ≡ n + 6 → version_fault kind (bytes_of (ws ++ more)) ≡ first_failing (said_tests kind (ws ++ more))
 rest_tells kind n ws more fit long none said exact = grind (arith, bytes_of, words_of-bytes_of, same_head, fault_is, by_body, length-bytes_of)
@@ -94,7 +94,7 @@ not_gathered kind left e f (inl is) bad = inr (inr (subst (λ f. IfSome left (λ
 not_gathered kind left e f (inr (inl memory)) bad = inr (inl memory)
 not_gathered kind left e f (inr (inr read)) bad = inl read
 
--- what a head and the words after it tell, of which one was read with the head
+-- what a head and the words after it determine, of which one was read with the head
 pub parts_tell : (kind : Kind) (n : ℕ) (head first more after rest : List ℕ) → rest ≡ after → AreWords head → AreWords rest → length head ≡ 5 → length first ≡ 1
     → after ≡ first ++ more → first_failing (head_tests kind (head ++ first)) ≡ None → n ≡ words_said kind (head ++ first) → length after ≡ n + 1
     → AreWords (head ++ after) × (head ++ after ≡ (head ++ first) ++ more) × (version_fault kind (bytes_of (head ++ after)) ≡ first_failing (said_tests kind (head ++ rest)))
@@ -109,7 +109,7 @@ parts_tell kind n head first more after rest same fit_head fit_rest five one is 
           ∙ ap (λ l. first_failing (said_tests kind l)) (sym all ∙ ap (λ l. head ++ l) (sym same)),
     )
 
--- a head of five words says the rows
+-- a head of five words gives the rows
 pub said_is : (kind : Kind) (rows bits : ℕ) (head rest : List ℕ) → length head ≡ 5 → rows ≡ rows_of kind (get_or head 3 0) → bits ≡ row_bits kind (get_or head 4 0) (get_or head 3 0)
     → (said_tests kind (head ++ rest) ≡ body_tests kind.order rows bits (head ++ rest)) × (row_words rows bits ≡ words_said kind (head ++ rest))
 said_is kind rows bits (a ∷ b ∷ c ∷ d ∷ e ∷ []) rest five is_rows is_bits = rw (is_rows, is_bits) (refl, refl)
@@ -124,14 +124,14 @@ pub rest_fault : (kind : Kind) (old new : Option (List ℕ)) (ws more : List ℕ
     → version_fault kind (bytes_of (ws ++ more)) ≡ Some e → IsRefusedAs kind (prepend_known (bytes_of ws) old) e
 rest_fault kind old new ws more e c end bad = grind (arith, behind, bytes_of, known_end, bytes_of-append)
 
--- what comes after a part that was read is refused as all that there was
+-- what follows a part that was read is refused as all that there was
 pub refused_before : (old new : Option (List ℕ)) (text : List ℕ) (e : LoadError) (P : List ℕ → Type 0) → Consumes old new text → (e ≡ Read) ⊎ ((e ≡ Memory) ⊎ IfSome (prepend_known text new) P)
     → (e ≡ Read) ⊎ ((e ≡ Memory) ⊎ IfSome old P)
 refused_before old new text e P c (inl read) = inl read
 refused_before old new text e P c (inr (inl memory)) = inr (inl memory)
 refused_before old new text e P c (inr (inr some)) = inr (inr (before old new text P c some))
 
--- bytes that begin with two words name the version that the second says
+-- bytes that begin with two words name the version that the second gives
 pub begun_version : (ws rest : List ℕ) → AreWords ws → 2 ≤ length ws → version_said (bytes_of ws ++ rest) ≡ get_or ws 1 0
 begun_version ws rest fit long = ap (λ l. get_or l 1 0) (words_first ws rest fit) ∙ get_or_append_left ws (words_of rest) 0 1 (omega arith)
 
@@ -153,7 +153,7 @@ ended_first kind old new text c e few =
     known_end old new text (λ bytes. fault_of kind bytes ≡ Some TooShort) c e
     (fault_is (at_version kind (version_said text)) text ∙ few_bytes (at_version kind (version_said text)) (length text) (words_of text) few)
 
--- one whose head has a fault in the version that it says
+-- one whose head has a fault in the version that it gives
 pub first_fault : (kind : Kind) (old new : Option (List ℕ)) (ws : List ℕ) (e : LoadError) → AreWords ws → length ws ≡ 6 → Consumes old new (bytes_of ws)
     → first_failing (head_tests (at_version kind (get_or ws 1 0)) ws) ≡ Some e → IfSome old (λ bytes. fault_of kind bytes ≡ Some e)
 first_fault kind old new ws e fit long c bad =
@@ -171,7 +171,7 @@ first_not_gathered kind left e f (inl is) bad = inr (inr (subst (λ f. IfSome le
 first_not_gathered kind left e f (inr (inl memory)) bad = inr (inl memory)
 first_not_gathered kind left e f (inr (inr read)) bad = inl read
 
--- a reader of a head and of what comes after it, up to its end
+-- a reader of a head and of what follows it, up to its end
 pub form_gathered : (kind : Kind) (count width n : ℕ) (old mid new : Option (List ℕ)) (ws more all words : List ℕ) → Consumes old mid (bytes_of ws) → length ws ≡ 6
     → Consumes mid new (bytes_of more) → IsAtEnd new → all ≡ ws ++ more → AreWords all → version_fault kind (bytes_of all) ≡ None → count ≡ get_or ws 4 0 → width ≡ get_or ws 3 0
     → n ≡ words_for kind count width → words ≡ words_among n all

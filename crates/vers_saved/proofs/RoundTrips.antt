@@ -31,7 +31,7 @@ pub length-saved : (version kind count width : ℕ) (words : List ℕ) → lengt
 unfolding saved
 length-saved version kind count width words = length-bytes_of (all_words version kind count width words) ∙ ap (λ m. 8 * m) (length-all_words version kind count width words)
 
--- as many words as the shape says
+-- as many words as the shape gives
 pub count_is : (kind told : Kind) (count width c w rows bits : ℕ) (words : List ℕ) → IsWhole kind count width words → told ≡ kind → c ≡ count → w ≡ width → rows ≡ rows_of told w → bits ≡ row_bits told c w
     → row_words rows bits ≡ length words
 count_is kind told count width c w rows bits words whole is_kind is_count is_width is_rows is_bits = rw (is_rows, is_bits, is_kind, is_count, is_width) (sym whole.counted)

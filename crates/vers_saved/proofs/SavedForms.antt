@@ -1,4 +1,4 @@
--- Saved forms have no fault, and tell what they are of.
+-- Saved forms have no fault, and determine what they are of.
 use Rattle.vers_saved.proofs.Names.{◌≡◌, ℕ, ◌+◌, ◌*◌, ◌^◌, ◌<◌, Bool, true, List, [], ◌∷◌, ◌++◌, length, refl, sym, ap, subst, ◌∙◌, arith, None, le-leb, take_at, get_or_push, length-append, LoadError, bytes_of, words_of, check_sum, head, with_sum, saved, saved_size, Kind, first_failing, rows_of, row_bits, words_for, is_padded, is_summed, in_order, words_among, tests_of, version_fault, ArePadded, IsWhole, eq-eqb, same_from_push}
 use Rattle.vers_saved.proofs.WordBytes.{AreWords, length-bytes_of, words_of-bytes_of, fit_cons, fit_append}
 use Rattle.vers_saved.proofs.Sums.{check_sum-lt}

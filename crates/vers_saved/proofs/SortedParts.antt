@@ -209,7 +209,7 @@ module _ (m ws : List ℕ) (n first last low high : ℕ) (fit : AreWords ws) (en
       ∙ ap (λ a. length m ∷ first_of m ∷ a ∷ drop 3 ws) (sym ends.last_is ∙ parts.last_is)
       ∙ ap (λ l. length m ∷ first_of m ∷ last_of m ∷ l) rest_decoded
 
--- how many bits and words a list says
+-- how many bits and words a list gives
 pub decoded_counts : (m ws : List ℕ) (n first last : ℕ) → ws ≡ sorted_words m → n ≡ get_or ws 0 0 → first ≡ get_or ws 1 0 → last ≡ get_or ws 2 0
     → (low_count n (last - first) ≡ length (low_parts m)) × (high_count n (last - first) ≡ length (high_parts m)) × (length ws ≡ 3 + (limb_count (length (low_parts m)) + limb_count (length (high_parts m))))
 decoded_counts m ws n first last is len_is first_is last_is =

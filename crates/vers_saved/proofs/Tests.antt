@@ -64,14 +64,14 @@ pub bad_bytes : (kind : Kind) (bytes : List ℕ) (e : LoadError) (chunks : List 
 bad_bytes kind bytes e chunks same long bad =
     fault_is kind bytes ∙ bad_head kind (length bytes) (words_of bytes) e long (rw (← words_are bytes, ← same) bad)
 
--- where bytes have the fault of what comes after the head, or memory is lacking
+-- if bytes have the fault of what follows the head, or memory is lacking
 pub told_of : (kind : Kind) (bytes : List ℕ) (rows bits : ℕ) (e : LoadError) (chunks : List (List ℕ)) → chunks ≡ first_chunks 8 (length bytes / 8) bytes
     → version_fault kind bytes ≡ first_failing (body_tests kind.order rows bits (words_of bytes))
     → (first_failing (body_tests kind.order rows bits (map bytes_word chunks)) ≡ Some e) ⊎ ((e ≡ Memory) × (first_failing (body_tests kind.order rows bits (map bytes_word chunks)) ≡ None))
     → (version_fault kind bytes ≡ Some e) ⊎ ((e ≡ Memory) × (version_fault kind bytes ≡ None))
 told_of kind bytes rows bits e chunks same body told = rw (body, ← words_are bytes, ← same) told
 
--- where there is no fault, memory alone can be lacking
+-- if there is no fault, memory alone can be lacking
 pub memory_alone : (fault : Option LoadError) (e : LoadError) → (fault ≡ Some e) ⊎ ((e ≡ Memory) × (fault ≡ None)) → fault ≡ None → e ≡ Memory
 memory_alone fault e (inl is) none = cc
 memory_alone fault e (inr memory) none = memory.0

@@ -35,7 +35,7 @@ said_version kind count width words bytes bounds whole is =
     ap (λ b. get_or (words_of b) 1 0) is
     ∙ ap (λ l. get_or l 1 0) (words_of-bytes_of (all_words kind.version kind.number count width words) (all_fit kind.version kind.number count width words bounds.0 bounds.1 fits.0 fits.1 whole.fit))
 
--- a head with no fault says the version
+-- a head with no fault gives the version
 pub head_version : (kind : Kind) (words : List ℕ) → first_failing (head_tests kind words) ≡ None → get_or words 1 0 ≡ kind.version
 head_version kind words none = let p = all_passed (head_tests kind words) none in eqb-true _ _ p.1.1.0
 

@@ -87,7 +87,7 @@ ordered_words InvertedParts words = []
 abbrev pub in_steps : Order → List ℕ → Bool
 in_steps order words = each_next (stands order) (ordered_words order words)
 
--- whether the words are those of the list that they say, which ascends, strictly if `rising`
+-- whether the words represent a list, which ascends, strictly if `rising`
 unfoldable pub are_of_list : (rising : Bool) → List ℕ → Bool
 are_of_list rising words = each_next (order_of rising) (decoded_members words) && pointwise nat_eq (sorted_words (decoded_members words)) words
 
@@ -110,7 +110,7 @@ in_order RisingParts words = are_of_sparse words
 in_order InvertedParts words = are_of_inverted words
 in_order order words = in_steps order words
 
--- how many words the content has, as the head of these words says
+-- how many words the content has, according to the head of these words
 abbrev pub words_said : Kind → List ℕ → ℕ
 words_said kind words = words_for kind (slice_index words 4) (slice_index words 3)
 
@@ -125,7 +125,7 @@ head_tests kind words =
     ∷ (nat_le (words_said kind words) GREATEST_WORDS, BadLength)
     ∷ []
 
--- the tests of what comes after a head that says r rows of n bits
+-- the tests of what follows a head of r rows of n bits
 abbrev pub body_tests : Order → (rows bits : ℕ) → List ℕ → List (Bool × LoadError)
 body_tests order rows bits words =
     (is_summed (row_words rows bits) words, BadSum)
@@ -133,7 +133,7 @@ body_tests order rows bits words =
     ∷ (in_order order (words_among (row_words rows bits) words), NotAscending)
     ∷ []
 
--- the tests of what comes after the head of these words
+-- the tests of what follows the head of these words
 abbrev pub said_tests : Kind → List ℕ → List (Bool × LoadError)
 said_tests kind words = body_tests kind.order (rows_of kind (slice_index words 3)) (row_bits kind (slice_index words 4) (slice_index words 3)) words
 

@@ -10,7 +10,7 @@ module _ (l : List Bool) (p n : ℕ) (within : p + n ≤ length l) (few : n ≤ 
   pub small : number (take n (drop p l)) < 18446744073709551616
   small = search (rules, length-take, number-lt, pow-le-pow_right)
 
-  -- the lowest one of the number is within the part, and no position before it holds a one
+  -- the lowest one of the number is within the part, and no position before it has a one
   pub lowest : (trailing_zeros w64 (number (take n (drop p l))) < n)
       × (get_or l (p + trailing_zeros w64 (number (take n (drop p l)))) false ≡ true)
       × (count true l (p + trailing_zeros w64 (number (take n (drop p l)))) ≡ count true l p)

@@ -52,7 +52,7 @@ module _ (l : List Bool) (to w : ℕ) (far : 64 ≤ to) (read : part_number_or_z
 
 -- ---- the ones beside a bucket
 
--- up to the zero with number h, and past it, as many ones stand as members have a high part below h
+-- up to the zero with number h, and past it, as many ones are as members have a high part below h
 ones_around : (s : List ℕ) (h start : ℕ) → IsNonDecreasing s → 0 < length s → h ≤ high_of s (last_of s) + 1 → IsStart s h start
     → (count true (high_parts s) (h + start) ≡ start) × (count true (high_parts s) (h + start + 1) ≡ start) × (h + start < length (high_parts s))
 ones_around s h start up some within is =

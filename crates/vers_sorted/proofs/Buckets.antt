@@ -75,7 +75,7 @@ low_is {s} {first} {last} {width} v packed = grind (arith, one_shl width 64 pack
 
 -- ---- buckets
 
--- the zero after that with the high part of v stands among the high parts
+-- the zero after that with the high part of v is among the high parts
 pub high_below : {s : List ℕ} {high low : List Bool} {first last width : ℕ} (v : ℕ) → IsPacked s high low first last width → 0 < length s → first_of s ≤ v → v ≤ last_of s
     → high_of s v + 1 < count false high (length high)
 high_below {s} v packed some from to = rw (high_same packed) (omega (arith, zeros_counted s packed.ascending some, high_up s v (last_of s) to from))

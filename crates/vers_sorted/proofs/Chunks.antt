@@ -10,7 +10,7 @@ chunk_bit w l p r d h = get_or-take w (drop p l) r d h ∙ get_or-drop p l r d
 pub chunk_within : (w n i : ℕ) → i < n → w * i + w ≤ w * n
 chunk_within w n i h = omega (arith, mul-le-mul_left {m = i + 1} {n = n} w (omega arith))
 
--- n chunks of w bits each tell the bits
+-- n chunks of w bits each determine the bits
 pub same_chunks : (w n : ℕ) (xs ys : List Bool) → length xs ≡ w * n → length ys ≡ w * n → ((i : ℕ) → i < n → take w (drop (w * i) xs) ≡ take w (drop (w * i) ys)) → xs ≡ ys
 same_chunks w n xs ys long_x long_y same =
     same_lists xs ys (long_x ∙ sym long_y) (λ j d h. elim (cases_lt 0 w) [
@@ -27,7 +27,7 @@ same_chunks w n xs ys long_x long_y same =
 chunk_is : (l : List Bool) (w n i : ℕ) → length l ≡ w * n → i < n → take w (drop (w * i) l) ≡ low_bits (number (take w (drop (w * i) l))) w
 chunk_is l w n i long h = sym (low_bits_of_part l (w * i) w (omega (arith, chunk_within w n i h)))
 
--- bits that hold the low parts of a list are its low parts
+-- bits that have the low parts of a list are its low parts
 pub low_held : (s : List ℕ) (low : List Bool) → HoldLow s low → low ≡ low_parts s
 low_held s low held =
     let own : HoldLow s (low_parts s) = hold_low s in

@@ -31,7 +31,7 @@ pub stays : (l : List Bool) (word v n w : ℕ) → word < 2 ^ n → n + w ≤ 64
     → l ++ low_bits (bit_or word (v % 2 ^ w * 2 ^ n % 18446744073709551616)) (n + w) ≡ (l ++ low_bits word n) ++ low_bits v w
 stays l word v n w small fits = grind (arith, digits_of_both, low_bits_of_rest, append_assoc)
 
--- and one that doesn't fills the word, and goes on in the next
+-- and one that doesn't fills the word, and continues in the next
 pub fills : (l more : List Bool) (word v n w : ℕ) → word < 2 ^ n → n < 64 → 64 ≤ n + w
     → more ≡ l ++ low_bits (bit_or word (v % 2 ^ w * 2 ^ n % 18446744073709551616)) 64
     → more ++ low_bits (v % 2 ^ w / 2 ^ (64 - n)) (n + w - 64) ≡ (l ++ low_bits word n) ++ low_bits v w

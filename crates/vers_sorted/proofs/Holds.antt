@@ -1,4 +1,4 @@
--- What the high and low parts of an ascending list say of its members.
+-- What the high and low parts of an ascending list state about its members.
 use Rattle.vers_sorted.proofs.Names.{◌≡◌, ℕ, ◌-◌, ◌*◌, ◌^◌, ◌<◌, true, List, length, take, drop, ap, ◌∙◌, arith, slice_index, map, range_with_len, IsNonDecreasing, IsStrictlyIncreasing, mul_comm, same_number_lists, length-map, get_or-map, length-map-range_with_len, get_or-map-range_with_len, low_bits, pack, select, number-low_bits, length-packed, first_of, low_width, high_of, high_length, high_position, member, HoldHigh, HoldLow, element, low_of, high_parts, low_parts, members}
 use Rattle.vers_sorted.proofs.Ones.{length-ones_at, select-ones_at, all_ones}
 use Rattle.vers_sorted.proofs.Split.{parts_sum, high_up, member_from, high_zeros}

@@ -106,7 +106,7 @@ pub ruleset lasts = (last_of_zero, last_read, all_read)
 
 pub ruleset ends = (first_none, last_none, first_last, first_taken)
 
--- it isn't below the first, and its one stands among the high parts
+-- it isn't below the first, and its one is among the high parts
 pub taken_above : (s rest new : List ℕ) (i v first : ℕ) → IsNonDecreasing s → first ≡ first_of s → rest ≡ drop i s → TakesFirst rest (Some v) new → first ≤ v
 taken_above s rest new i v first up f here t =
     let at = taken_at s rest new i v here t in

@@ -16,7 +16,7 @@ found_at s v k up e h = grind (arith, eq-eqb, member_at, ne_eqb, not_member, mem
 pub none_past : (s : List ℕ) (v k : ℕ) (bucket : Bucket) → IsNonDecreasing s → k ≡ below s v → IsBucket s v bucket → bucket.end ≤ k → is_member s v ≡ false
 none_past s v k bucket up e at past = grind (arith, not_member, below_to)
 
--- nor where all lie above v, or below it
+-- nor if all are above v, or below it
 pub none_above : (s : List ℕ) (v : ℕ) → IsNonDecreasing s → v < first_of s → is_member s v ≡ false
 none_above s v up h = not_member s v (λ j short same. absurd (omega (arith, same, up 0 j 0 (omega arith) short)))
 

@@ -16,7 +16,7 @@ pub pred_some : (s : List ℕ) (v : ℕ) → IsNonDecreasing s → 0 < below s (
 unfolding greatest_not_above
 pred_some s v up some = grind (arith, last_passing_is, below_le, le-leb, below_before, lt-leb, below_after)
 
--- ---- the neighbours of a number that lies between the first member and the last
+-- ---- the neighbours of a number that is between the first member and the last
 
 pub succ_past : (s : List ℕ) (v : ℕ) → IsNonDecreasing s → below s v ≡ length s → least_not_below s v ≡ None
 succ_past s v up e = succ_is s v up ∙ slice_get_past s (below s v) (omega arith)
@@ -68,7 +68,7 @@ is_least s v x up found = elim (cases_lt (below s v) (length s)) [
   | inr past ↦ absurd (none-some x (sym (succ_past s v up (omega (arith, past, below_le s v))) ∙ found))
 ]
 
--- ---- how far a member lies above the one before it
+-- ---- how far a member is above the one before it
 
 pub delta_first : {s : List ℕ} {high low : List Bool} {first last width : ℕ} (i : ℕ) → IsPacked s high low first last width → i < length s → i ≡ 0 → delta s i ≡ Some first
 unfolding delta
@@ -87,7 +87,7 @@ member_before i packed h some = packed.ascending (i - 1) i 0 (omega arith) h
 
 pub ruleset deltas = (delta_first, delta_later, delta_none, member_before)
 
--- what the laws say of `below` and of the neighbours
+-- what the laws state about `below` and of the neighbours
 pub ruleset laws = (below_le, below_up, below_before, below_after, succ_is, pred_some, pred_none, is_greatest, is_least)
 
 -- what is outside the members

@@ -1,4 +1,4 @@
--- The bits whose ones stand at given positions: their counts, their positions, and how they come about.
+-- The bits whose ones are at given positions: their counts, their positions, and how they come about.
 use Rattle.vers_sorted.proofs.Names.{◌≡◌, ℕ, zero, suc, ◌+◌, ◌-◌, ◌<◌, ◌≤◌, Bool, true, false, ◌⊎◌, List, [], ◌∷◌, ◌++◌, length, get_or, refl, sym, ap, ◌∙◌, arith, inl, inr, eqb, set, slice_index, map, IsNonDecreasing, IsStrictlyIncreasing, cases_lt, cases_Bool, ne_eqb, eq-eqb, eqb-true, same_number_lists, same_lists, get_or-set_same, get_or-set_other, length-set, get_or-map, length-map, length-map-range_with_len, map-id, get_or-map-range_with_len, get_or_default, is_bit, count, positions, count_none, count_up, count_more_yes, count_more_no, select_at, length-positions, select_is_position, select_up, IsPosition, below, is_member, rules, nat_tests, select, ones_at}
 use Rattle.std.proofs.lemmas.List.Kept.{AllPairs-from_increasing}
 use Rattle.vers_sorted.proofs.Below.{below_le, below_at, below_before, below_after, none_below, all_below}
@@ -18,7 +18,7 @@ module _ (s : List ℕ) (up : IsStrictlyIncreasing s) where
   pub ascends : IsNonDecreasing s
   ascends i j d h short = grind (arith, cases_lt, AllPairs-from_increasing)
 
-  -- as many are below a member as stand before it
+  -- as many are below a member as are before it
   pub below_member : (r : ℕ) → r < length s → below s (slice_index s r) ≡ r
   below_member r h = below_at s (slice_index s r) r ascends (omega arith) (λ some. grind (arith, AllPairs-from_increasing)) (λ _. omega arith)
 
@@ -96,6 +96,6 @@ ones_at-positions b l =
           absurd (cc (rw same at at.holds, off))))
     ]))
 
--- the positions of the ones and the length tell the list
+-- the positions of the ones and the length determine the list
 pub ones_at-same : (bits : List Bool) (n : ℕ) (ones : List ℕ) → length bits ≡ n → positions true bits ≡ ones → bits ≡ ones_at ones n
 ones_at-same bits n ones long at = rw (← long, ← at) (sym (map-id bits) ∙ sym (ones_at-positions true bits))

@@ -1,4 +1,4 @@
--- Numbers that stand in an order, each to the next.
+-- Numbers that are in an order, each to the next.
 use Rattle.vers_sorted.proofs.Names.{◌≡◌, ℕ, zero, suc, ◌<◌, Bool, true, false, List, [], ◌∷◌, length, get_or, nat_le, nat_lt, refl, sym, arith, add-one, ◌↔◌, All, IsTrue, IsAllAdjacentAnswer, list_all, IsNonDecreasing, IsStrictlyIncreasing, leb-true, le-leb, ltb-true, lt-ltb, get_or_default, and_parts, IsNonDecreasingBy-from_all_adjacent, AllPass-from_list_all, list_all-from_AllPass, each_next}
 use Rattle.std.proofs.Math.Bool.{and-false}
 
@@ -6,7 +6,7 @@ use Rattle.std.proofs.Math.Bool.{and-false}
 abbrev pair_at : (ℕ → ℕ → Bool) → List ℕ → ℕ → Bool
 pair_at order xs k = order (get_or xs k 0) (get_or xs (suc k) 0)
 
--- all neighbours stand in the order
+-- all neighbours are in the order
 pub each_next-true : (order : ℕ → ℕ → Bool) (xs : List ℕ) → ((k : ℕ) → suc k < length xs → pair_at order xs k ≡ true) → each_next order xs ≡ true
 each_next-true order [] h = refl
 each_next-true order (x ∷ []) h = refl
@@ -25,7 +25,7 @@ pub each_next-answer : (order : ℕ → ℕ → Bool) (xs : List ℕ) (r : Bool)
 each_next-answer order xs true h = grind (arith, each_next-true, add-one)
 each_next-answer order xs false h = sym (each_next-false order xs h.0 (omega (arith, h.1)) (rw (← add-one h.0) (sym (h.2 0))))
 
--- two neighbours, where all stand in the order
+-- two neighbours, if all are in the order
 pub each_next-at : (order : ℕ → ℕ → Bool) (xs : List ℕ) (k : ℕ) → suc k < length xs → each_next order xs ≡ true → pair_at order xs k ≡ true
 each_next-at order [] k l h = absurd (omega arith)
 each_next-at order (x ∷ []) k l h = absurd (omega arith)

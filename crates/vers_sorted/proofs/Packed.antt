@@ -1,4 +1,4 @@
--- What the fields of a packed list say of its members.
+-- What the fields of a packed list state about its members.
 use Rattle.vers_sorted.proofs.Names.{◌≡◌, ℕ, ◌+◌, ◌*◌, ◌%◌, ◌^◌, ◌<◌, ◌≤◌, Bool, true, List, length, take, drop, refl, arith, Some, None, slice_index, slice_get, bit_or, IsNonDecreasing, mul-le-mul_left, mul_comm, mod-eq_of_lt, or_shifted, slice_get-get_or, slice_get_past, length-map-range_with_len, select, number, limb_count, count_both, index_size, first_of, last_of, low_width, high_of, low_of, high_length, high_parts, low_parts, heap_size_of, member, IsPacked, members, AreHighParts}
 use Rattle.vers_sorted.proofs.Split.{parts_sum, low_below}
 use Rattle.vers_sorted.proofs.Holds.{hold_high, hold_low, packs}
@@ -7,7 +7,7 @@ pub length-members : (high low : List Bool) (first width n : ℕ) → length (me
 unfolding members
 length-members high low first width n = length-map-range_with_len (member high low first width) 0 n
 
--- the parts of an ascending list hold it
+-- the parts of an ascending list have it
 pub packed_as : (s : List ℕ) (first last width : ℕ) → IsNonDecreasing s → first ≡ first_of s → last ≡ last_of s → last < 18446744073709551616 → width ≡ low_width s → width < 64
     → (members (high_parts s) (low_parts s) first width (length s) ≡ s) × IsPacked (members (high_parts s) (low_parts s) first width (length s)) (high_parts s) (low_parts s) first last width
 unfolding AreHighParts

@@ -83,7 +83,7 @@ module _ (s : List ℕ) (i : ℕ) (a : Ahead) (read : HasRead s i a) where
   pub word_fits : (i + count_ones a.word ≤ a.position + a.len) × (a.position + a.len ≤ length (high_parts s))
   word_fits = (omega (arith, count_word, (count_le true (high_parts s) (a.position + a.len)).0), read.within)
 
-  -- where so few zeros stand up to its end, all these members have a lesser high part than v, and are below v
+  -- if so few zeros are before its end, all these members have a lesser high part than v, and are below v
   pub word_passed : (v : ℕ) → IsNonDecreasing s → first_of s ≤ v → i ≤ below s v → a.position + a.len - (i + count_ones a.word) ≤ high_of s v → i + count_ones a.word ≤ below s v
   word_passed v up from before few = elim (cases_lt i (i + count_ones a.word)) [
     | inl more ↦
@@ -131,7 +131,7 @@ found_again s from v x up found above within =
     let same : position ≡ below s v = omega (arith, below_up s from v above, below_to s v position up short (omega (arith, here, within))) in
     succ_at s v position up same short ∙ ap Some here
 
--- and where there is none, neither has a greater one
+-- and if there is none, neither has a greater one
 pub none_again : (s : List ℕ) (from v : ℕ) → IsNonDecreasing s → None ≡ least_not_below s from → from ≤ v → least_not_below s v ≡ None
 none_again s from v up none above = elim (cases_lt (below s from) (length s)) [
   | inl some ↦ absurd (none-some (slice_index s (below s from)) (none ∙ succ_at s from (below s from) up refl some))

@@ -59,11 +59,11 @@ below_after = Below.below_after
 
 -- ---- neighbours of a number
 
--- the least member that is not below v stands at position `below members v`, or there is none
+-- the least member that is not below v is at position `below members v`, or there is none
 pub least_not_below_is : (members : List ℕ) (v : ℕ) → IsNonDecreasing members → least_not_below members v ≡ slice_get members (below members v)
 least_not_below_is = Neighbours.succ_is
 
--- the greatest member that is not above v is the last one below v + 1, where there is one
+-- the greatest member that is not above v is the last one below v + 1, if there is one
 pub greatest_not_above_some : (members : List ℕ) (v : ℕ) → IsNonDecreasing members → 0 < below members (v + 1) → greatest_not_above members v ≡ slice_get members (below members (v + 1) - 1)
 greatest_not_above_some = Neighbours.pred_some
 
@@ -72,11 +72,11 @@ greatest_not_above_none = Neighbours.pred_none
 
 -- ---- bits by their positions
 
--- the list whose ones stand at the positions of a bit has a one wherever a list holds this bit
+-- the list whose ones are at the positions of a bit has a one exactly at the positions of this bit
 pub ones_at-positions : (bit : Bool) (bits : List Bool) → ones_at (positions bit bits) (length bits) ≡ map (is_bit bit) bits
 ones_at-positions = Ones.ones_at-positions
 
--- the list of so many bits whose ones stand at these positions is one
+-- the list of so many bits whose ones are at these positions is one
 pub ones_at-same : (bits : List Bool) (n : ℕ) (ones : List ℕ) → length bits ≡ n → positions true bits ≡ ones → bits ≡ ones_at ones n
 ones_at-same = Ones.ones_at-same
 

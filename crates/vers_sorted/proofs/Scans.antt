@@ -1,7 +1,7 @@
 -- The next zero or one, by the number of the bits that follow.
 use Rattle.vers_sorted.proofs.Names.{◌≡◌, ℕ, zero, suc, ◌+◌, ◌<◌, ◌≤◌, Bool, false, List, length, take, drop, get_or, sym, ap, ◌∙◌, arith, Some, w64, trailing_ones, leb-true, and_parts, cond_some, bit_at-trailing_ones, is_bit, number, count, select, count_le, select_at, count_at_select, count_more_no, part_bit, value_none, value_one, part_number_or_zero}
 
--- where no position of a stretch holds the bit, the count stays
+-- if no position of a stretch has the bit, the count stays
 pub count_stays : (b : Bool) (l : List Bool) (p d : ℕ) → p + d ≤ length l → ((i : ℕ) → i < d → is_bit b (get_or l (p + i) false) ≡ false) → count b l (p + d) ≡ count b l p
 count_stays b l p zero h off = grind arith
 count_stays b l p (suc d) h off =
@@ -19,11 +19,11 @@ next_zero l p h within counted small =
     ap (is_bit false) (value_one (get_or l (p + i) false) (sym (part_bit l p 64 i (omega (arith, found.0))) ∙ found.2 i less))) in
     select_at false l h (p + t) (omega (arith, found.0)) (ap (is_bit false) here) (stays ∙ counted)
 
--- past zero number h as many zeros stand as h and one more
+-- past zero number h as many zeros are as h and one more
 pub counted_past : (b : Bool) (l : List Bool) (h p : ℕ) → h < count b l (length l) → p ≡ select b l h → count b l (p + 1) ≡ h + 1
 counted_past b l h p some e = ap (λ q. count b l (q + 1)) e ∙ (count_at_select b l h some).2
 
--- what a part of n bits says that was read
+-- what a part of n bits gives that was read
 pub part_of : (l : List Bool) (p n w : ℕ) → part_number_or_zero l p n ≡ Some w → (n ≤ 64) × (p + n ≤ length l) × (w ≡ number (take n (drop p l)))
 unfolding part_number_or_zero
 part_of l p n w e = grind (arith, cond_some, and_parts, leb-true)

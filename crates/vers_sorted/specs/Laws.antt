@@ -60,7 +60,7 @@ abbrev pub LeastNotBelowIsLeast : Type 0
 LeastNotBelowIsLeast = (members : List ℕ) (v x : ℕ) → IsNonDecreasing members
     → least_not_below members v ≡ Some x → IsLeastNotBelow members v x
 
--- the high parts of n elements have at most 2 + n + p bits, where p is the least power of two that is at least n and at least 2
+-- the high parts of n elements have at most 2 + n + p bits; p is the least power of two that is at least n and at least 2
 abbrev pub HighPartsAreFew : Type 0
 HighPartsAreFew = (members : List ℕ)
     → length (high_parts members) ≤ 2 + length members + 2 ^ clog (max (length members) 2)

@@ -63,11 +63,11 @@ pub record ArePartsOf (members : List ℕ) (n first last : ℕ) (low high : List
   pub low_is : low ≡ low_parts members
   pub high_is : high ≡ high_parts members
 
--- the element that parts say at position i: as far above the first as its high part, the zeros before its one but the first, and its low part
+-- the element that parts represent at position i: as far above the first as its high part, the zeros before its one but the first, and its low part
 abbrev pub member : List Bool → List Bool → ℕ → ℕ → ℕ → ℕ
 member high low first width i = first + (2 ^ width * (select true high i - i - 1) + number (part low (width * i) width))
 
--- the n elements that parts say
+-- the n elements that parts represent
 unfoldable pub members : List Bool → List Bool → ℕ → ℕ → ℕ → List ℕ
 members high low first width n = map (member high low first width) (range_with_len 0 n)
 

@@ -2,7 +2,7 @@
 use Rattle.std.specs.Prelude.{◌≡◌, ℕ, ◌+◌, ◌-◌, List, length, take, drop, reverse, slice_get, Option, Some, None, Result, MatchOption, MatchResult, IsSome}
 use Rattle.vers_tally.specs.Reads.{Reads}
 
--- the items that are still to come, and what reading one of them adds at most
+-- the remaining items, and what reading one of them adds at most
 pub record Walking (X : Type 0) : Type 0 where
   pub left : List X
   pub step : Reads

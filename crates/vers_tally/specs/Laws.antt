@@ -10,7 +10,7 @@ ReadingNothingAddsNothing = (a : Reads) → AddsAtMost a a no_reads
 abbrev pub BoundsAdd : Type 0
 BoundsAdd = (a b c p q : Reads) → AddsAtMost a b p → AddsAtMost b c q → AddsAtMost a c (plus p q)
 
--- a greater bound holds too
+-- a greater bound is a bound too
 abbrev pub GreaterBoundsHold : Type 0
 GreaterBoundsHold = (a b p q : Reads) → AddsAtMost a b p → IsWithin p q → AddsAtMost a b q
 

@@ -22,39 +22,39 @@ no_reads = record { data_words = 0; block_entries = 0; superblock_entries = 0; l
 abbrev pub one_more : ℕ → ℕ
 one_more n = min (n + 1) 18446744073709551615
 
--- n data words and nothing else
+-- n data words only
 abbrev pub only_data_words : ℕ → Reads
 only_data_words n = record no_reads { data_words = n }
 
--- n block entries and nothing else
+-- n block entries only
 abbrev pub only_block_entries : ℕ → Reads
 only_block_entries n = record no_reads { block_entries = n }
 
--- n superblock entries and nothing else
+-- n superblock entries only
 abbrev pub only_superblock_entries : ℕ → Reads
 only_superblock_entries n = record no_reads { superblock_entries = n }
 
--- n low parts and nothing else
+-- n low parts only
 abbrev pub only_low_parts : ℕ → Reads
 only_low_parts n = record no_reads { low_parts = n }
 
--- n rank calls and nothing else
+-- n rank calls only
 abbrev pub only_rank_calls : ℕ → Reads
 only_rank_calls n = record no_reads { rank_calls = n }
 
--- n elements and nothing else
+-- n elements only
 abbrev pub only_items : ℕ → Reads
 only_items n = record no_reads { items = n }
 
--- n blocks and nothing else
+-- n blocks only
 abbrev pub only_blocks : ℕ → Reads
 only_blocks n = record no_reads { blocks = n }
 
--- n nodes and nothing else
+-- n nodes only
 abbrev pub only_nodes : ℕ → Reads
 only_nodes n = record no_reads { nodes = n }
 
--- n chunks and nothing else
+-- n chunks only
 abbrev pub only_chunks : ℕ → Reads
 only_chunks n = record no_reads { chunks = n }
 

@@ -33,7 +33,7 @@ lines_at text i h =
 pub lines_whole : (text : List ℕ) → position (λ b. b == 10) text ≡ None → lines_in text ≡ strip_last 13 text ∷ []
 lines_whole text h = ap (map (strip_last 13)) (slice_split_none (λ b. b == 10) text (lacks 10 text h))
 
--- the first of the lines that are still to come, and how many bytes are left behind it
+-- the first of the lines that are still to come, and how many bytes are left after it
 pub next_lines : (text line : List ℕ) (others : Option (Bor (List ℕ))) → MatchOption others (lines_in text ≡ line ∷ []) (λ o. lines_in text ≡ line ∷ lines_in o.now) → lines_in text ≡ line ∷ lines_left others
 next_lines text line None m = m
 next_lines text line (Some o) m = m

@@ -34,7 +34,7 @@ name_of-count = refl
 pub name_of-counts : name_of (codes "counts") ≡ None
 name_of-counts = refl
 
--- the load line answers how many symbols the text has, and the text is the current one
+-- the answer to the load line is how many symbols the text has, and the text is the current one
 pub answer-text_21212 : answer_to None (codes "text 2 2 1 2 1 2") ≡ ended (codes "5")
 unfolding answer_to_parts number_of digits
 answer-text_21212 = refl
@@ -48,7 +48,7 @@ pub held-text_of_none : holding_after held_21212 (codes "text 16") ≡ Some []
 unfolding holding_after_parts number_of
 held-text_of_none = refl
 
--- symbols have 1 to 16 bits, and none has more than the line says; a refused line keeps the current text
+-- symbols have 1 to 16 bits, and none has more than the line's number; a refused line keeps the current text
 pub answer-text_0 : answer_to held_21212 (codes "text 0") ≡ ended (codes "refused")
 unfolding answer_to_parts number_of
 answer-text_0 = refl
@@ -74,7 +74,7 @@ pub answer-text_x : answer_to held_21212 (codes "text 2 1 x") ≡ ended (codes "
 unfolding answer_to_parts number_of
 answer-text_x = refl
 
--- how many positions a pattern has, and where they are; they may overlap
+-- how many positions a pattern has, and which; occurrences may overlap
 pub answer-count_2_1 : answer_to held_21212 (codes "count 2 1") ≡ ended (codes "2")
 unfolding answer_to_parts number_of positions_of occurs_at begins_with digits
 answer-count_2_1 = refl
@@ -155,7 +155,7 @@ answers-input = refl
 
 -- ---- FASTA files
 
--- a file of two sequences, whose first header goes on after the name, and whose last line has no end
+-- a file of two sequences; the first header continues after the name, and the last line has no end
 abbrev two_sequences : List ℕ
 two_sequences = ended (codes ">ch one") ++ ended (codes "AC") ++ ended (codes "GTA") ++ ended (codes ">d") ++ codes "GTAC"
 

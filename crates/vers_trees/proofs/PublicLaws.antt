@@ -16,14 +16,14 @@ use Rattle.vers_trees.proofs.kin.Partners.{after_from_closes, closes_from_after,
 
 -- ---- nodes
 
--- in a balanced list a node opens at each position that holds a one, where a position past the end counts as a zero, and nowhere else
+-- in a balanced list a node opens at exactly the positions that have a one; a position past the end counts as a zero
 pub node_iff_bit : (bits : List Bool) (v : ℕ) → IsBalanced bits → IsNode (forest_of bits) v ↔ (get_or bits v false ≡ true)
 node_iff_bit bits v b = (
   λ n. opens bits v (node_pair bits b v n),
   λ e. contains_map (λ (q : ℕ × ℕ). q.0) (pairs (forest_of bits)) (v, closing (forest_of bits) v) (one_pair bits b v (bit_inside bits v e) e).is_pair,
 )
 
--- the same, by what stands at the position
+-- the same, by what is at the position
 pub node_iff_one : (bits : List Bool) (v : ℕ) → IsBalanced bits → IsNode (forest_of bits) v ↔ (slice_get bits v ≡ Some true)
 node_iff_one bits v b = grind (arith, ints, slice_get-get_or, bit_inside, get_or_from_slice_get, node_iff_bit bits v b)
 

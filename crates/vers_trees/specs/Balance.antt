@@ -1,4 +1,4 @@
--- Whether parentheses are balanced, read from the left, and where nodes open.
+-- Whether parentheses are balanced, read from the left, and the positions at which nodes open.
 use Rattle.std.specs.Prelude.{ℕ, zero, suc, Bool, true, false, ◌&&◌, List, [], ◌∷◌, slice_get, unwrap_or}
 
 -- whether parentheses close what they open and n that were open before them, and no more

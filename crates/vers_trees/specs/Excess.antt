@@ -1,4 +1,4 @@
--- The excess along a list of parentheses (a one opens and a zero closes), and where it rises by a number.
+-- The excess along a list of parentheses (a one opens and a zero closes), and the positions at which it has risen by a number.
 use Rattle.std.specs.Ordering.{int_eq}
 use Rattle.std.specs.List.{range_with_len, last_or}
 use Rattle.std.specs.Prelude.{if◌then◌else◌, ℕ, ◌+◌, ◌-◌, Bool, true, false, nat_lt, List, [], length, filter, find, slice_index_or, ℤ, pos, negsuc, ◌+ℤ◌, ◌-ℤ◌, Option, None}

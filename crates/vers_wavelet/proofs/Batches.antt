@@ -8,7 +8,7 @@ become_then first second both = record {
   each = λ p d h. both _ _ _ (first.each p d h) (second.each p d (omega (arith, h, first.long)));
 }
 
--- what holds of each item that was changed
+-- what is true of each item that was changed
 pub become_all : {Q : Type 0} {R : Q → Q → Type 0} {P : Q → Type 0} {xs ys : List Q} → Become R xs ys → ((x y : Q) → R x y → P y) → All P ys
 become_all change each = λ p d h. each _ _ (change.each p d (omega (arith, h, change.long)))
 

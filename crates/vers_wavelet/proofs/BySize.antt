@@ -4,7 +4,7 @@ use Rattle.vers_wavelet.proofs.Members.{one}
 
 -- ---- ascending order
 
--- a number is placed right behind those below it
+-- a number is placed right after those below it
 placed_is : (x : ℕ) (ys : List ℕ) → placed x ys ≡ insert ys (prefix_len (λ y. ltb y x) ys) x
 placed_is x [] = refl
 placed_is x (y ∷ ys) =
@@ -51,7 +51,7 @@ not_above_first xs s i inside =
     passes_first (λ y. leb y s) (by_size xs) (λ j k d before within low. le-leb _ _ (omega (arith, by_size_ascends xs j k d (omega arith) within, leb-true _ _ low))) i (omega (arith, length-by_size xs))
     ∙ ap (ltb i) (count_by_size (λ y. leb y s) xs)
 
--- member i by size stands at position i in ascending order
+-- member i by size is at position i in ascending order
 pub kth_at : (xs : List ℕ) (i x : ℕ) → i < length xs → IsKth xs i x → get_or (by_size xs) i 0 ≡ x
 kth_at xs i x h kth =
     omega (arith, ltb-false _ _ (below_first xs x i h ∙ le-ltb _ _ kth.less), leb-true _ _ (not_above_first xs x i h ∙ lt-ltb _ _ kth.more))

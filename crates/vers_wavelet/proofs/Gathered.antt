@@ -16,7 +16,7 @@ reversed_more : (k s : ℕ) → reversed_digits (suc k) s ≡ 2 * reversed_digit
 unfolding reversed_digits
 reversed_more k s = ap (λ d. 2 * reversed_digits k s + d) (sym (digit_value s k))
 
--- they tell the digits, and the digits them
+-- they determine the digits, and the digits them
 reversed_same : (k s t : ℕ) → s % 2 ^ k ≡ t % 2 ^ k → reversed_digits k s ≡ reversed_digits k t
 unfolding reversed_digits
 reversed_same zero s t e = refl
@@ -47,7 +47,7 @@ last_test b bit a t = grind (arith, nat_tests, cases_Bool b, cases_Bool bit)
 
 -- ---- counts over the positions of a level
 
--- whether a position holds a symbol whose digits make a number below t from the lowest to the highest
+-- whether a position has a symbol whose digits make a number below t from the lowest to the highest
 abbrev lies_before : List (List Bool) → ℕ → ℕ → Bool
 lies_before ls t p = ltb (reversed_digits (length ls) (value ls p)) t
 
@@ -59,7 +59,7 @@ or_equal ls s (suc n) =
     ap {B = ℕ} (λ t. cond t 1 0) (reversed_tests (length ls) (value ls n) s (value-lt ls n)) in
     grind (arith, or_equal ls s n, same, nat_tests)
 
--- those of the zeros lie before s too where they are equal to it but for a first digit that is 1
+-- those of the zeros are before s too if they are equal to it but for a first digit that is 1
 with_zeros : (bit : Bool) (l : List Bool) (ls : List (List Bool)) (s : ℕ)
     → count_positions (lies_before ls (reversed_digits (length ls) s + bit_value bit)) (start true l) ≡ count_positions (lies_before ls (reversed_digits (length ls) s)) (start true l) + count_equal ls (s % 2 ^ length ls) (start bit l)
 unfolding count_equal

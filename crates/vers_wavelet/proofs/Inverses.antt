@@ -114,7 +114,7 @@ levels_tell xs ys fit_x fit_y long same =
     let items : xs.items ≡ ys.items = sym (items_are xs fit_x) ∙ ap (λ l. values l (length xs.items)) same ∙ ap (values (symbol_levels ys)) long ∙ items_are ys fit_y in
     ap (λ w. record { width = w; items = xs.items }) wide ∙ ap (λ l. record { width = ys.width; items = l }) items
 
--- the levels that hold the symbols are their levels
+-- the levels that have the symbols are their levels
 pub levels_are : (symbols : Symbols) (ls : List (List Bool)) → AreLevels ls (length symbols.items) → length ls ≡ symbols.width → values ls (length symbols.items) ≡ symbols.items → symbol_levels symbols ≡ ls
 unfolding symbol_levels
 levels_are symbols ls levels wide holds =

@@ -1,4 +1,4 @@
--- What positions and counts of the levels say of the list of symbols.
+-- What positions and counts of the levels state about the list of symbols.
 use Rattle.vers_wavelet.proofs.Names.{◌≡◌, ℕ, zero, suc, ◌+◌, ◌-◌, ◌%◌, ◌^◌, ◌<◌, ◌≤◌, Bool, true, cond, ltb, leb, eqb, List, ◌∷◌, ◌++◌, length, get_or, take, drop, refl, sym, ap, ◌∙◌, arith, add-one, filter, slice_range, slice_get, Option, Some, None, IsSome, IfSome, All, ◌↔◌, count_by, range_with_len, take-add, drop-cons, drop_more, eq-eqb, nat_tests, map-id, get_or_at, take-append-drop, length-append, length-take, length-drop, filter-append, length-filter, sum_by-append, sum_by-cons, sum_by_more, length-range_with_len, get_or-range_with_len, length-map-range_with_len, get_or-map-range_with_len, take-map-range_with_len, slice_get-get_or, slice_get_past, value, values, count_positions, count_below, count_equal, final_position, AreLevels, IsKthInRange, occurrences, IsKth}
 use Rattle.vers_wavelet.proofs.Values.{final-up, equal_below, value-lt, counts_more, counts_same}
 use Rattle.vers_wavelet.proofs.Members.{never, not_lt}
@@ -71,7 +71,7 @@ pub count_is : {ls : List (List Bool)} {n : ℕ} → AreLevels ls n → (s a b f
 count_is {ls} {n} levels s a b from to order within e =
     omega (arith, e, occurrences_are ls n a b (s % 2 ^ length ls) order within, final_parts levels s a b order within, final-up ls s a b order)
 
--- a member that passes stands in the filter at the number of those before it
+-- a member that passes is in the filter at the number of those before it
 pub filter_at : {X : Type 0} (p : X → Bool) (ys : List X) (i : ℕ) (d : X) → i < length ys → p (get_or ys i d) ≡ true
     → (count_by p (take i ys) < length (filter p ys)) × (get_or (filter p ys) (count_by p (take i ys)) d ≡ get_or ys i d)
 filter_at p ys i d h on =
@@ -83,7 +83,7 @@ filter_at p ys i d h on =
       rw made (get_or_at (filter p (take i ys)) (get_or ys i d) (filter p (drop (suc i) ys)) d _ before),
     )
 
--- the positions of a range that pass a test: number r of them is the one before which r of them stand
+-- the positions of a range that pass a test: number r of them is the one before which r of them are
 nth_passing : (q : ℕ → Bool) (a m p d r : ℕ) → a ≤ p → p < a + m → q p ≡ true → count_by q (range_with_len a (p - a)) ≡ r → get_or (filter q (range_with_len a m)) r d ≡ p
 nth_passing q a m p d r low high on e =
     let i : ℕ = p - a in

@@ -4,7 +4,7 @@ use Rattle.vers_wavelet.proofs.Members.{not_lt, kth_same, predecessor_is, succes
 use Rattle.vers_wavelet.proofs.BySize.{length-by_size, below_first, not_above_first, kth_some, kth_none, kth_is}
 use Rattle.vers_wavelet.proofs.Ranges.{members_past, members_reversed, narrow_word, wide_word}
 
--- ---- in ascending order, what stands before and after as many members as are below s, or not above it
+-- ---- in ascending order, what is before and after as many members as are below s, or not above it
 
 -- the first member that is not below s comes right after those below it
 pub least_from_is : (xs : List ℕ) (s n : ℕ) → n ≡ count_by (λ y. ltb y s) xs → least_from xs s ≡ kth_by_size xs n
@@ -67,7 +67,7 @@ one_successor : (xs : List ℕ) (s x y : ℕ) → IsSuccessor xs s x → IsSucce
 one_successor xs s x y p q =
     omega (arith, p.member.2, q.member.2, p.within, q.within, p.least q.member.0 y q.member.1, q.least p.member.0 x p.member.1)
 
--- a search finds just what is in a relation, if it finds something there where something is in it, and only one number is
+-- a search finds exactly what is in a relation, if it finds something whenever something is in it, and only one number is
 just_where : (o : Option ℕ) (R : ℕ → Type 0) → ((x y : ℕ) → R x → R y → x ≡ y) → (IsSome o → (x : ℕ) × (o ≡ Some x) × R x)
     → ((x : ℕ) → R x → IsSome o)
     → (x : ℕ) → (o ≡ Some x) ↔ R x

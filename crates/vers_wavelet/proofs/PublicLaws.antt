@@ -22,7 +22,7 @@ count_by_size = BySize.count_by_size
 pub length-by_size : (xs : List ℕ) → length (by_size xs) ≡ length xs
 length-by_size = BySize.length-by_size
 
--- member i by size stands at position i in ascending order, and is one number
+-- member i by size is at position i in ascending order, and is one number
 pub kth_at : (xs : List ℕ) (i x : ℕ) → i < length xs → IsKth xs i x → get_or (by_size xs) i 0 ≡ x
 kth_at = BySize.kth_at
 

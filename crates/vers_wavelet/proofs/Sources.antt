@@ -1,4 +1,4 @@
--- What the sources of symbols say of their items.
+-- What the sources of symbols state about their items.
 use Rattle.vers_wavelet.proofs.Names.{◌≡◌, ℕ, ◌+◌, ◌-◌, ◌*◌, ◌/◌, ◌%◌, ◌^◌, ◌<◌, ◌≤◌, Bool, false, List, length, get_or, take, drop, slice_get, Some, sym, ap, ◌∙◌, arith, bit_and, range_with_len, map, map-append, [], ◌∷◌, ◌++◌, packed_symbols, pow-le-pow_right, mod-eq_of_lt, div-mul-le_self, div-le_self, length-take, get_or-take, get_or-drop, drop-drop, drop-take, length-range_with_len, get_or-range_with_len, one_shl, and_mask, row_fits, pow_pos, slice_get-get_or, number, part, number-drop, number_below, digit, prefix}
 use Rattle.std.proofs.lemmas.List.FromFn.{map-range_with_len_more}
 use Rattle.vers_wavelet.proofs.Digits.{list_digit}
@@ -26,7 +26,7 @@ packed_prefix bits w n e h =
     let small : number p < 2 ^ n = number_below p n (omega (arith, length-take n (drop (e * w + (w - n)) bits))) in
     sym (mod-eq_of_lt small) ∙ ap (λ v. v % 2 ^ n) (ap number (sym cut) ∙ number-drop (w - n) l)
 
--- element e lies inside
+-- element e is inside
 pub packed_inside : (n w e : ℕ) → 0 < w → e < n / w → e * w + w ≤ n
 packed_inside n w e some h = omega (arith, row_fits e w (n / w) w h (omega arith), div-mul-le_self n w)
 

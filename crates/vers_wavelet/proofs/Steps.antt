@@ -6,7 +6,7 @@ use Rattle.vers_wavelet.proofs.Values.{same_bit, value-lt, below_all, below_step
 cond_gap : (bit : Bool) (a b : ℕ) → a ≤ b → cond bit b 0 ≡ cond bit a 0 + cond bit (b - a) 0
 cond_gap bit a b order = grind arith
 
--- of the positions that go on with the bit, member j by size makes member i of all
+-- of the positions that continue with the bit, member j by size makes member i of all
 pub kth_step : (bit : Bool) (l : List Bool) (ls : List (List Bool)) (a b i j x : ℕ) → a ≤ b → b ≤ length l → x < 2 ^ length ls
     → j + cond bit (next false l b - next false l a) 0 ≡ i
     → IsKthInRange ls (next bit l a) (next bit l b) j x → IsKthInRange (l ∷ ls) a b i (bit_value bit * 2 ^ length ls + x)
@@ -51,7 +51,7 @@ even_first l ls n even = even zero l (omega arith)
 pub start_le : (bit : Bool) (l : List Bool) → start bit l ≤ length l
 start_le bit l = omega (arith, next_none bit l, next-le bit l 0)
 
--- the positions that hold s before a position are as far apart below the last level
+-- the positions that have s before a position are as far apart below the last level
 pub final_equal : (ls : List (List Bool)) (n : ℕ) → AllHaveLength ls n → (s i : ℕ) → i ≤ n → count_equal ls (s % 2 ^ length ls) i + final_position ls s 0 ≡ final_position ls s i
 final_equal [] n even s i h =
     let none : s % 2 ^ 0 ≡ 0 = omega arith in
@@ -69,11 +69,11 @@ final_equal (l ∷ ls) n even s i h =
     let not_above = below_step bit l ls (r + 1) (y + 1) i (omega (arith, whole)) (omega arith) inside in
     omega (arith, below, not_above, equal_below (l ∷ ls) y i, equal_below ls r (start bit l), equal_below ls r (next bit l i), here, first, final_is l ls s i, final_is l ls s 0, ap (final_position ls s) (next_none bit l))
 
--- a position that holds s has a position of its own there
+-- a position that has s has a position of its own there
 pub final_more : (ls : List (List Bool)) (n : ℕ) → AllHaveLength ls n → (s i : ℕ) → i < n → value ls i ≡ s % 2 ^ length ls → final_position ls s (i + 1) ≡ final_position ls s i + 1
 final_more ls n even s i h e = omega (arith, final_equal ls n even s i (omega arith), final_equal ls n even s (i + 1) (omega arith), equal_more ls (s % 2 ^ length ls) i e)
 
--- the positions that hold s lie between those of a level below
+-- the positions that have s are between those of a level below
 pub final_between : (ls : List (List Bool)) (n : ℕ) → AllHaveLength ls n → (s k : ℕ) → (final_position (drop k ls) s 0 ≤ final_position ls s 0) × (final_position ls s n ≤ final_position (drop k ls) s n)
 final_between ls n even s zero = (omega arith, omega arith)
 final_between [] n even s (suc k) = (omega arith, omega arith)
@@ -158,7 +158,7 @@ module _ (ls : List (List Bool)) (k : ℕ) (h : k < length ls) (v : List Bool) (
   abbrev weight : ℕ
   weight = 2 ^ (length ls - (k + 1))
 
-  -- the members by size of a range, by those of the positions that go on with the bit
+  -- the members by size of a range, by those of the positions that continue with the bit
   pub reduces_more : (bit : Bool) {from to a b c d number made : ℕ} (th more : ℕ) → a ≤ b → b ≤ length v → c ≡ next bit v a → d ≡ next bit v b
       → more ≡ th + cond bit (next false v b - next false v a) 0 → made ≡ number + bit_value bit * weight
       → ((j : ℕ) → ReducesKth ls from to (th + j) k a b j number)
@@ -243,7 +243,7 @@ rise_all {ls} e up =
     let none : length ls - 0 ≡ length ls = omega arith in
     (rw (e, none) at up.holds, rw e at up.leads)
 
--- the position it leads to is one of those that hold s
+-- the position it leads to is one of those that have s
 pub rise_below : {ls : List (List Bool)} {n s target k q : ℕ} → AreLevels ls n → k ≡ 0 → LeadsTo ls n s target k q → target < final_position ls s n
 rise_below {ls} {n} {s} {target} {k} {q} levels e up =
     let top = rise_all e up in

@@ -13,7 +13,7 @@ leaves_as : (up : Bool) (ls : List (List Bool)) (n s from to : ℕ) (t u : Trail
 leaves_as true ls n s from to t u same e l = rw same (record { order = l.order; within = l.within; none = λ q. e ∙ l.none q; some = l.some; found = λ q number p. rw e (l.found q number p) })
 leaves_as false ls n s from to t u same e l = rw same (record { order = l.order; within = l.within; none = λ q. e ∙ l.none q; some = λ q. rw e (l.some q); found = λ q number p. rw e (l.found q number p) })
 
--- what a comparison of two bits says
+-- what a comparison of two bits gives
 pub same_bits : (b c : Bool) → beq b c ≡ true → b ≡ not c → ⊥
 same_bits b c e other = grind arith
 

@@ -55,7 +55,7 @@ pub below_all : (ls : List (List Bool)) (y n : ℕ) → 2 ^ length ls ≤ y → 
 unfolding count_below
 below_all ls y n h = counts_all _ true n (λ p. lt-ltb (value ls p) y (omega (arith, value-lt ls p)))
 
--- those below a symbol y, whose first digit is the bit and whose others are s, by those that go on with that digit
+-- those below a symbol y, whose first digit is the bit and whose others are s, by those that continue with that digit
 pub below_step : (bit : Bool) (l : List Bool) (ls : List (List Bool)) (s y i : ℕ) → y ≡ bit_value bit * 2 ^ length ls + s → s ≤ 2 ^ length ls
     → i ≤ length l
     → count_below (l ∷ ls) y i + count_below ls s (start bit l) ≡ cond bit (next false l i) 0 + count_below ls s (next bit l i)
@@ -72,7 +72,7 @@ below_step false l ls s y i e small h =
     let none = λ (n : ℕ). counts_all (λ p. false) false n (λ p. refl) in
     omega (arith, parts, none (start true l), none (next true l i))
 
--- those that hold s are those below s + 1 and not below s
+-- those that have s are those below s + 1 and not below s
 pub equal_below : (ls : List (List Bool)) (s n : ℕ) → count_equal ls s n + count_below ls s n ≡ count_below ls (s + 1) n
 unfolding count_equal count_below
 equal_below ls s zero = refl
@@ -147,11 +147,11 @@ pub of_kind : (bit : Bool) (l : List Bool) (z p : ℕ) → z ≡ count false l (
 of_kind true l z p zeros h = (λ t. (omega (arith, zeros, leb-true z p t), omega (arith, h, next_true_all l)), λ t. le-leb z p (omega (arith, zeros, t.0)))
 of_kind false l z p zeros h = (λ t. (omega arith, omega (arith, zeros, next_false_all l, ltb-true p z t)), λ t. lt-ltb p z (omega (arith, zeros, next_false_all l, t.1)))
 
--- a position that holds the bit has its own position in the next level
+-- a position that has the bit has its own position in the next level
 pub next-lt : (b : Bool) (l : List Bool) (i : ℕ) → i < length l → get_or l i false ≡ b → next b l i < length l
 next-lt b l i h e = grind (arith, cases_Bool b, next-le b l (i + 1), next_more b l i h)
 
--- each position of a level is where a position of the level above goes on
+-- each position of a level is one at which a position of the level above continues
 of_bit : (b : Bool) (l : List Bool) (r : ℕ) → r < count b l (length l) → (i : ℕ) × (i < length l) × (next (get_or l i false) l i ≡ start b l + r)
 unfolding next
 of_bit b l r h =

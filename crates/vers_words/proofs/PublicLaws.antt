@@ -2,13 +2,13 @@
 use Rattle.vers_words.proofs.Imports.{◌≡◌, ◌==◌, ◌+◌, ℕ, false, List, [], ◌∷◌, ◌++◌, take, Some, None, All, position}
 use Rattle.vers_words.proofs.Positions as Positions
 
--- ---- where a byte stands first
+-- ---- the first position of a byte
 
--- a text in which it stands nowhere lacks it
+-- a text in which a byte is at no position lacks it
 pub lacks : (c : ℕ) (text : List ℕ) → position (λ b. b == c) text ≡ None → All (λ b. (b == c) ≡ false) text
 lacks = Positions.lacks
 
--- what stands before it lacks it
+-- what is before it lacks it
 pub lacks_before : (c : ℕ) (text : List ℕ) (i : ℕ) → position (λ b. b == c) text ≡ Some i → All (λ b. (b == c) ≡ false) (take i text)
 lacks_before = Positions.lacks_before
 

@@ -96,7 +96,7 @@ word_back s small = elim (cases_lt s 256) [
       })
 ]
 
--- ---- words behind a space
+-- ---- words after a space
 
 split_step : (t : Bool) (b : ℕ) (parts others : List (List ℕ)) → 0 < length parts
     → cond t ([] ∷ (parts ++ others)) (onto_first b (parts ++ others)) ≡ cond t ([] ∷ parts) (onto_first b parts) ++ others
@@ -124,14 +124,14 @@ symbols_behind : (words : List (List ℕ)) (w : List ℕ) → words_symbols (wor
 symbols_behind [] w = joined-end (word_symbols w) ∙ sym (joined-nil (word_symbols w))
 symbols_behind (v ∷ words) w = ap (joined (word_symbols v)) (symbols_behind words w) ∙ joined_of (word_symbols v) (words_symbols words) (word_symbols w)
 
--- the symbols of words, and one more behind them
+-- the symbols of words, and one more after them
 word_more : (w : List ℕ) (s : ℕ) → s < 18446744073709551616 → words_symbols (words_in (w ++ 32 ∷ symbol_word s)) ≡ joined (words_symbols (words_in w)) (Some (s ∷ []))
 word_more w s small =
     let is = word_back s small in
     ap words_symbols (words_behind w (symbol_word s) ∙ ap (λ more. words_in w ++ more) (one_word (symbol_word s) is.no_space is.some))
     ∙ symbols_behind (words_in w) (symbol_word s) ∙ ap (joined (words_symbols (words_in w))) is.reads
 
--- ---- how a pattern goes on
+-- ---- how a pattern continues
 
 goes_plain : (s : ℕ) (rest : List ℕ) → is_plain s ≡ true → (gone_on true (s ∷ rest) ≡ s ∷ gone_on true rest) × (gone_on false (s ∷ rest) ≡ 32 ∷ 34 ∷ s ∷ gone_on true rest)
 unfolding gone_on
@@ -159,7 +159,7 @@ NoQuote text = All (λ b. (b == 34) ≡ false) text
 abbrev Small : List ℕ → Type 0
 Small symbols = All (λ s. s < 18446744073709551616) symbols
 
--- symbols in a text that has begun, and behind words
+-- symbols in a text that has begun, and after words
 pub record ReadOn (rest : List ℕ) : Type 0 where
   pub in_text : (t : List ℕ) → NoQuote t → from_text (parts (t ++ gone_on true rest)) ≡ Some (t ++ rest)
   pub behind : (w : List ℕ) → NoQuote w → from_words (parts (w ++ gone_on false rest)) ≡ joined (words_symbols (words_in w)) (Some rest)

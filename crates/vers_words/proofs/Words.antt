@@ -21,7 +21,7 @@ words_in-after_spaces (b ∷ t) =
 pub words_in-spaces : (t : List ℕ) → position is_other t ≡ None → words_in t ≡ []
 words_in-spaces t h = rw (words_in-after_spaces t, drop_all (position_or_len is_other t) t (position-None is_other t h)) refl
 
--- the words stand from the first byte that is no space
+-- the words are from the first byte that is no space
 pub words_in-from : (t : List ℕ) (i : ℕ) → position is_other t ≡ Some i → words_in t ≡ words_in (drop i t)
 words_in-from t i h = words_in-after_spaces t ∙ ap (λ n. words_in (drop n t)) (cond_some _ _ _ h).1
 
@@ -40,7 +40,7 @@ words_in-word t n some h =
     ap words_in whole ∙ ap (filter has_bytes) split ∙ first_kept (take n t) (slice_split (λ b. b == 32) (drop (n + 1) t)) long
     ∙ ap (λ l. take n t ∷ words_in l) (sym rest)
 
--- no space stands first
+-- no space is first
 above_zero : (t : List ℕ) (n : ℕ) → position (λ b. b == 32) t ≡ Some n → is_other (get_or t 0 0) ≡ true → 0 < n
 above_zero t zero h other = let space = byte_at 32 t 0 h in cc (rw space at other)
 above_zero t (suc n) h other = omega arith

@@ -1,8 +1,8 @@
--- What the arguments of a load line give: they are malformed, or well formed but not admitted, or they write something.
+-- The result of the arguments of a load line: they are malformed, or well formed but not admitted, or they write something.
 use Rattle.vers_words.specs.declared.loading.Loading.{Loading}
 use Rattle.vers_words.specs.declared.loading.Loading.TheVariants.{Malformed, Inadmissible, Accepted}
 
--- what a load line gives, with what f makes of what its arguments write
+-- the result of a load line, with what f makes of what its arguments write
 abbrev pub map_loading : {X Y : Type 0} → (X → Y) → Loading X → Loading Y
 map_loading f Malformed = Malformed
 map_loading f Inadmissible = Inadmissible

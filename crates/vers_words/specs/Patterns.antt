@@ -81,7 +81,7 @@ begun_with symbol = if is_plain symbol then 34 ∷ symbol ∷ [] else symbol_wor
 abbrev pub end_of_text : Bool → List ℕ
 end_of_text quoted = if quoted then 34 ∷ [] else []
 
--- another symbol, in an open text or behind a word
+-- another symbol, in an open text or after a word
 abbrev pub gone_on_with : Bool → ℕ → List ℕ
 gone_on_with quoted symbol = if quoted && is_plain symbol then symbol ∷ [] else end_of_text quoted ++ 32 ∷ begun_with symbol
 

@@ -32,7 +32,7 @@ module _ {X : Type 0} where
   kept_split : (p : X → Bool) (xs : List X) (r : ℕ) → filter p xs ≡ filter p (take r xs) ++ filter p (drop r xs)
   kept_split p xs r = ap (λ (l : List X). filter p l) (sym (take-append-drop r xs)) ∙ filter-append p (take r xs) (drop r xs)
 
-  -- those of the first elements are the first of them, and the next one is behind these
+  -- those of the first elements are the first of them, and the next one is after these
   pub kept_first : (p : X → Bool) (xs : List X) (r : ℕ) → take (count_by p (take r xs)) (filter p xs) ≡ filter p (take r xs)
   kept_first p xs r = rw (kept_split p xs r) (take_at (filter p (take r xs)) (filter p (drop r xs)) _ (length-filter p (take r xs)))
 

@@ -62,7 +62,7 @@ module _ (starts : List ℕ) (nodes : List Node) (bits : List Bool) (used : ℕ)
   -- ---- a walk
 
   module _ (here : Bool) (each : Reads) (s all goal other : ℕ) (old : Reads) where
-    -- what is read at a fork, and where the walk goes on
+    -- what is read at a fork, and the fork at which the walk continues
     pub record Goes (new next : Reads) (at a b : ℕ) (node : Node) (ones_a ones_b : ℕ) (high : Bool) (at' a' b' : ℕ) : Type 0 where
       pub read : node ≡ get_or nodes at node
       pub ranked_a : ones_a ≡ count true bits a
@@ -161,7 +161,7 @@ module _ (starts : List ℕ) (nodes : List Node) (bits : List Bool) (used : ℕ)
               ((r, on), λ inner. omega (arith, to, w.link_is, link_less r (w.first + forks l) (w.first + forks l + forks r) (omega arith) (omega (arith, inner, to))))
         ]
 
-    -- a walk goes on at a fork, to a link before the fork's or to a leaf
+    -- a walk continues at a fork, to a link before the fork's or to a leaf
     pub walk_on : {new next : Reads} {at a b : ℕ} {node : Node} {ones_a ones_b : ℕ} {high : Bool} {at' a' b' : ℕ}
         → at < LEAVES → Walks starts nodes bits used here each s all goal other old new at a b → Goes new next at a b node ones_a ones_b high at' a' b'
         → Walks starts nodes bits used here each s all goal other old next at' a' b' × (at' < LEAVES → at' < at)
@@ -175,7 +175,7 @@ module _ (starts : List ℕ) (nodes : List Node) (bits : List Bool) (used : ℕ)
     pub walk_inside : {new : Reads} {at a b : ℕ} → at < LEAVES → Walks starts nodes bits used here each s all goal other old new at a b → (at < length nodes) × (a ≤ used) × (b ≤ used)
     walk_inside few w = inside_in w.0 few w.1
 
-    -- the bit at a position tells on which side of a fork the symbol is
+    -- the bit at a position determines on which side of a fork the symbol is
     side_in : (tree : Tree) {new : Reads} {at a b : ℕ} (node : Node) → at < LEAVES → WalksIn tree starts nodes bits used here each s all goal other old new at a b → here ≡ true
         → node ≡ get_or nodes at node → get_or bits a false ≡ leb node.split s
     side_in (leaf c) node few w asked read = absurd (omega (arith, few, w.link_is))

@@ -24,7 +24,7 @@ half_from starts elements low n = unwrap_or (find (λ s. nat_le elements (2 * sl
 abbrev pub nearer : List ℕ → ℕ → ℕ → ℕ
 nearer starts elements s = if nat_lt elements (slice_index starts (s - 1) + slice_index starts s) then s - 1 else s
 
--- where the symbols from low to before end are divided
+-- the symbol at which the symbols from low to before end are divided
 unfoldable pub split : List ℕ → ℕ → ℕ → ℕ
 split starts low end =
     nearer starts (slice_index starts low + slice_index starts end) (half_from starts (slice_index starts low + slice_index starts end) (low + 1) (end - (low + 1)))

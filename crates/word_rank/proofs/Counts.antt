@@ -1,4 +1,4 @@
--- What the stored counts say of ranks, and how they grow.
+-- What the stored counts state about ranks, and how they grow.
 use Rattle.word_rank.proofs.Names.{◌≡◌, ℕ, ◌+◌, ◌-◌, ◌*◌, ◌/◌, ◌%◌, ◌^◌, ◌<◌, ◌≤◌, ◌++◌, ◌∷◌, [], Bool, true, false, List, length, get_or, refl, sym, ap, ◌∙◌, arith, eqb, count_ones, bit_and, and_mask, one_shl, shr_and_one, cases_Bool, length_push, get_or_append_left, get_or_push, count, limb, limb_count, count_le, count_up, count_near, count_limb, count_limb_whole, count_past, count_none, limb_bit, AreCounts, HasCounts, word_rank_size}
 
 -- the counts of a word and its superblock

@@ -26,7 +26,7 @@ pub record StandsAt {H : Type 0} (by : Answering H) (start : H) (read answers : 
   pub answered : answers ≡ answers_of by start lines
   pub holds : held ≡ held_after by start lines
 
--- what was written of the answers of lines at a fault that is not the reader's
+-- what was written of the answers of lines at an error that is not the reader's
 abbrev pub FailsAt : {H : Type 0} → Answering H → H → RunError → List (List ℕ) → List ℕ → Type 0
 FailsAt by start Read lines written = ⊥
 FailsAt by start Memory lines written = AnswersFirst (answers_of by start) lines written
@@ -52,7 +52,7 @@ abbrev pub TakesSome : {H E : Type 0} → Answering H → Result ℕ E → H →
 TakesSome by (Ok taken) held pending bytes text new rest = TakesOrFails by (Ok tt) held pending (take taken bytes) text new rest
 TakesSome by (Err e) held pending bytes text new rest = TakesOrFails by (Err Memory) held pending bytes text new rest
 
--- at the end of the input the text answers what was pending, or a fault cut it off
+-- at the end of the input the text answers what was pending, or an error cut it off
 abbrev pub FinishesOrFails : {H : Type 0} → Answering H → Result (Unit {0}) RunError → H → List ℕ → List ℕ → Type 0
 FinishesOrFails {H} by (Ok u) held pending text =
     (start : H) (read answers : List ℕ) → StandsAt by start read answers held pending → answers ++ text ≡ answers_of by start (lines_of read)

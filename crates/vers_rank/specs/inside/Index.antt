@@ -1,10 +1,10 @@
--- What the entries of an index say of the list of bits.
+-- What the entries of an index represent.
 use Rattle.std.specs.Prelude.{◌≡◌, ℕ, ◌+◌, ◌-◌, ◌*◌, ◌/◌, ◌%◌, ◌^◌, ◌<◌, ◌≤◌, min, List, Bool, true, false, cond, length, slice_index, count_ones}
 use Rattle.vers_bits.specs.Bits.{count, limb, block_count}
 use Rattle.vers_rank.specs.declared.fast_rs_vec.TheConstants.{BLOCK, SUPERBLOCK, BLOCKS}
 use Rattle.vers_rank.specs.Queries.{superblock_count, sample_count}
 
--- superblock s is where the count of the bit b passes 8192 * j, or the last one
+-- superblock s is the one in which the count of the bit b passes 8192 * j, or the last one
 pub record IsSample (b : Bool) (l : List Bool) (j s : ℕ) : Type 0 where
   pub inside : SUPERBLOCK * s ≤ length l - 1
   pub low : count b l (SUPERBLOCK * s) ≤ SUPERBLOCK * j
@@ -15,7 +15,7 @@ pub record AreSamples (b : Bool) (l : List Bool) (samples : List ℕ) : Type 0 w
   pub counted : length samples ≡ sample_count l
   pub each : (j : ℕ) → j < length samples → IsSample b l j (slice_index samples j)
 
--- a block entry holds the zeros of its superblock before the block, a superblock entry the zeros before it
+-- a block entry is the number of zeros of its superblock before the block, a superblock entry the number of zeros before it
 pub record IsIndexed (l : List Bool) (blocks superblocks zero_samples one_samples : List ℕ) (zeros : ℕ) : Type 0 where
   pub bounded : length l ≤ 18446744073709551552
   pub blocks_counted : length blocks ≡ block_count BLOCK (length l)
@@ -30,11 +30,11 @@ pub record IsIndexed (l : List Bool) (blocks superblocks zero_samples one_sample
 abbrev pub AreLimbsOf : List Bool → ℕ → List ℕ → Type 0
 AreLimbsOf l block limbs = (j : ℕ) → j < 8 → slice_index limbs j ≡ limb l (8 * block + j)
 
--- how many of n bits are b, where `ones` of them are ones
+-- how many of n bits are b, if `ones` of them are ones
 abbrev pub held_of : Bool → ℕ → ℕ → ℕ
 held_of b ones n = cond b ones (n - ones)
 
--- how many of the first i positions hold the bit, where zeros without end follow the list
+-- how many of the first i positions have the bit, if zeros without end follow the list
 unfoldable pub held : Bool → List Bool → ℕ → ℕ
 held b l i = held_of b (count true l i) i
 
@@ -42,7 +42,7 @@ held b l i = held_of b (count true l i) i
 unfoldable pub held_in : Bool → ℕ → ℕ → ℕ
 held_in b w j = held_of b (count_ones (w % 2 ^ j)) j
 
--- how many of the 512 * j positions of a superblock before its block number j hold the bit, where z of them are zeros
+-- how many of the 512 * j positions of a superblock before its block number j have the bit, if z of them are zeros
 abbrev pub held_before : Bool → ℕ → ℕ → ℕ
 held_before b j z = cond b (BLOCK * j - z) z
 
@@ -58,7 +58,7 @@ pub record AreFirstSamples (b : Bool) (l : List Bool) (n : ℕ) (samples : List 
   pub counted : length samples ≡ n
   pub each : (j : ℕ) → j < n → IsSample b l j (slice_index samples j)
 
--- among the limbs of a block up to number last, the one with number r of the block's positions of the bit, or last; and how many of these positions stand before it
+-- among the limbs of a block up to number last, the one with number r of the block's positions of the bit, or last; and how many of these positions precede it
 pub record IsLimbWith (b : Bool) (l : List Bool) (block r last limb before : ℕ) : Type 0 where
   pub start : 8 * block ≤ limb
   pub inside : limb ≤ last

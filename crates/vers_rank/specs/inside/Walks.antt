@@ -8,12 +8,12 @@ use Rattle.vers_rank.specs.declared.fast_rs_vec.TheConstants.{BLOCK}
 use Rattle.vers_rank.specs.Walks.{chunk_count}
 use Rattle.vers_rank.specs.inside.Offsets.{last_first}
 
--- a list of bits, and the bit whose positions are asked for
+-- a list of bits, and the bit whose positions are counted
 pub record PositionsOf : Type 0 where
   pub bits : List Bool
   pub bit : Bool
 
--- position p holds the bit, and at least lo and fewer than hi positions before it do
+-- position p has the bit, and so do at least lo and fewer than hi positions before it
 pub record IsWithin (bit : Bool) (bits : List Bool) (lo hi p : ℕ) : Type 0 where
   pub inside : p < length bits
   pub holds : is_bit bit (slice_index_or bits p false) ≡ true
@@ -43,7 +43,7 @@ pub record IsReadingBack (bit : Bool) (bits : List Bool) (reader : Reader) : Typ
   pub within : (i : ℕ) → i < 64 → bit_at reader.word i ≡ 1 → 64 * reader.limb + i < length bits
   pub in_block : count bit bits (BLOCK * (reader.limb / 8)) ≤ reader.edge
 
--- a word, or its complement where zeros are asked for
+-- a word, or its complement for zeros
 abbrev pub marked : Bool → ℕ → ℕ
 marked bit word = if bit then word else 18446744073709551615 - word
 
@@ -53,7 +53,7 @@ marked bit word = if bit then word else 18446744073709551615 - word
 unfoldable pub positions_from : Bool → List Bool → ℕ → List ℕ
 positions_from bit bits p = drop (count bit bits p) (positions bit bits)
 
--- the positions that a walk by chunks has still to give: those of the last chunk that it has not given, and those after it
+-- the positions that a walk by chunks has still to return: the remaining ones of the last chunk, and those after it
 abbrev pub chunk_positions_left : List Bool → ChunkWalk → List ℕ
 chunk_positions_left bits walk = last_first walk.start walk.offsets walk.left ++ positions_from walk.bit bits walk.end
 
@@ -61,7 +61,7 @@ chunk_positions_left bits walk = last_first walk.start walk.offsets walk.left ++
 abbrev pub chunks_unread : List Bool → ChunkWalk → ℕ
 chunks_unread bits walk = chunk_count (length bits - walk.end)
 
--- the buffer holds offsets of positions of the list, and up to the list's end whole chunks were loaded
+-- the buffer has the offsets of positions of the list, and up to the list's end whole chunks were loaded
 pub record IsChunkWalkOf (bits : List Bool) (walk : ChunkWalk) : Type 0 where
   pub room : length walk.offsets ≡ 16
   pub few : walk.left ≤ 16

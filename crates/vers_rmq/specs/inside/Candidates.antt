@@ -8,6 +8,6 @@ pub record IsLeastItem (items : List ℕ) (i j : ℕ) (candidate : PlacedItem) :
   pub position : IsFirstLeast items i j candidate.position
   pub item : candidate.value ≡ slice_index items candidate.position
 
--- the lesser of two items, the first where they are equal
+-- the lesser of two items, the first if they are equal
 abbrev pub lesser_item : PlacedItem → PlacedItem → PlacedItem
 lesser_item first second = if nat_le first.value second.value then first else second

@@ -21,17 +21,17 @@ pub record AddsOne (mask more d : ℕ) : Type 0 where
   pub here : bit_at more d ≡ 1
   pub others : (q : ℕ) → q ≢ d → bit_at more q ≡ bit_at mask q
 
--- the prefix mask of the positions from s on, before e, by their distance from s, in parts of w positions: the last 1 up to a position is where the least item from the start of its part to that position stands
+-- the prefix mask of the positions from s to before e, by their distance from s, in parts of w positions: the last 1 up to a position is at the least item from the start of its part to that position
 pub record IsPrefixMask (items : List ℕ) (w s e mask : ℕ) : Type 0 where
   pub starts : (j : ℕ) → s + j < e → bit_at mask (w * (j / w)) ≡ 1
   pub positions : (j p : ℕ) → s + j < e → IsLastSet mask j p → IsFirstLeast items (s + w * (j / w)) (s + j) (s + p)
   pub above : (q : ℕ) → e ≤ s + q → bit_at mask q ≡ 0
 
--- where the part of w positions ends in which the position stands that is i past s, among the positions before e
+-- the end of the part of w positions that has the position i past s, among the positions before e
 abbrev pub part_end : ℕ → ℕ → ℕ → ℕ → ℕ
 part_end w s e i = min (s + (w * (i / w) + w)) e
 
--- the suffix mask of the positions from k on, before e, by their distance from s, in parts of w positions: the first 1 from a position on is where the least item from that position to the end of its part stands
+-- the suffix mask of the positions from k to before e, by their distance from s, in parts of w positions: the first 1 from a position on is at the least item from that position to the end of its part
 pub record IsSuffixMask (items : List ℕ) (w s k e mask : ℕ) : Type 0 where
   pub ends : (i : ℕ) → k ≤ s + i → s + i < e → bit_at mask (part_end w s e i - 1 - s) ≡ 1
   pub positions : (i p : ℕ) → k ≤ s + i → s + i < e → IsFirstSet mask i p → IsFirstLeast items (s + i) (part_end w s e i - 1) (s + p)

@@ -1,9 +1,9 @@
--- What the table of positions holds.
+-- The table of positions.
 use Rattle.std.specs.Prelude.{◌≡◌, ℕ, ◌+◌, ◌-◌, ◌*◌, ◌^◌, ◌<◌, min, List, length, slice_index}
 use Rattle.vers_rmq.specs.Minima.{IsFirstLeast}
 use Rattle.vers_rmq.specs.Layout.{clog}
 
--- the last of the 2 ^ k positions from i on, or of n positions where they are fewer
+-- the last of the 2 ^ k positions from i on, or of n positions if they are fewer
 abbrev pub reach : ℕ → ℕ → ℕ → ℕ
 reach n k i = min (i + 2 ^ k) n - 1
 

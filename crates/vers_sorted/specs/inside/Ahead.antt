@@ -1,4 +1,4 @@
--- What an iterator has read of the high parts before it is asked for.
+-- What an iterator has read of the high parts ahead of its next step.
 use Rattle.std.specs.Prelude.{◌≡◌, ℕ, ◌+◌, ◌<◌, ◌≤◌, true, List, length, take, drop}
 use Rattle.vers_bits.specs.Bits.{number, count}
 use Rattle.vers_sorted.specs.declared.elias_fano.ahead.Ahead.{Ahead}
@@ -11,6 +11,6 @@ pub record HasRead (s : List ℕ) (i : ℕ) (ahead : Ahead) : Type 0 where
   pub few : ahead.len ≤ 64
   pub bits : ahead.word ≡ number (take ahead.len (drop ahead.position (high_parts s)))
 
--- where a one was read ahead, it is that of member i
+-- a one that was read ahead is that of member i
 abbrev pub IsAhead : List ℕ → ℕ → Ahead → Type 0
 IsAhead s i ahead = 0 < ahead.word → HasRead s i ahead

@@ -3,7 +3,7 @@ use Rattle.std.specs.Prelude.{◌≡◌, ℕ, ◌+◌, ◌-◌, ◌<◌, ◌≤�
 use Rattle.vers_bits.specs.Bits.{select}
 use Rattle.vers_sorted.specs.Layout.{first_of, last_of, high_of, low_of, high_parts}
 
--- v lies above the first member and not above the last
+-- v is above the first member and not above the last
 pub record IsInside (s : List ℕ) (v : ℕ) : Type 0 where
   pub some : 0 < length s
   pub from : first_of s < v

@@ -1,4 +1,4 @@
--- What the high and low parts hold.
+-- The high and low parts.
 use Rattle.std.specs.Prelude.{◌≡◌, ℕ, ◌+◌, ◌-◌, ◌*◌, ◌<◌, ◌≤◌, Bool, true, List, map, length, take, drop, slice_index}
 use Rattle.std.specs.List.{range_with_len}
 use Rattle.std.specs.List.Sorted.{IsNonDecreasing}
@@ -8,13 +8,13 @@ use Rattle.vers_rank.specs.Queries.{superblock_count}
 use Rattle.vers_sorted.specs.Layout.{first_of, last_of, low_width, high_of, low_of, high_length, high_position, high_parts}
 use Rattle.vers_sorted.specs.Ones.{ones_at}
 
--- what the high parts of s say: a one for each member
+-- the high parts of s: a one for each member
 pub record HoldHigh (s : List ℕ) (high : List Bool) : Type 0 where
   pub ones : count true high (length high) ≡ length s
   pub total : length high ≡ high_length s
   pub position : (i : ℕ) → i < length s → select true high i ≡ high_of s (slice_index s i) + i + 1
 
--- what the low parts of s say
+-- the low parts of s
 pub record HoldLow (s : List ℕ) (low : List Bool) : Type 0 where
   pub counted : length low ≡ low_width s * length s
   pub part : (i : ℕ) → i < length s → number (take (low_width s) (drop (low_width s * i) low)) ≡ low_of s (slice_index s i)
@@ -31,7 +31,7 @@ first_low_parts s i = pack (map (λ m. m - first_of s) (take i s)) (low_width s)
 unfoldable pub AreHighParts : List ℕ → List Bool → Type 0
 AreHighParts s high = high ≡ high_parts s
 
--- the parts hold the list s
+-- the parts represent the list s
 pub record IsPacked (s : List ℕ) (high low : List Bool) (first last width : ℕ) : Type 0 where
   pub ascending : IsNonDecreasing s
   pub first_is : first ≡ first_of s

@@ -1,4 +1,4 @@
--- How far a walk to the successors of rising numbers has come.
+-- How far a walk to the successors of rising numbers has advanced.
 use Rattle.std.specs.Prelude.{◌≡◌, ℕ, ◌+◌, ◌≤◌, List, Option}
 use Rattle.vers_sorted.specs.declared.elias_fano.successors.Passed.{Passed}
 use Rattle.vers_sorted.specs.Sorted.{below, least_not_below}

@@ -73,7 +73,7 @@ pub excess-append_right : (k l : List Bool) (i : ℕ) → excess (k ++ l) (lengt
 excess-append_right [] l i = grind (arith, ints, excess-zero, zero-add)
 excess-append_right (b ∷ k) l i = let ih = excess-append_right k l i in let e = excess-cons b (k ++ l) (length k + i) in let r = excess-cons b k (length k) in rw (suc-add) (omega (arith, ints))
 
--- which bit stands where the excess rises, and where it falls
+-- the bit at a position at which the excess rises, and at one at which it falls
 pub open_from_rise : (l : List Bool) (i : ℕ) (d : Bool) → i < length l → excess l i <ℤ excess l (i + 1) → get_or l i d ≡ true
 open_from_rise l i d h r = true_from_ne_false _ (λ b. let e = rw b at (excess_after_bit l i d h) in omega (arith, ints))
 

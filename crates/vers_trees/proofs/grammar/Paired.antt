@@ -44,7 +44,7 @@ never_negative (tree X Y) (suc i) h =
     let e : length (text X) < i → excess (text (tree X Y)) (length (text X) + 2 + (i - length (text X) - 1)) ≡ excess (text (tree X Y)) (suc i) = λ a. ap (excess (text (tree X Y))) (omega arith) in
     grind (arith, ints, cases_lt (length (text X)) i, length-tree X Y, never_negative X i, never_negative Y (i - length (text X) - 1), excess_in_rest X Y (i - length (text X) - 1), excess_in_first X Y i)
 
--- each pair closes as the excess says
+-- each pair closes as the excess gives
 closes_root : (X Y : Forest) → Closes (text (tree X Y)) 0 (length (text X) + 1)
 closes_root X Y =
     let len = length-tree X Y in let start = excess-zero (text (tree X Y)) in let rest = excess_in_rest X Y 0 in let z = excess-zero (text Y) in
@@ -58,7 +58,7 @@ closes_root X Y =
           omega (arith, ints, excess_in_first X Y (j - 1) (omega arith), never_negative X (j - 1) (omega arith));
     }
 
--- what closes in a list closes where that stands in another, along which the excess goes on as along it
+-- what closes in a list closes at the same position in another list along which the excess is the same
 pub closes_moved : (l m : List Bool) (p x y : ℕ) → p + length m ≤ length l → ((j : ℕ) → j ≤ length m → excess l (p + j) ≡ excess l p +ℤ excess m j) → Closes m x y → Closes l (p + x) (p + y)
 closes_moved l m p x y h at c =
     let ax = at x (omega arith) in let ay = at (y + 1) (omega arith) in

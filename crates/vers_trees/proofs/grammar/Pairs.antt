@@ -1,4 +1,4 @@
--- The list of a forest's pairs has just the positions that open and close a tree.
+-- The list of a forest's pairs has exactly the positions that open and close a tree.
 use Rattle.vers_trees.proofs.Names.{◌≡◌, ℕ, suc, ◌+◌, ◌<◌, ◌⊎◌, inl, inr, List, ◌∷◌, ◌++◌, map, length, get_or, arith, ⊎_elim, subst, sym, refl, ap, ◌∙◌, ◌≤◌, Bool, false, ◌&&◌, cond, [], ltb, count_by, pos, Contains, get_or-map, length-map, Contains-get_or, Contains-append_left, Contains-append_right, Contains-append_cases, Forest, none, tree, text, moved, pairs, ints, nat_tests, lt-ltb, le-ltb, and_from, and_left, and_right, sum_by-cons, sum_by-append, excess, rules}
 use Rattle.vers_trees.proofs.grammar.Paired.{Paired, paired_closes, excess_in_first, excess_in_rest}
 use Rattle.vers_trees.proofs.grammar.Excess.{excess-zero}
@@ -20,7 +20,7 @@ contains_map_cases f xs d y c =
 abbrev pub second : Forest → Forest → List (ℕ × ℕ)
 second X Y = map (moved 1) (pairs X) ++ map (moved (length (text X) + 2)) (pairs Y)
 
--- the list of pairs holds just what `Paired` says
+-- the list of pairs holds exactly what `Paired` gives
 pub contains_from_paired : (F : Forest) (v c : ℕ) → Paired F v c → Contains (pairs F) (v, c)
 contains_from_paired none v c p = absurd p
 contains_from_paired (tree X Y) v c (inl p) = grind (arith, contains_first)

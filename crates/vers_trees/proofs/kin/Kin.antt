@@ -1,4 +1,4 @@
--- The nodes around a node of a balanced list: its parent, its depth, how many come before it, and where its nearest children and siblings open.
+-- The nodes around a node of a balanced list: its parent, its depth, how many precede it, and the positions of its nearest children and siblings.
 use Rattle.vers_trees.proofs.Names.{nat_tests, ◌≡◌, ℕ, zero, suc, ◌+◌, ◌-◌, ◌<◌, ◌≤◌, ◌<ℤ◌, Bool, true, false, ◌&&◌, List, [], ◌∷◌, get_or, ltb, leb, count_by, pos, negsuc, neg_ℤ, Some, arith, ⊎_elim, sym, refl, ap, ◌∙◌, Decides, lt-ltb, le-ltb, le-leb, Decides-ltb, Decides-and, leb_tells, length-filter, count, positions, excess, last_rise_before, Forest, pairs, IsBalanced, forest_of, nodes, closing, is_ancestor, is_proper_ancestor, depth, parent, node_index, IsLastRiseBefore, ints, rules, common_steps, cond, length, Option, None, filter, Contains, last_or, Decides-like, same_from_decides, eq-or-lt_of_le, nodes_under, children, siblings, first_of, last_of, next_of, previous_of, get_or_default, ◌↔◌, IsTrue, is_some, not, count_both, first_rise_after, IsNode, ◌≢◌, slice_get, option_map, ◌==◌, slice_get-get_or, select, length-positions, none, tree, text, ne_eqb, slice_get_within, false_from_ne_true}
 use Rattle.vers_trees.proofs.walks.Lists.{positions-cons}
 use Rattle.vers_trees.proofs.searches.Searches.{before_some, before_none, by_answer, before_is, after_is}
@@ -9,7 +9,7 @@ use Rattle.vers_trees.proofs.grammar.Pairs.{paired_from_contains, count_by-cons,
 use Rattle.vers_trees.proofs.kin.Partners.{nested, IsAbove, one_before, parent_is_nearest, no_parent, before_from_closes, opens_around, first_child_above, last_child_closes, last_child_above, after_from_closes}
 pub use Rattle.vers_trees.proofs.kin.NodeList.{HasPair, one_pair, bit_inside, paired_here, closing_is, nodes_by, opens, inside, zero_pair, node_pair, IsFirstNode, first_in, last_node, next_in, previous_in, option_decides}
 
--- ---- what a test tells
+-- ---- what a test determines
 pub Decides-leb : (a b : ℕ) → Decides (leb a b) (a ≤ b)
 Decides-leb a b = (λ e. ⊎_elim (λ (h : (leb a b ≡ true) × (a ≤ b)). h.1) (λ (h : (leb a b ≡ false) × (b < a)). absurd (cc)) (leb_tells a b), λ h. le-leb a b h)
 
@@ -22,14 +22,14 @@ unfolding is_ancestor
 ancestor_decides F a v = Decides-and (leb a v) (leb (closing F v) (closing F a)) (Decides-leb a v) (Decides-leb (closing F v) (closing F a))
 
 -- ---- the parent
--- what a search backwards from a node finds stands above it
+-- what a search backwards from a node finds is above it
 pub above_from_before : (l : List Bool) (b : IsBalanced l) (v t a : ℕ) → 0 < t → get_or l v false ≡ true → IsLastRiseBefore l v (neg_ℤ (pos t)) a → IsAbove l v t a
 above_from_before l b v t a h o p =
     let high : (j : ℕ) → a < j → j ≤ v → excess l a <ℤ excess l j =
     λ j x y. above_since (excess l) (excess-is_walk l) (excess l a) j v y (omega (arith, ints)) (λ k g m e. grind (arith, ints)) in
     grind (arith, ints, one_before, one_pair l b a (omega arith) (open_from_rise l a false (omega arith) (high (a + 1) (omega arith) (omega arith))))
 
--- what stands above v is around it
+-- what is above v is around it
 pub above_is_around : (l : List Bool) (b : IsBalanced l) (v t a : ℕ) → HasPair l v → IsAbove l v t a → (a < v) × (closing (forest_of l) v < closing (forest_of l) a) × HasPair l a
 above_is_around l b v t a h p = grind (arith, ints, one_pair, closes_rises, closing_is (forest_of l) a p.close (paired_here l b a p.close p.pair), p.before)
 

@@ -38,7 +38,7 @@ nested l v c w d p q a b = grind (arith, Closes)
 pub opens_around : (l : List Bool) (v c q e : ℕ) → Closes l v c → Closes l q e → q ≤ c → c < e → q < v
 opens_around l v c q e p m h x = grind (arith, Closes, nested)
 
--- a one at or before the position where a pair closes stands before it
+-- a one at or before the position at which a pair closes is before it
 pub one_before : (l : List Bool) (v c w : ℕ) → Closes l v c → get_or l w false ≡ true → w ≤ c → w < c
 one_before l v c w p b h = grind (arith, ints, closes_falls, eq-or-lt_of_le)
 
@@ -69,7 +69,7 @@ enclose_at_close l v c p q b =
     let r = excess_after_close l c true q.inside (closes_falls l v c true q) in
     record { before = omega arith; inside = q.inside; sum = omega (arith, ints); last = λ k x y e. let o = before_pair l v c q k y e in b.last k x o.0 o.1 }
 
--- ---- what stands beside a tree, and the first and the last tree inside another
+-- ---- what is beside a tree, and the first and the last tree inside another
 -- the first child opens right after the node
 pub first_child_above : (l : List Bool) (v c : ℕ) → Closes l v c → get_or l (v + 1) false ≡ true → IsAbove l (v + 1) 1 v
 first_child_above l v c p b = grind (arith, ints, one_before, excess_after_open l v false (omega arith) (closes_rises l v c false p))

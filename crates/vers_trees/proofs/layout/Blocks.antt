@@ -1,4 +1,4 @@
--- What a node tells of the positions of its part.
+-- What a node determines of the positions of its part.
 use Rattle.vers_trees.proofs.Names.{◌≡◌, ℕ, zero, suc, ◌+◌, ◌-◌, ◌*◌, ◌<◌, ◌≤◌, ◌≢◌, ◌↔◌, Bool, true, false, List, length, ℤ, pos, ◌+ℤ◌, ◌-ℤ◌, ◌≤ℤ◌, arith, ⊎_elim, subst, refl, ap, ◌∙◌, ◌^◌, FitsSigned, w64, ints, clamps, by_lt_z, cases_lt, eq-or-lt_of_le, Node, excess, sum_past, IsBalanced, empty_node, IsPart, start_of, Covers, Sought, target, edge, Passed, HasPosition, HasNone, IsInRange, IsInRangeOrStart, IsLevel, IsMet, left_past}
 use Rattle.vers_trees.proofs.grammar.Excess.{IsWalk, turned, excess-zero, excess-is_walk}
 pub use Rattle.vers_trees.proofs.grammar.Grammar.{balance_decides, closes_from_excess, balanced_total, balanced_above}
@@ -20,7 +20,7 @@ part_meets l a b x t p lo hi = let i = p.least in let j = p.greatest in ⊎_elim
     (λ (h : j.0 ≤ i.0). let r = met_upward (λ i. pos 0 -ℤ excess l i) (turned (excess l) (excess-is_walk l)) (pos 0 -ℤ t) j.0 (i.0 - j.0) i.0 (omega arith) (omega (arith, ints)) (omega (arith, ints)) in (r.0, omega arith, omega arith, omega (arith, ints)))
     (cases_lt i.0 j.0)
 
--- ---- what a node tells of its part
+-- ---- what a node determines of its part
 -- a node that is met backwards has the sum before a position of its part, which may be the part's first and isn't the one past it
 part_meets_before : (l : List Bool) (a b : ℕ) (x : Node) (t left : ℤ) → IsPart l a b x → excess l b +ℤ left ≡ t → excess l b ≢ t → IsInRangeOrStart x (left +ℤ x.total) → (k : ℕ) × (a ≤ k) × (k < b) × (excess l k ≡ t)
 part_meets_before l a b x t left p q n i =
@@ -68,7 +68,7 @@ pub too_far : (back : Bool) (s : Sought) (p q : ℕ) (left rest : ℤ) → lengt
 too_far false s p q left rest short h i r long = λ k a b e. long (left_fits false s q rest k short i r b e)
 too_far true s p q left rest short h i r long = λ k a e. long (left_fits true s q rest k short i r (omega arith) e)
 
--- the node over the whole list tells whether it is balanced
+-- the node over the whole list determines whether it is balanced
 pub balanced_iff_root : (l : List Bool) (x : Node) → IsPart l 0 (length l) x → IsBalanced l ↔ IsLevel x
 balanced_iff_root l x p =
     let z = excess-zero l in (

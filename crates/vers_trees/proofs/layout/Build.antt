@@ -3,7 +3,7 @@ use Rattle.vers_trees.proofs.Names.{◌≡◌, ℕ, ◌+◌, ◌-◌, ◌*◌, �
 use Rattle.vers_trees.proofs.layout.MinMax.{HasChildren, stands_children, stands_every, leaf_stands, root, part_inside, covers_joined, children_fit}
 pub use Rattle.vers_trees.proofs.layout.Blocks.{balanced_iff_root, balance_decides}
 
--- where the blocks' nodes stand from `first` on, the leaves cover the blocks
+-- if the blocks' nodes are from `first` on, the leaves cover the blocks
 pub leaves_covered : (l : List Bool) (size first : ℕ) (nodes : List Node) → 0 < size → length l < 2 ^ 63 → AreFirstBlocks l size first (block_count size (length l)) nodes → AreLeaves l size first nodes
 leaves_covered l size first nodes so short b = record { short = short; covered = covered }
   where
@@ -45,7 +45,7 @@ module _ (l : List Bool) (size first : ℕ) (nodes : List Node) (i : ℕ) (x y :
       (λ (z : i - 1 < m). rw (get_or-set_other nodes (i - 1) m r empty_node (omega arith)) (c m s e (omega arith) p))
       (eq-or-lt_of_le a)
 
--- ---- the node over all blocks tells whether the list is balanced
+-- ---- the node over all blocks determines whether the list is balanced
 pub balanced_iff_level : (l : List Bool) (size first : ℕ) (nodes : List Node) (x : Node) → IsIndexed l size first nodes → 0 < length l → x ≡ get_or nodes 0 empty_node → IsBalanced l ↔ IsLevel x
 balanced_iff_level l size first nodes x i some e =
     let m = (i.over some).tree in

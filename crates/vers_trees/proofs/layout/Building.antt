@@ -24,6 +24,6 @@ stored_sum size l b total d h room e =
     let f = built_fits size (l ++ b ∷ []) (total +ℤ bit_step b) (one_more_built size l b total h room) in
     rw (to_z-of_z w64 total (built_fits size l total h), to_z-of_z w64 d (step_fits b d e), e) (f, to_z-of_z w64 (total +ℤ bit_step b) f)
 
--- a tree of the steps stands for the forest that they write down
+-- a tree of the steps is for the forest that they write down
 pub forest_built : (t l : List Bool) (F : Forest) → t ≡ l → text F ≡ l → IsBalanced t × (forest_of t ≡ F)
 forest_built t l F e h = (record { forest = F; written = h ∙ sym e }, ap forest_of (e ∙ sym h) ∙ forest_of-text F)

@@ -3,7 +3,7 @@ use Rattle.vers_trees.proofs.Names.{◌≡◌, ℕ, zero, suc, ◌+◌, ◌-◌,
 use Rattle.vers_trees.proofs.layout.MinMax.{stands_children, parent_of_left, parent_of_right, stands_leaf, leaf_stands, root_stands, total_of_part}
 pub use Rattle.vers_trees.proofs.layout.Blocks.{position_in, passed_over, left_fits, too_far, rest_is}
 
--- the node that a search comes to, a far child, and where it goes on once it has passed that node's part
+-- the node that a search reaches, a far child, and the position from which it continues after that node's part
 record Far (back : Bool) (s : Sought) (first position : ℕ) (left : ℤ) (x : Node) : Type 0 where
   pub start : ℕ
   pub stop : ℕ

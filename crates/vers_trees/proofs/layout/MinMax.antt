@@ -1,4 +1,4 @@
--- The parts of the nodes of a tree, and what a node made of two says.
+-- The parts of the nodes of a tree, and what a node made of two gives.
 use Rattle.vers_trees.proofs.Names.{◌≡◌, ℕ, zero, suc, ◌+◌, ◌-◌, ◌*◌, ◌/◌, ◌%◌, ◌^◌, ◌<◌, ◌≤◌, ◌⊎◌, inl, inr, Bool, List, length, ◌+ℤ◌, ◌≤ℤ◌, ◌<ℤ◌, arith, ⊎_elim, subst, refl, ap, ◌∙◌, pow-succ', pow-le-pow_right, pow_next, mul-le-mul_right, ints, cases_lt, excess, Node, combined, SumsFit, empty_node, IsPart, start_of, Covers, IsAbove}
 use Rattle.vers_trees.proofs.searches.Scans.{part_joined, sums_fit}
 
@@ -53,7 +53,7 @@ stands_children first i s e p h = go p.height refl
 pub root : (first h : ℕ) → 2 ^ h ≡ first + 1 → IsAbove first 0 0 (first + 1)
 root first h lv = grind (arith, ints)
 
--- every node above the leaves stands over some part
+-- every node above the leaves is over some part
 pub stands_every : (first h : ℕ) → 2 ^ h ≡ first + 1 → (fuel i : ℕ) → i ≤ fuel → i ≤ 2 * first → (s : ℕ) × (e : ℕ) × IsAbove first i s e
 stands_every first h lv fuel zero a b = (0, first + 1, root first h lv)
 stands_every first h lv zero (suc i) a b = absurd (omega arith)
@@ -64,7 +64,7 @@ stands_every first h lv (suc fuel) (suc i) a b =
     (λ (x : 1 ≤ i % 2). (c.middle, p.1, subst (λ (n : ℕ). IsAbove first n c.middle p.1) (omega arith) c.right))
     (cases_lt (i % 2) 1)
 
--- a node stands among the nodes of a tree with first + 1 leaves
+-- a node is among the nodes of a tree with first + 1 leaves
 pub stands_within : (first i s e : ℕ) → IsAbove first i s e → i ≤ 2 * first
 stands_within first i s e p = grind (arith, pow-le-pow_right)
 

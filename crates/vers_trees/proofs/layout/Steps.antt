@@ -1,7 +1,7 @@
 -- A number without the zeros at its end, and how many digits it has.
 use Rattle.vers_trees.proofs.Names.{◌≡◌, ℕ, zero, suc, Bool, bool_byte, ◌+◌, ◌-◌, ◌*◌, ◌/◌, ◌%◌, ◌^◌, ◌<◌, ◌≤◌, arith, sym, ap, ◌∙◌, bit_at, pow-succ', le-mul_of_pos_right, pow_pos, shr-shr, bit_at_lowest, bit_at-suc, digits, Reads, AddsAtMost, only_nodes, digits_half, digits_up, adds_then, adds_weaker, adds_nothing, IsOddPart, bit_value_le, byte_value}
 
--- a number whose lowest digits are zeros is what stands above them, with as many zeros behind it
+-- a number whose lowest digits are zeros is what is above them, with as many zeros after it
 pub zeros_below : (i n : ℕ) → ((j : ℕ) → j < i → bit_at n j ≡ 0) → n / 2 ^ i * 2 ^ i ≡ n
 zeros_below zero n h = omega arith
 zeros_below (suc i) n h =

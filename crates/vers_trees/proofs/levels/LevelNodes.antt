@@ -7,7 +7,7 @@ use Rattle.vers_trees.proofs.kin.Partners.{before_from_closes}
 pub use Rattle.vers_trees.proofs.kin.NodeList.{HasPair, one_pair, zero_pair, opens, inside, IsFirstNode, IsLastNode, first_node, first_in, last_node, next_in, previous_in, node_pair}
 use Rattle.vers_trees.proofs.kin.Kin.{ancestor_decides, above_from_before, above_is_around, depth_is_excess}
 
--- ---- positions where the excess is x, below which it stands at a position before or after
+-- ---- positions at which the excess is x, below which it is at a position before or after
 -- after c the first of them is past a one
 opens_at : (l : List Bool) (c w : ℕ) (x : ℤ) → excess l (c + 1) <ℤ x → c < w → w < length l → excess l (w + 1) ≡ x → ((k : ℕ) → c < k → k < w → excess l (k + 1) ≢ x) → get_or l w false ≡ true
 opens_at l c w x h a i s n =

@@ -53,7 +53,7 @@ pub record IsNoted (least greatest next p : ℕ) (positions : List ℕ) (least' 
   pub again : least ≤ next → next ≤ greatest → positions' ≡ positions
   pub first : (next < least) ⊎ (greatest < next) → positions' ≡ set positions next p
 
--- the position of a sum after a step: that of the step, where the sum is met for the first time, and else what it was
+-- the position of a sum after a step: that of the step if the sum is met for the first time, otherwise what it was
 noted_at : (least greatest next p : ℕ) (positions : List ℕ) (least' greatest' : ℕ) (positions' : List ℕ) → IsNoted least greatest next p positions least' greatest' positions' → next < length positions → (x : ℕ)
     → (((next < least) ⊎ (greatest < next)) × (next ≡ x) × (get_or positions' x 7 ≡ p)) ⊎ ((((least ≤ next) × (next ≤ greatest)) ⊎ (next ≢ x)) × (get_or positions' x 7 ≡ get_or positions x 7))
 noted_at least greatest next p positions least' greatest' positions' w inside x = grind (arith, get_or-set_same, get_or-set_other)

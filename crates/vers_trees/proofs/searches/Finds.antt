@@ -35,11 +35,11 @@ answer_before l size i r h = record {
 pub answer_here : (back : Bool) (s : Sought) (o : Option ℕ) → IsAnswer back s o → (end position : ℕ) → IsRise back s.bits s.from end s.rise position → IsBetween back s.from (edge back (length s.bits) 0) position → Some position ≡ o
 answer_here back s o a end position q b = a.some position (record { between = b; sum = q.sum; first = q.first })
 
--- ---- where a search comes to past its block
+-- ---- the position that a search reaches past its block
 comes_past : (back : Bool) (s : Sought) (block : ℕ) → 0 < s.size → 0 < s.from → s.from ≤ length s.bits → block ≡ (s.from - 1) / s.size → IsAfter back s.from (start_of s.bits s.size (edge back (block + 1) block))
 comes_past back s block so a b e = grind arith
 
--- the block that a search backwards goes on in ends before the position that it begins at
+-- the block that a search backwards continues in ends before the position that it begins at
 pub ends_before : (s : Sought) (j : ℕ) (rest : ℤ) → IsAhead true s j (j + 1) rest → j * s.size + s.size < s.from
 ends_before s j rest a = omega arith
 

@@ -1,4 +1,4 @@
--- Whole words of a scan: how far a sum falls along one at most, by its zeros that no one stands right before, and by its ones that no zero stands right after.
+-- Whole words of a scan: how far a sum falls along one at most, by its zeros that no one is right before, and by its ones that no zero is right after.
 use Rattle.vers_trees.proofs.Names.{◌≡◌, ℕ, zero, suc, ◌+◌, ◌-◌, ◌*◌, ◌/◌, ◌%◌, ◌^◌, ◌<◌, ◌≤◌, Bool, true, false, ◌&&◌, List, [], ◌∷◌, length, take, ℤ, pos, negsuc, ◌+ℤ◌, ◌-ℤ◌, ◌≤ℤ◌, ◌<ℤ◌, Option, Some, arith, ap, refl, FitsSigned, to_z, of_z, ◌∙◌, w64, pow-suc, ones-le, part_number_or_zero, bit_or, bit_and, count_ones, IsTrue, lt_z, ints, to_z-of_z, to_z_pos, or_block, and_block, or_lt, number, part, bit_value, number-take, excess, HasNoRise, falls, is_not_closed, rises, ones_step, ones-ones, bit_value_le}
 pub use Rattle.vers_trees.proofs.searches.Scans.{fits_small, forward_more, backward_more, rise_within}
 use Rattle.vers_trees.proofs.grammar.Excess.{excess-zero, excess-nil, excess-cons}
@@ -14,7 +14,7 @@ bit_small b = omega (arith, bit_value_le b)
 ones_next : (n : ℕ) (b : Bool) → count_ones (n * 2 ^ 1 + bit_value b) ≡ bit_value b + count_ones n
 ones_next n b = grind (arith, ints, ones_step)
 
--- ---- forwards: the zeros that no one stands right before
+-- ---- forwards: the zeros that no one is right before
 abbrev before : Bool → List Bool → List Bool
 before p [] = []
 before p (b ∷ l) = p ∷ before b l
@@ -43,7 +43,7 @@ above p (b ∷ l) (suc j) = grind (arith, ints, excess-cons, above b l j)
 pub covered_few : (word : ℕ) → word < 18446744073709551616 → count_ones (bit_or word (word * 2 % 18446744073709551616)) ≤ 64
 covered_few word h = ones-le 64 (bit_or word (word * 2 % 18446744073709551616)) (or_lt 64 word (word * 2 % 18446744073709551616) h (omega arith))
 
--- ---- backwards: the ones that no zero stands right after
+-- ---- backwards: the ones that no zero is right after
 abbrev after : List Bool → List Bool
 after [] = []
 after (b ∷ l) = is_not_closed l ∷ after l

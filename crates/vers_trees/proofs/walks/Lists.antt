@@ -79,7 +79,7 @@ closing_paired (tree X Y) =
     (All-map (PairedIn (tree X Y)) (moved 1) (pairs_by_closing X) first)
     (All-cons (PairedIn (tree X Y)) (0, length (text X) + 1) (map (moved n) (pairs_by_closing Y)) (inl (refl, refl)) (All-map (PairedIn (tree X Y)) (moved n) (pairs_by_closing Y) rest))
 
--- what holds of one position of each pair and the other holds of the lists of them
+-- what is true of one position of each pair and the other is true of the lists of them
 pub mapped_all : (f : ℕ → ℕ) (a b : ℕ × ℕ → ℕ) (qs : List (ℕ × ℕ)) → All (λ q. f (a q) ≡ b q) qs → map f (map a qs) ≡ map b qs
 mapped_all f a b [] h = refl
 mapped_all f a b (q ∷ qs) h = rw (All-head (λ q. f (a q) ≡ b q) q qs h, mapped_all f a b qs (All-tail (λ q. f (a q) ≡ b q) q qs h)) refl

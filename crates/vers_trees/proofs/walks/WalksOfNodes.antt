@@ -7,7 +7,7 @@ use Rattle.vers_trees.proofs.levels.NodeLaws.{AscendsFrom, nodes_ascend, filter_
 pub use Rattle.vers_trees.proofs.kin.Kin.{opened_here, closed_before, first_child_is, last_child_is, next_sibling_is, previous_sibling_is, closes_inside}
 use Rattle.vers_trees.proofs.walks.ListsOfNodes.{postorder_by, positions_in, as_part, part_inside, part_size, subtree_is, subtree_size_is, subtree_post_is}
 
--- a walk that ends meets what `walked` says, if it is given enough steps
+-- a walk that ends meets what `walked` gives, if it is given enough steps
 pub walk_is : (step : ℕ → Option (ℕ × ℕ)) (n p : ℕ) (vs : List ℕ) → MeetsJust step p vs → length vs ≤ n → walked step n p ≡ vs
 walk_is step zero p [] h g = refl
 walk_is step (suc n) p [] h g = ap (λ (o : Option (ℕ × ℕ)). met o (walked step n)) h

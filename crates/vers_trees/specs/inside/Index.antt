@@ -26,7 +26,7 @@ pub record IsIndexed (l : List Bool) (size first : ℕ) (nodes : List Node) : Ty
   pub counted : length nodes ≡ node_count size (length l)
   pub over : 0 < length l → IsTreeOf l size first nodes
 
--- in a list with its tree a search has no position with its sum up to the end of the block that it begins in, where it has risen by `rise`
+-- in a list with its tree, a search has no position with its sum up to the end of the block that it begins in; there it has risen by `rise`
 pub record IsPassed (back : Bool) (s : Sought) (first : ℕ) (nodes : List Node) (block : ℕ) (rise : ℤ) : Type 0 where
   pub indexed : IsIndexed s.bits s.size first nodes
   pub some : 0 < s.from
@@ -52,7 +52,7 @@ pub record IsGrowing (leaves w : ℕ) : Type 0 where
   pub power : 2 * 2 ^ exponent ≡ w
   pub short : (exponent ≡ 0) ⊎ (2 ^ exponent < leaves)
 
--- after `first` nodes come those of the first n blocks
+-- after `first` nodes, those of the first n blocks
 pub record AreFirstBlocks (l : List Bool) (size first n : ℕ) (nodes : List Node) : Type 0 where
   pub counted : length nodes ≡ first + n
   pub part : (k : ℕ) → k < n → IsPart l (k * size) (min (k * size + size) (length l)) (slice_index_or nodes (first + k) empty_node)

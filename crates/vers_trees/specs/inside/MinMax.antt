@@ -1,4 +1,4 @@
--- A tree of excesses: what its nodes say of the parts of a list below them.
+-- A tree of excesses: what its nodes represent of the parts of a list below them.
 use Rattle.std.specs.Prelude.{Bool, true, false, min, ◌≡◌, ◌≢◌, ℕ, ◌+◌, ◌*◌, ◌-◌, ◌%◌, ◌^◌, ◌<◌, ◌≤◌, ◌⊎◌, List, length, slice_index_or, ℤ, pos, negsuc, ◌+ℤ◌, ◌-ℤ◌, ◌≤ℤ◌, FitsSigned}
 use mir.Syntax.{w64}
 use Rattle.std.specs.Int.{int_min, int_max}
@@ -102,7 +102,7 @@ sought l size from r = record { bits = l; size = size; from = from; rise = r }
 abbrev pub target : Sought → ℤ
 target s = excess s.bits s.from +ℤ s.rise
 
--- position p is one that a search from the position `from` comes to
+-- position p is one that a search from the position `from` reaches
 abbrev pub IsAfter : (back : Bool) → ℕ → ℕ → Type 0
 IsAfter false from p = from ≤ p
 IsAfter true from p = p < from
@@ -114,7 +114,7 @@ pub record Passed (back : Bool) (s : Sought) (p : ℕ) (left : ℤ) : Type 0 whe
   pub remains : excess s.bits p +ℤ left ≡ target s
   pub none : (k : ℕ) → IsBetween back s.from p k → sum_past back s.bits k ≢ target s
 
--- no position that a search can come to has its sum
+-- no position that a search can reach has its sum
 abbrev pub HasNone : (back : Bool) → Sought → Type 0
 HasNone false s = (k : ℕ) → s.from ≤ k → k < length s.bits → sum_past false s.bits k ≢ target s
 HasNone true s = (k : ℕ) → k < s.from → sum_past true s.bits k ≢ target s
@@ -160,7 +160,7 @@ abbrev pub IsBeside : (back : Bool) → ℕ → ℕ → Type 0
 IsBeside false node next = IsOddPart (node + 2) (next + 1)
 IsBeside true node next = (odd : ℕ) × IsOddPart (node + 1) odd × (next ≡ odd - 2)
 
--- the child of a node that a search comes to first, and the other one
+-- the child of a node that a search reaches first, and the other one
 abbrev pub near_child : (back : Bool) → ℕ → ℕ
 near_child false node = 2 * node + 1
 near_child true node = 2 * node + 2
@@ -178,7 +178,7 @@ abbrev pub beside_far : (back : Bool) → ℕ → ℕ
 beside_far false position = position - 1
 beside_far true position = position + 1
 
--- a search comes to the node at `position`, a far child, and has passed the part of the near one; at position 0 there is nothing left to pass
+-- a search reaches the node at `position`, a far child, and has passed the part of the near one; at position 0 there is nothing left to pass
 pub record ComesTo (back : Bool) (s : Sought) (first : ℕ) (nodes : List Node) (position : ℕ) (left : ℤ) : Type 0 where
   pub tree : IsMinMax s.bits s.size first nodes
   pub far : 0 < position → IsFarChild back position

@@ -1,10 +1,10 @@
--- What a scan over the bits of a part answers, and what it reads.
+-- The result of a scan over the bits of a part, and its reads.
 use Rattle.std.specs.Prelude.{if◌then◌else◌, true, false, ◌&&◌, suc, [], ◌∷◌, slice_index_or, Option, Some, None, ◌≡◌, ℕ, ◌+◌, ◌<◌, ◌≤◌, ◌≢◌, Bool, List, ℤ, ◌+ℤ◌}
 use Rattle.vers_bits.specs.Bits.{bit_value}
 use Rattle.vers_tally.specs.Reads.{Reads, no_reads}
 use Rattle.vers_trees.specs.Excess.{excess}
 
--- the sum past a position, on the side that a search goes to
+-- the sum past a position, in the direction of the search
 abbrev pub sum_past : (back : Bool) → List Bool → ℕ → ℤ
 sum_past false l k = excess l (k + 1)
 sum_past true l k = excess l k
@@ -14,7 +14,7 @@ abbrev pub edge : (back : Bool) → ℕ → ℕ → ℕ
 edge false a b = a
 edge true a b = b
 
--- position k is one that a search passes from the position `from`, where it begins, on to p; and how far it has come before k
+-- position k is one that a search passes from the position `from`, at which it begins, on to p; and how far it is before k
 abbrev pub IsBetween : (back : Bool) → ℕ → ℕ → ℕ → Type 0
 IsBetween false from p k = (from ≤ k) × (k < p)
 IsBetween true from p k = (p ≤ k) × (k < from)
@@ -34,7 +34,7 @@ pub record HasNoRise (back : Bool) (l : List Bool) (from p : ℕ) (r rise : ℤ)
   pub risen : excess l p ≡ excess l from +ℤ rise
   pub none : (k : ℕ) → IsBetween back from p k → sum_past back l k ≢ excess l from +ℤ r
 
--- how many zeros don't directly follow a one; p says whether a one precedes the list
+-- how many zeros don't directly follow a one; p is whether a one precedes the list
 abbrev pub falls : Bool → List Bool → ℕ
 falls p [] = 0
 falls p (true ∷ l) = falls true l
@@ -59,6 +59,6 @@ scan_reads n = record no_reads { data_words = n; rank_calls = n }
 abbrev pub block_reads : ℕ → Reads
 block_reads n = record no_reads { data_words = n; rank_calls = n; blocks = 1 }
 
--- the position after p, where it opens
+-- the position after p, if it opens
 abbrev pub opened_after : List Bool → ℕ → Option ℕ
 opened_after l p = if slice_index_or l (p + 1) false then Some (p + 1) else None

@@ -18,7 +18,7 @@ abbrev pub link : Tree → ℕ → ℕ
 link (leaf c) at = LEAVES + c
 link (fork m l r) at = at + forks l + forks r
 
--- where the positions of a tree begin: at its first bit, or where its only symbol begins in sorted order
+-- the start of the positions of a tree: at its first bit, or at the sorted position of its only symbol
 abbrev pub entry : Tree → List ℕ → ℕ → ℕ
 entry (leaf c) starts start = slice_index starts c
 entry (fork m l r) starts start = start
@@ -86,7 +86,7 @@ pub record IsTreeOf (symbols : Symbols) (starts : List ℕ) (nodes : List Node) 
   pub root_is : root ≡ link (tree_of symbols) 0
   pub stands : Stands (tree_of symbols) starts nodes bits (weight (tree_of symbols) symbols.items) 0 0 symbols.items
 
--- a walk to a symbol came to positions a and b of a tree below: as many occurrences of the symbol are before them as the goals say, and its reads are within those of each fork so far; if `here`, the symbol is at position a
+-- a walk to a symbol reached positions a and b of a tree below: as many occurrences of the symbol precede them as the goals require, and its reads are within those of each fork so far; if `here`, the symbol is at position a
 pub record WalksIn (tree : Tree) (starts : List ℕ) (nodes : List Node) (bits : List Bool) (used : ℕ) (here : Bool) (each : Reads) (s all goal other : ℕ) (old new : Reads) (at a b : ℕ) : Type 0 where
   pub first : ℕ
   pub start : ℕ

@@ -9,11 +9,11 @@ use Rattle.wavelet_tree.specs.declared.node.Node.{Node}
 abbrev pub own_ones : List Bool → ℕ → ℕ → ℕ
 own_ones bits start position = count true bits (start + position) - count true bits start
 
--- where an element of a fork comes from, of the next one on the left and the next one on the right
+-- the source of an element of a fork: the next one on the left or the next one on the right
 abbrev pub next_source : Bool → ℕ → ℕ → ℕ
 next_source is_one low high = if is_one then high else low
 
--- the first elements of a fork are merged from those on the left, and those on the right after them: each comes from the side that its bit says
+-- the first elements of a fork are merged from those on the left and those on the right: each from the side of its bit
 pub record Merges {X : Type 0} (bits : List Bool) (start low_len : ℕ) (parts merged : List X) (position : ℕ) : Type 0 where
   pub are : (k : ℕ) (d : X) → k < position → slice_index_or merged k d ≡ slice_index_or parts (next_source (slice_index_or bits (start + k) false) (k - own_ones bits start k) (low_len + own_ones bits start k)) d
 

@@ -1,4 +1,4 @@
--- What the counts of words and superblocks say of the list of bits.
+-- What the counts of words and superblocks represent.
 use Rattle.std.specs.Prelude.{◌≡◌, ℕ, ◌+◌, ◌*◌, ◌/◌, ◌<◌, ◌≤◌, List, Bool, true, length, slice_index}
 use Rattle.vers_bits.specs.Bits.{count, block_count, limb_count}
 use Rattle.word_rank.specs.declared.rank.TheConstants.{WORD, SUPERBLOCK, WORDS}

@@ -1,7 +1,7 @@
 use Rattle.vers_saved.proofs.Names.{◌≡◌, ◌+◌, ◌<◌, ◌++◌, ℕ, length, drop, slice_index}
 use Rattle.vers_saved.proofs.numbers.copy_members.Given as goal
 
--- the words so far were copied, and the walk stands before the next one
+-- the words so far were copied, and the walk is before the next one
 abbrev pub invariant-loop-k : goal.invariant-loop-k
 invariant-loop-k g l = record {
   len : length l.out ≡ length l.initial.out;

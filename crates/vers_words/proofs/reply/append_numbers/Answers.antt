@@ -2,7 +2,7 @@ use Rattle.vers_words.proofs.Imports.{◌≡◌, ◌++◌, ◌∷◌, [], List, 
 use Rattle.std.proofs.Math.Seq.{take-length}
 use Rattle.vers_words.proofs.reply.append_numbers.Goals as goal
 
--- what stood first stands in front of all that was appended
+-- what stood first is in front of all that was appended
 in_front : (old more rest all new : List ℕ) → all ≡ old ++ more → new ≡ all ++ rest → take (length old) new ≡ old
 in_front old more rest all new first then =
     ap (take (length old)) (then ∙ ap (λ l. l ++ rest) first ∙ append_assoc old more rest) ∙ take_at old (more ++ rest) (length old) refl

@@ -1,4 +1,4 @@
--- It answers `Err` where the plan refuses the request, and else what the inner allocator answers. Assumes `Logic`.
+-- It answers `Err` if the plan refuses the request, otherwise what the inner allocator answers. Assumes `Logic`.
 use Rattle.test_alloc.proofs.Names.{◌≡◌, ℕ, ◌+◌, ◌^◌, ◌<◌, Bool, true, false, List, [], ◌∷◌, Ok, Err, refl, ap, w64, Bor, Ura, Ty, Args, Fn, a_type, dnil, dcons, Val, vint, vptr, inst_fn, SProp, ent, id⊢, Lft, Share, ftrue, fsep, flft, Memory, size, align, capped, up, Routine, Env, WpFn, Tables, Logic, ◌⊑◌, ⊑_trans, Fun, fact, tables, tables_of, fm_of, WpFn-mono, stop, fld, addr, lit, no_more, and_then, first, branches, skips, exec, returns, returns_within, enter, agg, after, yes, owns, shr_vals, unhide, bounded, param, uint_vals, uint_Tells, Slot, plain, types_at, heard, nothing, only, Ended, Clauses, triple_of, Triple, entered, cited, Stays, stay_dropped, walk_of, ends_at, walked, Goes-dropped, walk_Meets, ‵, raw, ◌⊛◌, some, later, at_ret, ◌$◌, ◌∵◌, !, qed, move, keep, drop, use0, use1, use2, split, join, fsplit, fjoin, feq_l, pick, suffices, await, done, alloc_all, pass_all, free_all, look_at, get, through, sets, lands_as, env, block_ptr, usize, bool, RefOf, calls_at, Al, α, seen, Answer, answer_val, Answer-typed, Answer-Ok, Answer-err, takes_key, Takes, at_takes, Answered, Takes-goes, Takes-gives, answers}
 use Rattle.test_alloc.proofs.Plans.{Asks, at_asks, Asks-goes}
 use Rattle.test_alloc.proofs.refusing.is_refused.Symbol as c_sym
