@@ -51,7 +51,7 @@ static void ask_sorted(const char *name, size_t count, bool is_each) {
     most = numbers[ITEMS - 1];
     vers_sorted list = {0};
     if (vers_sorted_of(&list, numbers, ITEMS)) abort();
-    if (!strcmp(name, "member")) SUM(list, VERS_GET, ITEMS, vers_sorted_get(&list, at).value, 0, 0);
+    if (!strcmp(name, "element")) SUM(list, VERS_GET, ITEMS, vers_sorted_get(&list, at).value, 0, 0);
     if (!strcmp(name, "rank")) SUM(list, VERS_RANK, most, vers_sorted_rank(&list, at).value, 0, 0);
     if (!strcmp(name, "predecessor")) SUM(list, VERS_PREDECESSOR, most, vers_sorted_predecessor(&list, at).value, 0, 0);
     if (!strcmp(name, "successor")) SUM(list, VERS_SUCCESSOR, most, vers_sorted_successor(&list, at).value, 0, 0);
@@ -85,7 +85,7 @@ int main(int argc, char **argv) {
     const char *name = argc > 2 ? argv[1] : "none";
     size_t count = argc > 2 ? strtoul(argv[2], NULL, 10) : 0;
     bool is_each = argc > 3;
-    if (strstr("member rank predecessor successor", name)) ask_sorted(name, count, is_each);
+    if (strstr("element rank predecessor successor", name)) ask_sorted(name, count, is_each);
     else if (strstr("symbol count position quantile", name)) ask_symbols(name, count, is_each);
     else if (strstr("least", name)) ask_values(name, count, is_each);
     else ask_bits(name, count, is_each);

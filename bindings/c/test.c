@@ -869,12 +869,12 @@ static void test_listed(size_t n) {
             for (size_t i = 0; i < n; i++) count += start <= numbers[i] && numbers[i] < end;
             found("sparse", start, vers_sparse_places1(&sparse, start, end, listed, 10), count);
             if (count > 0) is("sparse", listed[0] >= start && vers_sparse_get(&sparse, listed[0]).value, 1);
-            found("members", start, vers_sorted_members(&sorted, start, end, listed, 10), count);
-            if (count > 0) found("member", start, vers_sorted_successor(&sorted, start), listed[0]);
+            found("elements", start, vers_sorted_elements(&sorted, start, end, listed, 10), count);
+            if (count > 0) found("element", start, vers_sorted_successor(&sorted, start), listed[0]);
             found("documents", start, vers_postings_documents(&postings, start, end, listed, 10), count);
             if (count > 0) found("document", start, vers_postings_next_at_least(&postings, start), listed[0]);
         }
-    found("backwards", 0, vers_sorted_members(&sorted, 9, 0, listed, 10), 0);
+    found("backwards", 0, vers_sorted_elements(&sorted, 9, 0, listed, 10), 0);
     for (size_t i = 0; i <= n; i++) {
         found_if("document at", i, vers_postings_get(&postings, i), i < n, i < n ? numbers[i] : 0);
         found_if("cost at", i, vers_postings_cost(&postings, i), i < n, i < n ? numbers[i] : 0);
@@ -1310,7 +1310,7 @@ static void test_missing_everywhere(void) {
     compare("contains null", 0, vers_text_contains(&text, NULL, 1), VERS_REFUSED, 0);
     compare("zeros over null", 0, vers_bits_places0(&bits, 0, 1, NULL, 1), VERS_REFUSED, 0);
     compare("ones over null", 0, vers_sparse_places1(&sparse, 0, 1, NULL, 1), VERS_REFUSED, 0);
-    compare("members over null", 0, vers_sorted_members(&sorted, 0, 1, NULL, 1), VERS_REFUSED, 0);
+    compare("elements over null", 0, vers_sorted_elements(&sorted, 0, 1, NULL, 1), VERS_REFUSED, 0);
     compare("documents over null", 0, vers_postings_documents(&postings, 0, 1, NULL, 1), VERS_REFUSED, 0);
 }
 

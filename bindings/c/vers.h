@@ -78,11 +78,11 @@ enum vers_query {
     VERS_RANK1 = 5,                /**< Bits, sparse: ones before position a. */
     VERS_SELECT0 = 6,              /**< Bits: the position of zero number a. */
     VERS_SELECT1 = 7,              /**< Bits, sparse: the position of one number a. */
-    VERS_RANK = 8,                 /**< Sorted, postings: members below a. */
-    VERS_HAS = 9,                  /**< Sorted, postings: whether a is a member, 1 or 0. */
-    VERS_PREDECESSOR = 10,         /**< Sorted: the greatest member not above a. */
-    VERS_SUCCESSOR = 11,           /**< Sorted, postings: the least member not below a. */
-    VERS_DELTA = 12,               /**< Sorted: member a less the one before it. */
+    VERS_RANK = 8,                 /**< Sorted, postings: elements below a. */
+    VERS_HAS = 9,                  /**< Sorted, postings: whether a is an element, 1 or 0. */
+    VERS_PREDECESSOR = 10,         /**< Sorted: the greatest element not above a. */
+    VERS_SUCCESSOR = 11,           /**< Sorted, postings: the least element not below a. */
+    VERS_DELTA = 12,               /**< Sorted: element a less the one before it. */
     VERS_WIDTH = 13,               /**< Symbols, text: how many bits a symbol has. */
     VERS_RANK_OF = 14,             /**< Symbols: how many of the first a are symbol b. */
     VERS_SELECT_OF = 15,           /**< Symbols: the position of occurrence a of symbol b. */
@@ -729,7 +729,7 @@ static inline uint32_t vers_sorted_load(vers_sorted *list, const uint8_t *bytes,
     return vers_loaded(VERS_KIND_SORTED, bytes, count, &list->handle);
 }
 
-/** How many members. */
+/** How many elements. */
 static inline vers_answer vers_sorted_len(const vers_sorted *list) {
     return vers_asked(&list->handle, VERS_LEN, 0, 0, 0);
 }
@@ -739,41 +739,41 @@ static inline vers_answer vers_sorted_heap_size(const vers_sorted *list) {
     return vers_asked(&list->handle, VERS_HEAP_SIZE, 0, 0, 0);
 }
 
-/** The member at a position. VERS_ABSENT past the end. */
+/** The element at a position. VERS_ABSENT past the end. */
 static inline vers_answer vers_sorted_get(const vers_sorted *list, uint64_t position) {
     return vers_quick_sorted_get(vers_held(&list->handle), position);
 }
 
-/** How many members are below a number. */
+/** How many elements are below a number. */
 static inline vers_answer vers_sorted_rank(const vers_sorted *list, uint64_t number) {
     return vers_quick_sorted_rank(vers_held(&list->handle), number);
 }
 
-/** Writes the members from `least` on that are below `bound` over an array of `count`, ascending, as many as it has room
+/** Writes the elements from `least` on that are below `bound` over an array of `count`, ascending, as many as it has room
  * for. The answer is how many there are. */
-static inline vers_answer vers_sorted_members(const vers_sorted *list, uint64_t least, uint64_t bound,
-                                              uint64_t *members, size_t count) {
-    return vers_listed(&list->handle, VERS_RANK, VERS_GET, least, bound, members, count);
+static inline vers_answer vers_sorted_elements(const vers_sorted *list, uint64_t least, uint64_t bound,
+                                              uint64_t *elements, size_t count) {
+    return vers_listed(&list->handle, VERS_RANK, VERS_GET, least, bound, elements, count);
 }
 
-/** Whether a number is a member, 1 or 0. */
+/** Whether a number is an element, 1 or 0. */
 static inline vers_answer vers_sorted_has(const vers_sorted *list, uint64_t number) {
     return vers_asked(&list->handle, VERS_HAS, number, 0, 0);
 }
 
-/** The greatest member at or below a number, while vers_bits_predecessor1 is strictly below. VERS_ABSENT if there is
+/** The greatest element at or below a number, while vers_bits_predecessor1 is strictly below. VERS_ABSENT if there is
  * none. */
 static inline vers_answer vers_sorted_predecessor(const vers_sorted *list, uint64_t number) {
     return vers_quick_sorted_predecessor(vers_held(&list->handle), number);
 }
 
-/** The least member at or above a number, while vers_bits_successor1 is strictly above. VERS_ABSENT if there is
+/** The least element at or above a number, while vers_bits_successor1 is strictly above. VERS_ABSENT if there is
  * none. */
 static inline vers_answer vers_sorted_successor(const vers_sorted *list, uint64_t number) {
     return vers_quick_sorted_successor(vers_held(&list->handle), number);
 }
 
-/** The member at a position less the one before it, the first member itself. VERS_ABSENT past the end. */
+/** The element at a position less the one before it, the first element itself. VERS_ABSENT past the end. */
 static inline vers_answer vers_sorted_delta(const vers_sorted *list, uint64_t position) {
     return vers_asked(&list->handle, VERS_DELTA, position, 0, 0);
 }

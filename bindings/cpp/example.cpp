@@ -1,4 +1,4 @@
-// The words of a text as symbols, and the members of an ascending list near a number.
+// The words of a text as symbols, and the elements of an ascending list near a number.
 #include <iostream>
 #include <vers.hpp>
 

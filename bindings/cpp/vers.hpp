@@ -687,19 +687,19 @@ public:
     std::optional<std::uint64_t> get(std::uint64_t position) const noexcept {
         return detail::found(vers_sorted_get(&raw_, position));
     }
-    /** How many members are below a number. */
+    /** How many elements are below a number. */
     std::uint64_t rank(std::uint64_t number) const noexcept { return vers_sorted_rank(&raw_, number).value; }
-    /** Whether a number is a member. */
+    /** Whether a number is an element. */
     bool has(std::uint64_t number) const noexcept { return ask(VERS_HAS, number).value == 1; }
-    /** The greatest member at or below a number; that of bits is strictly below. */
+    /** The greatest element at or below a number; that of bits is strictly below. */
     std::optional<std::uint64_t> predecessor(std::uint64_t number) const noexcept {
         return detail::found(vers_sorted_predecessor(&raw_, number));
     }
-    /** The least member at or above a number; that of bits is strictly above. */
+    /** The least element at or above a number; that of bits is strictly above. */
     std::optional<std::uint64_t> successor(std::uint64_t number) const noexcept {
         return detail::found(vers_sorted_successor(&raw_, number));
     }
-    /** The member at a position less the one before it; the first member itself. */
+    /** The element at a position less the one before it; the first element itself. */
     std::optional<std::uint64_t> delta(std::uint64_t position) const noexcept { return find(VERS_DELTA, position); }
 
     detail::Items<EliasFanoVec> begin() const noexcept { return {this, 0}; }

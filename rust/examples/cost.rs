@@ -43,9 +43,9 @@ fn main() {
             }
         }
         "predecessor" => {
-            let members: Vec<u64> = numbers.iter().scan(0, |last, number| Some(add(last, number % 100))).collect();
-            let list = EliasFanoVec::from_slice(&members);
-            asked(members[ITEMS - 1], &|positions| sum(positions, |n| list.predecessor(n as u64).unwrap_or(0)));
+            let elements: Vec<u64> = numbers.iter().scan(0, |last, number| Some(add(last, number % 100))).collect();
+            let list = EliasFanoVec::from_slice(&elements);
+            asked(elements[ITEMS - 1], &|positions| sum(positions, |n| list.predecessor(n as u64).unwrap_or(0)));
         }
         "symbol" | "quantile" => {
             let symbols = WaveletMatrix::from_slice(&numbers, 8);

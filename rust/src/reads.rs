@@ -58,7 +58,7 @@ counters! {
     block_entries;
     /// Returns how many entries of superblocks of 8192 bits were read, select samples included.
     superblock_entries;
-    /// Returns how many low parts of members of ascending lists were read.
+    /// Returns how many low parts of elements of ascending lists were read.
     low_parts;
     /// Returns how many rank and select queries were made of lists of bits.
     rank_calls;

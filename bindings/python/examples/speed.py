@@ -48,15 +48,15 @@ def main(items=1_000_000, queries=1_000_000):
     row("`RsVec.rank1`; `cumsum`, by index", bits.rank1, lambda it: sums[it], places)
     row("`RsVec.select1`; `flatnonzero`, by index", bits.select1, lambda it: ones[it], numbers)
 
-    members = numpy.sort(random.integers(0, 100 * items, items)).astype(numpy.uint64)
-    plain, asked = members.tolist(), random.integers(0, 100 * items, queries).astype(numpy.uint64)
-    listed = vers.EliasFanoVec(members)
+    elements = numpy.sort(random.integers(0, 100 * items, items)).astype(numpy.uint64)
+    plain, asked = elements.tolist(), random.integers(0, 100 * items, queries).astype(numpy.uint64)
+    listed = vers.EliasFanoVec(elements)
     assert listed.rank(int(asked[0])) == bisect.bisect_left(plain, int(asked[0]))
-    row("`EliasFanoVec.rank`; `searchsorted`", listed.rank, lambda it: numpy.searchsorted(members, it), asked)
+    row("`EliasFanoVec.rank`; `searchsorted`", listed.rank, lambda it: numpy.searchsorted(elements, it), asked)
 
-    past = numpy.concatenate([members, [members[-1]]])
-    row("`EliasFanoVec.successor`; by `searchsorted`", listed.successor, lambda it: past[numpy.searchsorted(members, it)],
-        numpy.minimum(asked, members[-1]))
+    past = numpy.concatenate([elements, [elements[-1]]])
+    row("`EliasFanoVec.successor`; by `searchsorted`", listed.successor, lambda it: past[numpy.searchsorted(elements, it)],
+        numpy.minimum(asked, elements[-1]))
 
     symbols = random.integers(0, 256, items).astype(numpy.uint64)
     matrix = vers.WaveletMatrix(symbols, 8)
@@ -66,7 +66,7 @@ def main(items=1_000_000, queries=1_000_000):
         taken = [best(lambda: list(pool.map(matrix.get, [places] * count)), count * queries) for count in (1, 2)]
     print(f"\n`WaveletMatrix.get` of arrays takes {taken[0]} on one thread, and {taken[1]} on two at once")
 
-    plainly = sums.nbytes + ones.nbytes, members.nbytes, symbols.nbytes
+    plainly = sums.nbytes + ones.nbytes, elements.nbytes, symbols.nbytes
     print(f"\nBytes: {bits.heap_size()}, {listed.heap_size()} and {matrix.heap_size()}; in numpy {plainly}")
 
 

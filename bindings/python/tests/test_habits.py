@@ -591,7 +591,7 @@ class Texts(unittest.TestCase):
 
     def test_one_item(self):
         shown = {
-            vers.RsVec("1"): "RsVec of 1 bit: [1]", vers.EliasFanoVec([3]): "EliasFanoVec of 1 member: [3]",
+            vers.RsVec("1"): "RsVec of 1 bit: [1]", vers.EliasFanoVec([3]): "EliasFanoVec of 1 element: [3]",
             vers.FastRmq([3]): "FastRmq of 1 value: [3]", vers.Postings([3]): "Postings of 1 document: [3]",
             vers.TextIndex([3], 2): "TextIndex of 1 symbol: [3]", vers.BpTree("("): "BpTree of 1 parenthesis: (",
             vers.InvertedIndex([0], [3]): "InvertedIndex of 1 pair: [(0, 3)]",

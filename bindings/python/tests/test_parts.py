@@ -102,7 +102,7 @@ def sorted_case(engine, folder, cuts):
         test.assertEqual(asked_of_all(whole.rank, numbers), ranks)
         test.assertEqual(asked_of_all(whole.has, numbers), [it in items for it in numbers])
         test.assertEqual(asked_of_all(whole.successor, numbers), [dict(enumerate(items)).get(it) for it in ranks])
-        found = [max((member for member in items if member <= it), default=None) for it in numbers]
+        found = [max((element for element in items if element <= it), default=None) for it in numbers]
         test.assertEqual(asked_of_all(whole.predecessor, numbers), found)
     return compare
 
@@ -237,17 +237,17 @@ class InOneProcess(Tests):
     def test_parts_that_do_not_fit(self):
         def refused(fault, text, make, *lists, **more):
             self.assertRaisesRegex(fault, text, make, Counting(), saved(self.folder, lists), **more)
-        members, symbols = vers.EliasFanoVec, vers.WaveletMatrix
-        lists = members([4]), members([]), members([3])
+        elements, symbols = vers.EliasFanoVec, vers.WaveletMatrix
+        lists = elements([4]), elements([]), elements([3])
         refused(vers.NotAscending, "^part 2 begins with 3 after 4$", parts.Sorted, *lists)
         refused(vers.NotAscending, "^part 1 begins", parts.Postings, *[vers.Postings([4], [0])] * 2)
         refused(vers.Refused, "of 3 and of 4 bits", parts.Symbols, symbols([1], 4), symbols([1], 3))
-        refused(vers.OtherKind, "0.vers: the bytes are the saved form of EliasFanoVec, and not of RsVec$", parts.Bits, members([4]))
+        refused(vers.OtherKind, "0.vers: the bytes are the saved form of EliasFanoVec, and not of RsVec$", parts.Bits, elements([4]))
         for first in ([1, 2, 4], [3]):
             text = [symbols(first, 4), symbols([3, 4], 4)]
             refused(vers.Refused, "^part 0 does not end with the first 2", parts.Texts, *text, overlap=2)
         refused(vers.Refused, "^there are 1 parts, and 2 of", parts.Texts, symbols([1], 4), overlap=2,
-                documents=saved(self.folder, [members([0])] * 2))
+                documents=saved(self.folder, [elements([0])] * 2))
         whole = parts.Texts(Counting(), saved(self.folder, [symbols([1], 4)]), 2)
         self.assertRaisesRegex(vers.Refused, "no documents", whole.by_document, [1])
         self.assertRaisesRegex(vers.Refused, "no symbols", whole.by_document, [])
@@ -311,14 +311,14 @@ class InOneProcess(Tests):
         engine, items = Counting(), list(range(300))
         cuts = even_cuts(300, 3)
         bits = parts.Bits(engine, saved(self.folder, [vers.RsVec("011")] * 100))
-        members = parts.Sorted(engine, saved(self.folder, map_list(vers.EliasFanoVec, sliced(items, cuts))))
+        elements = parts.Sorted(engine, saved(self.folder, map_list(vers.EliasFanoVec, sliced(items, cuts))))
         symbols = [vers.WaveletMatrix([it % 256 for it in some], 8) for some in sliced(items, cuts)]
         whole = parts.Symbols(engine, saved(self.folder, symbols))
         documents = [parts.Postings(engine, saved(self.folder, [vers.Postings(it, it) for it in sliced(items, some)]))
                      for some in (cuts, [0, *range(2, 299, 3), 300])]
         text = parts.Texts(engine, saved(self.folder, symbols), 0)
-        single = (bits.get, bits.rank1, bits.select0, members.get, members.rank, members.has, members.successor,
-                  members.predecessor, documents[0].contains, documents[0].next_at_least, whole.get)
+        single = (bits.get, bits.rank1, bits.select0, elements.get, elements.rank, elements.has, elements.successor,
+                  elements.predecessor, documents[0].contains, documents[0].next_at_least, whole.get)
         for query in single:
             self.assertEqual(engine.spent(lambda: query(50)), [1])
         rounds = {

@@ -24,7 +24,7 @@ ones: int = growing.count_ones()
 
 whole = parts.Bits(parts.Renewed(ThreadPoolExecutor), ["part"])
 part_rank: int = whole.rank1(3)
-member: Optional[int] = parts.Sorted(ThreadPoolExecutor(), []).successor(3)
+element: Optional[int] = parts.Sorted(ThreadPoolExecutor(), []).successor(3)
 
 postings = vers.Postings([1, 3])
 both: vers.Postings = postings & postings | postings - postings

@@ -282,7 +282,7 @@ class List(Generic[Q]):
         return asked._replace(is_signed=fits and self._is_signed())
 
     def _is_signed(self) -> bool:
-        """Whether the items are members, documents or positions that are all below 2**63."""
+        """Whether the items are elements, documents or positions that are all below 2**63."""
         return False
 
     def _absent(self, asked: Query, columns: _buffers.Columns, positions: Any) -> Any:
@@ -359,7 +359,7 @@ class Items(List[Q], Sequence[int]):
 
     def __getitem__(self, position: Any) -> Any:
         """Returns the item at a position, which is from the end if it is negative. For a slice, returns an array of
-        items: of bytes if they are bits, of the narrowest kind if they are symbols, and signed if they are members,
+        items: of bytes if they are bits, of the narrowest kind if they are symbols, and signed if they are elements,
         documents or positions that are all below 2**63."""
         if isinstance(position, slice):
             return self._slice(range(*position.indices(self._length())))
@@ -426,7 +426,7 @@ class Fixed(Shared[Q], Items[Q]):
 
 
 class Ascending(Fixed[Q]):
-    """Members, documents or positions. The last one is below 2**63 only if all are."""
+    """Elements, documents or positions. The last one is below 2**63 only if all are."""
 
     def _slice(self, places: range) -> Any:
         found = super()._slice(places)

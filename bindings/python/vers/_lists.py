@@ -328,9 +328,9 @@ class SparseRSVec(Fixed[_SparseQuery]):
 
 
 class EliasFanoVec(Ascending[_SortedQuery]):
-    """Numbers that ascend, equal ones allowed; Refused if they don't. `x in numbers` asks whether x is a member."""
+    """Numbers that ascend, equal ones allowed; Refused if they don't. `x in numbers` asks whether x is an element."""
 
-    _items = "members"
+    _items = "elements"
     _kind = codes.KIND_SORTED
 
     def __new__(cls, numbers: Numbers) -> Any:
@@ -340,49 +340,49 @@ class EliasFanoVec(Ascending[_SortedQuery]):
 
     @query(codes.RANK, True)
     def rank(self, number: int) -> int:
-        """Returns the number of members below a number."""
+        """Returns the number of elements below a number."""
         return self._number(codes.RANK, number)
 
     @query(codes.HAS)
     def has(self, number: int) -> bool:
-        """Returns whether a number is a member."""
+        """Returns whether a number is an element."""
         return self._truth(codes.HAS, number)
 
     def __contains__(self, value: Any) -> bool:
-        member = _buffers.equal_number(value)
-        return member is not None and self.has(member)
+        element = _buffers.equal_number(value)
+        return element is not None and self.has(element)
 
     def count(self, value: Any) -> int:
-        """Returns the number of members that equal a value, by two ranks."""
-        member = _buffers.equal_number(value)
-        return 0 if member is None else self._past(member) - self.rank(member)
+        """Returns the number of elements that equal a value, by two ranks."""
+        element = _buffers.equal_number(value)
+        return 0 if element is None else self._past(element) - self.rank(element)
 
     def _first_position(self, value: Any, start: int, end: int) -> Optional[int]:
-        member = _buffers.equal_number(value)
-        if member is None:
+        element = _buffers.equal_number(value)
+        if element is None:
             return None
-        position = max(self.rank(member), start)
-        return position if position < min(self._past(member), end) else None
+        position = max(self.rank(element), start)
+        return position if position < min(self._past(element), end) else None
 
-    def _past(self, member: int) -> int:
-        """The number of members that are at most a number."""
-        return self.rank(member + 1) if member < NONE else len(self)
+    def _past(self, element: int) -> int:
+        """The number of elements that are at most a number."""
+        return self.rank(element + 1) if element < NONE else len(self)
 
     @query(codes.PREDECESSOR, None)
     def predecessor(self, number: int) -> Optional[int]:
-        """Returns the greatest member at or below a number, while `RsVec.predecessor1` is strictly below. None if there
+        """Returns the greatest element at or below a number, while `RsVec.predecessor1` is strictly below. None if there
         is none."""
         return self._find(codes.PREDECESSOR, number)
 
     @query(codes.SUCCESSOR, None)
     def successor(self, number: int) -> Optional[int]:
-        """Returns the least member at or above a number, while `RsVec.successor1` is strictly above. None if there is
+        """Returns the least element at or above a number, while `RsVec.successor1` is strictly above. None if there is
         none."""
         return self._find(codes.SUCCESSOR, number)
 
     @query(codes.DELTA, None)
     def delta(self, position: int) -> Optional[int]:
-        """Returns the member at a position less the one before it; the first member itself. None past the end."""
+        """Returns the element at a position less the one before it; the first element itself. None past the end."""
         return self._find(codes.DELTA, position)
 
 

@@ -318,9 +318,9 @@ class Bits(_Parts):
         return position
 
 
-def _ends(members: Any) -> Tuple[int, int, int]:
-    """Returns the length, and the first and the last member if there are any."""
-    return (len(members), members[0], members[-1]) if len(members) else (0, 0, 0)
+def _ends(elements: Any) -> Tuple[int, int, int]:
+    """Returns the length, and the first and the last element if there are any."""
+    return (len(elements), elements[0], elements[-1]) if len(elements) else (0, 0, 0)
 
 
 class _Ascending(_Parts):
@@ -328,7 +328,7 @@ class _Ascending(_Parts):
 
     def __init__(self, engine: Engine, paths: Iterable[Path], load: Load, is_strict: bool) -> None:
         super().__init__(engine, paths, _ends, load)
-        # the parts that have members, with the first and the last one of each
+        # the parts that have elements, with the first and the last one of each
         self._full = [k for k, length in enumerate(self._lengths) if length]
         self._firsts = [self._files.facts[k][1] for k in self._full]
         self._lasts = [self._files.facts[k][2] for k in self._full]
@@ -337,7 +337,7 @@ class _Ascending(_Parts):
                 raise _faults.NotAscending(f"part {part} begins with {first} after {last}")
 
     def _from(self, asked: int, absent: Optional[int], is_position: bool = False) -> Route:
-        """Returns the route of a number to the first part with a member at or above it."""
+        """Returns the route of a number to the first part with an element at or above it."""
         at = bisect_left(self._lasts, asked)
         if at == len(self._full):
             return absent
@@ -346,8 +346,8 @@ class _Ascending(_Parts):
 
     @many
     def rank(self, number: int) -> int:
-        """Returns how many members are below a number. Merged by the laws `FirstMembersAreBelow` and
-        `OtherMembersAreNotBelow`: all members of the parts before are below it, and none of the parts after."""
+        """Returns how many elements are below a number. Merged by the laws `FirstElementsAreBelow` and
+        `OtherElementsAreNotBelow`: all elements of the parts before are below it, and none of the parts after."""
         count: int = self._asked("rank", number, lambda it: self._from(it, len(self), True))
         return count
 
@@ -360,26 +360,26 @@ class Sorted(_Ascending):
 
     @many
     def has(self, number: int) -> bool:
-        """Returns whether a number is a member. Merged as `successor`."""
+        """Returns whether a number is an element. Merged as `successor`."""
         truth: bool = self._asked("has", number, lambda it: self._from(it, False))
         return truth
 
     @many
     def successor(self, number: int) -> Optional[int]:
-        """Returns the least member at or above a number. None if there is none. Merged by the law
-        `LeastNotBelowIsLeast`: it is in the first part whose last member is at or above the number."""
-        member: Optional[int] = self._asked("successor", number, lambda it: self._from(it, None))
-        return member
+        """Returns the least element at or above a number. None if there is none. Merged by the law
+        `LeastNotBelowIsLeast`: it is in the first part whose last element is at or above the number."""
+        element: Optional[int] = self._asked("successor", number, lambda it: self._from(it, None))
+        return element
 
     @many
     def predecessor(self, number: int) -> Optional[int]:
-        """Returns the greatest member at or below a number. None if there is none. Merged by the law
-        `GreatestNotAboveIsGreatest`: it is in the last part whose first member is at or below the number."""
+        """Returns the greatest element at or below a number. None if there is none. Merged by the law
+        `GreatestNotAboveIsGreatest`: it is in the last part whose first element is at or below the number."""
         def route(asked: int) -> Route:
             at = bisect_right(self._firsts, asked) - 1
             return (self._full[at], asked, 0) if at >= 0 else None
-        member: Optional[int] = self._asked("predecessor", number, route)
-        return member
+        element: Optional[int] = self._asked("predecessor", number, route)
+        return element
 
 
 def _common(part: _Part, expected: bytes, other: _Part, other_sum: bytes) -> Any:

@@ -9,7 +9,7 @@ use Rattle.text_index.specs.Texts.{Text}
 use Rattle.vers_wavelet.specs.Symbols.{Symbols}
 use Rattle.vers_saved.specs.Format.{bytes_of, check_sum}
 unfoldable use Rattle.vers_saved.specs.Format.{bytes_word, saved, with_sum, word_bytes, words_of}
-use Rattle.catalogue.specs.Structures.{Content, GrowingBits, IndexedBits, SparseBits, SortedMembers, SymbolList, Parentheses, BlockValues, TableValues, Documents, DocumentLists, IndexedText, PlainNumbers, HasForm, kind_of, saved_form}
+use Rattle.catalogue.specs.Structures.{Content, GrowingBits, IndexedBits, SparseBits, SortedElements, SymbolList, Parentheses, BlockValues, TableValues, Documents, DocumentLists, IndexedText, PlainNumbers, HasForm, kind_of, saved_form}
 use Rattle.catalogue.specs.declared.structure.Kind.{Kind}
 use Rattle.catalogue.specs.declared.structure.Kind.TheVariants as kind
 use Rattle.catalogue.specs.declared.structure.TheConstants.{KINDS}
@@ -19,7 +19,7 @@ abbrev pub OfEach : (Content → Type 0) → Option Kind → Type 0
 OfEach P (Some kind.Growing) = (bits : List Bool) → P (GrowingBits bits)
 OfEach P (Some kind.Bits) = (bits : List Bool) → P (IndexedBits bits)
 OfEach P (Some kind.Sparse) = (bits : List Bool) → P (SparseBits bits)
-OfEach P (Some kind.Sorted) = (members : List ℕ) → P (SortedMembers members)
+OfEach P (Some kind.Sorted) = (elements : List ℕ) → P (SortedElements elements)
 OfEach P (Some kind.Symbols) = (symbols : Symbols) → P (SymbolList symbols)
 OfEach P (Some kind.Tree) = (bits : List Bool) → P (Parentheses bits)
 OfEach P (Some kind.Fast) = (values : List ℕ) → P (BlockValues values)
@@ -33,7 +33,7 @@ by_kind : (P : Content → Type 0) (x : Content) → OfEach P (kind_of x) → P 
 by_kind P (GrowingBits bits) each = each bits
 by_kind P (IndexedBits bits) each = each bits
 by_kind P (SparseBits bits) each = each bits
-by_kind P (SortedMembers members) each = each members
+by_kind P (SortedElements elements) each = each elements
 by_kind P (SymbolList symbols) each = each symbols
 by_kind P (Parentheses bits) each = each bits
 by_kind P (BlockValues values) each = each values
@@ -61,7 +61,7 @@ pub number_is_code : (x : Content) → HasForm x → kind_of x ≢ Some kind.Gro
 number_is_code (GrowingBits bits) whole changes table = absurd (changes refl)
 number_is_code (IndexedBits bits) whole changes table = rw (third_word 1 1 _ _ _ (omega arith)) refl
 number_is_code (SparseBits bits) whole changes table = rw (third_word 2 4 _ _ _ (omega arith)) refl
-number_is_code (SortedMembers members) whole changes table = rw (third_word 2 2 _ _ _ (omega arith)) refl
+number_is_code (SortedElements elements) whole changes table = rw (third_word 2 2 _ _ _ (omega arith)) refl
 number_is_code (SymbolList symbols) whole changes table = rw (third_word 2 3 _ _ _ (omega arith)) refl
 number_is_code (Parentheses bits) whole changes table = rw (third_word 1 6 _ _ _ (omega arith)) refl
 number_is_code (BlockValues values) whole changes table = rw (third_word 1 5 _ _ _ (omega arith)) refl

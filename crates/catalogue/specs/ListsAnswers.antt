@@ -1,7 +1,7 @@
 -- The queries of an inverted index.
 use Rattle.std.specs.Prelude.{ℕ, length, slice_get}
 use Rattle.vers_sorted.specs.Layout.{heap_size_of}
-use Rattle.vers_sorted.specs.Sorted.{is_member, below, least_not_below}
+use Rattle.vers_sorted.specs.Sorted.{is_element, below, least_not_below}
 use Rattle.inverted.specs.Lists.{Lists, list_of}
 use Rattle.catalogue.specs.declared.answer.Answer.{Answer}
 use Rattle.catalogue.specs.declared.query.Query.{Query}
@@ -16,7 +16,7 @@ abbrev pub answer_of_term : Lists → TermQuery → ℕ → ℕ → Answer
 answer_of_term index Count t b = Found (length (list_of index t))
 answer_of_term index Get t i = found_or_absent (slice_get (list_of index t) i)
 answer_of_term index Rank t d = Found (below (list_of index t) d)
-answer_of_term index Has t d = decided (is_member (list_of index t) d)
+answer_of_term index Has t d = decided (is_element (list_of index t) d)
 answer_of_term index Successor t d = found_or_absent (least_not_below (list_of index t) d)
 
 -- the answer of each query

@@ -1,7 +1,7 @@
 -- The queries of an ascending list.
 use Rattle.std.specs.Prelude.{ℕ, ◌==◌, List, length, slice_get}
 use Rattle.vers_sorted.specs.Layout.{heap_size_of}
-use Rattle.vers_sorted.specs.Sorted.{is_member, below, greatest_not_above, least_not_below, delta}
+use Rattle.vers_sorted.specs.Sorted.{is_element, below, greatest_not_above, least_not_below, delta}
 use Rattle.catalogue.specs.declared.answer.Answer.{Answer}
 use Rattle.catalogue.specs.declared.query.Query.{Query}
 use Rattle.catalogue.specs.declared.query.Query.TheVariants.{Len, Get, HeapSize, Rank, Has, Predecessor, Successor, Delta}
@@ -10,12 +10,12 @@ use Rattle.catalogue.specs.Answers.{found_or_absent, decided}
 
 -- the answer of each query
 abbrev pub sorted_answer : List ℕ → Query → ℕ → ℕ → ℕ → Answer
-sorted_answer members Len a b c = Found (length members)
-sorted_answer members Get a b c = found_or_absent (slice_get members a)
-sorted_answer members HeapSize a b c = Found (heap_size_of members)
-sorted_answer members Rank a b c = Found (below members a)
-sorted_answer members Has a b c = decided (is_member members a)
-sorted_answer members Predecessor a b c = found_or_absent (greatest_not_above members a)
-sorted_answer members Successor a b c = found_or_absent (least_not_below members a)
-sorted_answer members Delta a b c = found_or_absent (delta members a)
-sorted_answer members _ a b c = Unknown
+sorted_answer elements Len a b c = Found (length elements)
+sorted_answer elements Get a b c = found_or_absent (slice_get elements a)
+sorted_answer elements HeapSize a b c = Found (heap_size_of elements)
+sorted_answer elements Rank a b c = Found (below elements a)
+sorted_answer elements Has a b c = decided (is_element elements a)
+sorted_answer elements Predecessor a b c = found_or_absent (greatest_not_above elements a)
+sorted_answer elements Successor a b c = found_or_absent (least_not_below elements a)
+sorted_answer elements Delta a b c = found_or_absent (delta elements a)
+sorted_answer elements _ a b c = Unknown

@@ -31,7 +31,7 @@ pub data Content : Type 0 where
   GrowingBits : List Bool → Content
   IndexedBits : List Bool → Content
   SparseBits : List Bool → Content
-  SortedMembers : List ℕ → Content
+  SortedElements : List ℕ → Content
   SymbolList : Symbols → Content
   Parentheses : List Bool → Content
   BlockValues : List ℕ → Content
@@ -46,7 +46,7 @@ abbrev pub content_of : {A : Type 0} → Structure A → Content
 content_of (structure.Growing bits) = GrowingBits bits
 content_of (structure.Bits bits) = IndexedBits bits
 content_of (structure.Sparse bits) = SparseBits bits
-content_of (structure.Sorted members) = SortedMembers members
+content_of (structure.Sorted elements) = SortedElements elements
 content_of (structure.Symbols symbols) = SymbolList symbols
 content_of (structure.Tree tree) = Parentheses tree.value
 content_of (structure.Fast values) = BlockValues values
@@ -61,7 +61,7 @@ abbrev pub length_of : Content → ℕ
 length_of (GrowingBits bits) = length bits
 length_of (IndexedBits bits) = length bits
 length_of (SparseBits bits) = length bits
-length_of (SortedMembers members) = length members
+length_of (SortedElements elements) = length elements
 length_of (SymbolList symbols) = length symbols.items
 length_of (Parentheses bits) = length bits
 length_of (BlockValues values) = length values
@@ -76,7 +76,7 @@ abbrev pub answer : Content → Query → ℕ → ℕ → ℕ → Answer
 answer (GrowingBits bits) query a b c = growing_answer bits query a b c
 answer (IndexedBits bits) query a b c = bits_answer bits query a b c
 answer (SparseBits bits) query a b c = sparse_answer bits query a b c
-answer (SortedMembers members) query a b c = sorted_answer members query a b c
+answer (SortedElements elements) query a b c = sorted_answer elements query a b c
 answer (SymbolList symbols) query a b c = symbols_answer symbols query a b c
 answer (Parentheses bits) query a b c = tree_answer 512 bits query a b c
 answer (BlockValues values) query a b c = fast_answer values query a b c
@@ -91,7 +91,7 @@ abbrev pub kind_of : Content → Option Kind
 kind_of (GrowingBits bits) = Some kind.Growing
 kind_of (IndexedBits bits) = Some kind.Bits
 kind_of (SparseBits bits) = Some kind.Sparse
-kind_of (SortedMembers members) = Some kind.Sorted
+kind_of (SortedElements elements) = Some kind.Sorted
 kind_of (SymbolList symbols) = Some kind.Symbols
 kind_of (Parentheses bits) = Some kind.Tree
 kind_of (BlockValues values) = Some kind.Fast
@@ -141,7 +141,7 @@ abbrev pub form_of : Content → Form
 form_of (GrowingBits bits) = record { count = length bits; width = 1; words = limbs bits; packed = [] }
 form_of (IndexedBits bits) = record { count = length bits; width = 1; words = limbs bits; packed = [] }
 form_of (SparseBits bits) = record { count = length (sparse_words bits); width = 64; words = sparse_words bits; packed = position_words bits }
-form_of (SortedMembers members) = record { count = length (sorted_words members); width = 64; words = sorted_words members; packed = members }
+form_of (SortedElements elements) = record { count = length (sorted_words elements); width = 64; words = sorted_words elements; packed = elements }
 form_of (SymbolList symbols) = record { count = length symbols.items; width = symbols.width; words = level_words symbols.width symbols.items; packed = limbs (pack symbols.items symbols.width) }
 form_of (Parentheses bits) = record { count = length bits; width = 512; words = limbs bits; packed = [] }
 form_of (BlockValues values) = record { count = length values; width = 64; words = values; packed = [] }
@@ -191,9 +191,9 @@ IsSomeFormAs (Some kind) form bytes = IsForm (saved_kind kind) form.count form.w
 abbrev pub IsSomeForm : Content → List ℕ → Type 0
 IsSomeForm content bytes = IsSomeFormAs (kind_of content) (form_of content) bytes
 
--- a property of a structure that its words don't show: members ascend, no symbol has more bits than the width, documents have a cost each, a text has an index, and an inverted index is that of its numbers
+-- a property of a structure that its words don't show: elements ascend, no symbol has more bits than the width, documents have a cost each, a text has an index, and an inverted index is that of its numbers
 abbrev pub Fits : Content → Type 0
-Fits (SortedMembers members) = IsNonDecreasing members
+Fits (SortedElements elements) = IsNonDecreasing elements
 Fits (SymbolList symbols) = All (λ y. y < 2 ^ symbols.width) symbols.items
 Fits (Documents posted) = ArePaired posted
 Fits (IndexedText text) = HasTextForm text

@@ -1,6 +1,6 @@
 -- The queries of a list of symbols, as numbers of at most 64 bits.
 use Rattle.std.specs.Prelude.{ℕ, ◌-◌, ◌/◌, length, slice_get, Option}
-use Rattle.vers_wavelet.specs.Symbols.{Symbols, range_members, kth_by_size, greatest_up_to, least_from, as_word, matrix_size}
+use Rattle.vers_wavelet.specs.Symbols.{Symbols, range_elements, kth_by_size, greatest_up_to, least_from, as_word, matrix_size}
 use Rattle.vers_wavelet.specs.Numbers.{low_bits_of, rank_before, rank_between, position_from}
 use Rattle.catalogue.specs.declared.answer.Answer.{Answer}
 use Rattle.catalogue.specs.declared.query.Query.{Query}
@@ -20,12 +20,12 @@ found_of_symbols symbols RankOf a b c = rank_before symbols a b
 found_of_symbols symbols SelectOf a b c = position_from symbols 0 a b
 found_of_symbols symbols RankRange a b c = rank_between symbols a b c
 found_of_symbols symbols SelectFrom a b c = position_from symbols a b c
-found_of_symbols symbols Quantile a b c = kth_by_size (range_members symbols.items a b) c
-found_of_symbols symbols Least a b c = kth_by_size (range_members symbols.items a b) 0
-found_of_symbols symbols Greatest a b c = kth_by_size (range_members symbols.items a b) (b - a - 1)
-found_of_symbols symbols Median a b c = kth_by_size (range_members symbols.items a b) ((b - 1 - a) / 2)
-found_of_symbols symbols Predecessor a b c = greatest_up_to (range_members symbols.items a b) (low_bits_of symbols c)
-found_of_symbols symbols Successor a b c = least_from (range_members symbols.items a b) (low_bits_of symbols c)
+found_of_symbols symbols Quantile a b c = kth_by_size (range_elements symbols.items a b) c
+found_of_symbols symbols Least a b c = kth_by_size (range_elements symbols.items a b) 0
+found_of_symbols symbols Greatest a b c = kth_by_size (range_elements symbols.items a b) (b - a - 1)
+found_of_symbols symbols Median a b c = kth_by_size (range_elements symbols.items a b) ((b - 1 - a) / 2)
+found_of_symbols symbols Predecessor a b c = greatest_up_to (range_elements symbols.items a b) (low_bits_of symbols c)
+found_of_symbols symbols Successor a b c = least_from (range_elements symbols.items a b) (low_bits_of symbols c)
 
 -- and what they answer
 abbrev pub answer_of_symbols : Symbols → SymbolsQuery → ℕ → ℕ → ℕ → Answer

@@ -25,15 +25,15 @@ pub enum Query {
     Select0,
     /// The position of a one by its number.
     Select1,
-    /// The number of members below a number.
+    /// The number of elements below a number.
     Rank,
-    /// Membership: true if a number is a member.
+    /// Membership: true if a number is an element.
     Has,
-    /// The greatest member that is at most a number.
+    /// The greatest element that is at most a number.
     Predecessor,
-    /// The least member that is at least a number.
+    /// The least element that is at least a number.
     Successor,
-    /// The difference between a member and the previous one.
+    /// The difference between an element and the previous one.
     Delta,
     /// The number of bits of a symbol.
     Width,

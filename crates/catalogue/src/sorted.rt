@@ -7,9 +7,9 @@ use std::alloc::Allocator;
 use vers_sorted::elias_fano::EliasFanoVec;
 
 impl<A: Allocator + Copy> Queryable for EliasFanoVec<A> {
-    ghost use Rattle.catalogue.specs.Structures.{SortedMembers};
+    ghost use Rattle.catalogue.specs.Structures.{SortedElements};
 
-    ghost content = { SortedMembers };
+    ghost content = { SortedElements };
 
     #[inline(always)]
     fn answer(&self, query: Query, a: u64, b: u64, c: u64) -> Answer {

@@ -53,7 +53,7 @@ below_is limit (n ∷ ns) found is = elim (cases_lt n limit) [
   | inr from ↦ rw (le-ltb n limit from, is, le-leb limit n from) refl
 ]
 
--- the reason is found by the test of a member past the end and that of the order
+-- the reason is found by the test of an element past the end and that of the order
 pub reason_is : (terms universe end : ℕ) (ns : List ℕ) (found : Option ℕ) (rise : Bool) → terms * universe < 18446744073709551616 → end ≡ terms * universe → found ≡ least_not_below ns end → rise ≡ each_next nat_lt ns
     → refusal_of_numbers terms universe ns ≡ (if is_some found then Some OutOfRange else (if not rise then Some NotAscending else None))
 reason_is terms universe end ns found rise fits end_is is rise_is =

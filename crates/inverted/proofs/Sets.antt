@@ -7,7 +7,7 @@ use Rattle.std.proofs.lemmas.Map.Keys.{non_decreasing_from_sorted, sorted_from_s
 use Rattle.std.proofs.lemmas.Result.{IfOk-weaker}
 use Rattle.std.proofs.lemmas.Bool.{and_parts, or_cases}
 use Rattle.sets.specs.Sets.{IsSetOf, in_both, in_either, in_difference}
-use Rattle.vers_sorted.specs.Sorted.{is_member}
+use Rattle.vers_sorted.specs.Sorted.{is_element}
 use Rattle.sets.proofs.PublicLaws.{set_below_is_filter}
 use Rattle.inverted.specs.Lists.{Lists, documents_with, list_of, searched_term, term_of}
 
@@ -29,15 +29,15 @@ and_turned false false = refl
 -- two terms have the same documents in both orders
 pub in_order : (index : Lists) (one other : ℕ) (kept : Bool) (x : ℕ) → in_both (list_of index (if kept then one else other)) (list_of index (if kept then other else one)) x ≡ in_both (list_of index one) (list_of index other) x
 in_order index one other true x = refl
-in_order index one other false x = and_turned (is_member (list_of index other) x) (is_member (list_of index one) x)
+in_order index one other false x = and_turned (is_element (list_of index other) x) (is_element (list_of index one) x)
 
-pub all_have : (index : Lists) (terms : List ℕ) (x : ℕ) → list_all (λ one. one.has x) (map searched_term (map (term_of index) terms)) ≡ list_all (λ other. is_member other x) (map (list_of index) terms)
+pub all_have : (index : Lists) (terms : List ℕ) (x : ℕ) → list_all (λ one. one.has x) (map searched_term (map (term_of index) terms)) ≡ list_all (λ other. is_element other x) (map (list_of index) terms)
 all_have index [] x = refl
-all_have index (t ∷ terms) x = ap (λ b. is_member (list_of index t) x && b) (all_have index terms x)
+all_have index (t ∷ terms) x = ap (λ b. is_element (list_of index t) x && b) (all_have index terms x)
 
-pub any_has : (index : Lists) (terms : List ℕ) (x : ℕ) → list_any (λ one. one.has x) (map searched_term (map (term_of index) terms)) ≡ list_any (λ other. is_member other x) (map (list_of index) terms)
+pub any_has : (index : Lists) (terms : List ℕ) (x : ℕ) → list_any (λ one. one.has x) (map searched_term (map (term_of index) terms)) ≡ list_any (λ other. is_element other x) (map (list_of index) terms)
 any_has index [] x = refl
-any_has index (t ∷ terms) x = ap (λ b. is_member (list_of index t) x || b) (any_has index terms x)
+any_has index (t ∷ terms) x = ap (λ b. is_element (list_of index t) x || b) (any_has index terms x)
 
 -- ---- documents of two terms
 
@@ -45,7 +45,7 @@ any_has index (t ∷ terms) x = ap (λ b. is_member (list_of index t) x || b) (a
 abbrev IsBelow : Lists → (ℕ → Bool) → Type 0
 IsBelow index has = (x : ℕ) → has x ≡ true → x < index.universe
 
-module _ (index : Lists) (one other : ℕ) (first : IsBelow index (is_member (list_of index one))) (second : IsBelow index (is_member (list_of index other))) where
+module _ (index : Lists) (one other : ℕ) (first : IsBelow index (is_element (list_of index one))) (second : IsBelow index (is_element (list_of index other))) where
   pub either_below : IsBelow index (in_either (list_of index one) (list_of index other))
   either_below x h = elim (or_cases _ _ h) [
     | inl has ↦ first x has
@@ -56,7 +56,7 @@ module _ (index : Lists) (one other : ℕ) (first : IsBelow index (is_member (li
   first_below x h = first x (and_parts _ _ h).0
 
 -- the same of two terms in any order
-pub turned_below : (index : Lists) (one other : ℕ) (kept : Bool) → IsBelow index (is_member (list_of index (if kept then one else other))) → IsBelow index (is_member (list_of index (if kept then other else one)))
+pub turned_below : (index : Lists) (one other : ℕ) (kept : Bool) → IsBelow index (is_element (list_of index (if kept then one else other))) → IsBelow index (is_element (list_of index (if kept then other else one)))
     → IsBelow index (in_both (list_of index one) (list_of index other))
 turned_below index one other true first second x h = first x (and_parts _ _ h).0
 turned_below index one other false first second x h = second x (and_parts _ _ h).0

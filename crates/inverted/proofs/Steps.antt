@@ -1,14 +1,14 @@
 -- Steps among the numbers of all terms as steps among the documents of one.
 use Rattle.std.proofs.Common.{◌≡◌, ℕ, ◌+◌, ◌-◌, ◌*◌, ◌<◌, ◌≤◌, Bool, List, [], length, sym, ap, ◌∙◌, inl, inr, arith}
 use Rattle.std.proofs.lemmas.Bool.{cases_lt, le-ltb, lt-ltb}
-use Rattle.vers_sorted.specs.Sorted.{is_member, below}
-use Rattle.vers_sorted.proofs.PublicLaws.{below_le, below_up, member_none}
+use Rattle.vers_sorted.specs.Sorted.{is_element, below}
+use Rattle.vers_sorted.proofs.PublicLaws.{below_le, below_up, element_none}
 use Rattle.sets.specs.declared.step.Step.{Step}
 use Rattle.sets.specs.declared.step.Step.TheVariants.{Ended, Past, Found}
 use Rattle.sets.specs.Steps.{HasNone, HasNoMore, IsStep, PassesOne, Rises}
 use Rattle.inverted.specs.inside.Steps.{IsCursorOf, step_in}
 use Rattle.inverted.specs.inside.Windows.{documents_of}
-use Rattle.inverted.proofs.Windows.{member_is, member_past, rank_is}
+use Rattle.inverted.proofs.Windows.{element_is, element_past, rank_is}
 
 -- ---- cursors
 
@@ -33,18 +33,18 @@ passes_same passed also at (Found n) same pass = omega (arith, same at, same (n 
 
 module _ (ns : List ℕ) (universe t at : ℕ) where
   -- no document before that of a number
-  none_before : (n : ℕ) → HasNone (is_member ns) (t * universe + at) n → n ≤ t * universe + universe → HasNone (is_member (documents_of ns universe t)) at (n - t * universe)
+  none_before : (n : ℕ) → HasNone (is_element ns) (t * universe + at) n → n ≤ t * universe + universe → HasNone (is_element (documents_of ns universe t)) at (n - t * universe)
   none_before n none within x from less =
-      sym (member_is ns universe t x (omega (arith, less, within))) ∙ none (t * universe + x) (omega (arith, from)) (omega (arith, less))
+      sym (element_is ns universe t x (omega (arith, less, within))) ∙ none (t * universe + x) (omega (arith, from)) (omega (arith, less))
 
   -- no document is left
-  none_left : HasNone (is_member ns) (t * universe + at) (t * universe + universe) → HasNoMore (is_member (documents_of ns universe t)) at
+  none_left : HasNone (is_element ns) (t * universe + at) (t * universe + universe) → HasNoMore (is_element (documents_of ns universe t)) at
   none_left none x from = elim (cases_lt x universe) [
-    | inl few ↦ sym (member_is ns universe t x few) ∙ none (t * universe + x) (omega (arith, from)) (omega (arith, few))
-    | inr past ↦ member_past ns universe t x past
+    | inl few ↦ sym (element_is ns universe t x few) ∙ none (t * universe + x) (omega (arith, from)) (omega (arith, few))
+    | inr past ↦ element_past ns universe t x past
   ]
 
-  within_term : (step : Step) → t * universe + universe ≤ 18446744073709551615 → IsStep (is_member ns) (t * universe + at) step → IsStep (is_member (documents_of ns universe t)) at (step_in (t * universe) universe step)
+  within_term : (step : Step) → t * universe + universe ≤ 18446744073709551615 → IsStep (is_element ns) (t * universe + at) step → IsStep (is_element (documents_of ns universe t)) at (step_in (t * universe) universe step)
   within_term Ended fits none = none_left (λ x from less. none x from)
   within_term (Past n) fits past = elim (cases_lt n (t * universe + universe)) [
     | inl within ↦ rw (lt-ltb n (t * universe + universe) within) (record {
@@ -63,7 +63,7 @@ module _ (ns : List ℕ) (universe t at : ℕ) where
           from = omega (arith, next.from);
           fits = omega (arith, less);
           none = none_before n next.none (omega (arith, within));
-          there = sym (member_is ns universe t (n - t * universe) few) ∙ ap (is_member ns) document ∙ next.there;
+          there = sym (element_is ns universe t (n - t * universe) few) ∙ ap (is_element ns) document ∙ next.there;
           most = λ is_most. absurd (omega (arith, is_most, less));
         })
     | inr beyond ↦ rw (le-ltb n (t * universe + universe) beyond) (none_left (λ x from less. next.none x from (omega (arith, less, beyond))))
@@ -73,7 +73,7 @@ module _ (ns : List ℕ) (universe t at : ℕ) where
   passed_to : (d m : ℕ) → d ≤ universe → t * universe + d ≡ m → below (documents_of ns universe t) d + below ns (t * universe) ≡ below ns m
   passed_to d m few is = rank_is ns universe t d few ∙ ap (below ns) is
 
-  passes_term : (step : Step) → at < universe → IsStep (is_member ns) (t * universe + at) step → PassesOne (below ns) (t * universe + at) step → PassesOne (below (documents_of ns universe t)) at (step_in (t * universe) universe step)
+  passes_term : (step : Step) → at < universe → IsStep (is_element ns) (t * universe + at) step → PassesOne (below ns) (t * universe + at) step → PassesOne (below (documents_of ns universe t)) at (step_in (t * universe) universe step)
   passes_term Ended few none pass = tt
   passes_term (Past n) few past pass = elim (cases_lt n (t * universe + universe)) [
     | inl within ↦ rw (lt-ltb n (t * universe + universe) within)
@@ -87,21 +87,21 @@ module _ (ns : List ℕ) (universe t at : ℕ) where
   ]
 
 -- the step of a cursor over all numbers
-pub step_is : (cursor ns : List ℕ) (universe t at : ℕ) (step : Step) → t * universe + universe ≤ 18446744073709551615 → IsCursorOf cursor ns → IsStep (is_member cursor) (t * universe + at) step
-    → IsStep (is_member (documents_of ns universe t)) at (step_in (t * universe) universe step)
-step_is cursor ns universe t at step fits of is = within_term ns universe t at step fits (step_same (is_member cursor) (is_member ns) (t * universe + at) step of.has is)
+pub step_is : (cursor ns : List ℕ) (universe t at : ℕ) (step : Step) → t * universe + universe ≤ 18446744073709551615 → IsCursorOf cursor ns → IsStep (is_element cursor) (t * universe + at) step
+    → IsStep (is_element (documents_of ns universe t)) at (step_in (t * universe) universe step)
+step_is cursor ns universe t at step fits of is = within_term ns universe t at step fits (step_same (is_element cursor) (is_element ns) (t * universe + at) step of.has is)
 
-pub step_passes : (cursor ns : List ℕ) (universe t at : ℕ) (step : Step) → at < universe → IsCursorOf cursor ns → IsStep (is_member cursor) (t * universe + at) step → PassesOne (below cursor) (t * universe + at) step
+pub step_passes : (cursor ns : List ℕ) (universe t at : ℕ) (step : Step) → at < universe → IsCursorOf cursor ns → IsStep (is_element cursor) (t * universe + at) step → PassesOne (below cursor) (t * universe + at) step
     → PassesOne (below (documents_of ns universe t)) at (step_in (t * universe) universe step)
 step_passes cursor ns universe t at step few of is pass =
-    passes_term ns universe t at step few (step_same (is_member cursor) (is_member ns) (t * universe + at) step of.has is) (passes_same (below cursor) (below ns) (t * universe + at) step of.passed pass)
+    passes_term ns universe t at step few (step_same (is_element cursor) (is_element ns) (t * universe + at) step of.has is) (passes_same (below cursor) (below ns) (t * universe + at) step of.passed pass)
 
 pub steps_rise : (xs : List ℕ) → Rises (below xs) (length xs)
 steps_rise xs = record { rises = below_up xs; bounded = below_le xs }
 
 -- there is nothing to find in no list, and at the universe
-pub none_in_none : (at : ℕ) → HasNoMore (is_member []) at
-none_in_none at x from = member_none x
+pub none_in_none : (at : ℕ) → HasNoMore (is_element []) at
+none_in_none at x from = element_none x
 
-pub none_past : (ns : List ℕ) (universe t at : ℕ) → universe ≤ at → HasNoMore (is_member (documents_of ns universe t)) at
-none_past ns universe t at past x from = member_past ns universe t x (omega (arith, past, from))
+pub none_past : (ns : List ℕ) (universe t at : ℕ) → universe ≤ at → HasNoMore (is_element (documents_of ns universe t)) at
+none_past ns universe t at past x from = element_past ns universe t x (omega (arith, past, from))

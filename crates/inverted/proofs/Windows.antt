@@ -12,8 +12,8 @@ use Rattle.std.proofs.lemmas.List.FromFn.{get_or-map-range_with_len, length-map-
 use Rattle.std.proofs.lemmas.Option.{slice_get-get_or, slice_get_past}
 use Rattle.std.proofs.Math.Bool.{and-false}
 use Rattle.std.proofs.Math.Nat.{mul-le-mul_right}
-use Rattle.vers_sorted.specs.Sorted.{is_member, below, least_not_below}
-use Rattle.vers_sorted.proofs.PublicLaws.{member_head, member_none, member_tail}
+use Rattle.vers_sorted.specs.Sorted.{is_element, below, least_not_below}
+use Rattle.vers_sorted.proofs.PublicLaws.{element_head, element_none, element_tail}
 use Rattle.vers_bits.specs.Walk.{TakesFirst}
 use Rattle.inverted.specs.inside.Windows.{IsWithin, documents_of, clip, lists_of}
 
@@ -118,36 +118,36 @@ all_below (n ∷ ns) universe t d more =
 
 -- ---- membership
 
-pub member_is : (ns : List ℕ) (universe t d : ℕ) → d < universe → is_member ns (t * universe + d) ≡ is_member (documents_of ns universe t) d
-member_is [] universe t d few = rw (no_documents universe t, member_none d, member_none (t * universe + d)) refl
-member_is (n ∷ ns) universe t d few =
-    let rest = member_is ns universe t d few in
+pub element_is : (ns : List ℕ) (universe t d : ℕ) → d < universe → is_element ns (t * universe + d) ≡ is_element (documents_of ns universe t) d
+element_is [] universe t d few = rw (no_documents universe t, element_none d, element_none (t * universe + d)) refl
+element_is (n ∷ ns) universe t d few =
+    let rest = element_is ns universe t d few in
     let s = t * universe in
     elim (cases_lt n s) [
-      | inl less ↦ rw (before_window universe t n ns less, member_tail n ns (s + d) (λ same. omega (arith, same, less))) rest
+      | inl less ↦ rw (before_window universe t n ns less, element_tail n ns (s + d) (λ same. omega (arith, same, less))) rest
       | inr from ↦ elim (cases_lt n (s + universe)) [
-        | inr past ↦ rw (after_window universe t n ns past, member_tail n ns (s + d) (λ same. omega (arith, same, past, few))) rest
+        | inr past ↦ rw (after_window universe t n ns past, element_tail n ns (s + d) (λ same. omega (arith, same, past, few))) rest
         | inl within ↦ rw (in_window universe t n ns from within) (elim (cases_lt n (s + d)) [
-          | inl less ↦ member_tail n ns (s + d) (λ same. omega (arith, same, less)) ∙ rest ∙ sym (member_tail (n - s) (documents_of ns universe t) d (λ same. omega (arith, same, less, from)))
+          | inl less ↦ element_tail n ns (s + d) (λ same. omega (arith, same, less)) ∙ rest ∙ sym (element_tail (n - s) (documents_of ns universe t) d (λ same. omega (arith, same, less, from)))
           | inr more ↦ elim (cases_lt (s + d) n) [
-            | inl above ↦ member_tail n ns (s + d) (λ same. omega (arith, same, above)) ∙ rest ∙ sym (member_tail (n - s) (documents_of ns universe t) d (λ same. omega (arith, same, above, from)))
-            | inr upto ↦ member_head n ns (s + d) (omega (arith, more, upto)) ∙ sym (member_head (n - s) (documents_of ns universe t) d (omega (arith, more, upto)))
+            | inl above ↦ element_tail n ns (s + d) (λ same. omega (arith, same, above)) ∙ rest ∙ sym (element_tail (n - s) (documents_of ns universe t) d (λ same. omega (arith, same, above, from)))
+            | inr upto ↦ element_head n ns (s + d) (omega (arith, more, upto)) ∙ sym (element_head (n - s) (documents_of ns universe t) d (omega (arith, more, upto)))
           ]
         ])
       ]
     ]
 
 -- none is at or past the universe
-pub member_past : (ns : List ℕ) (universe t d : ℕ) → universe ≤ d → is_member (documents_of ns universe t) d ≡ false
-member_past [] universe t d past = rw (no_documents universe t) (member_none d)
-member_past (n ∷ ns) universe t d more =
-    let rest = member_past ns universe t d more in
+pub element_past : (ns : List ℕ) (universe t d : ℕ) → universe ≤ d → is_element (documents_of ns universe t) d ≡ false
+element_past [] universe t d past = rw (no_documents universe t) (element_none d)
+element_past (n ∷ ns) universe t d more =
+    let rest = element_past ns universe t d more in
     let s = t * universe in
     elim (cases_lt n s) [
       | inl less ↦ rw (before_window universe t n ns less) rest
       | inr from ↦ elim (cases_lt n (s + universe)) [
         | inr past ↦ rw (after_window universe t n ns past) rest
-        | inl within ↦ rw (in_window universe t n ns from within) (member_tail (n - s) (documents_of ns universe t) d (λ same. omega (arith, same, within, more, from)) ∙ rest)
+        | inl within ↦ rw (in_window universe t n ns from within) (element_tail (n - s) (documents_of ns universe t) d (λ same. omega (arith, same, within, more, from)) ∙ rest)
       ]
     ]
 
@@ -351,12 +351,12 @@ lists_ascend ns universe terms up =
 false-true : {A : Type 0} → false ≡ true → A
 false-true e = cc
 
-pub listed_below : (ns : List ℕ) (universe terms t d : ℕ) → is_member (slice_index_or (lists_of ns universe terms) t []) d ≡ true → d < universe
+pub listed_below : (ns : List ℕ) (universe terms t d : ℕ) → is_element (slice_index_or (lists_of ns universe terms) t []) d ≡ true → d < universe
 listed_below ns universe terms t d has = elim (cases_lt t terms) [
-  | inr past ↦ false-true (sym (member_none d) ∙ rw (no_list ns universe terms t past) at has)
+  | inr past ↦ false-true (sym (element_none d) ∙ rw (no_list ns universe terms t past) at has)
   | inl inside ↦ elim (cases_lt d universe) [
     | inl below ↦ below
-    | inr past ↦ false-true (sym (member_past ns universe t d past) ∙ rw (list_is ns universe terms t inside) at has)
+    | inr past ↦ false-true (sym (element_past ns universe t d past) ∙ rw (list_is ns universe terms t inside) at has)
   ]
 ]
 

@@ -1,7 +1,7 @@
 -- Lists of documents, one for each term.
 use Rattle.std.specs.Prelude.{ℕ, Bool, List, [], filter, length, slice_index_or}
 use Rattle.std.specs.List.{range_with_len}
-use Rattle.vers_sorted.specs.Sorted.{is_member, below}
+use Rattle.vers_sorted.specs.Sorted.{is_element, below}
 use Rattle.sets.specs.Sources.{seek_reads}
 use Rattle.sets.specs.Steps.{Searched}
 
@@ -31,7 +31,7 @@ term_of index t = record { index = index; term = t }
 -- the documents of a term as a searched set: a step is one among the numbers of all terms
 abbrev pub searched_term : Term → Searched
 searched_term source = record {
-  has = is_member (list_of source.index source.term);
+  has = is_element (list_of source.index source.term);
   step_reads = seek_reads source.index.numbers;
   passed = below (list_of source.index source.term);
   most_steps = length (list_of source.index source.term);

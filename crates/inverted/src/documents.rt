@@ -3,7 +3,7 @@ ghost use Rattle.std.specs.Prelude.{◌≡◌, drop};
 ghost use Rattle.std.specs.Iterator.{YieldsFirst, item_count};
 ghost use Rattle.vers_bits.specs.Walk.{TakesFirst};
 ghost use Rattle.vers_tally.specs.Reads.{AddsAtMost, plus};
-ghost use Rattle.vers_sorted.specs.Layout.{member_reads, search_reads};
+ghost use Rattle.vers_sorted.specs.Layout.{element_reads, search_reads};
 ghost use Rattle.inverted.specs.Lists.{list_of};
 
 use crate::inverted_index::InvertedIndex;
@@ -42,7 +42,7 @@ impl<A: Allocator + Copy> InvertedIndex<A> {
     pub fn documents(&self, t: u64) -> Documents<'_, A>
         ensures { result ≡ record {
           left = list_of self.now t;
-          step = member_reads self.now.numbers;
+          step = element_reads self.now.numbers;
         } }
     {
         let mut tally = Tally::new();
@@ -53,10 +53,10 @@ impl<A: Allocator + Copy> InvertedIndex<A> {
     pub fn documents_counted(&self, t: u64, tally: &mut Tally) -> Documents<'_, A>
         ensures value { result ≡ record {
           left = list_of self.now t;
-          step = member_reads self.now.numbers;
+          step = element_reads self.now.numbers;
         } }
         ensures adds { AddsAtMost tally.old tally.new
-            (plus (search_reads self.now.numbers) (member_reads self.now.numbers)) }
+            (plus (search_reads self.now.numbers) (element_reads self.now.numbers)) }
     {
         if t >= self.terms {
             return Documents {
@@ -67,28 +67,28 @@ impl<A: Allocator + Copy> InvertedIndex<A> {
         }
         let first = self.numbers.rank_counted(t * self.universe, tally) as usize;
         Documents {
-            numbers: members_from(&self.numbers, first, tally),
+            numbers: elements_from(&self.numbers, first, tally),
             term: t,
             universe: self.universe,
         }
     }
 }
 
-// Returns an iterator over the members of a list from a position on.
-fn members_from<'a, A: Allocator + Copy>(
+// Returns an iterator over the elements of a list from a position on.
+fn elements_from<'a, A: Allocator + Copy>(
     list: &'a EliasFanoVec<A>,
     first: usize,
     tally: &mut Tally,
 ) -> EliasFanoRefIter<'a, A>
     ensures left { result.left ≡ drop first list.now }
-    ensures step { result.step ≡ member_reads list.now }
-    ensures adds { AddsAtMost tally.old tally.new (member_reads list.now) }
+    ensures step { result.step ≡ element_reads list.now }
+    ensures adds { AddsAtMost tally.old tally.new (element_reads list.now) }
 {
-    let mut members = list.iter();
+    let mut elements = list.iter();
     if first > 0 {
-        members.nth_counted(first - 1, tally);
+        elements.nth_counted(first - 1, tally);
     }
-    members
+    elements
 }
 
 impl<'a, A: Allocator + Copy> Documents<'a, A> {

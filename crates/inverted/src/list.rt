@@ -1,7 +1,7 @@
 //! The list of a term as a source.
 ghost use Rattle.std.specs.Prelude.{◌≡◌, ◌+◌, ◌^◌, ◌<◌, ℕ, true, length};
 ghost use Rattle.vers_tally.specs.Reads.{AddsAtMost};
-ghost use Rattle.vers_sorted.specs.Sorted.{is_member, below};
+ghost use Rattle.vers_sorted.specs.Sorted.{is_element, below};
 ghost use Rattle.sets.specs.Sources.{seek_reads};
 ghost use Rattle.sets.specs.Steps.{IsStep, PassesOne, Rises};
 ghost use Rattle.inverted.specs.Lists.{list_of, searched_term, term_of};
@@ -37,7 +37,7 @@ impl<'a, A: Allocator + Copy> ListOf<'a, A> {
     /// Returns the documents of a term, of which there are none if there is no such term.
     pub fn new(index: &'a InvertedIndex<A>, term: u64) -> Self
         ensures value { result ≡ term_of index.now term }
-        ensures below { (d : ℕ) → is_member (list_of index.now term) d ≡ true → d < index.now.universe }
+        ensures below { (d : ℕ) → is_element (list_of index.now term) d ≡ true → d < index.now.universe }
     {
         ListOf {
             index,
@@ -60,7 +60,7 @@ impl<A: Allocator + Copy> InvertedIndex<A> {
     // Returns a cursor at the first number of all terms.
     fn cursor(&self) -> Cursor<'_, A>
         ensures cursor { IsCursorOf result self.now.numbers }
-        ensures below { (t d : ℕ) → is_member (list_of self.now t) d ≡ true → d < self.now.universe }
+        ensures below { (t d : ℕ) → is_element (list_of self.now t) d ≡ true → d < self.now.universe }
     {
         Cursor::new(&self.numbers)
     }
@@ -69,7 +69,7 @@ impl<A: Allocator + Copy> InvertedIndex<A> {
     // of all terms.
     fn step_counted(&self, t: u64, at: u64, cursor: &mut Cursor<'_, A>, tally: &mut Tally) -> Step
         requires { IsCursorOf cursor.old self.now.numbers }
-        ensures value { IsStep (is_member (list_of self.now t)) at result }
+        ensures value { IsStep (is_element (list_of self.now t)) at result }
         ensures passes { PassesOne (below (list_of self.now t)) at result }
         ensures rises { Rises (below (list_of self.now t)) (length (list_of self.now t)) }
         ensures same_numbers { IsCursorOf cursor.new self.now.numbers }

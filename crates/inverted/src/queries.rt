@@ -2,8 +2,8 @@
 ghost use Rattle.std.specs.Prelude.{◌≡◌, ◌+◌, ◌^◌, ◌<◌, length, slice_get, IfSome};
 ghost use Rattle.std.specs.List.Sorted.{IsStrictlyIncreasing};
 ghost use Rattle.vers_tally.specs.Reads.{AddsAtMost, plus, times};
-ghost use Rattle.vers_sorted.specs.Sorted.{is_member, below, least_not_below};
-ghost use Rattle.vers_sorted.specs.Layout.{member_reads, search_reads};
+ghost use Rattle.vers_sorted.specs.Sorted.{is_element, below, least_not_below};
+ghost use Rattle.vers_sorted.specs.Layout.{element_reads, search_reads};
 ghost use Rattle.inverted.specs.Lists.{list_of};
 ghost use Rattle.inverted.specs.inside.Windows.{clip};
 
@@ -61,7 +61,7 @@ impl<A: Allocator + Copy> InvertedIndex<A> {
     /// Returns true if a term has document `d`.
     #[inline]
     pub fn contains(&self, t: u64, d: u64) -> bool
-        ensures { result ≡ is_member (list_of self.now t) d }
+        ensures { result ≡ is_element (list_of self.now t) d }
     {
         let mut tally = Tally::new();
         self.contains_counted(t, d, &mut tally)
@@ -69,7 +69,7 @@ impl<A: Allocator + Copy> InvertedIndex<A> {
 
     /// Returns `contains(t, d)`. Reads at most what one search among the numbers of all terms does.
     pub fn contains_counted(&self, t: u64, d: u64, tally: &mut Tally) -> bool
-        ensures value { result ≡ is_member (list_of self.now t) d }
+        ensures value { result ≡ is_element (list_of self.now t) d }
         ensures adds { AddsAtMost tally.old tally.new (search_reads self.now.numbers) }
     {
         if t >= self.terms {
@@ -124,7 +124,7 @@ impl<A: Allocator + Copy> InvertedIndex<A> {
     pub fn get_counted(&self, t: u64, i: usize, tally: &mut Tally) -> Option<u64>
         ensures value { result ≡ slice_get (list_of self.now t) i }
         ensures adds { AddsAtMost tally.old tally.new
-            (plus (search_reads self.now.numbers) (member_reads self.now.numbers)) }
+            (plus (search_reads self.now.numbers) (element_reads self.now.numbers)) }
     {
         if t >= self.terms {
             return None;
@@ -156,7 +156,7 @@ impl<A: Allocator + Copy> InvertedIndex<A> {
     /// Returns `pair_number(i)`. Reads at most one of the numbers of all terms.
     pub fn pair_number_counted(&self, i: usize, tally: &mut Tally) -> Option<u64>
         ensures value { result ≡ slice_get self.now.numbers i }
-        ensures adds { AddsAtMost tally.old tally.new (member_reads self.now.numbers) }
+        ensures adds { AddsAtMost tally.old tally.new (element_reads self.now.numbers) }
     {
         self.numbers.get_counted(i, tally)
     }

@@ -158,7 +158,7 @@ fn low_parts(alloc: Global, index: &Index) -> Option<u64> {
     (found == Ok(5)).then_some(tally.low_parts())
 }
 
-// The most low parts that a search among 10,005 members reads, with 10 members that are read ahead.
+// The most low parts that a search among 10,005 elements reads, with 10 elements that are read ahead.
 const SEARCH: u64 = 14 + 8 + 10 * 2;
 
 // Returns true if an intersection with a term of 5 documents reads at most 6 searches in both.

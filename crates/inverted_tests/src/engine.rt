@@ -1,7 +1,7 @@
 //! A search engine over documents whose words are numbers, as docs/USING.md shows it.
 ghost use Rattle.std.specs.Prelude.{◌&&◌, not, IfOk};
 ghost use Rattle.sets.specs.Sets.{IsSetOf};
-ghost use Rattle.vers_sorted.specs.Sorted.{is_member};
+ghost use Rattle.vers_sorted.specs.Sorted.{is_element};
 ghost use Rattle.inverted.specs.Lists.{list_of};
 
 use crate::shared::is_list;
@@ -38,9 +38,9 @@ fn index_of(alloc: Global, documents: &[&[u64]], words: u64) -> Result<Index, In
 
 // Returns the documents that have two words and not a third.
 fn found(alloc: Global, index: &Index, one: u64, other: u64, third: u64) -> Found
-    ensures { IfOk result (IsSetOf (λ document. (is_member (list_of index.now one) document
-        && is_member (list_of index.now other) document)
-        && not (is_member (list_of index.now third) document))) }
+    ensures { IfOk result (IsSetOf (λ document. (is_element (list_of index.now one) document
+        && is_element (list_of index.now other) document)
+        && not (is_element (list_of index.now third) document))) }
 {
     let both = Both {
         one: ListOf::new(index, one),

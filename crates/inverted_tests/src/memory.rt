@@ -1,5 +1,5 @@
 //! The calls that allocate, each of their requests refused in turn.
-use crate::shared::{Answers, combined, has_list, has_members, is_answered, listed};
+use crate::shared::{Answers, combined, has_elements, has_list, is_answered, listed};
 use inverted::{InvertedError, InvertedIndex, ListOf};
 use sets::Walk;
 use std::alloc::{AllocError, Allocator, Global};
@@ -130,7 +130,7 @@ impl<'a, A: Allocator + Copy> Making for Combining<'a, A> {
     }
 
     fn is_right(&self, found: &EliasFanoVec<A>) -> bool {
-        has_members(found, self.wanted)
+        has_elements(found, self.wanted)
     }
 }
 

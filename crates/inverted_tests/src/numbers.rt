@@ -1,5 +1,5 @@
 //! Indexes made from the lists of their numbers.
-use crate::shared::{has_members, numbered};
+use crate::shared::{has_elements, numbered};
 use inverted::{InvertedError, InvertedIndex};
 use std::alloc::Global;
 use test_alloc::asked;
@@ -48,7 +48,7 @@ fn is_of_row(index: &Index, row: Row<'_>) -> bool {
     index.terms() == terms
         && index.universe() == universe
         && index.len() == pairs.len()
-        && has_members(index.pair_numbers(), numbers)
+        && has_elements(index.pair_numbers(), numbers)
         && pairs.iter().all(|pair| index.contains(pair.0, pair.1))
 }
 
@@ -156,7 +156,7 @@ fn has_documents(index: &Index, terms: u64, universe: u64, numbers: &[u64]) -> b
             }
         }
     }
-    has_members(index.pair_numbers(), numbers)
+    has_elements(index.pair_numbers(), numbers)
 }
 
 // Returns true if numbers make the index that they should, or have the error that they should.

@@ -1,5 +1,5 @@
 //! Indexes compared with a plain model, which tests each pair.
-use crate::shared::{Answers, combined, has_list, has_members, is_answered, is_list, numbered};
+use crate::shared::{Answers, combined, has_elements, has_list, is_answered, is_list, numbered};
 use inverted::InvertedIndex;
 use std::alloc::{AllocError, Allocator, Global};
 use test_alloc::{OPERATIONS, Operation, asked, is_in_result};
@@ -135,7 +135,7 @@ fn is_right_again(alloc: Global, index: &Index, plain: Plain<'_>, numbers: &[u64
         |index: &Index| is_right(alloc, index, plain) == Ok(true),
     );
     is_again == Ok(true)
-        && has_members(index.pair_numbers(), numbers)
+        && has_elements(index.pair_numbers(), numbers)
         && is_right(alloc, index, plain) == Ok(true)
 }
 

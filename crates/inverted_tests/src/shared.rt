@@ -28,8 +28,8 @@ pub fn numbered<A: Allocator + Copy>(
     InvertedIndex::from_numbers(terms, universe, list)
 }
 
-/// Returns true if a list has these members.
-pub fn has_members<A: Allocator + Copy>(list: &EliasFanoVec<A>, wanted: &[u64]) -> bool {
+/// Returns true if a list has these elements.
+pub fn has_elements<A: Allocator + Copy>(list: &EliasFanoVec<A>, wanted: &[u64]) -> bool {
     for (position, number) in wanted.iter().enumerate() {
         if list.get(position) != Some(*number) {
             return false;
@@ -116,10 +116,10 @@ pub fn combined<A: Allocator + Copy>(
     }
 }
 
-/// Returns true if a list was made that has these members.
+/// Returns true if a list was made that has these elements.
 pub fn is_list<A: Allocator + Copy>(
     made: Result<EliasFanoVec<A>, AllocError>,
     wanted: &[u64],
 ) -> bool {
-    asked(made, |list: &EliasFanoVec<A>| has_members(list, wanted)) == Ok(true)
+    asked(made, |list: &EliasFanoVec<A>| has_elements(list, wanted)) == Ok(true)
 }

@@ -1,5 +1,5 @@
 pub mod Names
-pub mod Members
+pub mod Elements
 pub mod Positions
 pub mod Sharing
 pub mod Paired

@@ -4,8 +4,8 @@ use Rattle.std.specs.List.{range_with_len}
 use Rattle.std.specs.List.Sorted.{IsStrictlyIncreasing}
 use Rattle.vers_rmq.specs.Layout.{fast_heap_size}
 use Rattle.vers_rmq.specs.Minima.{first_least_of}
-use Rattle.vers_sorted.specs.Sorted.{is_member}
-use Rattle.vers_sorted.specs.Layout.{heap_size_of, select_calls, member_reads, search_reads}
+use Rattle.vers_sorted.specs.Sorted.{is_element}
+use Rattle.vers_sorted.specs.Layout.{heap_size_of, select_calls, element_reads, search_reads}
 use Rattle.vers_tally.specs.Reads.{Reads, digits, plus, times}
 
 -- documents, and the cost of each at the same position
@@ -35,7 +35,7 @@ cheapest posted from to =
 
 -- the documents that are also in the other list, ascending
 unfoldable pub common : List ℕ → List ℕ → List ℕ
-common documents others = filter (is_member others) documents
+common documents others = filter (is_element others) documents
 
 -- bound on the reads of `cheapest`: two searches, one document and 18 costs
 abbrev pub cheapest_reads : List ℕ → Reads
@@ -43,7 +43,7 @@ cheapest_reads documents = record (select_calls (2 * digits (length documents) +
 
 -- what looking for each document of one list in another reads at most
 abbrev pub lookups : List ℕ → List ℕ → Reads
-lookups documents others = times (length documents) (plus (member_reads documents) (search_reads others))
+lookups documents others = times (length documents) (plus (element_reads documents) (search_reads others))
 
 -- bound on the reads of `intersect`, which searches the longer list for each document of the shorter
 abbrev pub intersect_reads : List ℕ → List ℕ → Reads

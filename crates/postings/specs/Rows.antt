@@ -1,7 +1,7 @@
 -- Worked rows of the definitions, which compute.
 use Rattle.std.specs.Prelude.{◌≡◌, [], ◌∷◌, true, false, Some, None, refl}
 use Rattle.vers_rmq.specs.Minima.{is_least, first_least_of}
-use Rattle.vers_sorted.specs.Sorted.{is_member}
+use Rattle.vers_sorted.specs.Sorted.{is_element}
 use Rattle.postings.specs.Posted.{Posted, positions_between, cheapest, common}
 
 -- four documents, of which two have the least cost
@@ -25,5 +25,5 @@ unfolding cheapest positions_between first_least_of is_least
 cheapest-9-2 = refl
 
 pub common-5-12 : common four.documents (5 ∷ 6 ∷ 12 ∷ 40 ∷ []) ≡ 5 ∷ 12 ∷ []
-unfolding common is_member
+unfolding common is_element
 common-5-12 = refl

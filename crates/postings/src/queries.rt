@@ -1,7 +1,7 @@
 //! Queries of a list of documents.
 ghost use Rattle.std.specs.Prelude.{◌≡◌, ◌+◌, ◌≤◌, All, length, IfOk};
 ghost use Rattle.vers_tally.specs.Reads.{AddsAtMost};
-ghost use Rattle.vers_sorted.specs.Sorted.{is_member, below, least_not_below};
+ghost use Rattle.vers_sorted.specs.Sorted.{is_element, below, least_not_below};
 ghost use Rattle.vers_sorted.specs.Layout.{search_reads};
 ghost use Rattle.postings.specs.Posted.{cheapest, common, cheapest_reads, intersect_reads, lookups};
 
@@ -14,7 +14,7 @@ impl<A: Allocator + Copy> Postings<A> {
     /// Returns true if a document is in the list.
     #[inline]
     pub fn contains(&self, document: u64) -> bool
-        ensures { result ≡ is_member self.now.documents document }
+        ensures { result ≡ is_element self.now.documents document }
     {
         self.documents.has(document)
     }
@@ -22,7 +22,7 @@ impl<A: Allocator + Copy> Postings<A> {
     /// Returns `contains(document)`. Reads at most what one search among the documents does.
     #[inline(always)]
     pub fn contains_counted(&self, document: u64, tally: &mut Tally) -> bool
-        ensures value { result ≡ is_member self.now.documents document }
+        ensures value { result ≡ is_element self.now.documents document }
         ensures adds { AddsAtMost tally.old tally.new (search_reads self.now.documents) }
     {
         self.documents.has_counted(document, tally)

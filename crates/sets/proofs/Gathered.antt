@@ -10,15 +10,15 @@ use Rattle.std.proofs.Math.Nat.{mul-le-mul_right}
 use Rattle.vers_tally.specs.Reads.{AddsAtMost, IsWithin, Reads, plus, times}
 use Rattle.vers_tally.proofs.PublicLaws.{adds_nothing, adds_then, adds_weaker}
 use Rattle.sets.specs.Sets.{IsSetOf}
-use Rattle.vers_sorted.specs.Sorted.{is_member}
+use Rattle.vers_sorted.specs.Sorted.{is_element}
 use Rattle.sets.specs.Steps.{HasNone, HasNoMore, IsAfter, IsNext, IsPast, IsWalked, Rises, Searched, steps_taken}
-use Rattle.vers_sorted.proofs.PublicLaws.{member_at, member_more, not_member}
+use Rattle.vers_sorted.proofs.PublicLaws.{element_at, element_more, not_element}
 
 -- the numbers below `at` of which the test holds were found
 pub record IsFoundBelow (has : ℕ → Bool) (at : ℕ) (found : List ℕ) : Type 0 where
   pub ascending : IsStrictlyIncreasing found
   pub below : (i : ℕ) → i < length found → get_or found i 0 < at
-  pub numbers : (x : ℕ) → x < at → is_member found x ≡ has x
+  pub numbers : (x : ℕ) → x < at → is_element found x ≡ has x
 
 pub found_none : (has : ℕ → Bool) → IsFoundBelow has 0 []
 found_none has = record {
@@ -27,8 +27,8 @@ found_none has = record {
   numbers = λ x less. absurd (omega (arith, less));
 }
 
-above_found : (has : ℕ → Bool) (at : ℕ) (found : List ℕ) (x : ℕ) → IsFoundBelow has at found → at ≤ x → is_member found x ≡ false
-above_found has at found x before from = not_member found x (λ i inside same. omega (arith, before.below i inside, same, from))
+above_found : (has : ℕ → Bool) (at : ℕ) (found : List ℕ) (x : ℕ) → IsFoundBelow has at found → at ≤ x → is_element found x ≡ false
+above_found has at found x before from = not_element found x (λ i inside same. omega (arith, before.below i inside, same, from))
 
 -- there are no more
 pub found_all : (has : ℕ → Bool) (at : ℕ) (found : List ℕ) → IsFoundBelow has at found → HasNoMore has at → IsSetOf has found
@@ -60,11 +60,11 @@ last_of (y ∷ ys) x = last_of ys x
 before_last : (xs : List ℕ) (x i : ℕ) → i < length xs → get_or (xs ++ x ∷ []) i 0 ≡ get_or xs i 0
 before_last xs x i inside = get_or-append xs (x ∷ []) 0 i inside
 
-member_last : (xs : List ℕ) (x : ℕ) → is_member (xs ++ x ∷ []) x ≡ true
-member_last xs x = member_at (xs ++ x ∷ []) x (length xs) (simp length-append (omega arith)) (last_of xs x)
+element_last : (xs : List ℕ) (x : ℕ) → is_element (xs ++ x ∷ []) x ≡ true
+element_last xs x = element_at (xs ++ x ∷ []) x (length xs) (simp length-append (omega arith)) (last_of xs x)
 
-member_before : (xs : List ℕ) (x y : ℕ) → (x ≡ y → ⊥) → is_member (xs ++ x ∷ []) y ≡ is_member xs y
-member_before xs x y apart = member_more xs x y ∙ rw (ne_eqb x y apart) (or-false (is_member xs y))
+element_before : (xs : List ℕ) (x y : ℕ) → (x ≡ y → ⊥) → is_element (xs ++ x ∷ []) y ≡ is_element xs y
+element_before xs x y apart = element_more xs x y ∙ rw (ne_eqb x y apart) (or-false (is_element xs y))
 
 pub found_one : (has : ℕ → Bool) (x : ℕ) (found : List ℕ) → IsFoundBelow has x found → has x ≡ true → IsFoundBelow has (x + 1) (found ++ x ∷ [])
 found_one has x found before there =
@@ -83,8 +83,8 @@ found_one has x found before there =
         | inr more ↦ let here : i ≡ length found = omega (arith, more, inside, long) in rw (here, last) (omega arith)
       ];
       numbers = λ y less. elim (cases_lt y x) [
-        | inl fewer ↦ member_before found x y (λ same. omega (arith, same, fewer)) ∙ before.numbers y fewer
-        | inr more ↦ let same : y ≡ x = omega (arith, less, more) in rw same (member_last found x ∙ sym there)
+        | inl fewer ↦ element_before found x y (λ same. omega (arith, same, fewer)) ∙ before.numbers y fewer
+        | inr more ↦ let same : y ≡ x = omega (arith, less, more) in rw same (element_last found x ∙ sym there)
       ];
     }
 

@@ -10,23 +10,23 @@ use Rattle.std.proofs.lemmas.List.Folds.{list_all-map}
 use Rattle.std.proofs.lemmas.List.Sums.{sum_by-cons}
 use Rattle.std.proofs.lemmas.Result.{IfOk-weaker}
 use Rattle.sets.specs.Sets.{IsSetOf, in_both}
-use Rattle.vers_sorted.specs.Sorted.{is_member}
+use Rattle.vers_sorted.specs.Sorted.{is_element}
 use Rattle.sets.specs.Sources.{searched_list, seek_reads, seek_reads_of, step_reads_of}
 
 -- numbers that are the set of a test are the set of an equal test
 pub ok_numbers_same : {X E : Type 0} (items : X → List ℕ) (r : Result X E) (p q : ℕ → Bool) → ((x : ℕ) → p x ≡ q x) → IfOk r (λ found. IsSetOf p (items found)) → IfOk r (λ found. IsSetOf q (items found))
 ok_numbers_same items r p q same = IfOk-weaker r (λ found. IsSetOf p (items found)) (λ found. IsSetOf q (items found)) (λ found set. record { ascending = set.ascending; numbers = λ x. set.numbers x ∙ same x })
 
-pub all_has : (lists : List (List ℕ)) (x : ℕ) → list_all (λ one. one.has x) (map searched_list lists) ≡ list_all (λ other. is_member other x) lists
+pub all_has : (lists : List (List ℕ)) (x : ℕ) → list_all (λ one. one.has x) (map searched_list lists) ≡ list_all (λ other. is_element other x) lists
 all_has lists x = list_all-map (λ one. one.has x) searched_list lists
 
-pub any_has : (lists : List (List ℕ)) (x : ℕ) → list_any (λ one. one.has x) (map searched_list lists) ≡ list_any (λ other. is_member other x) lists
+pub any_has : (lists : List (List ℕ)) (x : ℕ) → list_any (λ one. one.has x) (map searched_list lists) ≡ list_any (λ other. is_element other x) lists
 any_has [] x = refl
-any_has (members ∷ lists) x = ap (λ b. is_member members x || b) (any_has lists x)
+any_has (elements ∷ lists) x = ap (λ b. is_element elements x || b) (any_has lists x)
 
 pub all_reads : (lists : List (List ℕ)) → step_reads_of (map searched_list lists) ≡ seek_reads_of lists
 all_reads [] = refl
-all_reads (members ∷ lists) = rw (all_reads lists) refl
+all_reads (elements ∷ lists) = rw (all_reads lists) refl
 
 pub all_steps : {S : Type 0} (f : S → List ℕ) (lists : List S) → sum_by (λ one. one.most_steps) (map searched_list (map f lists)) ≡ sum_by (λ list. length (f list)) lists
 all_steps f [] = refl
@@ -38,9 +38,9 @@ steps_with f first lists = sum_by-cons (λ one. one.most_steps) (searched_list f
 
 -- ---- two lists, the shorter first
 
-pub both_in_turn : (b : Bool) (one other first second : List ℕ) → first ≡ (if b then one else other) → second ≡ (if b then other else one) → (x : ℕ) → (is_member first x && is_member second x) ≡ in_both one other x
+pub both_in_turn : (b : Bool) (one other first second : List ℕ) → first ≡ (if b then one else other) → second ≡ (if b then other else one) → (x : ℕ) → (is_element first x && is_element second x) ≡ in_both one other x
 both_in_turn true one other first second e h x = rw (e, h) refl
-both_in_turn false one other first second e h x = rw (e, h) (and_comm (is_member other x) (is_member one x))
+both_in_turn false one other first second e h x = rw (e, h) (and_comm (is_element other x) (is_element one x))
 
 turned : (n : ℕ) (p q : Reads) → IsWithin (times n (plus p q)) (times n (plus q p))
 turned n p q = grind arith

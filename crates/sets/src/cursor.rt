@@ -2,8 +2,8 @@
 ghost use Rattle.std.specs.Prelude.{◌≡◌, ℕ, length};
 ghost use Rattle.std.specs.List.Sorted.{IsNonDecreasing};
 ghost use Rattle.vers_tally.specs.Reads.{AddsAtMost};
-ghost use Rattle.vers_sorted.specs.Layout.{member_reads};
-ghost use Rattle.vers_sorted.specs.Sorted.{is_member, below, least_not_below};
+ghost use Rattle.vers_sorted.specs.Layout.{element_reads};
+ghost use Rattle.vers_sorted.specs.Sorted.{is_element, below, least_not_below};
 ghost use Rattle.sets.specs.Steps.{IsStep, PassesOne, Rises};
 ghost use Rattle.sets.specs.Sources.{searched_list};
 
@@ -14,7 +14,7 @@ use std::marker::Model;
 use vers_sorted::elias_fano::{EliasFanoVec, Successors};
 use vers_tally::tally::Tally;
 
-/// The members of an ascending list, as a source. If the numbers that are searched rise, each search begins where the
+/// The elements of an ascending list, as a source. If the numbers that are searched rise, each search begins where the
 /// last one ended. Contracts see it as the list.
 #[derive(Drop)]
 pub struct Cursor<'a, A: Allocator + Copy> {
@@ -33,7 +33,7 @@ impl<'a, A: Allocator + Copy> Model for Cursor<'a, A> {
 }
 
 impl<'a, A: Allocator + Copy> Cursor<'a, A> {
-    /// Returns a cursor at the first member of a list.
+    /// Returns a cursor at the first element of a list.
     pub fn new(list: &'a EliasFanoVec<A>) -> Self
         ensures { result ≡ list.now }
     {
@@ -45,7 +45,7 @@ impl<'a, A: Allocator + Copy> Cursor<'a, A> {
 }
 
 impl<'a, A: Allocator + Copy> Seek for Cursor<'a, A> {
-    ghost set = { λ members. searched_list members };
+    ghost set = { λ elements. searched_list elements };
 
     fn seek_counted(&mut self, at: u64, tally: &mut Tally) -> Step {
         let next = self.successors.successor_counted(at, tally);
@@ -53,7 +53,7 @@ impl<'a, A: Allocator + Copy> Seek for Cursor<'a, A> {
     }
 }
 
-// Returns the step to a member. The greatest number of 64 bits is the last member, which is read again.
+// Returns the step to an element. The greatest number of 64 bits is the last element, which is read again.
 fn step_to<A: Allocator + Copy>(
     list: &EliasFanoVec<A>,
     next: Option<u64>,
@@ -61,18 +61,18 @@ fn step_to<A: Allocator + Copy>(
 ) -> Step
     requires { IsNonDecreasing list.now }
     ensures value { (at : ℕ) → next ≡ least_not_below list.now at
-        → IsStep (is_member list.now) at result }
+        → IsStep (is_element list.now) at result }
     ensures passes { (at : ℕ) → next ≡ least_not_below list.now at
         → PassesOne (below list.now) at result }
     ensures rises { Rises (below list.now) (length list.now) }
-    ensures adds { AddsAtMost tally.old tally.new (member_reads list.now) }
+    ensures adds { AddsAtMost tally.old tally.new (element_reads list.now) }
 {
-    let Some(member) = next else {
+    let Some(element) = next else {
         return Step::Ended;
     };
-    if member < u64::MAX {
-        return Step::Found(member);
+    if element < u64::MAX {
+        return Step::Found(element);
     }
     let last = list.get_counted(list.len().saturating_sub(1), tally);
-    Step::Found(last.unwrap_or(member))
+    Step::Found(last.unwrap_or(element))
 }

@@ -1,5 +1,5 @@
 //! Sources of sources, and walks along them.
-use crate::shared::{has_members, listed};
+use crate::shared::{has_elements, listed};
 use sets::{AllOf, AnyOf, Both, Cursor, Either, Seek, Step, Walk, Without, collect};
 use std::alloc::{AllocError, Allocator, Global};
 use test_alloc::{asked, asked_both};
@@ -46,11 +46,11 @@ fn steps_of<S: Seek>(source: S) -> usize {
     walk.source.steps
 }
 
-// Returns true if the list of a set has these members.
+// Returns true if the list of a set has these elements.
 fn collects<S: Seek>(alloc: Global, source: S, wanted: &[u64]) -> bool {
     let is_wanted = asked(
         collect(alloc, source),
-        |found: &List| has_members(found, wanted),
+        |found: &List| has_elements(found, wanted),
     );
     is_wanted == Ok(true)
 }
@@ -149,7 +149,7 @@ fn sources_of_many_lists(rt: HostRuntime) {
     assert!(rt; are_right);
 }
 
-// Returns true if a cursor finds members in any order of searches.
+// Returns true if a cursor finds elements in any order of searches.
 fn finds_in_any_order(list: &List) -> bool {
     let mut cursor = Cursor::new(list);
     let rows = [

@@ -23,7 +23,7 @@ fn steps(list: &List, rows: &[Row]) -> bool {
     true
 }
 
-// In a list of few members: each, again, from the last one on, and past the last.
+// In a list of few elements: each, again, from the last one on, and past the last.
 const FEW: [Row; 10] = [
     (0, Step::Found(2)),
     (2, Step::Found(2)),
@@ -37,7 +37,7 @@ const FEW: [Row; 10] = [
     (9, Step::Found(9)),
 ];
 
-// In a list of the first 2000 multiples of 3: next members, members of the same word of high parts, of later words,
+// In a list of the first 2000 multiples of 3: next elements, elements of the same word of high parts, of later words,
 // and of one that isn't read word by word; past the last one, and back.
 const MANY: [Row; 12] = [
     (0, Step::Found(0)),
@@ -55,7 +55,7 @@ const MANY: [Row; 12] = [
 ];
 
 #[test]
-fn steps_along_few_members(rt: HostRuntime) {
+fn steps_along_few_elements(rt: HostRuntime) {
     let are_right = asked(
         listed(rt.alloc(), &[2, 4, 4, 9, u64::MAX]),
         |list: &List| steps(list, &FEW),
@@ -64,7 +64,7 @@ fn steps_along_few_members(rt: HostRuntime) {
 }
 
 #[test]
-fn steps_along_many_members(rt: HostRuntime) {
+fn steps_along_many_elements(rt: HostRuntime) {
     let are_right = asked(
         multiples(rt.alloc(), 2000, 3),
         |list: &List| steps(list, &MANY),
@@ -73,7 +73,7 @@ fn steps_along_many_members(rt: HostRuntime) {
 }
 
 #[test]
-fn steps_along_no_member(rt: HostRuntime) {
+fn steps_along_no_element(rt: HostRuntime) {
     let are_right = asked(
         listed(rt.alloc(), &[]),
         |list: &List| steps(

@@ -1,5 +1,5 @@
 //! The calls that allocate, each of their requests refused in turn.
-use crate::shared::{combined, counted, has_members, listed};
+use crate::shared::{combined, counted, has_elements, listed};
 use sets::{Cursor, collect};
 use std::alloc::{AllocError, Allocator, Global};
 use test_alloc::{
@@ -66,11 +66,11 @@ impl<A: Allocator + Copy> Making for Combining<'_, A> {
     }
 
     fn is_right(&self, found: &EliasFanoVec<A>) -> bool {
-        has_members(found, self.wanted)
+        has_elements(found, self.wanted)
     }
 }
 
-// Returns the members that a call makes of even numbers and of the second half of these.
+// Returns the elements that a call makes of even numbers and of the second half of these.
 fn wanted_of<'a>(call: Call, evens: &'a [u64]) -> &'a [u64] {
     match call {
         Call::Collect => evens,

@@ -17,9 +17,9 @@ fn chosen_of<A: Allocator + Copy>(alloc: A, chosen: u64) -> Result<Vec<u64, A>, 
     Ok(list)
 }
 
-// Returns true if x is a member of an ascending list.
+// Returns true if x is an element of an ascending list.
 fn has(list: &[u64], x: u64) -> bool {
-    let below = list.partition_point(|member| *member < x);
+    let below = list.partition_point(|element| *element < x);
     list.get(below) == Some(&x)
 }
 
@@ -84,7 +84,7 @@ fn lists_of_few_numbers(rt: HostRuntime) {
     assert!(rt; wrong_choices(rt.alloc()) == Ok(None));
 }
 
-// Numbers below this are in lists of many members.
+// Numbers below this are in lists of many elements.
 const LIMIT: u64 = 6000;
 
 // Returns the multiples of a gap below a limit, each less a pseudorandom number below the gap, and the first
@@ -120,7 +120,7 @@ fn all_numbers<A: Allocator + Copy>(alloc: A) -> Result<Vec<u64, A>, AllocError>
     Ok(list)
 }
 
-// Gaps of dense and of sparse lists: a search skips none, few, or many members of the denser one.
+// Gaps of dense and of sparse lists: a search skips none, few, or many elements of the denser one.
 const GAPS: [u64; 5] = [1, 2, 7, 90, 1500];
 
 // Returns the first two gaps of lists for which an operation is wrong.

@@ -7,7 +7,7 @@ use vers_tally::tally::Tally;
 
 type List = EliasFanoVec<Global>;
 
-// Returns the low parts that an operation reads whose result has that many members.
+// Returns the low parts that an operation reads whose result has that many elements.
 fn low_parts(
     operation: Operation,
     one: &List,
@@ -23,10 +23,10 @@ fn low_parts(
     (found == Ok(len)).then_some(tally.low_parts())
 }
 
-// The most low parts that a search among 10,000 members reads, with 10 members that are read ahead.
+// The most low parts that a search among 10,000 elements reads, with 10 elements that are read ahead.
 const SEARCH: u64 = 14 + 8 + 10 * 2;
 
-// Returns true if operations on 10 and on 10,000 members read few.
+// Returns true if operations on 10 and on 10,000 elements read few.
 fn few_are_read(alloc: Global, few: &List, many: &List) -> bool {
     let most = 11 * 2 * SEARCH;
     let rows = [
@@ -47,7 +47,7 @@ fn few_are_read(alloc: Global, few: &List, many: &List) -> bool {
 }
 
 #[test]
-fn the_longer_list_is_searched_for_each_member_of_the_shorter(rt: HostRuntime) {
+fn the_longer_list_is_searched_for_each_element_of_the_shorter(rt: HostRuntime) {
     let alloc = rt.alloc();
     let are_few = asked_both(
         multiples(alloc, 10, 900),

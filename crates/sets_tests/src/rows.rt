@@ -1,5 +1,5 @@
 //! Rows that were worked out by hand.
-use crate::shared::{given, has_members, listed};
+use crate::shared::{given, has_elements, listed};
 use sets::{difference_of, intersection_of, union_of};
 use std::alloc::{AllocError, Global};
 use test_alloc::{Operation, asked, asked_both};
@@ -72,9 +72,9 @@ fn operations_on_two_lists(rt: HostRuntime) {
 
 type List = EliasFanoVec<Global>;
 
-// Returns true if a list was made that has these members.
+// Returns true if a list was made that has these elements.
 fn is_list(made: Result<List, AllocError>, wanted: &[u64]) -> bool {
-    asked(made, |list: &List| has_members(list, wanted)) == Ok(true)
+    asked(made, |list: &List| has_elements(list, wanted)) == Ok(true)
 }
 
 // Returns true if the intersection, union and difference of three lists, and those of fewer, are right.

@@ -21,7 +21,7 @@ pub fn listed<A: Allocator + Copy>(
     EliasFanoVec::from_slice(alloc, numbers)
 }
 
-/// Returns the multiples of a step, as a list of that many members.
+/// Returns the multiples of a step, as a list of that many elements.
 pub fn multiples<A: Allocator + Copy>(
     alloc: A,
     count: u64,
@@ -34,8 +34,8 @@ pub fn multiples<A: Allocator + Copy>(
     listed(alloc, numbers.as_slice())
 }
 
-/// Returns true if a list has these members.
-pub fn has_members<A: Allocator + Copy>(list: &EliasFanoVec<A>, wanted: &[u64]) -> bool {
+/// Returns true if a list has these elements.
+pub fn has_elements<A: Allocator + Copy>(list: &EliasFanoVec<A>, wanted: &[u64]) -> bool {
     for (position, number) in wanted.iter().enumerate() {
         if list.get(position) != Some(*number) {
             return false;
@@ -81,7 +81,7 @@ pub fn counted<A: Allocator + Copy>(
     }
 }
 
-/// Returns true if the results of both forms of an operation have these members.
+/// Returns true if the results of both forms of an operation have these elements.
 pub fn gives<A: Allocator + Copy>(
     alloc: A,
     operation: Operation,
@@ -91,7 +91,7 @@ pub fn gives<A: Allocator + Copy>(
 ) -> bool {
     let is_list = asked(
         combined(alloc, operation, one, other),
-        |found: &EliasFanoVec<A>| has_members(found, wanted),
+        |found: &EliasFanoVec<A>| has_elements(found, wanted),
     );
     let is_counted = asked(
         counted(alloc, operation, one, other, &mut Tally::new()),
@@ -100,7 +100,7 @@ pub fn gives<A: Allocator + Copy>(
     is_list == Ok(true) && is_counted == Ok(true)
 }
 
-// Returns true if the results of both forms of an operation on a list and one that is made have these members.
+// Returns true if the results of both forms of an operation on a list and one that is made have these elements.
 fn gives_with<A: Allocator + Copy>(
     alloc: A,
     operation: Operation,
@@ -115,7 +115,7 @@ fn gives_with<A: Allocator + Copy>(
     is_wanted == Ok(true)
 }
 
-/// Returns true if the results of both forms of an operation on two lists that are made have these members.
+/// Returns true if the results of both forms of an operation on two lists that are made have these elements.
 pub fn given<A: Allocator + Copy>(
     alloc: A,
     operation: Operation,

@@ -5,7 +5,7 @@ use crate::bits::indexed;
 use crate::report::{Report, Timed, asked, timed_since};
 use crate::symbols::{Quantile, Quantiles, Symbols, sorted_build};
 use crate::workload::{
-    Below, Draw, NONE, Questions, Random, RandomBits, fold, members_uniform, position_or_none,
+    Below, Draw, NONE, Questions, Random, RandomBits, elements_uniform, fold, position_or_none,
     symbols,
 };
 use std::alloc::Global;
@@ -173,9 +173,9 @@ impl Batched for Selects<'_> {
 
 /// Queries for quantiles.
 #[derive(Clone, Copy)]
-struct Members(Quantiles);
+struct Elements(Quantiles);
 
-impl Draw for Members {
+impl Draw for Elements {
     type Item = QuantileQuery;
 
     fn draw(&self, random: &mut Random) -> QuantileQuery {
@@ -184,7 +184,7 @@ impl Draw for Members {
     }
 }
 
-impl Batched for Members {
+impl Batched for Elements {
     type Structure = Matrix;
 
     fn one(matrix: &Matrix, query: &QuantileQuery) -> u64 {
@@ -210,7 +210,7 @@ fn run_matrix(report: &Report, source: Symbols, matrix: &Matrix) -> io::Result<(
     run_kind(report, "rank_u64", matrix, &ranks)?;
     let selects = Questions::new(count, 9, 3, Selects(source));
     run_kind(report, "select_u64", matrix, &selects)?;
-    let quantiles = Questions::new(count, 9, 4, Members(Quantiles(n)));
+    let quantiles = Questions::new(count, 9, 4, Elements(Quantiles(n)));
     run_kind(report, "quantile_u64", matrix, &quantiles)
 }
 
@@ -306,7 +306,7 @@ fn run_limbs(report: &Report, limb_count: usize) -> io::Result<()> {
 
 type List = EliasFanoVec<Global>;
 
-/// Positions of that many members.
+/// Positions of that many elements.
 #[derive(Clone, Copy)]
 struct Positions(u64);
 
@@ -332,12 +332,12 @@ impl Batched for Positions {
         list.get_each(positions);
     }
 
-    fn answer(member: &Option<u64>) -> u64 {
-        member.unwrap_or(NONE)
+    fn answer(element: &Option<u64>) -> u64 {
+        element.unwrap_or(NONE)
     }
 }
 
-// The number of members below a number.
+// The number of elements below a number.
 impl Batched for Below {
     type Structure = List;
 
@@ -380,8 +380,8 @@ impl Batched for Predecessors {
         list.predecessor_each(numbers);
     }
 
-    fn answer(member: &Option<u64>) -> u64 {
-        member.unwrap_or(NONE)
+    fn answer(element: &Option<u64>) -> u64 {
+        element.unwrap_or(NONE)
     }
 }
 
@@ -411,12 +411,12 @@ impl Batched for Successors {
         list.successor_each(numbers);
     }
 
-    fn answer(member: &Option<u64>) -> u64 {
-        member.unwrap_or(NONE)
+    fn answer(element: &Option<u64>) -> u64 {
+        element.unwrap_or(NONE)
     }
 }
 
-// Runs the series over a list whose members are below a number.
+// Runs the series over a list whose elements are below a number.
 fn run_list(report: &Report, end: u64, list: &List) -> io::Result<()> {
     let positions = report.questions(8, 0, Positions(list.len() as u64));
     run_kind(report, "get", list, &positions)?;
@@ -427,22 +427,22 @@ fn run_list(report: &Report, end: u64, list: &List) -> io::Result<()> {
     run_kind(report, "successor", list, &numbers)
 }
 
-// Runs the series over members far apart.
-fn run_members(report: &Report, n: usize) -> io::Result<()> {
+// Runs the series over elements far apart.
+fn run_elements(report: &Report, n: usize) -> io::Result<()> {
     let parameters = format!(in report.alloc(); "members n={n}")?;
-    let members = members_uniform(report.alloc(), n)?;
-    if !is_ascending(members.as_slice()) {
+    let elements = elements_uniform(report.alloc(), n)?;
+    if !is_ascending(elements.as_slice()) {
         return Ok(());
     }
-    let end = members.last().copied().unwrap_or(0).wrapping_add(1);
-    let made = EliasFanoVec::from_slice(report.alloc(), members.as_slice());
+    let end = elements.last().copied().unwrap_or(0).wrapping_add(1);
+    let made = EliasFanoVec::from_slice(report.alloc(), elements.as_slice());
     asked(&report.over(parameters.as_str()), end, made, run_list)
 }
 
-/// Runs all series: over symbols, bits, and members of an ascending list.
+/// Runs all series: over symbols, bits, and elements of an ascending list.
 pub fn run(report: &Report) -> io::Result<()> {
     let settings = report.settings;
     run_symbols(report, settings.scaled(10_000_000))?;
     run_limbs(report, settings.scaled(1_048_576))?;
-    run_members(report, settings.scaled(10_000_000))
+    run_elements(report, settings.scaled(10_000_000))
 }

@@ -3,7 +3,7 @@
 //! Without arguments it prints the checksums of a small workload. With arguments it prints times: the name of
 //! the driver in the lines, then the structures to run (none: all), and the options `--small` (a sixteenth of
 //! the sizes), `--reps N` (how often each series is run, 5 by default) and `--size N` (one size of structures
-//! instead of the usual ones, as bits, members, symbols, items or nodes).
+//! instead of the usual ones, as bits, elements, symbols, items or nodes).
 #![tactic(auto)]
 
 mod batches;

@@ -16,7 +16,7 @@ pub struct Settings {
     pub repetitions: usize,
     /// The divisor of the sizes.
     pub divisor: usize,
-    /// The one size of structures, instead of the usual ones: of bits, members, symbols, items or nodes. Then
+    /// The one size of structures, instead of the usual ones: of bits, elements, symbols, items or nodes. Then
     /// each has only the first kind of data, and of the series that go over all of it only builds.
     pub size: Option<usize>,
 }

@@ -7,7 +7,7 @@ use crate::lists::bits_of;
 use crate::report::{Report, Timed, asked, or_refused, timed_since};
 use crate::symbols::{Symbols, sorted_build};
 use crate::trees::{Tree, copied, random_bits, tree_of};
-use crate::workload::{NONE, members_uniform, symbols};
+use crate::workload::{NONE, elements_uniform, symbols};
 use std::alloc::{AllocError, Global};
 use std::io;
 use std::time::CpuClock;
@@ -137,22 +137,22 @@ pub fn run_limbs(report: &Report, limbs: &[u64]) -> io::Result<()> {
     )
 }
 
-// Returns the ascending list of members. None of the lists that are measured descends.
-fn sorted_of(alloc: Global, members: &[u64]) -> Result<EliasFanoVec<Global>, AllocError> {
-    if is_ascending(members) {
-        EliasFanoVec::from_slice(alloc, members)
+// Returns the ascending list of elements. None of the lists that are measured descends.
+fn sorted_of(alloc: Global, elements: &[u64]) -> Result<EliasFanoVec<Global>, AllocError> {
+    if is_ascending(elements) {
+        EliasFanoVec::from_slice(alloc, elements)
     } else {
         Err(AllocError)
     }
 }
 
-fn run_members(report: &Report, count: usize) -> io::Result<()> {
-    let members = members_uniform(report.alloc(), count)?;
+fn run_elements(report: &Report, count: usize) -> io::Result<()> {
+    let elements = elements_uniform(report.alloc(), count)?;
     run_list(
         report,
         "EliasFanoVec",
         count,
-        members.as_slice(),
+        elements.as_slice(),
         sorted_of,
         load_from_slice::<EliasFanoVec<Global>, Global>,
     )
@@ -195,10 +195,10 @@ fn run_tree(report: &Report, node_count: usize) -> io::Result<()> {
     asked(report, (), bits, run_parentheses)
 }
 
-/// Runs the series over members, symbols and nodes.
+/// Runs the series over elements, symbols and nodes.
 pub fn run(report: &Report) -> io::Result<()> {
     let count = report.settings.size_or(1_000_000);
-    run_members(report, count)?;
+    run_elements(report, count)?;
     run_symbols(report, count, 8)?;
     run_symbols(report, count, 32)?;
     run_tree(report, count)

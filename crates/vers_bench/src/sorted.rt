@@ -4,37 +4,37 @@ ghost use Rattle.std.specs.List.Sorted.{IsNonDecreasing};
 use crate::report::{Report, asked, bits_per_item};
 use crate::walks::sum_of;
 use crate::workload::{
-    Below, Clustered, Draw, NONE, Questions, Random, members_clustered, members_uniform,
+    Below, Clustered, Draw, NONE, Questions, Random, elements_clustered, elements_uniform,
 };
 use std::alloc::Global;
 use std::io;
 use vers_sorted::elias_fano::EliasFanoVec;
 use vers_sorted::order::is_ascending;
 
-type Members = EliasFanoVec<Global>;
+type Elements = EliasFanoVec<Global>;
 
-fn get(list: &Members, position: &u64) -> u64 {
+fn get(list: &Elements, position: &u64) -> u64 {
     list.get(*position as usize).unwrap_or(NONE)
 }
 
-fn delta(list: &Members, position: &u64) -> u64 {
+fn delta(list: &Elements, position: &u64) -> u64 {
     list.delta(*position as usize).unwrap_or(NONE)
 }
 
-fn rank(list: &Members, value: &u64) -> u64 {
+fn rank(list: &Elements, value: &u64) -> u64 {
     list.rank(*value)
 }
 
-fn predecessor(list: &Members, value: &u64) -> u64 {
+fn predecessor(list: &Elements, value: &u64) -> u64 {
     list.predecessor(*value).unwrap_or(NONE)
 }
 
-fn successor(list: &Members, value: &u64) -> u64 {
+fn successor(list: &Elements, value: &u64) -> u64 {
     list.successor(*value).unwrap_or(NONE)
 }
 
 #[inline(never)]
-fn iter_pass(list: &Members) -> u64 {
+fn iter_pass(list: &Elements) -> u64 {
     sum_of(list.iter())
 }
 
@@ -54,7 +54,7 @@ impl Draw for Asked {
     }
 }
 
-fn run_built(report: &Report, values: Asked, list: &Members) -> io::Result<()> {
+fn run_built(report: &Report, values: Asked, list: &Elements) -> io::Result<()> {
     let len = list.len() as u64;
     report.size("heap_bits_per_item", bits_per_item(list.heap_size(), len))?;
     let positions = Questions::new(values.count, 8, 0, Below(len));
@@ -86,31 +86,31 @@ fn run_kind(report: &Report, kind: &str, numbers: &[u64], values: Asked) -> io::
 }
 
 fn run_uniform(report: &Report, len: usize) -> io::Result<()> {
-    let members = members_uniform(report.alloc(), len)?;
+    let elements = elements_uniform(report.alloc(), len)?;
     let values = Asked {
         first: 0,
-        span: members.last().copied().unwrap_or(0).wrapping_add(1),
+        span: elements.last().copied().unwrap_or(0).wrapping_add(1),
         count: report.query_count(),
     };
-    run_kind(report, "uniform", members.as_slice(), values)
+    run_kind(report, "uniform", elements.as_slice(), values)
 }
 
-// Runs the series over lists with a dense cluster, or with many equal members. They have few queries.
+// Runs the series over lists with a dense cluster, or with many equal elements. They have few queries.
 fn run_clustered(report: &Report, len: usize, are_equal: bool) -> io::Result<()> {
-    let Clustered { members, first } = members_clustered(report.alloc(), len, are_equal)?;
+    let Clustered { elements, first } = elements_clustered(report.alloc(), len, are_equal)?;
     let count = report.settings.scaled(2_000);
-    let members = members.as_slice();
+    let elements = elements.as_slice();
     if are_equal {
         let first = first.wrapping_sub(1);
         let span = 3;
-        run_kind(report, "equal", members, Asked { first, span, count })
+        run_kind(report, "equal", elements, Asked { first, span, count })
     } else {
         let span = (len as u64).saturating_mul(2) / 10;
-        run_kind(report, "cluster", members, Asked { first, span, count })
+        run_kind(report, "cluster", elements, Asked { first, span, count })
     }
 }
 
-/// Runs all series over lists of members: far apart, with many equal ones, and with a dense cluster.
+/// Runs all series over lists of elements: far apart, with many equal ones, and with a dense cluster.
 pub fn run(report: &Report) -> io::Result<()> {
     let settings = report.settings;
     let len = settings.size_or(1_000_000);

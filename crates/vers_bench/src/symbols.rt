@@ -29,18 +29,18 @@ impl Symbols<'_> {
     }
 }
 
-/// A range of positions, and the rank of one of its members by size.
+/// A range of positions, and the rank of one of its elements by size.
 #[derive(Clone, Copy, Drop)]
 pub struct Quantile {
     /// The first position of the range.
     pub from: usize,
     /// The position after the range.
     pub to: usize,
-    /// The rank of the member.
+    /// The rank of the element.
     pub number: usize,
 }
 
-/// The ranges of a list of that many symbols, each with a member.
+/// The ranges of a list of that many symbols, each with an element.
 #[derive(Clone, Copy)]
 pub struct Quantiles(pub u64);
 
@@ -80,18 +80,18 @@ fn select(matrix: &Matrix, rank: &u64, symbol: &u64) -> u64 {
 }
 
 fn kth(matrix: &Matrix, asked: &Quantile) -> u64 {
-    let member = matrix.quantile_u64(asked.from..asked.to, asked.number);
-    member.unwrap_or(NONE)
+    let element = matrix.quantile_u64(asked.from..asked.to, asked.number);
+    element.unwrap_or(NONE)
 }
 
 fn predecessor(matrix: &Matrix, asked: &Quantile, symbol: &u64) -> u64 {
-    let member = matrix.predecessor_u64(asked.from..asked.to, *symbol);
-    member.unwrap_or(NONE)
+    let element = matrix.predecessor_u64(asked.from..asked.to, *symbol);
+    element.unwrap_or(NONE)
 }
 
 fn successor(matrix: &Matrix, asked: &Quantile, symbol: &u64) -> u64 {
-    let member = matrix.successor_u64(asked.from..asked.to, *symbol);
-    member.unwrap_or(NONE)
+    let element = matrix.successor_u64(asked.from..asked.to, *symbol);
+    element.unwrap_or(NONE)
 }
 
 #[inline(never)]

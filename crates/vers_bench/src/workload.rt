@@ -254,16 +254,16 @@ pub fn words(alloc: Global, count: usize, seed: u64) -> Result<Vec<u64>, AllocEr
     Ok(symbols)
 }
 
-/// The gaps between consecutive members: `least` plus a number below `span`.
+/// The gaps between consecutive elements: `least` plus a number below `span`.
 #[derive(Clone, Copy)]
 struct Gaps {
     least: u64,
     span: u64,
 }
 
-// Appends `count` members after `value`, and returns the last.
-fn push_members(
-    members: &mut Vec<u64>,
+// Appends `count` elements after `value`, and returns the last.
+fn push_elements(
+    elements: &mut Vec<u64>,
     mut value: u64,
     count: usize,
     random: &mut Random,
@@ -273,34 +273,34 @@ fn push_members(
         value = value
             .wrapping_add(gaps.least)
             .wrapping_add(random.below(gaps.span));
-        members.push(value)?;
+        elements.push(value)?;
     }
     Ok(value)
 }
 
-// Appends `count` members after `value` with one gap between them, and returns the last.
+// Appends `count` elements after `value` with one gap between them, and returns the last.
 fn push_evenly(
-    members: &mut Vec<u64>,
+    elements: &mut Vec<u64>,
     mut value: u64,
     count: usize,
     gap: u64,
 ) -> Result<u64, AllocError> {
     for _ in 0..count {
         value = value.wrapping_add(gap);
-        members.push(value)?;
+        elements.push(value)?;
     }
     Ok(value)
 }
 
-// Returns `count` ascending members with random gaps.
+// Returns `count` ascending elements with random gaps.
 fn ascending(alloc: Global, count: usize, seed: u64, gaps: Gaps) -> Result<Vec<u64>, AllocError> {
-    let mut members = Vec::with_capacity(alloc, count)?;
-    push_members(&mut members, 0, count, &mut Random::new(seed), gaps)?;
-    Ok(members)
+    let mut elements = Vec::with_capacity(alloc, count)?;
+    push_elements(&mut elements, 0, count, &mut Random::new(seed), gaps)?;
+    Ok(elements)
 }
 
-/// Returns ascending members with gaps below 2^20.
-pub fn members_uniform(alloc: Global, count: usize) -> Result<Vec<u64>, AllocError> {
+/// Returns ascending elements with gaps below 2^20.
+pub fn elements_uniform(alloc: Global, count: usize) -> Result<Vec<u64>, AllocError> {
     let gaps = Gaps {
         least: 0,
         span: 1 << 20,
@@ -317,11 +317,11 @@ pub fn documents(alloc: Global, count: usize) -> Result<Vec<u64>, AllocError> {
     ascending(alloc, count, 12, gaps)
 }
 
-/// Members with gaps below 2^40, but for a tenth of them in the middle, which are close together.
+/// Elements with gaps below 2^40, but for a tenth of them in the middle, which are close together.
 #[derive(Drop)]
 pub struct Clustered {
-    /// All members.
-    pub members: Vec<u64>,
+    /// All elements.
+    pub elements: Vec<u64>,
     /// The value at which the close ones begin.
     pub first: u64,
 }
@@ -331,63 +331,63 @@ const FAR: Gaps = Gaps {
     span: 1 << 40,
 };
 
-// Appends `count` members after `value` that are equal or 1 to 3 apart, and returns the last.
+// Appends `count` elements after `value` that are equal or 1 to 3 apart, and returns the last.
 fn push_close(
-    members: &mut Vec<u64>,
+    elements: &mut Vec<u64>,
     value: u64,
     count: usize,
     random: &mut Random,
     are_equal: bool,
 ) -> Result<u64, AllocError> {
     if are_equal {
-        push_evenly(members, value, count, 0)
+        push_evenly(elements, value, count, 0)
     } else {
-        push_members(members, value, count, random, Gaps { least: 1, span: 3 })
+        push_elements(elements, value, count, random, Gaps { least: 1, span: 3 })
     }
 }
 
-// Appends eight members after `value`, 100 apart, then the close ones, then eight more. Returns the value at
+// Appends eight elements after `value`, 100 apart, then the close ones, then eight more. Returns the value at
 // which the close ones begin, and the last.
 fn push_cluster(
-    members: &mut Vec<u64>,
+    elements: &mut Vec<u64>,
     value: u64,
     count: usize,
     random: &mut Random,
     are_equal: bool,
 ) -> Result<Ends, AllocError> {
-    let first = push_evenly(members, value, 8, 100)?.wrapping_add(1000);
-    let close = push_close(members, first, count, random, are_equal)?;
-    let last = push_evenly(members, close, 8, 100)?;
+    let first = push_evenly(elements, value, 8, 100)?.wrapping_add(1000);
+    let close = push_close(elements, first, count, random, are_equal)?;
+    let last = push_evenly(elements, close, 8, 100)?;
     Ok(Ends { first, last })
 }
 
-// Does the same amid `far` members with wide gaps.
+// Does the same amid `far` elements with wide gaps.
 fn push_clustered(
-    members: &mut Vec<u64>,
+    elements: &mut Vec<u64>,
     far: usize,
     close: usize,
     are_equal: bool,
 ) -> Result<u64, AllocError> {
     let mut random = Random::new(3);
-    let before = push_members(members, 0, far / 2, &mut random, FAR)?;
+    let before = push_elements(elements, 0, far / 2, &mut random, FAR)?;
     let value = before.wrapping_add(random.below(FAR.span));
-    let Ends { first, last } = push_cluster(members, value, close, &mut random, are_equal)?;
-    push_members(members, last, far - far / 2, &mut random, FAR)?;
+    let Ends { first, last } = push_cluster(elements, value, close, &mut random, are_equal)?;
+    push_elements(elements, last, far - far / 2, &mut random, FAR)?;
     Ok(first)
 }
 
-/// Returns `count` members: in their middle eight, then a tenth of all that are equal or 1 to 3 apart, then
+/// Returns `count` elements: in their middle eight, then a tenth of all that are equal or 1 to 3 apart, then
 /// eight more.
-pub fn members_clustered(
+pub fn elements_clustered(
     alloc: Global,
     count: usize,
     are_equal: bool,
 ) -> Result<Clustered, AllocError> {
     let close = count / 10;
     let far = count.saturating_sub(close).saturating_sub(16);
-    let mut members = Vec::with_capacity(alloc, count)?;
-    let first = push_clustered(&mut members, far, close, are_equal)?;
-    Ok(Clustered { members, first })
+    let mut elements = Vec::with_capacity(alloc, count)?;
+    let first = push_clustered(&mut elements, far, close, are_equal)?;
+    Ok(Clustered { elements, first })
 }
 
 /// Returns a list of a thousandth as many documents, each drawn at random from a range of equal length of

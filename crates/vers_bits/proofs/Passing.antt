@@ -1,4 +1,4 @@
--- The first members of a list, where they and no others pass a test.
+-- The first elements of a list, where they and no others pass a test.
 use Rattle.vers_bits.proofs.Names.{◌≡◌, ℕ, zero, suc, ◌<◌, Bool, true, cond, List, [], ◌∷◌, length, get_or, arith, cases_Bool, count_by, sum_by-cons, count_by-le-length, nat_tests, ltb, AllPairs}
 
 -- an item more before those of which it is known
@@ -7,7 +7,7 @@ step : (p : ℕ → Bool) (x : ℕ) (xs : List ℕ) → ((j : ℕ) → j < lengt
 step p x xs down rest zero inside = grind (arith, nat_tests, cases_Bool (p x), sum_by-cons (λ y. cond (p y) 1 0) x xs, count_by-le-length p xs, down 0, rest 0)
 step p x xs down rest (suc k) inside = grind (arith, nat_tests, cases_Bool (p x), sum_by-cons (λ y. cond (p y) 1 0) x xs, down k, rest k)
 
--- a test that no member passes after one that fails is passed by the first members, as many as it counts
+-- a test that no element passes after one that fails is passed by the first elements, as many as it counts
 pub passes_first : (p : ℕ → Bool) (xs : List ℕ) → AllPairs (λ x y. p y ≡ true → p x ≡ true) xs → (k : ℕ) → k < length xs → p (get_or xs k 0) ≡ ltb k (count_by p xs)
 passes_first p [] down k inside = absurd (omega arith)
 passes_first p (x ∷ xs) down k inside =

@@ -166,7 +166,7 @@ low_bits-add = LowBits.low_bits-add
 pub any_default : {X : Type 0} (xs : List X) (i : ℕ) (d e : X) → i < length xs → get_or xs i d ≡ get_or xs i e
 any_default = get_or_default
 
--- a test that no member passes after one that fails is passed by the first members, as many as it counts
+-- a test that no element passes after one that fails is passed by the first elements, as many as it counts
 pub passes_first : (p : ℕ → Bool) (xs : List ℕ) → AllPairs (λ x y. p y ≡ true → p x ≡ true) xs → (k : ℕ) → k < length xs → p (get_or xs k 0) ≡ ltb k (count_by p xs)
 passes_first = Passing.passes_first
 
@@ -305,8 +305,8 @@ pub length-packed : {X : Type 0} (f : X → ℕ) (k : ℕ) (xs : List X) → len
 length-packed f k xs = Growing.length-packed f k xs
 
 -- element e of a packed list has the low bits of item e
-pub element : (items : List ℕ) (k e : ℕ) → e < length items → take k (drop (e * k) (pack items k)) ≡ low_bits (get_or items e 0) k
-element = Packed.element
+pub element_in_pack : (items : List ℕ) (k e : ℕ) → e < length items → take k (drop (e * k) (pack items k)) ≡ low_bits (get_or items e 0) k
+element_in_pack = Packed.element_in_pack
 
 -- the low bits of the number of some bits are the bits
 pub low_bits_of_part : (bits : List Bool) (p n : ℕ) → p + n ≤ length bits → low_bits (number (take n (drop p bits))) n ≡ take n (drop p bits)

@@ -21,7 +21,7 @@ pub use Rattle.vers_sorted.specs.Ones.{ones_at}
 pub use Rattle.vers_sorted.specs.Sorted.{below, greatest_not_above, least_not_below}
 pub use Rattle.vers_wavelet.specs.Numbers.{low_bits_of, position_from, positions_of, rank_before}
 pub use Rattle.vers_wavelet.specs.Symbols.{Symbols, by_size, occurrences}
-unfoldable pub use Rattle.vers_wavelet.specs.Symbols.{as_word, kth_by_size, range_members}
+unfoldable pub use Rattle.vers_wavelet.specs.Symbols.{as_word, kth_by_size, range_elements}
 pub use base.Fml.{flft, fsep, ftrue}
 pub use base.Logic.{SProp, emp, ent, fst∗, id⊢, never}
 pub use borrow.Rule.Slice.PartMut.{put_mid}

@@ -8,12 +8,12 @@ use Rattle.vers_sorted.specs.Ones.{ones_at}
 use Rattle.vers_sorted.specs.Sorted.{each_next}
 use Rattle.vers_wavelet.specs.Makers.{low_symbols}
 use Rattle.vers_c.specs.Answers.{IsReportedAs}
-use Rattle.catalogue.specs.Structures.{Content, SparseBits, SortedMembers, SymbolList, Documents, DocumentLists}
+use Rattle.catalogue.specs.Structures.{Content, SparseBits, SortedElements, SymbolList, Documents, DocumentLists}
 use Rattle.vers_c.specs.declared.status.TheConstants.{DONE, OCCUPIED, REFUSED, VACANT}
 
 -- of numbers, which have to ascend
 abbrev pub sorted_made : List ℕ → Option Content
-sorted_made numbers = if each_next nat_le numbers then Some (SortedMembers numbers) else None
+sorted_made numbers = if each_next nat_le numbers then Some (SortedElements numbers) else None
 
 -- from the positions of ones, which have to ascend strictly and to be less than the length
 abbrev pub sparse_made : List ℕ → ℕ → Option Content

@@ -5,14 +5,14 @@ ghost use Rattle.vers_c.specs.Batches.{asked, answered_row};
 ghost use Rattle.catalogue.specs.declared.answer.Answer.{Answer};
 
 mod bits;
-mod members;
+mod elements;
 mod symbols;
 mod values;
 
 use crate::asked::{Ask, Row};
 pub use bits::each_of_bits;
 use catalogue::answer::Answer;
-pub use members::each_of_members;
+pub use elements::each_of_elements;
 use std::alloc::Global;
 pub use symbols::each_of_symbols;
 pub use values::each_of_values;

@@ -91,7 +91,7 @@ pub extern "C" fn vers_sorted_build(alloc: Global, numbers: &[u64], handle: &mut
         return REFUSED;
     }
     match EliasFanoVec::from_slice(alloc, numbers) {
-        Ok(members) => fill(alloc, handle, Kept::Other(Structure::Sorted(members))),
+        Ok(elements) => fill(alloc, handle, Kept::Other(Structure::Sorted(elements))),
         Err(_) => NO_MEMORY,
     }
 }

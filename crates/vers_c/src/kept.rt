@@ -10,7 +10,7 @@ ghost use Rattle.vers_c.specs.Texts.{first_pattern_positions, pattern_count, pat
 ghost use Rattle.vers_c.specs.Structures.{content};
 
 use crate::asked::{Row, answer_each};
-use crate::batch::{each_of_bits, each_of_members, each_of_symbols, each_of_values};
+use crate::batch::{each_of_bits, each_of_elements, each_of_symbols, each_of_values};
 use crate::change::Change;
 use crate::makes::Parentheses;
 use crate::status::{DONE, UNKNOWN};
@@ -69,7 +69,7 @@ pub fn answer_as(kept: &Kept, kind: Kind, query: Query, a: u64, b: u64, c: u64) 
             _ => kept.answer(query, a, b, c),
         },
         Kind::Sorted => match kept {
-            Kept::Other(Structure::Sorted(members)) => members.answer(query, a, b, c),
+            Kept::Other(Structure::Sorted(elements)) => elements.answer(query, a, b, c),
             _ => kept.answer(query, a, b, c),
         },
         Kind::Symbols => match kept {
@@ -132,7 +132,7 @@ fn each_other<R: Row>(
 {
     match structure {
         Structure::Bits(bits) => each_of_bits(bits, query, rows, b, c, other),
-        Structure::Sorted(members) => each_of_members(members, query, rows, b, c, other),
+        Structure::Sorted(elements) => each_of_elements(elements, query, rows, b, c, other),
         Structure::Symbols(symbols) => each_of_symbols(alloc, symbols, query, rows, b, c, other),
         Structure::Fast(values) => each_of_values(values, query, rows, b, c, other),
         _ => with_list!(structure, list => answer_each(list, query, rows, b, c, other)),

@@ -105,7 +105,7 @@ pub extern "C" fn vers_quick_bits_select1(
     ask_as(alloc, handle, Kind::Bits, Query::Select1, number, 0, 0)
 }
 
-/// Returns the member at a position, fastest for ascending lists.
+/// Returns the element at a position, fastest for ascending lists.
 #[unsafe(no_mangle)]
 pub extern "C" fn vers_quick_sorted_get(
     alloc: Global,
@@ -118,7 +118,7 @@ pub extern "C" fn vers_quick_sorted_get(
     ask_as(alloc, handle, Kind::Sorted, Query::Get, position, 0, 0)
 }
 
-/// Returns the number of members below a number, fastest for ascending lists.
+/// Returns the number of elements below a number, fastest for ascending lists.
 #[unsafe(no_mangle)]
 pub extern "C" fn vers_quick_sorted_rank(
     alloc: Global,
@@ -131,7 +131,7 @@ pub extern "C" fn vers_quick_sorted_rank(
     ask_as(alloc, handle, Kind::Sorted, Query::Rank, number, 0, 0)
 }
 
-/// Returns the greatest member that is at most a number, fastest for ascending lists.
+/// Returns the greatest element that is at most a number, fastest for ascending lists.
 #[unsafe(no_mangle)]
 pub extern "C" fn vers_quick_sorted_predecessor(
     alloc: Global,
@@ -152,7 +152,7 @@ pub extern "C" fn vers_quick_sorted_predecessor(
     )
 }
 
-/// Returns the least member that is at least a number, fastest for ascending lists.
+/// Returns the least element that is at least a number, fastest for ascending lists.
 #[unsafe(no_mangle)]
 pub extern "C" fn vers_quick_sorted_successor(
     alloc: Global,

@@ -4,7 +4,7 @@ use Rattle.vers_words.specs.Arguments.{bits_of, all_numbers}
 use Rattle.vers_words.specs.Loading.{map_loading}
 use Rattle.vers_words.specs.declared.loading.Loading.{Loading}
 use Rattle.vers_words.specs.declared.loading.Loading.TheVariants.{Malformed, Inadmissible, Accepted}
-use Rattle.catalogue.specs.Structures.{Content, IndexedBits, SparseBits, SortedMembers, SymbolList, Parentheses, BlockValues, Documents, DocumentLists, content_of, length_of}
+use Rattle.catalogue.specs.Structures.{Content, IndexedBits, SparseBits, SortedElements, SymbolList, Parentheses, BlockValues, Documents, DocumentLists, content_of, length_of}
 use Rattle.vers_cli.specs.declared.held.Held.{Held}
 use Rattle.vers_cli.specs.declared.held.Held.TheVariants as held
 use Rattle.vers_cli.specs.declared.name.Load.{Load}
@@ -28,7 +28,7 @@ length_held (Some content) = length_of content
 -- the result of a load line
 abbrev pub loaded : Load → List (List ℕ) → Loading Content
 loaded load.Bits arguments = map_loading IndexedBits (bits_loaded (bits_of arguments))
-loaded load.Sorted arguments = map_loading SortedMembers (sorted_loaded (all_numbers arguments))
+loaded load.Sorted arguments = map_loading SortedElements (sorted_loaded (all_numbers arguments))
 loaded load.Sparse arguments = map_loading SparseBits (sparse_loaded (all_numbers arguments))
 loaded load.Values arguments = map_loading BlockValues (values_loaded (all_numbers arguments))
 loaded load.Tree arguments = map_loading Parentheses (tree_loaded (bits_of arguments))

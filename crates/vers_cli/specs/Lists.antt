@@ -9,7 +9,7 @@ use Rattle.vers_trees.specs.Nodes.{children, subtree}
 use Rattle.vers_trees.specs.Traversals.{postorder, subtree_post}
 use Rattle.vers_wavelet.specs.Symbols.{Symbols, by_size}
 use Rattle.vers_words.specs.Reply.{PlainReply, WrongStructure, Refused, Absent, Numbers}
-use Rattle.catalogue.specs.Structures.{Content, SparseBits, SortedMembers, SymbolList, Parentheses, Documents, DocumentLists}
+use Rattle.catalogue.specs.Structures.{Content, SparseBits, SortedElements, SymbolList, Parentheses, Documents, DocumentLists}
 use Rattle.catalogue.specs.Joined.{joined}
 use Rattle.catalogue.specs.declared.documents.Joint.{Joint}
 use Rattle.vers_cli.specs.declared.name.Listing.{Listing}
@@ -28,7 +28,7 @@ if_numbers symbols numbers = if nat_le symbols.width 64 then Numbers numbers els
 
 -- a list of all items of a structure, or of all nodes
 abbrev pub all_reply : Content → Listing → PlainReply
-all_reply (SortedMembers members) Items = Numbers members
+all_reply (SortedElements elements) Items = Numbers elements
 all_reply (SparseBits bits) Items = Numbers (positions true bits)
 all_reply (SymbolList symbols) Items = if_numbers symbols symbols.items
 all_reply (SymbolList symbols) BySize = if_numbers symbols (by_size symbols.items)

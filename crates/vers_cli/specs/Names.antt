@@ -1,7 +1,7 @@
 -- The names of lines.
 use Rattle.std.specs.Prelude.{ℕ, Bool, ◌||◌, List, [], map, Option, None, is_some}
 use Rattle.vers_words.specs.Names.{named}
-use Rattle.catalogue.specs.Structures.{Content, IndexedBits, SparseBits, SortedMembers, SymbolList, Parentheses, BlockValues, Documents, DocumentLists}
+use Rattle.catalogue.specs.Structures.{Content, IndexedBits, SparseBits, SortedElements, SymbolList, Parentheses, BlockValues, Documents, DocumentLists}
 use Rattle.vers_cli.specs.declared.name.Line.{Line}
 use Rattle.vers_cli.specs.declared.name.Load.{Load}
 use Rattle.vers_cli.specs.declared.name.TheConstants.{LOADS, BITS_LINES, SORTED_LINES, SPARSE_LINES, VALUES_LINES, TREE_LINES, SYMBOLS_LINES, POSTINGS_LINES, INVERTED_LINES}
@@ -17,7 +17,7 @@ load_of = found_in LOADS
 -- the query line of a structure that begins with a word; the program makes none of the others
 abbrev pub line_of : Content → List ℕ → Option Line
 line_of (IndexedBits bits) = found_in BITS_LINES
-line_of (SortedMembers members) = found_in SORTED_LINES
+line_of (SortedElements elements) = found_in SORTED_LINES
 line_of (SparseBits bits) = found_in SPARSE_LINES
 line_of (BlockValues values) = found_in VALUES_LINES
 line_of (Parentheses bits) = found_in TREE_LINES

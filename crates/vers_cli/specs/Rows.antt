@@ -2,9 +2,9 @@
 use Rattle.std.specs.Prelude.{◌≡◌, ℕ, ◌++◌, true, false, List, [], ◌∷◌, codes, Some, None, refl}
 use Rattle.std.specs.Fmt.{digits}
 use Rattle.vers_bits.specs.Bits.{count, positions, select}
-use Rattle.vers_sorted.specs.Sorted.{is_member, below, least_not_below}
+use Rattle.vers_sorted.specs.Sorted.{is_element, below, least_not_below}
 use Rattle.vers_sorted.specs.Ones.{ones_at}
-use Rattle.vers_wavelet.specs.Symbols.{occurrences, range_members, kth_by_size, greatest_up_to, least_from, as_word}
+use Rattle.vers_wavelet.specs.Symbols.{occurrences, range_elements, kth_by_size, greatest_up_to, least_from, as_word}
 use Rattle.vers_wavelet.specs.Makers.{low_symbols}
 use Rattle.vers_trees.specs.Excess.{excess, first_rise_after, last_rise_before, enclosing}
 use Rattle.vers_trees.specs.Forest.{forest_of}
@@ -16,7 +16,7 @@ use Rattle.vers_trees.specs.declared.trees.bp.relatives.LevelEnd.TheVariants.{Ri
 use Rattle.vers_words.specs.Text.{number_of, signed_number_of}
 use Rattle.vers_engine.specs.Lines.{lines_of}
 use Rattle.vers_engine.specs.Replies.{answer_to_parts, holding_after_parts}
-use Rattle.catalogue.specs.Structures.{IndexedBits, SparseBits, SortedMembers, SymbolList, Parentheses, BlockValues, Documents, DocumentLists}
+use Rattle.catalogue.specs.Structures.{IndexedBits, SparseBits, SortedElements, SymbolList, Parentheses, BlockValues, Documents, DocumentLists}
 use Rattle.inverted.specs.Makers.{lists_from}
 use Rattle.vers_cli.specs.Holding.{Holding}
 use Rattle.vers_cli.specs.Loads.{pairs_of, posted_of}
@@ -28,7 +28,7 @@ ended text = text ++ 10 ∷ []
 
 -- the current structure: the elements 4, 4 and 9
 abbrev held_449 : Holding
-held_449 = Some (SortedMembers (4 ∷ 4 ∷ 9 ∷ []))
+held_449 = Some (SortedElements (4 ∷ 4 ∷ 9 ∷ []))
 
 -- values of which some are equal
 abbrev values_31211 : List ℕ
@@ -81,7 +81,7 @@ pub answer-malformed : answer_to held_0110 (codes "rank1 x") ≡ ended (codes "b
 unfolding answer_to_parts number_of
 answer-malformed = refl
 
--- an ascending list may have equal members, and a sparse list takes each position once
+-- an ascending list may have equal elements, and a sparse list takes each position once
 pub answer-sorted_449 : answer_to None (codes "sorted 4 4 9") ≡ ended (codes "3")
 unfolding answer_to_parts number_of digits
 answer-sorted_449 = refl
@@ -99,7 +99,7 @@ pub answer-iter : answer_to held_449 (codes "iter") ≡ ended (codes "4 4 9")
 unfolding answer_to_parts digits
 answer-iter = refl
 
-pub answer-iter_none : answer_to (Some (SortedMembers [])) (codes "iter") ≡ ended []
+pub answer-iter_none : answer_to (Some (SortedElements [])) (codes "iter") ≡ ended []
 unfolding answer_to_parts
 answer-iter_none = refl
 
@@ -109,7 +109,7 @@ unfolding answer_to_parts
 answer-rank1_of_sorted = refl
 
 pub held-sparse_5_13 : holding_after None (codes "sparse 5 1 3") ≡ Some (SparseBits (false ∷ true ∷ false ∷ true ∷ false ∷ []))
-unfolding holding_after_parts number_of ones_at is_member
+unfolding holding_after_parts number_of ones_at is_element
 held-sparse_5_13 = refl
 
 -- a position that is not below the length, and a line without a length
@@ -221,15 +221,15 @@ unfolding answer_to_parts number_of occurrences digits as_word
 answer-select_u64_0_3 = refl
 
 pub answer-predecessor_u64_4 : answer_to held_153 (codes "predecessor_u64 0 3 4") ≡ ended (codes "3")
-unfolding answer_to_parts number_of range_members greatest_up_to digits as_word
+unfolding answer_to_parts number_of range_elements greatest_up_to digits as_word
 answer-predecessor_u64_4 = refl
 
 pub answer-successor_u64_4 : answer_to held_153 (codes "successor_u64 0 3 4") ≡ ended (codes "5")
-unfolding answer_to_parts number_of range_members least_from digits as_word
+unfolding answer_to_parts number_of range_elements least_from digits as_word
 answer-successor_u64_4 = refl
 
 pub answer-range_median_u64_0_2 : answer_to held_153 (codes "range_median_u64 0 2") ≡ ended (codes "1")
-unfolding answer_to_parts number_of range_members kth_by_size digits as_word
+unfolding answer_to_parts number_of range_elements kth_by_size digits as_word
 answer-range_median_u64_0_2 = refl
 
 -- a range that begins past the last position, and one that ends before it begins
@@ -238,7 +238,7 @@ unfolding answer_to_parts number_of as_word
 answer-rank_range_u64_3_3 = refl
 
 pub answer-range_max_u64_3_2 : answer_to held_153 (codes "range_max_u64 3 2") ≡ ended (codes "none")
-unfolding answer_to_parts number_of range_members kth_by_size as_word
+unfolding answer_to_parts number_of range_elements kth_by_size as_word
 answer-range_max_u64_3_2 = refl
 
 -- the nodes of a forest
@@ -311,7 +311,7 @@ unfolding holding_after_parts number_of
 held-postings = refl
 
 pub answer-contains_6 : answer_to held_postings (codes "contains 6") ≡ ended (codes "0")
-unfolding answer_to_parts number_of is_member digits
+unfolding answer_to_parts number_of is_element digits
 answer-contains_6 = refl
 
 pub answer-next_6 : answer_to held_postings (codes "next 6") ≡ ended (codes "9")
@@ -323,7 +323,7 @@ unfolding answer_to_parts number_of cheapest positions_of_range first_least_of c
 answer-cheapest_6_12 = refl
 
 pub answer-intersect : answer_to held_postings (codes "intersect 5 6 12 40") ≡ ended (codes "5 12")
-unfolding answer_to_parts number_of common is_member digits
+unfolding answer_to_parts number_of common is_element digits
 answer-intersect = refl
 
 -- documents that don't ascend strictly are refused, and a document without a cost is malformed
@@ -367,15 +367,15 @@ unfolding answer_to_parts number_of digits
 answer-documents_0 = refl
 
 pub answer-and_0_2 : answer_to held_index (codes "and 0 2") ≡ ended (codes "3")
-unfolding answer_to_parts number_of is_member digits
+unfolding answer_to_parts number_of is_element digits
 answer-and_0_2 = refl
 
 pub answer-or_0_2 : answer_to held_index (codes "or 0 2") ≡ ended (codes "3 5 7")
-unfolding answer_to_parts number_of is_member digits
+unfolding answer_to_parts number_of is_element digits
 answer-or_0_2 = refl
 
 pub answer-without_0_2 : answer_to held_index (codes "without 0 2") ≡ ended (codes "7")
-unfolding answer_to_parts number_of is_member digits
+unfolding answer_to_parts number_of is_element digits
 answer-without_0_2 = refl
 
 -- pairs that don't ascend, or are not below their limits, are refused, and a term without a document is malformed

@@ -1,7 +1,7 @@
 //! The replies that are lists.
 ghost use Rattle.std.specs.Prelude.{◌≡◌, ℕ, List, true, unwrap_or, option_map, IfOk, IsErr, MatchResult};
 ghost use Rattle.std.specs.Iterator.{Drains, IsFinite};
-ghost use Rattle.catalogue.specs.Structures.{content_of, Documents, Parentheses, SortedMembers, SymbolList};
+ghost use Rattle.catalogue.specs.Structures.{content_of, Documents, Parentheses, SortedElements, SymbolList};
 ghost use Rattle.postings.specs.Posted.{common};
 ghost use Rattle.vers_bits.specs.Bits.{positions};
 ghost use Rattle.vers_trees.specs.Forest.{IsBalanced, forest_of};
@@ -31,8 +31,8 @@ pub fn all_reply<A: Allocator + Copy>(
         plain_reply reply ≡ reply_of_all (content_of structure.now) listing) }
 {
     match structure {
-        Structure::Sorted(members) => match listing {
-            Listing::Items => numbers_reply(alloc, members.iter()),
+        Structure::Sorted(elements) => match listing {
+            Listing::Items => numbers_reply(alloc, elements.iter()),
             Listing::BySize | Listing::Postorder => Ok(Reply::WrongStructure),
         },
         Structure::Sparse(bits) => match listing {

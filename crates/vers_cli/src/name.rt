@@ -53,7 +53,7 @@ pub enum Written {
 /// A list of all items or nodes.
 #[derive(Clone, Copy, Drop)]
 pub enum Listing {
-    /// The members, the symbols, the positions of ones, or the nodes in preorder.
+    /// The elements, the symbols, the positions of ones, or the nodes in preorder.
     Items,
     /// The symbols in ascending order.
     BySize,

@@ -93,7 +93,7 @@ impl Numbers for LineNumbers<'_> {
 
 /// Returns the list of the numbers of a line, parsed from its text. Precondition: they ascend. Errors:
 /// `AllocError` if the allocator refuses a request.
-pub fn members_of<A: Allocator + Copy>(
+pub fn elements_of<A: Allocator + Copy>(
     alloc: A,
     arguments: &[u8],
     rise: Rise,
@@ -101,7 +101,7 @@ pub fn members_of<A: Allocator + Copy>(
     requires ascending { IsNonDecreasing (first_numbers (words_in arguments.now)) }
     requires len { rise.len ≡ length (first_numbers (words_in arguments.now)) }
     requires last { rise.last ≡ last_of (first_numbers (words_in arguments.now)) }
-    ensures { IfOk result (λ members. members ≡ first_numbers (words_in arguments.now)) }
+    ensures { IfOk result (λ elements. elements ≡ first_numbers (words_in arguments.now)) }
 {
     // A line of more numbers needs more memory than there can be.
     if rise.len > MAX_LEN {
@@ -131,8 +131,8 @@ pub fn load<'a, A: Allocator + Copy>(
         }
         return Ok(Loading::Inadmissible);
     };
-    match members_of(*alloc, arguments, rise) {
-        Ok(members) => Ok(Loading::Accepted(Structure::Sorted(members))),
+    match elements_of(*alloc, arguments, rise) {
+        Ok(elements) => Ok(Loading::Accepted(Structure::Sorted(elements))),
         Err(error) => Err(error),
     }
 }

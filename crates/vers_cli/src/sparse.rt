@@ -8,7 +8,7 @@ ghost use Rattle.vers_cli.specs.Holding.{loaded, is_accepted as accepts};
 ghost use Rattle.vers_cli.specs.Loads.{sparse_loaded};
 
 use crate::name::Load;
-use crate::sorted::{members_of, rise_of};
+use crate::sorted::{elements_of, rise_of};
 use catalogue::structure::Structure;
 use std::alloc::{AllocError, Allocator};
 use vers_sorted::sparse::SparseRSVec;
@@ -56,7 +56,7 @@ pub fn load<'a, A: Allocator + Copy>(
     if !rise.is_below(len) {
         return Ok(Loading::Inadmissible);
     }
-    match members_of(*alloc, positions, rise) {
+    match elements_of(*alloc, positions, rise) {
         Ok(ones) => Ok(Loading::Accepted(Structure::Sparse(SparseRSVec::from_sorted(ones, len)))),
         Err(error) => Err(error),
     }

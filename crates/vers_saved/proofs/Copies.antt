@@ -1,5 +1,5 @@
 -- Words that are copied one after another.
-use Rattle.vers_saved.proofs.Names.{◌≡◌, ℕ, ◌+◌, ◌-◌, ◌<◌, ◌≤◌, List, ◌++◌, length, get_or, take, drop, Option, Some, None, sym, ap, ◌∙◌, inl, inr, arith, slice_get, unwrap_or, cases_lt, same_lists, length-take, length-drop, get_or-take, get_or-drop, get_or_append_left, get_or-append_right, drop-drop, slice_get-get_or, slice_get_past, positions}
+use Rattle.vers_saved.proofs.Names.{◌≡◌, ℕ, ◌+◌, ◌-◌, ◌<◌, ◌≤◌, List, ◌++◌, length, get_or, take, drop, Option, Some, None, sym, ap, ◌∙◌, inl, inr, arith, slice_get, unwrap_or, cases_lt, same_lists, length-take, length-drop, get_or-take, get_or-drop, get_or_append_left, get_or-append_right, drop-drop, slice_get-get_or, slice_get_past, places}
 use Rattle.std.proofs.Common.{set}
 use Rattle.std.proofs.lemmas.List.{get_or-set_other, get_or-set_same}
 
@@ -10,7 +10,7 @@ copied words out from n long few each =
     same_lists out (take n (drop from words)) (omega (arith, long, length-take n (drop from words), length-drop from words)) (λ k d small.
     let here : get_or out k 0 ≡ get_or (take n (drop from words)) k 0 =
     each k (omega (arith, long)) ∙ sym (get_or-take n (drop from words) k 0 (omega (arith, long)) ∙ get_or-drop from words k 0) in
-    grind (arith, positions))
+    grind (arith, places))
 
 -- one word more is copied
 pub one_more : (words out : List ℕ) (from k x : ℕ) → k < length out → ((j : ℕ) → j < k → get_or out j 0 ≡ get_or words (from + j) 0) → x ≡ get_or words (from + k) 0

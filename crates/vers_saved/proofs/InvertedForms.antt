@@ -16,7 +16,7 @@ use Rattle.vers_saved.specs.inside.Telling.{sorted_tell}
 use Rattle.vers_saved.proofs.WordBytes.{AreWords}
 use Rattle.vers_saved.proofs.Shapes.{as_many, bounds_are, refuted, within_bounds}
 use Rattle.vers_saved.proofs.SortedParts.{are_own, length-sorted, own_decoded}
-use Rattle.vers_saved.proofs.SortedForms.{members_fit, of_sparse, sparse_tested}
+use Rattle.vers_saved.proofs.SortedForms.{elements_fit, of_sparse, sparse_tested}
 use Rattle.vers_saved.proofs.WordLists.{whole_numbers}
 
 up : (ns : List ℕ) → IsStrictlyIncreasing ns → IsNonDecreasing ns
@@ -52,7 +52,7 @@ module _ (index : Lists) (is : IsOfNumbers index) where
   ]
 
   pub whole_index : length (inverted_words index) ≤ 288230376151711743 → IsWhole INVERTED_LISTS (length (inverted_words index)) 64 (inverted_words index)
-  whole_index few = whole_inverted (omega (arith, few)) (members_fit index.numbers numbers_fit (omega (arith, few)))
+  whole_index few = whole_inverted (omega (arith, few)) (elements_fit index.numbers numbers_fit (omega (arith, few)))
 
 from_two : (k : ℕ) → (k ≡ 0 → ⊥) → (k ≡ 1 → ⊥) → 2 + (k - 2) ≡ k
 from_two zero some more = absurd (some refl)

@@ -1,5 +1,5 @@
 -- The limbs of bits that were made of limbs.
-use Rattle.vers_saved.proofs.Names.{◌≡◌, ℕ, ◌+◌, ◌-◌, ◌*◌, ◌%◌, ◌^◌, ◌<◌, ◌≤◌, Bool, List, length, get_or, take, drop, sym, ap, ◌∙◌, inl, inr, arith, cases_lt, cases_eq, get_or_past, same_lists, take-take, take_all, drop-take, length-take, length-drop, pow_pos, mod-eq_of_lt, number, low_bits, limb, limbs, limb_count, pack, number-low_bits, number_below, number-take, length-limbs, length-packed, get_or-limbs, EndsPadded, positions, element}
+use Rattle.vers_saved.proofs.Names.{◌≡◌, ℕ, ◌+◌, ◌-◌, ◌*◌, ◌%◌, ◌^◌, ◌<◌, ◌≤◌, Bool, List, length, get_or, take, drop, sym, ap, ◌∙◌, inl, inr, arith, cases_lt, cases_eq, get_or_past, same_lists, take-take, take_all, drop-take, length-take, length-drop, pow_pos, mod-eq_of_lt, number, low_bits, limb, limbs, limb_count, pack, number-low_bits, number_below, number-take, length-limbs, length-packed, get_or-limbs, EndsPadded, places, element_in_pack}
 use Rattle.vers_saved.proofs.WordBytes.{AreWords}
 
 pub length-pack : (ws : List ℕ) → length (pack ws 64) ≡ 64 * length ws
@@ -24,7 +24,7 @@ limb-first ws n k inside from h small =
     let whole : 64 * k + (n - 64 * k) ≡ n = omega arith in
     let position : k * 64 ≡ 64 * k = omega arith in
     ap (λ l. number (take 64 l)) (sym (ap (λ m. drop (64 * k) (take m (pack ws 64))) whole) ∙ drop-take (64 * k) (n - 64 * k) (pack ws 64))
-    ∙ first_limb (get_or ws k 0) (n - 64 * k) (drop (64 * k) (pack ws 64)) (rw position at (element ws 64 k inside)) h small
+    ∙ first_limb (get_or ws k 0) (n - 64 * k) (drop (64 * k) (pack ws 64)) (rw position at (element_in_pack ws 64 k inside)) h small
 
 pub ends_small : (ws : List ℕ) (n k : ℕ) → k < limb_count n → EndsPadded n ws → n - 64 * k < 64 → get_or ws k 0 < 2 ^ (n - 64 * k)
 ends_small ws n k h (inl whole) few = absurd (omega arith)
@@ -46,7 +46,7 @@ limbs-first ws n e h padded =
     let inside : k < length ws = omega (arith, length-limbs l) in
     let here : get_or (limbs l) k 0 ≡ get_or ws k 0 =
     get_or-limbs l k (omega arith) ∙ limb-first ws n k inside (omega arith) (h k) (ends_small ws n k (omega arith) padded) in
-    grind (arith, positions))
+    grind (arith, places))
 
 -- the limbs of a list are words, and end padded
 pub limbs_fit : (l : List Bool) → AreWords (limbs l)

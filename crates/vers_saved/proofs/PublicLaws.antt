@@ -11,7 +11,7 @@ use Rattle.vers_saved.proofs.Versions.{none_named}
 use Rattle.vers_saved.proofs.Shapes as Shapes
 use Rattle.vers_saved.proofs.BitLists.{whole_limbs}
 use Rattle.vers_saved.proofs.WordLists.{whole_listed, whole_table, whole_blocks}
-use Rattle.vers_saved.proofs.SortedForms.{members_fit, positions_fit, whole_sorted, whole_sparse}
+use Rattle.vers_saved.proofs.SortedForms.{elements_fit, positions_fit, whole_sorted, whole_sparse}
 use Rattle.vers_saved.proofs.InvertedForms.{whole_index}
 use Rattle.vers_saved.proofs.SymbolLevels.{whole_levels}
 use Rattle.vers_saved.proofs.SymbolLists.{whole_symbols}
@@ -43,12 +43,12 @@ bits_go_round =
 
 pub sorted_go_round : Laws.SortedGoRound
 sorted_go_round =
-    goes_round SORTED_LISTS _ (λ members. length (sorted_words members)) (λ members. 64) sorted_words (omega arith) refl (λ x may. whole_sorted x may.0 (members_fit x may.1 may.0) may.2)
+    goes_round SORTED_LISTS _ (λ elements. length (sorted_words elements)) (λ elements. 64) sorted_words (omega arith) refl (λ x may. whole_sorted x may.0 (elements_fit x may.1 may.0) may.2)
     (λ x y mx my. sorted_tell x y mx.2 my.2)
 
 pub listed_sorted_go_round : Laws.ListedSortedGoRound
 listed_sorted_go_round =
-    goes_round (packed_kind SORTED_LISTS) _ length (λ members. 64) (λ members. members) (omega arith) refl (λ x may. whole_listed x may.0 may.1 may.2)
+    goes_round (packed_kind SORTED_LISTS) _ length (λ elements. 64) (λ elements. elements) (omega arith) refl (λ x may. whole_listed x may.0 may.1 may.2)
     (λ x y mx my. numbers_tell 64 x y tt tt)
 
 pub symbols_go_round : Laws.SymbolsGoRound

@@ -1,5 +1,5 @@
 -- Saved forms of ascending lists, and of lists of bits with few ones, by parts.
-use Rattle.vers_saved.proofs.Names.{◌≡◌, ℕ, zero, suc, ◌+◌, ◌-◌, ◌^◌, ◌<◌, ◌≤◌, Bool, true, false, List, [], ◌∷◌, ◌++◌, length, get_or, take, drop, refl, sym, ap, subst, ◌∙◌, inl, inr, arith, cases_eq, ne_eqb, All, IsNonDecreasing, IsStrictlyIncreasing, cases_lt, and_from, and_parts, get_or_past, get_or-drop, drop-drop, drop-take, length-drop, take_all, ◌&&◌, get_or_default, get_or_append_left, length-limbs, get_or-limbs, limb, limbs, limb_count, sorted_words, sparse_words, decoded_members, are_of_list, are_of_sparse, words_for, IsWhole, may_be_saved, each_next, each_next-ascending, each_next-rising, SORTED_LISTS, SPARSE_LISTS, count, count_at_select, length-positions, any_default, select_up}
+use Rattle.vers_saved.proofs.Names.{◌≡◌, ℕ, zero, suc, ◌+◌, ◌-◌, ◌^◌, ◌<◌, ◌≤◌, Bool, true, false, List, [], ◌∷◌, ◌++◌, length, get_or, take, drop, refl, sym, ap, subst, ◌∙◌, inl, inr, arith, cases_eq, ne_eqb, All, IsNonDecreasing, IsStrictlyIncreasing, cases_lt, and_from, and_parts, get_or_past, get_or-drop, drop-drop, drop-take, length-drop, take_all, ◌&&◌, get_or_default, get_or_append_left, length-limbs, get_or-limbs, limb, limbs, limb_count, sorted_words, sparse_words, decoded_elements, are_of_list, are_of_sparse, words_for, IsWhole, may_be_saved, each_next, each_next-ascending, each_next-rising, SORTED_LISTS, SPARSE_LISTS, count, count_at_select, length-positions, any_default, select_up}
 use Rattle.std.proofs.Math.Seq.{get_or-append_right}
 use Rattle.std.specs.Prelude.{nat_lt}
 use Rattle.std.specs.List.{list_all}
@@ -39,19 +39,19 @@ pub high_word : (m : List ℕ) (k : ℕ) → 3 ≤ k → limb_count (length (low
 high_word m k h many =
     sym (past_ends m k h ∙ get_or-append_right (limbs (low_parts m)) (limbs (high_parts m)) (k - 3) 0 (omega (arith, many, length-limbs (low_parts m))) ∙ ap (λ n. get_or (limbs (high_parts m)) (k - 3 - n) 0) (length-limbs (low_parts m)))
 
--- there is a high bit for each member
+-- there is a high bit for each element
 high_least : (n u : ℕ) → n ≤ high_count n u
 high_least n u = elim (cases_eq n 0) [
   | inl none ↦ omega (arith, none)
   | inr some ↦ rw (ne_eqb n 0 some) (omega arith)
 ]
 
--- as many members as words say are a word
-few_members : (m : List ℕ) → length (sorted_words m) ≤ 288230376151711743 → length m < 2 ^ 64
-few_members m few = omega (arith, few, length-sorted m, high_least (length m) (last_of m - first_of m), (own_counts m).1)
+-- as many elements as words say are a word
+few_elements : (m : List ℕ) → length (sorted_words m) ≤ 288230376151711743 → length m < 2 ^ 64
+few_elements m few = omega (arith, few, length-sorted m, high_least (length m) (last_of m - first_of m), (own_counts m).1)
 
-pub members_fit : (m : List ℕ) → AreWords m → length (sorted_words m) ≤ 288230376151711743 → AreWords (sorted_words m)
-members_fit m fit few = sorted_fit m (few_members m few) (fit 0) (fit (length m - 1))
+pub elements_fit : (m : List ℕ) → AreWords m → length (sorted_words m) ≤ 288230376151711743 → AreWords (sorted_words m)
+elements_fit m fit few = sorted_fit m (few_elements m few) (fit 0) (fit (length m - 1))
 
 pub whole_sorted : (m : List ℕ) → length (sorted_words m) ≤ 288230376151711743 → AreWords (sorted_words m) → IsNonDecreasing m → IsWhole SORTED_LISTS (length (sorted_words m)) 64 (sorted_words m)
 whole_sorted m few fit up =
@@ -92,7 +92,7 @@ are_sparse_own bits =
     (rw (own_decoded (positions true bits) (positions_up bits)) (list_all-from_AllPass (λ p. nat_lt p (length bits)) (positions true bits) (λ k d h. lt-ltb _ _ (positions_below bits k d h))))
 
 pub positions_fit : (bits : List Bool) → length bits < 2 ^ 64 → length (sorted_words (positions true bits)) ≤ 288230376151711743 → AreWords (sorted_words (positions true bits))
-positions_fit bits small few = members_fit (positions true bits) (λ k. elim (cases_lt k (length (positions true bits))) [
+positions_fit bits small few = elements_fit (positions true bits) (λ k. elim (cases_lt k (length (positions true bits))) [
   | inl less ↦ omega (arith, positions_below bits k 0 less)
   | inr past ↦ rw (get_or_past (positions true bits) k 0 past) (omega arith)
 ]) few
@@ -120,7 +120,7 @@ pub of_sparse : (ws : List ℕ) → are_of_sparse ws ≡ true → (m : List ℕ)
 of_sparse ws h =
     let parts = and_parts _ _ h in
     let m = of_list true (drop 1 ws) parts.0 in
-    (m.0, (each_next-rising m.0).0 m.1, m.2, subst (All (λ p. p < get_or ws 0 0)) (sym m.3) (λ k d less. ltb-true _ _ (AllPass-from_list_all (λ p. nat_lt p (get_or ws 0 0)) (decoded_members (drop 1 ws)) parts.1 k d less)))
+    (m.0, (each_next-rising m.0).0 m.1, m.2, subst (All (λ p. p < get_or ws 0 0)) (sym m.3) (λ k d less. ltb-true _ _ (AllPass-from_list_all (λ p. nat_lt p (get_or ws 0 0)) (decoded_elements (drop 1 ws)) parts.1 k d less)))
 
 -- the words after the first
 rest_all : (ws : List ℕ) → take (length ws - 1) (drop 1 ws) ≡ drop 1 ws
@@ -187,7 +187,7 @@ sparse_tested t len count last h is_len is_count is_last =
     let many : count ≡ length m.0 = is_count ∙ ap (λ l. get_or l 0 0) m.2 in
     let end : last ≡ last_of m.0 = is_last ∙ ap (λ l. get_or l 2 0) m.2 in
     let whole : are_of_sparse t ≡ list_all (λ p. nat_lt p (get_or t 0 0)) m.0 =
-    ap (λ b. b && list_all (λ p. nat_lt p (get_or t 0 0)) (decoded_members (drop 1 t))) h ∙ ap (list_all (λ p. nat_lt p (get_or t 0 0))) (sym m.3) in (
+    ap (λ b. b && list_all (λ p. nat_lt p (get_or t 0 0)) (decoded_elements (drop 1 t))) h ∙ ap (list_all (λ p. nat_lt p (get_or t 0 0))) (sym m.3) in (
       λ none. sym (whole ∙ all_below m.0 (get_or t 0 0) (λ k d less. absurd (omega (arith, none, many, less)))),
       λ some. ap (λ l. nat_lt last l) is_len ∙ ap (λ l. nat_lt l (get_or t 0 0)) end ∙ sym (whole ∙ list_all_is m.0 (get_or t 0 0) (in_order_up true m.0 m.1) (zero_less (length m.0) (λ e. some (many ∙ e)))),
     )

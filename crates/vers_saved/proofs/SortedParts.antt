@@ -1,5 +1,5 @@
 -- Saved forms of ascending lists by their parts.
-use Rattle.vers_saved.proofs.Names.{◌≡◌, ℕ, ◌+◌, ◌-◌, ◌*◌, ◌%◌, ◌<◌, ◌≤◌, Bool, true, false, List, [], ◌∷◌, ◌++◌, length, get_or, take, drop, refl, sym, ap, subst, ◌∙◌, inl, inr, arith, IsNonDecreasing, cases_lt, cases_eq, and_from, and_parts, append-nil, flat_map-append, take-take, take_at, drop_at, take_all, drop-drop, take-append-drop, length-append, length-drop, length-take, get_or-take, get_or-drop, get_or_past, get_or_append_left, equal_limbs, length-limbs, limbs, limb_count, limb, pack, bits_in, decoded_low, decoded_high, decoded_members, sorted_words, are_of_list, EndsPadded, each_next}
+use Rattle.vers_saved.proofs.Names.{◌≡◌, ℕ, ◌+◌, ◌-◌, ◌*◌, ◌%◌, ◌<◌, ◌≤◌, Bool, true, false, List, [], ◌∷◌, ◌++◌, length, get_or, take, drop, refl, sym, ap, subst, ◌∙◌, inl, inr, arith, IsNonDecreasing, cases_lt, cases_eq, and_from, and_parts, append-nil, flat_map-append, take-take, take_at, drop_at, take_all, drop-drop, take-append-drop, length-append, length-drop, length-take, get_or-take, get_or-drop, get_or_past, get_or_append_left, equal_limbs, length-limbs, limbs, limb_count, limb, pack, bits_in, decoded_low, decoded_high, decoded_elements, sorted_words, are_of_list, EndsPadded, each_next}
 use Rattle.std.specs.Prelude.{nat_eq}
 use Rattle.std.proofs.lemmas.Bool.Decides.{Decides-eqb}
 use Rattle.std.proofs.lemmas.Slice.Eq.{slice_eq-Decides}
@@ -116,8 +116,8 @@ module _ (m : List ℕ) where
       ap (bits_in (high_count (length m) (last_of m - first_of m))) rest_own ∙ ap (λ n. bits_in n (limbs (high_parts m))) (sym (own_counts m).1)
       ∙ ap (bits_in (length (high_parts m))) (sym (append-none (limbs (high_parts m)))) ∙ own_bits (high_parts m) []
 
-  pub own_decoded : IsNonDecreasing m → decoded_members (sorted_words m) ≡ m
-  unfolding decoded_members low_width
+  pub own_decoded : IsNonDecreasing m → decoded_elements (sorted_words m) ≡ m
+  unfolding decoded_elements low_width
   own_decoded up = rw (own_low, own_high) (parts_decode m up)
 
   pub length-sorted : length (sorted_words m) ≡ 3 + (limb_count (length (low_parts m)) + limb_count (length (high_parts m)))
@@ -129,11 +129,11 @@ module _ (m : List ℕ) where
       rw (own_decoded (in_order_up rising m h)) (and_from _ _ h ((slice_eq-Decides Decides-eqb (sorted_words m) (sorted_words m) (pointwise nat_eq (sorted_words m) (sorted_words m)) refl).1 refl))
 
 -- words that are those of a list
-pub of_list : (rising : Bool) (ws : List ℕ) → are_of_list rising ws ≡ true → (m : List ℕ) × (each_next (order_of rising) m ≡ true) × (ws ≡ sorted_words m) × (m ≡ decoded_members ws)
+pub of_list : (rising : Bool) (ws : List ℕ) → are_of_list rising ws ≡ true → (m : List ℕ) × (each_next (order_of rising) m ≡ true) × (ws ≡ sorted_words m) × (m ≡ decoded_elements ws)
 unfolding are_of_list
 of_list rising ws h =
     let parts = and_parts _ _ h in
-    (decoded_members ws, parts.0, sym ((slice_eq-Decides Decides-eqb (sorted_words (decoded_members ws)) ws (pointwise nat_eq (sorted_words (decoded_members ws)) ws) refl).0 parts.1), refl)
+    (decoded_elements ws, parts.0, sym ((slice_eq-Decides Decides-eqb (sorted_words (decoded_elements ws)) ws (pointwise nat_eq (sorted_words (decoded_elements ws)) ws) refl).0 parts.1), refl)
 
 -- ---- what their words say
 

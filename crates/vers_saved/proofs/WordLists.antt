@@ -18,9 +18,9 @@ whole_numbers kind numbers flat each may fit ordered =
       ordered = ordered;
     }
 
-pub whole_listed : (members : List ℕ) → length members ≤ 288230376151711743 → AreWords members → IsNonDecreasing members → IsWhole (packed_kind SORTED_LISTS) (length members) 64 members
-whole_listed members few fit up =
-    whole_numbers (packed_kind SORTED_LISTS) members refl refl (within_bounds (packed_kind SORTED_LISTS) (length members) 64 refl (omega (arith, few))) fit ((each_next-ascending members).1 up)
+pub whole_listed : (elements : List ℕ) → length elements ≤ 288230376151711743 → AreWords elements → IsNonDecreasing elements → IsWhole (packed_kind SORTED_LISTS) (length elements) 64 elements
+whole_listed elements few fit up =
+    whole_numbers (packed_kind SORTED_LISTS) elements refl refl (within_bounds (packed_kind SORTED_LISTS) (length elements) 64 refl (omega (arith, few))) fit ((each_next-ascending elements).1 up)
 
 pub whole_table : (items : List ℕ) → length items ≤ 4294967295 → AreWords items → IsWhole TABLE_VALUES (length items) 64 items
 whole_table items few fit = whole_numbers TABLE_VALUES items refl refl (within_bounds TABLE_VALUES (length items) 64 refl (omega (arith, few))) fit refl
@@ -29,8 +29,8 @@ pub whole_blocks : (items : List ℕ) → length items ≤ 549755813760 → AreW
 whole_blocks items few fit = whole_numbers BLOCK_VALUES items refl refl (within_bounds BLOCK_VALUES (length items) 64 refl (omega (arith, few))) fit refl
 
 -- how many words there may be, and how wide they are
-pub listed_few : (members : List ℕ) (count width : ℕ) → IsWhole (packed_kind SORTED_LISTS) count width members → (count ≡ length members) × (count ≤ 288230376151711743) × (64 ≡ width)
-listed_few members count width whole = let b = bounds_are (packed_kind SORTED_LISTS) count width members refl whole in (as_many (packed_kind SORTED_LISTS) count width members refl refl whole, omega (arith, b), omega (arith, b))
+pub listed_few : (elements : List ℕ) (count width : ℕ) → IsWhole (packed_kind SORTED_LISTS) count width elements → (count ≡ length elements) × (count ≤ 288230376151711743) × (64 ≡ width)
+listed_few elements count width whole = let b = bounds_are (packed_kind SORTED_LISTS) count width elements refl whole in (as_many (packed_kind SORTED_LISTS) count width elements refl refl whole, omega (arith, b), omega (arith, b))
 
 pub table_few : (items : List ℕ) (count width : ℕ) → IsWhole TABLE_VALUES count width items → (count ≡ length items) × (count ≤ 4294967295) × (64 ≡ width)
 table_few items count width whole = let b = bounds_are TABLE_VALUES count width items refl whole in (as_many TABLE_VALUES count width items refl refl whole, omega (arith, b), omega (arith, b))
@@ -39,7 +39,7 @@ pub blocks_few : (items : List ℕ) (count width : ℕ) → IsWhole BLOCK_VALUES
 blocks_few items count width whole = let b = bounds_are BLOCK_VALUES count width items refl whole in (as_many BLOCK_VALUES count width items refl refl whole, omega (arith, b), omega (arith, b))
 
 -- words that are loaded ascend
-pub listed_up : (members : List ℕ) (count width : ℕ) → IsWhole (packed_kind SORTED_LISTS) count width members → IsNonDecreasing members
-listed_up members count width whole = (each_next-ascending members).0 whole.ordered
+pub listed_up : (elements : List ℕ) (count width : ℕ) → IsWhole (packed_kind SORTED_LISTS) count width elements → IsNonDecreasing elements
+listed_up elements count width whole = (each_next-ascending elements).0 whole.ordered
 
 pub ruleset numbers = (whole_table, whole_blocks, table_few, blocks_few)

@@ -11,7 +11,7 @@ use Rattle.vers_saved.specs.declared.kind.Order.{Order}
 use Rattle.vers_saved.specs.declared.kind.Order.TheVariants.{Any, Ascending, Rising, HalfRising, Parts, RisingParts, InvertedParts}
 use Rattle.vers_saved.specs.declared.fault.LoadError.{LoadError}
 use Rattle.vers_saved.specs.declared.fault.LoadError.TheVariants.{TooShort, NotOurs, OtherVersion, OtherKind, BadLength, BadSum, BadPadding, NotAscending}
-use Rattle.vers_saved.specs.Format.{words_of, saved_size, check_sum, decoded_members, sorted_words}
+use Rattle.vers_saved.specs.Format.{words_of, saved_size, check_sum, decoded_elements, sorted_words}
 
 -- the error of the first test that fails, or `None` if all pass
 abbrev pub first_failing : List (Bool × LoadError) → Option LoadError
@@ -89,11 +89,11 @@ in_steps order words = each_next (stands order) (ordered_words order words)
 
 -- whether the words represent a list, which ascends, strictly if `rising`
 unfoldable pub are_of_list : (rising : Bool) → List ℕ → Bool
-are_of_list rising words = each_next (order_of rising) (decoded_members words) && pointwise nat_eq (sorted_words (decoded_members words)) words
+are_of_list rising words = each_next (order_of rising) (decoded_elements words) && pointwise nat_eq (sorted_words (decoded_elements words)) words
 
 -- whether they are a length, and the words of a list that ascends strictly and is below the length
 abbrev pub are_of_sparse : List ℕ → Bool
-are_of_sparse words = are_of_list true (drop 1 words) && list_all (λ position. nat_lt position (slice_index words 0)) (decoded_members (drop 1 words))
+are_of_sparse words = are_of_list true (drop 1 words) && list_all (λ position. nat_lt position (slice_index words 0)) (decoded_elements (drop 1 words))
 
 -- the number that all numbers of an inverted index are below: the product of the first two words
 abbrev pub end_of_numbers : List ℕ → ℕ

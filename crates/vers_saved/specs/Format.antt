@@ -4,7 +4,7 @@ use Rattle.std.specs.Prelude.{ℕ, ◌+◌, ◌-◌, ◌*◌, ◌/◌, ◌%◌, 
 use Rattle.std.specs.Int.{w64, to_le_bytes, from_le_bytes, rotate_left}
 use Rattle.std.specs.Simd.{first_chunks}
 use Rattle.vers_bits.specs.Bits.{limb_count, limbs, pack, positions}
-use Rattle.vers_sorted.specs.Layout.{first_of, last_of, low_count, high_count, low_parts, high_parts, members, width}
+use Rattle.vers_sorted.specs.Layout.{first_of, last_of, low_count, high_count, low_parts, high_parts, elements, width}
 use Rattle.vers_wavelet.specs.Makers.{symbol_levels}
 use Rattle.vers_saved.specs.declared.kind.TheConstants.{BITS, SORTED, SYMBOLS, SPARSE, VALUES, PARENTHESES, POSTINGS, TEXTS, INVERTED}
 use Rattle.postings.specs.Posted.{Posted}
@@ -61,15 +61,15 @@ saved_bits bits = saved VERSION BITS (length bits) 1 (limbs bits)
 
 -- the words of an ascending list: its length, its first and its last element, the limbs of its low and of its high parts
 abbrev pub sorted_words : List ℕ → List ℕ
-sorted_words members = length members ∷ first_of members ∷ last_of members ∷ limbs (low_parts members) ++ limbs (high_parts members)
+sorted_words elements = length elements ∷ first_of elements ∷ last_of elements ∷ limbs (low_parts elements) ++ limbs (high_parts elements)
 
 -- the saved form of an ascending list: its parts
 abbrev pub saved_sorted : List ℕ → List ℕ
-saved_sorted members = saved PARTS_VERSION SORTED (length (sorted_words members)) 64 (sorted_words members)
+saved_sorted elements = saved PARTS_VERSION SORTED (length (sorted_words elements)) 64 (sorted_words elements)
 
 -- the first version of that form: each element as a word
 abbrev pub listed_form : List ℕ → List ℕ
-listed_form members = saved VERSION SORTED (length members) 64 members
+listed_form elements = saved VERSION SORTED (length elements) 64 elements
 
 -- the first n bits that words contain
 abbrev pub bits_in : ℕ → List ℕ → List Bool
@@ -87,8 +87,8 @@ abbrev pub decoded_high : List ℕ → List Bool
 decoded_high words = bits_in (high_count (slice_index words 0) (decoded_span words)) (drop (3 + limb_count (low_count (slice_index words 0) (decoded_span words))) words)
 
 -- the elements decoded from these words
-unfoldable pub decoded_members : List ℕ → List ℕ
-decoded_members words = members (decoded_high words) (decoded_low words) (slice_index words 1) (width (slice_index words 0) (decoded_span words)) (slice_index words 0)
+unfoldable pub decoded_elements : List ℕ → List ℕ
+decoded_elements words = elements (decoded_high words) (decoded_low words) (slice_index words 1) (width (slice_index words 0) (decoded_span words)) (slice_index words 0)
 
 -- the words of symbols of a width: the limbs of each level
 abbrev pub level_words : ℕ → List ℕ → List ℕ

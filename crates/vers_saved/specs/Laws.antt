@@ -27,11 +27,11 @@ BitsGoRound = GoesRound BIT_LISTS (λ bits. length bits ≤ BIT_LISTS.greatest_c
 
 -- a saved ascending list of 64-bit numbers loads as the same list
 abbrev pub SortedGoRound : Type 0
-SortedGoRound = GoesRound SORTED_LISTS (λ members. (length (sorted_words members) ≤ GREATEST_WORDS) × AreWords members × IsNonDecreasing members) saved_sorted
+SortedGoRound = GoesRound SORTED_LISTS (λ elements. (length (sorted_words elements) ≤ GREATEST_WORDS) × AreWords elements × IsNonDecreasing elements) saved_sorted
 
 -- an ascending list of 64-bit numbers that was saved in the first version loads as the same list
 abbrev pub ListedSortedGoRound : Type 0
-ListedSortedGoRound = GoesRound (packed_kind SORTED_LISTS) (λ members. (length members ≤ GREATEST_WORDS) × AreWords members × IsNonDecreasing members) listed_form
+ListedSortedGoRound = GoesRound (packed_kind SORTED_LISTS) (λ elements. (length elements ≤ GREATEST_WORDS) × AreWords elements × IsNonDecreasing elements) listed_form
 
 -- a saved list of symbols of 1 to 64 bits loads as the same list
 abbrev pub SymbolsGoRound : Type 0

@@ -3,12 +3,12 @@ use Rattle.std.specs.Prelude.{◌≡◌, ℕ, List, [], ◌∷◌, ◌++◌, tru
 use Rattle.vers_bits.specs.Bits.{limbs, limb, low_bits, positions, select}
 use Rattle.vers_tally.specs.Reads.{digits}
 use Rattle.vers_sorted.specs.Ones.{ones_at}
-use Rattle.vers_sorted.specs.Sorted.{is_member}
-use Rattle.vers_sorted.specs.Layout.{high_length, high_of, high_parts, low_parts, low_width, members, width}
+use Rattle.vers_sorted.specs.Sorted.{is_element}
+use Rattle.vers_sorted.specs.Layout.{high_length, high_of, high_parts, low_parts, low_width, elements, width}
 use Rattle.vers_saved.specs.declared.kind.Order.TheVariants.{Ascending, Rising, HalfRising, InvertedParts}
 use Rattle.vers_saved.specs.declared.kind.TheConstants.{BIT_LISTS, SORTED_LISTS}
 use Rattle.vers_saved.specs.declared.fault.LoadError.TheVariants.{TooShort, OtherKind, BadLength}
-use Rattle.vers_saved.specs.Format.{word_bytes, bytes_word, words_of, mix, check_sum, head, with_sum, saved, saved_bits, decoded_members, inverted_words, position_words, posting_words, sorted_words, sparse_words}
+use Rattle.vers_saved.specs.Format.{word_bytes, bytes_word, words_of, mix, check_sum, head, with_sum, saved, saved_bits, decoded_elements, inverted_words, position_words, posting_words, sorted_words, sparse_words}
 use Rattle.vers_saved.specs.Faults.{are_of_list, in_order, is_padded, is_summed, row_words, fault_of, version_fault}
 
 pub word_bytes-258 : word_bytes 258 ≡ 2 ∷ 1 ∷ 0 ∷ 0 ∷ 0 ∷ 0 ∷ 0 ∷ 0 ∷ []
@@ -49,23 +49,23 @@ pub fault_of-more : fault_of BIT_LISTS (four_bits ++ 0 ∷ []) ≡ Some BadLengt
 unfolding version_fault words_of bytes_word row_words
 fault_of-more = refl
 
--- the members 0, 1, 4 and 7: their number, their ends, the low parts 0101 and the high parts 011001010
+-- the elements 0, 1, 4 and 7: their number, their ends, the low parts 0101 and the high parts 011001010
 pub sorted_words-0147 : sorted_words (0 ∷ 1 ∷ 4 ∷ 7 ∷ []) ≡ 4 ∷ 0 ∷ 7 ∷ 10 ∷ 166 ∷ []
-unfolding high_parts high_length high_of ones_at is_member low_parts low_width width digits low_bits limb limbs
+unfolding high_parts high_length high_of ones_at is_element low_parts low_width width digits low_bits limb limbs
 sorted_words-0147 = refl
 
-pub decoded_members-0147 : decoded_members (4 ∷ 0 ∷ 7 ∷ 10 ∷ 166 ∷ []) ≡ 0 ∷ 1 ∷ 4 ∷ 7 ∷ []
-unfolding decoded_members members select positions width digits low_bits
-decoded_members-0147 = refl
+pub decoded_elements-0147 : decoded_elements (4 ∷ 0 ∷ 7 ∷ 10 ∷ 166 ∷ []) ≡ 0 ∷ 1 ∷ 4 ∷ 7 ∷ []
+unfolding decoded_elements elements select positions width digits low_bits
+decoded_elements-0147 = refl
 
--- twelve bits with ones at 1 and 3: their number, and the words of these members
+-- twelve bits with ones at 1 and 3: their number, and the words of these elements
 pub sparse_words-1-3 :
     sparse_words (false ∷ true ∷ false ∷ true ∷ false ∷ false ∷ false ∷ false ∷ false ∷ false ∷ false ∷ false ∷ [])
     ≡ 12 ∷ 2 ∷ 1 ∷ 3 ∷ 0 ∷ 10 ∷ []
-unfolding positions high_parts high_length high_of ones_at is_member low_parts low_width width digits low_bits limb limbs
+unfolding positions high_parts high_length high_of ones_at is_element low_parts low_width width digits low_bits limb limbs
 sparse_words-1-3 = refl
 
--- in the first version, the members and then the number of bits
+-- in the first version, the elements and then the number of bits
 pub position_words-1-3 :
     position_words (false ∷ true ∷ false ∷ true ∷ false ∷ false ∷ false ∷ false ∷ false ∷ false ∷ false ∷ false ∷ [])
     ≡ 1 ∷ 3 ∷ 12 ∷ []
@@ -76,12 +76,12 @@ position_words-1-3 = refl
 pub inverted_words-three :
     inverted_words (record { lists = (3 ∷ 7 ∷ []) ∷ [] ∷ (1 ∷ []) ∷ []; universe = 10; numbers = 3 ∷ 7 ∷ 21 ∷ [] })
     ≡ 3 ∷ 10 ∷ 3 ∷ 3 ∷ 21 ∷ 160 ∷ 38 ∷ []
-unfolding high_parts high_length high_of ones_at is_member low_parts low_width width digits low_bits limb limbs
+unfolding high_parts high_length high_of ones_at is_element low_parts low_width width digits low_bits limb limbs
 inverted_words-three = refl
 
 -- with 2 terms, the last number is past their documents
 pub in_order-inverted : in_order InvertedParts (2 ∷ 10 ∷ 3 ∷ 3 ∷ 21 ∷ 160 ∷ 38 ∷ []) ≡ false
-unfolding are_of_list decoded_members members select positions width digits low_bits limbs low_parts low_width limb high_parts ones_at is_member high_length high_of
+unfolding are_of_list decoded_elements elements select positions width digits low_bits limbs low_parts low_width limb high_parts ones_at is_element high_length high_of
 in_order-inverted = refl
 
 -- two documents and their costs, which need not ascend

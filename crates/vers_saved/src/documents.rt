@@ -6,7 +6,7 @@ ghost use Rattle.vers_saved.specs.declared.kind.TheConstants.{POSTING_LISTS};
 
 use crate::form::Shape;
 use crate::kind::{Kind, POSTING_LISTS};
-use crate::numbers::{are_words, copy_members};
+use crate::numbers::{are_words, copy_elements};
 use crate::saved::{Loaded, Saved};
 use postings::Postings;
 use std::alloc::{AllocError, Allocator};
@@ -48,7 +48,7 @@ impl<A: Allocator + Copy> Saved for Postings<A> {
     }
 
     fn copy_words(&self, from: usize, out: &mut [u64]) {
-        copy_members(self.documents().iter(), self.costs(), from, out)
+        copy_elements(self.documents().iter(), self.costs(), from, out)
     }
 }
 

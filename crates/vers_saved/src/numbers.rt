@@ -26,13 +26,13 @@ pub(crate) fn are_words(items: &[u64])
     ensures { (k : ℕ) → slice_index items.now k < 2 ^ 64 }
 {}
 
-// Skips the first `n` members that a walk has left.
+// Skips the first `n` elements that a walk has left.
 #[inline(always)]
-fn drop_first<A: Allocator + Copy>(members: &mut EliasFanoRefIter<'_, A>, n: usize)
-    ensures { members.new.left ≡ drop n members.old.left }
+fn drop_first<A: Allocator + Copy>(elements: &mut EliasFanoRefIter<'_, A>, n: usize)
+    ensures { elements.new.left ≡ drop n elements.old.left }
 {
     if n > 0 {
-        members.nth(n - 1);
+        elements.nth(n - 1);
     }
 }
 
@@ -50,22 +50,22 @@ fn given_or(given: Option<u64>, others: &[u64], position: usize, count: usize) -
     }
 }
 
-// Copies the members that a walk has left, and then other numbers, from a position on.
-pub(crate) fn copy_members<A: Allocator + Copy>(
-    mut members: EliasFanoRefIter<'_, A>,
+// Copies the elements that a walk has left, and then other numbers, from a position on.
+pub(crate) fn copy_elements<A: Allocator + Copy>(
+    mut elements: EliasFanoRefIter<'_, A>,
     others: &[u64],
     from: usize,
     out: &mut [u64],
 )
-    requires within { from + length out.old ≤ length (members.left ++ others.now) }
+    requires within { from + length out.old ≤ length (elements.left ++ others.now) }
     requires small { from + length out.old < 2 ^ 64 }
     ensures { (j : ℕ) → j < length out.old
-        → slice_index out.new j ≡ slice_index (members.entry.left ++ others.now) (from + j) }
+        → slice_index out.new j ≡ slice_index (elements.entry.left ++ others.now) (from + j) }
 {
-    let count = members.len();
-    drop_first(&mut members, from);
+    let count = elements.len();
+    drop_first(&mut elements, from);
     for k in 0..out.len() {
-        out[k] = given_or(members.next(), others, from + k, count);
+        out[k] = given_or(elements.next(), others, from + k, count);
     }
 }
 
@@ -73,7 +73,7 @@ pub(crate) fn copy_members<A: Allocator + Copy>(
 impl<A: Allocator + Copy> Saved for EliasFanoVec<A> {
     ghost kind = { SORTED_LISTS };
 
-    ghost count = { λ members. length (sorted_words members) };
+    ghost count = { λ elements. length (sorted_words elements) };
 
     ghost width = { λ _. 64 };
 
@@ -113,7 +113,7 @@ impl<A: Allocator + Copy> Loaded<A> for EliasFanoVec<A> {
         list_in(alloc, held.as_slice())
     }
 
-    ghost packed = { λ members. members };
+    ghost packed = { λ elements. elements };
 
     fn make_packed(of: Shape, held: &mut Vec<u64, A>) -> Result<Self, AllocError> {
         let alloc = *held.allocator();

@@ -193,7 +193,7 @@ pub(crate) fn list_in<A: Allocator + Copy>(
     alloc: A,
     words: &[u64],
 ) -> Result<EliasFanoVec<A>, AllocError>
-    requires list { (members : List ℕ) × IsNonDecreasing members × (words.now ≡ sorted_words members) }
+    requires list { (elements : List ℕ) × IsNonDecreasing elements × (words.now ≡ sorted_words elements) }
     requires small { length words.now ≤ 288230376151711743 }
     ensures words { IfOk result (λ v. sorted_words v ≡ words.now) }
     ensures ascending { IfOk result (λ v. IsNonDecreasing v) }

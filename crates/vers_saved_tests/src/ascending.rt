@@ -2,8 +2,8 @@
 use crate::levels::{EXTREMES, are_one_form_each, is_one_form, is_read, with_word};
 use crate::rows::{fault_of, is_kept};
 use crate::stored::{
-    EQUAL_MEMBERS, LISTED_NO_MEMBERS, LISTED_NO_ONES, LISTED_ONE_MEMBER, LISTED_SORTED,
-    LISTED_SPARSE, LISTED_WIDE, NO_MEMBERS, NO_ONES, ONE_MEMBER, SORTED, SPARSE, WIDE_MEMBERS,
+    EQUAL_ELEMENTS, LISTED_NO_ELEMENTS, LISTED_NO_ONES, LISTED_ONE_ELEMENT, LISTED_SORTED,
+    LISTED_SPARSE, LISTED_WIDE, NO_ELEMENTS, NO_ONES, ONE_ELEMENT, SORTED, SPARSE, WIDE_ELEMENTS,
 };
 use std::alloc::Global;
 use vers_saved::fault::LoadError;
@@ -11,36 +11,36 @@ use vers_saved::saved::Loaded;
 use vers_sorted::elias_fano::EliasFanoVec;
 use vers_sorted::sparse::SparseRSVec;
 
-type Members = EliasFanoVec<Global>;
+type Elements = EliasFanoVec<Global>;
 
 type Sparse = SparseRSVec<Global>;
 
 #[test]
 fn lists_by_parts(rt: HostRuntime) {
-    assert!(rt; is_kept::<Members>(rt.alloc(), &NO_MEMBERS));
-    assert!(rt; is_kept::<Members>(rt.alloc(), &ONE_MEMBER));
-    assert!(rt; is_kept::<Members>(rt.alloc(), &EQUAL_MEMBERS));
-    assert!(rt; is_kept::<Members>(rt.alloc(), &WIDE_MEMBERS));
+    assert!(rt; is_kept::<Elements>(rt.alloc(), &NO_ELEMENTS));
+    assert!(rt; is_kept::<Elements>(rt.alloc(), &ONE_ELEMENT));
+    assert!(rt; is_kept::<Elements>(rt.alloc(), &EQUAL_ELEMENTS));
+    assert!(rt; is_kept::<Elements>(rt.alloc(), &WIDE_ELEMENTS));
     assert!(rt; is_kept::<Sparse>(rt.alloc(), &NO_ONES));
 }
 
 #[test]
 fn lists_of_the_first_version(rt: HostRuntime) {
-    assert!(rt; is_read::<Members>(rt.alloc(), &LISTED_SORTED, &SORTED));
-    assert!(rt; is_read::<Members>(rt.alloc(), &LISTED_NO_MEMBERS, &NO_MEMBERS));
-    assert!(rt; is_read::<Members>(rt.alloc(), &LISTED_ONE_MEMBER, &ONE_MEMBER));
-    assert!(rt; is_read::<Members>(rt.alloc(), &LISTED_WIDE, &WIDE_MEMBERS));
+    assert!(rt; is_read::<Elements>(rt.alloc(), &LISTED_SORTED, &SORTED));
+    assert!(rt; is_read::<Elements>(rt.alloc(), &LISTED_NO_ELEMENTS, &NO_ELEMENTS));
+    assert!(rt; is_read::<Elements>(rt.alloc(), &LISTED_ONE_ELEMENT, &ONE_ELEMENT));
+    assert!(rt; is_read::<Elements>(rt.alloc(), &LISTED_WIDE, &WIDE_ELEMENTS));
     assert!(rt; is_read::<Sparse>(rt.alloc(), &LISTED_SPARSE, &SPARSE));
     assert!(rt; is_read::<Sparse>(rt.alloc(), &LISTED_NO_ONES, &NO_ONES));
 }
 
 #[test]
 fn changes_with_right_sums(rt: HostRuntime) {
-    assert!(rt; are_one_form_each::<Members>(rt.alloc(), &SORTED));
-    assert!(rt; are_one_form_each::<Members>(rt.alloc(), &NO_MEMBERS));
-    assert!(rt; are_one_form_each::<Members>(rt.alloc(), &ONE_MEMBER));
-    assert!(rt; are_one_form_each::<Members>(rt.alloc(), &EQUAL_MEMBERS));
-    assert!(rt; are_one_form_each::<Members>(rt.alloc(), &WIDE_MEMBERS));
+    assert!(rt; are_one_form_each::<Elements>(rt.alloc(), &SORTED));
+    assert!(rt; are_one_form_each::<Elements>(rt.alloc(), &NO_ELEMENTS));
+    assert!(rt; are_one_form_each::<Elements>(rt.alloc(), &ONE_ELEMENT));
+    assert!(rt; are_one_form_each::<Elements>(rt.alloc(), &EQUAL_ELEMENTS));
+    assert!(rt; are_one_form_each::<Elements>(rt.alloc(), &WIDE_ELEMENTS));
     assert!(rt; are_one_form_each::<Sparse>(rt.alloc(), &SPARSE));
     assert!(rt; are_one_form_each::<Sparse>(rt.alloc(), &NO_ONES));
 }
@@ -54,7 +54,7 @@ pub fn are_one_form_at_extremes<S: Loaded<Global> + Drop>(
     let mut are_right = true;
     for k in 0..ends.wrapping_add(5) {
         for word in EXTREMES {
-            // (no members have the same words in the first version)
+            // (no elements have the same words in the first version)
             are_right = are_right
                 && ((k == 1 && word == 1) || is_one_form::<S>(alloc, bytes, k, word));
         }
@@ -64,8 +64,8 @@ pub fn are_one_form_at_extremes<S: Loaded<Global> + Drop>(
 
 #[test]
 fn fields_at_extremes(rt: HostRuntime) {
-    assert!(rt; are_one_form_at_extremes::<Members>(rt.alloc(), &SORTED, 3));
-    assert!(rt; are_one_form_at_extremes::<Members>(rt.alloc(), &NO_MEMBERS, 3));
+    assert!(rt; are_one_form_at_extremes::<Elements>(rt.alloc(), &SORTED, 3));
+    assert!(rt; are_one_form_at_extremes::<Elements>(rt.alloc(), &NO_ELEMENTS, 3));
     assert!(rt; are_one_form_at_extremes::<Sparse>(rt.alloc(), &SPARSE, 4));
     assert!(rt; are_one_form_at_extremes::<Sparse>(rt.alloc(), &NO_ONES, 4));
 }
@@ -99,10 +99,10 @@ fn words_of_no_list(rt: HostRuntime) {
         (9, 422),
         (9, 678),
     ] {
-        assert!(rt; fault_with::<Members>(rt.alloc(), &SORTED, k, word) == wrong);
+        assert!(rt; fault_with::<Elements>(rt.alloc(), &SORTED, k, word) == wrong);
     }
-    assert!(rt; fault_with::<Members>(rt.alloc(), &SORTED, 1, 3) == Some(LoadError::OtherVersion));
-    assert!(rt; fault_with::<Members>(rt.alloc(), &SORTED, 4, 4) == Some(LoadError::BadLength));
+    assert!(rt; fault_with::<Elements>(rt.alloc(), &SORTED, 1, 3) == Some(LoadError::OtherVersion));
+    assert!(rt; fault_with::<Elements>(rt.alloc(), &SORTED, 4, 4) == Some(LoadError::BadLength));
 }
 
 // Twelve bits with ones at 1 and 3: a length that isn't above the last one, and equal positions.

@@ -60,7 +60,7 @@ module _ (s : List ℕ) (i : ℕ) (a : Ahead) (up : IsNonDecreasing s) (read : H
       let past : a.position + (t + 1) ≡ a.position + t + 1 = omega arith in
       grind (arith, lowest, one_left, same_zeros, count_more_yes, rest)
 
--- ---- the bits after a member's one
+-- ---- the bits after an element's one
 
 pub read_after : {s : List ℕ} {high low : List Bool} {first last width : ℕ} (i p n w : ℕ) → IsPacked s high low first last width → i < length s → p ≡ select true high i
     → part_number_or_zero high (p + 1) n ≡ Some w → HasRead s (i + 1) (record { position = p + 1; len = n; word = w })

@@ -8,7 +8,7 @@ use Rattle.vers_sorted.proofs.Split.{high_up}
 pub inside : (s : List ℕ) (v : ℕ) → first_of s < v → v ≤ last_of s → IsInside s v
 inside s v from to = grind (arith, last_none)
 
--- the first of the members with the high part of v, or the one after if there are none
+-- the first of the elements with the high part of v, or the one after if there are none
 pub first_within : (s : List ℕ) (v before : ℕ) → IsNonDecreasing s → IsInside s v → before ≡ select false (high_parts s) (high_of s v)
     → (high_of s v ≤ before) × (before - high_of s v < length s)
 first_within s v before up is b = grind (arith, high_up, start_at)

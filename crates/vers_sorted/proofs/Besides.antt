@@ -1,4 +1,4 @@
--- The ones beside a position, by the number of the bits there, and the members beside a bucket.
+-- The ones beside a position, by the number of the bits there, and the elements beside a bucket.
 use Rattle.vers_sorted.proofs.Names.{◌≡◌, ℕ, ◌+◌, ◌-◌, ◌<◌, ◌≤◌, Bool, true, false, List, length, take, drop, get_or, sym, ap, ◌∙◌, arith, Some, w64, bit_at, trailing_zeros, IsNonDecreasing, number, count, select, highest_bit, select_at, count_at_select, count_both, count_more_yes, part_bit, value_none, value_one, part_number_or_zero, first_of, last_of, high_of, high_parts, IsPacked, IsStart, IsBucket, Bucket, count_leading_zeros}
 use Rattle.vers_sorted.proofs.Scans.{part_read, count_stays}
 use Rattle.vers_sorted.proofs.Aheads.{small, lowest}
@@ -52,7 +52,7 @@ module _ (l : List Bool) (to w : ℕ) (far : 64 ≤ to) (read : part_number_or_z
 
 -- ---- the ones beside a bucket
 
--- up to the zero with number h, and past it, as many ones are as members have a high part below h
+-- up to the zero with number h, and past it, as many ones are as elements have a high part below h
 ones_around : (s : List ℕ) (h start : ℕ) → IsNonDecreasing s → 0 < length s → h ≤ high_of s (last_of s) + 1 → IsStart s h start
     → (count true (high_parts s) (h + start) ≡ start) × (count true (high_parts s) (h + start + 1) ≡ start) × (h + start < length (high_parts s))
 ones_around s h start up some within is =

@@ -1,7 +1,7 @@
--- Where the members with one high part begin and end.
+-- Where the elements with one high part begin and end.
 use Rattle.vers_sorted.proofs.Names.{◌≡◌, ℕ, ◌+◌, ◌-◌, ◌*◌, ◌/◌, ◌%◌, ◌^◌, ◌<◌, ◌≤◌, Bool, true, false, List, length, refl, ap, ◌∙◌, arith, inl, inr, slice_index, bit_and, IsNonDecreasing, and_mask, one_shl, cases_lt, count, select, count_both, count_up, count_at_select, select_below, select_not_below, digits, digits_halved, digits_up, below, first_of, last_of, low_width, high_position, high_parts, IsPacked, IsStart, IsBucket, Bucket, IsBetween, high_of, low_of}
 use Rattle.vers_sorted.proofs.Below.{below_le, below_from, below_to, below_before, below_after}
-use Rattle.vers_sorted.proofs.Split.{high_up, member_from, high_zeros}
+use Rattle.vers_sorted.proofs.Split.{high_up, element_from, high_zeros}
 use Rattle.vers_sorted.proofs.Holds.{hold_high}
 use Rattle.vers_sorted.proofs.Packed.{high_same, high_counted}
 
@@ -9,13 +9,13 @@ module _ (s : List ℕ) (up : IsNonDecreasing s) where
   pub zeros_counted : 0 < length s → count false (high_parts s) (length (high_parts s)) ≡ 2 + high_of s (last_of s)
   zeros_counted some = omega (arith, count_both (high_parts s) (length (high_parts s)), (hold_high s up).ones, (hold_high s up).total, high_zeros s some)
 
-  -- the zeros and ones up to the position of a member
-  zeros_at_member : (i : ℕ) → i < length s → count false (high_parts s) (high_position s i) ≡ high_of s (slice_index s i) + 1
-  zeros_at_member i h =
+  -- the zeros and ones up to the position of an element
+  zeros_at_element : (i : ℕ) → i < length s → count false (high_parts s) (high_position s i) ≡ high_of s (slice_index s i) + 1
+  zeros_at_element i h =
       let at = count_at_select true (high_parts s) i (omega (arith, (hold_high s up).ones)) in
       omega (arith, count_both (high_parts s) (high_position s i), at.0, at.1, (hold_high s up).position i h, ap (count true (high_parts s)) ((hold_high s up).position i h))
 
-  -- zero number h has as many ones below it as members have a high part below h
+  -- zero number h has as many ones below it as elements have a high part below h
   pub start_at : (h : ℕ) → 0 < length s → h ≤ high_of s (last_of s) + 1 → (h ≤ select false (high_parts s) h) × IsStart s h (select false (high_parts s) h - h)
   start_at h some within =
       let holds = hold_high s up in
@@ -28,14 +28,14 @@ module _ (s : List ℕ) (up : IsNonDecreasing s) where
           within = few;
           before = λ i small.
               let left = select_below true (high_parts s) i q (omega arith) in
-              omega (arith, zeros_at_member i (omega arith), holds.position i (omega arith), at.1, count_up false (high_parts s) (high_position s i) q (omega (arith, holds.position i (omega arith))));
+              omega (arith, zeros_at_element i (omega arith), holds.position i (omega arith), at.1, count_up false (high_parts s) (high_position s i) q (omega (arith, holds.position i (omega arith))));
           after = λ i large short.
               let right = select_not_below true (high_parts s) i (q + 1) (omega (arith, holds.ones)) (omega (arith, count_both (high_parts s) (q + 1), at.2)) in
-              omega (arith, zeros_at_member i short, holds.position i short, at.2, count_up false (high_parts s) (q + 1) (high_position s i) (omega (arith, holds.position i short)));
+              omega (arith, zeros_at_element i short, holds.position i short, at.2, count_up false (high_parts s) (q + 1) (high_position s i) (omega (arith, holds.position i short)));
         },
       )
 
-  -- the zeros before and after the members with the high part of v
+  -- the zeros before and after the elements with the high part of v
   pub zeros_from : (v : ℕ) → 0 < length s → first_of s ≤ v → v ≤ last_of s
       → (high_of s v ≤ select false (high_parts s) (high_of s v)) × (high_of s v + 1 ≤ select false (high_parts s) (high_of s v + 1))
   zeros_from v some from to = grind (arith, high_up, start_at)
@@ -46,15 +46,15 @@ module _ (s : List ℕ) (up : IsNonDecreasing s) where
       → IsBucket s v (record { high = h; start = before - h; end = after - h - 1 })
   bucket_is v h before after is some from to b a = grind (arith, high_up, start_at)
 
--- ---- from high parts to the members themselves
+-- ---- from high parts to the elements themselves
 
 pub start_below : (s : List ℕ) (v start : ℕ) → IsNonDecreasing s → first_of s ≤ v → IsStart s (high_of s v) start → start ≤ below s v
 start_below s v start up from at = grind (arith, high_up, below_after)
 
 pub below_end : (s : List ℕ) (v end : ℕ) → IsNonDecreasing s → first_of s ≤ v → IsStart s (high_of s v + 1) end → below s v ≤ end
-below_end s v end up from at = grind (arith, below_le, below_before, high_up, member_from)
+below_end s v end up from at = grind (arith, below_le, below_before, high_up, element_from)
 
--- a member with the same high part, by its low part
+-- an element with the same high part, by its low part
 pub step_up : (s : List ℕ) (v i : ℕ) → IsNonDecreasing s → i < length s → high_of s (slice_index s i) ≡ high_of s v → low_of s (slice_index s i) < low_of s v → i + 1 ≤ below s v
 unfolding high_of low_of
 step_up s v i up h same less = grind (arith, below_from)
@@ -87,7 +87,7 @@ pub ruleset bucket = (high_below, zeros_from, bucket_is)
 
 pub ruleset search_steps = (start_below, below_end, step_up, step_down, digits_halved, digits_up)
 
-pub ruleset members = (in_bucket)
+pub ruleset elements = (in_bucket)
 
 pub ruleset ends = (below_le, high_counted)
 

@@ -1,4 +1,4 @@
--- Lists of bits by chunks of one length, and low parts by those of the members.
+-- Lists of bits by chunks of one length, and low parts by those of the elements.
 use Rattle.vers_sorted.proofs.Names.{◌≡◌, ℕ, ◌+◌, ◌*◌, ◌/◌, ◌%◌, ◌<◌, ◌≤◌, Bool, List, length, take, drop, get_or, sym, ap, ◌∙◌, inl, inr, arith, cases_lt, mod_below, mul-le-mul_left, mul_comm, same_lists, get_or-take, get_or-drop, number, low_bits, low_parts, low_width, HoldLow, IsPacked}
 use Rattle.std.proofs.Math.Nat.{div-add-mod, div-lt_iff_lt-mul}
 use Rattle.vers_bits.proofs.PublicLaws.{low_bits_of_part}

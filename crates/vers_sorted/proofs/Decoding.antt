@@ -1,4 +1,4 @@
--- Parts that are read member by member.
+-- Parts that are read element by element.
 use Rattle.vers_sorted.proofs.Names.{◌≡◌, ℕ, zero, suc, ◌+◌, ◌-◌, ◌*◌, ◌/◌, ◌%◌, ◌^◌, ◌<◌, ◌≤◌, Bool, true, false, List, length, take, drop, get_or, refl, sym, ap, ◌∙◌, inl, inr, arith, w64, bit_and, bit_or, bit_at, bit_value, trailing_zeros, bit_at-trailing_zeros, cases_lt, cases_Bool, mod_below, mod_low, pow_pos, pow-add, and_mask, mod-eq_of_lt, mod-pow-add, mul-mod_left, or_shifted, one_shl, shl-shr, shr-shr, drop-drop, drop-take, get_or_past, number, count, select, number-drop, limb_bit, value_none, value_one, count_none, count_past, count_more_no, count_more_yes, select_at, select_is_position, mul_comm, mul-le-mul_left}
 use lib.Bits.{and_self}
 use Rattle.std.proofs.Math.ListN.{drop_of_length-le}

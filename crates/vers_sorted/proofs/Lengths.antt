@@ -4,7 +4,7 @@ use Rattle.vers_sorted.proofs.Split.{high_none, high_zeros}
 use Rattle.vers_sorted.proofs.Holds.{length-high_parts}
 use Rattle.vers_sorted.proofs.Widths.{width_enough, width_few}
 
--- the high part of the last member is at most the least power of two that isn't below the number of members
+-- the high part of the last element is at most the least power of two that isn't below the number of elements
 high_few : (s : List ℕ) → high_of s (last_of s) ≤ 2 ^ clog (max (length s) 2)
 unfolding high_of low_width
 high_few s =
@@ -19,7 +19,7 @@ high_length-le s = grind (arith, high_zeros, high_few, high_none)
 pub length-high_parts-le : (s : List ℕ) → length (high_parts s) ≤ 2 + length s + 2 ^ clog (max (length s) 2)
 length-high_parts-le s = omega (arith, length-high_parts s, high_length-le s)
 
--- ---- of as many members as memory holds
+-- ---- of as many elements as memory holds
 
 power_few : (n : ℕ) → n < 1152921504606846976 → 2 ^ clog (max n 2) ≤ 1152921504606846976
 power_few n few =
@@ -32,7 +32,7 @@ grows : (m : ℕ) → m + 4 ≤ 2 ^ (m + 2)
 grows zero = omega arith
 grows (suc m) = grind (arith, grows m, grows m, pow-add 2 (m + 2) 1)
 
--- the more members, the shorter their low parts
+-- the more elements, the shorter their low parts
 pub low_fits : (s : List ℕ) → length s < 1152921504606846976 → last_of s < 18446744073709551616 → length s * low_width s ≤ 4611686018427387904
 unfolding low_width
 low_fits s few small =

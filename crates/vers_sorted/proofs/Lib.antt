@@ -21,7 +21,7 @@ pub mod BothEnds
 pub mod Scans
 pub mod Aheads
 pub mod Besides
-pub mod Members
+pub mod Elements
 pub mod Marks
 pub mod Chunks
 pub mod Decoding

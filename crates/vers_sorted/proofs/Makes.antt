@@ -1,9 +1,9 @@
 -- How high and low parts are made.
 use Rattle.vers_sorted.proofs.Names.{◌≡◌, ◌==◌, ℕ, ◌+◌, ◌-◌, ◌*◌, ◌/◌, ◌^◌, ◌<◌, ◌≤◌, true, false, Bool, List, [], suc, ◌∷◌, ◌++◌, length, drop, Option, Some, None, unwrap_or, refl, sym, ap, ◌∙◌, arith, set, replicate, mul-le-mul_left, mul_comm, zero-div, slice_index, slice_get, map, if◌then◌else◌, range_with_len, IsNonDecreasing, get_or_past, append-nil, map-append, take_all, take_more, length-map, length-take, length-drop, drop-drop, get_or-drop, slice_get-get_or, slice_get_within, get_or_from_slice_get, map-range_with_len_more, flat_map-append, low_bits, pack, first_of, last_of, width, high_position, get_or-replicate, length-replicate, same_lists, TakesFirst, low_width, high_of, high_length, high_parts, low_parts, first_high_parts, first_low_parts}
 use Rattle.std.proofs.lemmas.Option.{same_Some}
-use Rattle.vers_sorted.proofs.Membership.{member_none}
+use Rattle.vers_sorted.proofs.Membership.{element_none}
 use Rattle.vers_sorted.proofs.Ones.{length-ones_at, ones_at_more, get_or-ones_at}
-use Rattle.vers_sorted.proofs.Split.{high_zeros, member_from}
+use Rattle.vers_sorted.proofs.Split.{high_zeros, element_from}
 use Rattle.vers_sorted.proofs.Holds.{position_within, length-pack}
 use Rattle.vers_sorted.proofs.Lengths.{high_fits}
 
@@ -31,7 +31,7 @@ high_part_is s v first width f w = rw (f, w) refl
 
 pub high_start : (s : List ℕ) (n : ℕ) → n ≡ high_length s → replicate n false ≡ first_high_parts s 0
 unfolding first_high_parts
-high_start s n e = grind (arith, same_lists, length-ones_at, length-replicate, get_or-ones_at, get_or-replicate, member_none)
+high_start s n e = grind (arith, same_lists, length-ones_at, length-replicate, get_or-ones_at, get_or-replicate, element_none)
 
 pub high_next : (s : List ℕ) (i : ℕ) → IsNonDecreasing s → i < length s → set (first_high_parts s i) (high_position s i) true ≡ first_high_parts s (i + 1)
 unfolding first_high_parts
@@ -55,7 +55,7 @@ pub low_next : (s : List ℕ) (i : ℕ) → i < length s → first_low_parts s i
 unfolding first_low_parts
 low_next s i h = rw (take_more s i 0 h, map-append, flat_map-append, append-nil) refl
 
--- the low parts of the first i members, which fit
+-- the low parts of the first i elements, which fit
 pub low_length : (s : List ℕ) (i w : ℕ) → w ≡ low_width s → i ≤ length s → (length (first_low_parts s i) ≡ w * i) × (w * i ≤ length s * w)
 unfolding first_low_parts
 low_length s i w e h = grind (arith, length-map, length-take, length-pack, mul-le-mul_left, mul_comm)
@@ -110,7 +110,7 @@ pub ruleset ends = (first_none, last_none, first_last, first_taken)
 pub taken_above : (s rest new : List ℕ) (i v first : ℕ) → IsNonDecreasing s → first ≡ first_of s → rest ≡ drop i s → TakesFirst rest (Some v) new → first ≤ v
 taken_above s rest new i v first up f here t =
     let at = taken_at s rest new i v here t in
-    omega (arith, member_from s i up at.0, at.1)
+    omega (arith, element_from s i up at.0, at.1)
 
 pub one_position : (s rest new : List ℕ) (i v first width : ℕ) → IsNonDecreasing s → first ≡ first_of s → width ≡ low_width s → rest ≡ drop i s → TakesFirst rest (Some v) new
     → ((v - first) / 2 ^ width + i + 1 ≡ high_position s i) × (high_position s i < high_length s)
@@ -135,7 +135,7 @@ pub high_len_is : (s : List ℕ) (n first last width bits : ℕ) → n ≡ lengt
 unfolding high_length
 high_len_is s n first last width bits same f l w is = grind (arith, high_part_is)
 
--- which are few even of no members
+-- which are few even of no elements
 pub high_sum_fits : (s : List ℕ) (n first last width : ℕ) → n ≡ length s → first ≡ first_of s → last ≡ last_of s → width ≡ low_width s → n < 1152921504606846976
     → 2 + n + (last - first) / 2 ^ width ≤ 2305843009213693954
 high_sum_fits s n first last width same f l w few =

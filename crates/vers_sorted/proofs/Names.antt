@@ -17,7 +17,7 @@ pub use Rattle.std.specs.Int.Count.{count_leading_zeros, trailing_of_zero}
 pub use Rattle.std.specs.List.{IsAllAdjacentAnswer, list_all, range_with_len}
 pub use Rattle.std.specs.List.Sorted.{IsNonDecreasing, IsStrictlyIncreasing}
 pub use Rattle.std.specs.Prelude.{All, IsTrue, bit_and, bit_or, if◌then◌else◌, map, option_and_then, slice_index, slice_index_or, ◌↔◌}
-pub use Rattle.vers_bits.proofs.PublicLaws.{IsPosition, bit_at-number, count_at_select, count_both, count_le, count_more_no, count_more_yes, count_none, count_past, count_up, element, find_is, highest_bit, last_passing_is, length-low_bits, length-packed, length-positions, limb_bit, low_bits-add, low_bits_of_rest, none_passing, number-drop, number-low_bits, number-lt, part_bit, passes_first, select_at, select_below, select_is_position, select_not_below, select_past, select_up, value_none, value_one}
+pub use Rattle.vers_bits.proofs.PublicLaws.{IsPosition, bit_at-number, count_at_select, count_both, count_le, count_more_no, count_more_yes, count_none, count_past, count_up, element_in_pack, find_is, highest_bit, last_passing_is, length-low_bits, length-packed, length-positions, limb_bit, low_bits-add, low_bits_of_rest, none_passing, number-drop, number-low_bits, number-lt, part_bit, passes_first, select_at, select_below, select_is_position, select_not_below, select_past, select_up, value_none, value_one}
 pub use Rattle.vers_bits.specs.Bits.{bit_value, count, is_bit, limb, limb_count, number, pack, positions}
 unfoldable pub use Rattle.vers_bits.specs.Bits.{low_bits, select}
 pub use Rattle.vers_bits.specs.Walk.{TakesFirst}
@@ -26,12 +26,12 @@ pub use Rattle.vers_rank.proofs.PublicLaws.{adds_times, changed_all, changed_on}
 pub use Rattle.vers_rank.specs.Batches.{Changed}
 pub use Rattle.vers_rank.specs.Queries.{index_size}
 unfoldable pub use Rattle.vers_rank.specs.Queries.{part_number_or_zero}
-pub use Rattle.vers_sorted.specs.Layout.{ArePartsOf, clog, first_of, heap_size_of, high_position, high_count, last_of, low_count, member, member_reads, search_reads}
-unfoldable pub use Rattle.vers_sorted.specs.Layout.{high_length, high_of, high_parts, low_of, low_parts, low_width, members, width}
+pub use Rattle.vers_sorted.specs.Layout.{ArePartsOf, clog, first_of, heap_size_of, high_position, high_count, last_of, low_count, element, element_reads, search_reads}
+unfoldable pub use Rattle.vers_sorted.specs.Layout.{high_length, high_of, high_parts, low_of, low_parts, low_width, elements, width}
 pub use Rattle.vers_sorted.specs.Ones.{AreMarked, AreSparse}
 unfoldable pub use Rattle.vers_sorted.specs.Ones.{ones_at}
 pub use Rattle.vers_sorted.specs.Sorted.{each_next, order_of}
-unfoldable pub use Rattle.vers_sorted.specs.Sorted.{below, delta, greatest_not_above, is_member, least_not_below}
+unfoldable pub use Rattle.vers_sorted.specs.Sorted.{below, delta, greatest_not_above, is_element, least_not_below}
 pub use Rattle.vers_sorted.specs.declared.elias_fano.search.Bucket.{Bucket}
 pub use Rattle.vers_sorted.specs.inside.Begun.{IsBegun, IsInside}
 pub use Rattle.vers_sorted.specs.inside.Buckets.{IsBetween, IsBucket}

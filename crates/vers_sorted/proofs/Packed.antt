@@ -1,18 +1,18 @@
--- What the fields of a packed list state about its members.
-use Rattle.vers_sorted.proofs.Names.{◌≡◌, ℕ, ◌+◌, ◌*◌, ◌%◌, ◌^◌, ◌<◌, ◌≤◌, Bool, true, List, length, take, drop, refl, arith, Some, None, slice_index, slice_get, bit_or, IsNonDecreasing, mul-le-mul_left, mul_comm, mod-eq_of_lt, or_shifted, slice_get-get_or, slice_get_past, length-map-range_with_len, select, number, limb_count, count_both, index_size, first_of, last_of, low_width, high_of, low_of, high_length, high_parts, low_parts, heap_size_of, member, IsPacked, members, AreHighParts}
+-- What the fields of a packed list state about its elements.
+use Rattle.vers_sorted.proofs.Names.{◌≡◌, ℕ, ◌+◌, ◌*◌, ◌%◌, ◌^◌, ◌<◌, ◌≤◌, Bool, true, List, length, take, drop, refl, arith, Some, None, slice_index, slice_get, bit_or, IsNonDecreasing, mul-le-mul_left, mul_comm, mod-eq_of_lt, or_shifted, slice_get-get_or, slice_get_past, length-map-range_with_len, select, number, limb_count, count_both, index_size, first_of, last_of, low_width, high_of, low_of, high_length, high_parts, low_parts, heap_size_of, element, IsPacked, elements, AreHighParts}
 use Rattle.vers_sorted.proofs.Split.{parts_sum, low_below}
 use Rattle.vers_sorted.proofs.Holds.{hold_high, hold_low, packs}
 
-pub length-members : (high low : List Bool) (first width n : ℕ) → length (members high low first width n) ≡ n
-unfolding members
-length-members high low first width n = length-map-range_with_len (member high low first width) 0 n
+pub length-elements : (high low : List Bool) (first width n : ℕ) → length (elements high low first width n) ≡ n
+unfolding elements
+length-elements high low first width n = length-map-range_with_len (element high low first width) 0 n
 
 -- the parts of an ascending list have it
 pub packed_as : (s : List ℕ) (first last width : ℕ) → IsNonDecreasing s → first ≡ first_of s → last ≡ last_of s → last < 18446744073709551616 → width ≡ low_width s → width < 64
-    → (members (high_parts s) (low_parts s) first width (length s) ≡ s) × IsPacked (members (high_parts s) (low_parts s) first width (length s)) (high_parts s) (low_parts s) first last width
+    → (elements (high_parts s) (low_parts s) first width (length s) ≡ s) × IsPacked (elements (high_parts s) (low_parts s) first width (length s)) (high_parts s) (low_parts s) first last width
 unfolding AreHighParts
 packed_as s first last width up f l fits w narrow =
-    let back : members (high_parts s) (low_parts s) first width (length s) ≡ s = rw (f, w) (packs s up) in
+    let back : elements (high_parts s) (low_parts s) first width (length s) ≡ s = rw (f, w) (packs s up) in
     (back, rw back (record { ascending = up; first_is = f; last_is = l; fits = fits; width_is = w; narrow = narrow; high_parts = hold_high s up; low_parts = hold_low s; laid_out = refl }))
 
 pub high_same : {s : List ℕ} {high low : List Bool} {first last width : ℕ} → IsPacked s high low first last width → high ≡ high_parts s
@@ -57,7 +57,7 @@ index_fits l h = omega (arith, count_both l (length l))
 
 pub ruleset sizes = (size_is, index_fits)
 
-pub ruleset packed = (length-members)
+pub ruleset packed = (length-elements)
 
 pub ruleset low_parts_read = (low_read, low_within)
 

@@ -1,5 +1,5 @@
--- Parts that say the members of a list in order are those of the list, and those of a list say its members.
-use Rattle.vers_sorted.proofs.Names.{◌≡◌, ℕ, zero, suc, ◌+◌, ◌-◌, ◌*◌, ◌/◌, ◌^◌, ◌<◌, ◌≤◌, Bool, true, false, List, [], length, take, drop, refl, sym, ap, subst, ◌∙◌, inl, inr, arith, slice_index, map, range_with_len, IsNonDecreasing, cases_lt, eq-eqb, eqb-true, ne_eqb, le-leb, leb-true, lt-ltb, ltb-true, div-mul-add, mod-mul-add, mul_comm, length-map-range_with_len, get_or-map-range_with_len, get_or_default, same_number_lists, same_lists, number, select, count, positions, length-positions, first_of, last_of, low_width, width, high_of, low_of, high_length, high_position, high_parts, low_parts, low_count, high_count, member, members, ArePartsOf, IsPacked, each_next, order_of}
+-- Parts that say the elements of a list in order are those of the list, and those of a list say its elements.
+use Rattle.vers_sorted.proofs.Names.{◌≡◌, ℕ, zero, suc, ◌+◌, ◌-◌, ◌*◌, ◌/◌, ◌^◌, ◌<◌, ◌≤◌, Bool, true, false, List, [], length, take, drop, refl, sym, ap, subst, ◌∙◌, inl, inr, arith, slice_index, map, range_with_len, IsNonDecreasing, cases_lt, eq-eqb, eqb-true, ne_eqb, le-leb, leb-true, lt-ltb, ltb-true, div-mul-add, mod-mul-add, mul_comm, length-map-range_with_len, get_or-map-range_with_len, get_or_default, same_number_lists, same_lists, number, select, count, positions, length-positions, first_of, last_of, low_width, width, high_of, low_of, high_length, high_position, high_parts, low_parts, low_count, high_count, element, elements, ArePartsOf, IsPacked, each_next, order_of}
 use Rattle.vers_bits.proofs.PublicLaws.{number_below}
 use Rattle.std.proofs.lemmas.List.{length-take}
 use Rattle.vers_sorted.specs.inside.Decoding.{AreDecodable, IsDecodable, IsNear, above, follows}
@@ -8,8 +8,8 @@ use Rattle.vers_sorted.proofs.Holds.{hold_high, hold_low, length-high_parts, pac
 use Rattle.vers_sorted.proofs.Makes.{first_last, first_none, last_none}
 use Rattle.vers_sorted.proofs.Ones as Ones
 use Rattle.vers_sorted.proofs.Orders as Orders
-use Rattle.vers_sorted.proofs.Packed.{length-members, packed_as}
-use Rattle.vers_sorted.proofs.Split.{high_up, high_zeros, member_from, parts_sum}
+use Rattle.vers_sorted.proofs.Packed.{length-elements, packed_as}
+use Rattle.vers_sorted.proofs.Split.{high_up, high_zeros, element_from, parts_sum}
 
 -- ---- orders
 
@@ -36,15 +36,15 @@ follows_next rising k a b some = rw (ne_eqb k 0 (λ e. absurd (omega (arith, e))
 module _ (rising : Bool) (high low : List Bool) (first span w n : ℕ) (some : 0 < n) (wide : w ≡ width n span) (long_low : length low ≡ n * w) (long_high : length high ≡ 2 + n + span / 2 ^ w)
     (ones : count true high (length high) ≡ n) (decoded : AreDecodable rising high low span w n) where
   decoded_list : List ℕ
-  decoded_list = members high low first w n
+  decoded_list = elements high low first w n
 
   many : length decoded_list ≡ n
   unfolding decoded_list
-  many = length-members high low first w n
+  many = length-elements high low first w n
 
   at_decoded : (i : ℕ) → i < n → slice_index decoded_list i ≡ first + above high low w i
-  unfolding decoded_list members
-  at_decoded i h = get_or-map-range_with_len (member high low first w) 0 n i i 0 h (omega arith)
+  unfolding decoded_list elements
+  at_decoded i h = get_or-map-range_with_len (element high low first w) 0 n i i 0 h (omega arith)
 
   none_above : above high low w 0 ≡ 0
   none_above = eqb-true (above high low w 0) 0 ((decoded.each 0 some).next)
@@ -124,21 +124,21 @@ module _ (rising : Bool) (s : List ℕ) (h : each_next (order_of rising) s ≡ t
   above_is : (i : ℕ) → i < length s → above (high_parts s) (low_parts s) (low_width s) i ≡ slice_index s i - first_of s
   above_is i within =
       let q : select true (high_parts s) i - i - 1 ≡ high_of s (slice_index s i) = omega (arith, (hold_high s up).position i within) in
-      rw (q, (hold_low s).part i within) (omega (arith, parts_sum s (slice_index s i) (member_from s i up within), mul_comm (2 ^ low_width s) (high_of s (slice_index s i))))
+      rw (q, (hold_low s).part i within) (omega (arith, parts_sum s (slice_index s i) (element_from s i up within), mul_comm (2 ^ low_width s) (high_of s (slice_index s i))))
 
   next_decoded : (i : ℕ) → i < length s → follows rising i (above (high_parts s) (low_parts s) (low_width s) (i - 1)) (above (high_parts s) (low_parts s) (low_width s) i) ≡ true
   next_decoded zero within = eq-eqb (above (high_parts s) (low_parts s) (low_width s) 0) 0 (above_is 0 within ∙ omega arith)
   next_decoded (suc k) within =
       let back : suc k - 1 ≡ k = omega arith in
       rw back (follows_next rising (suc k) (above (high_parts s) (low_parts s) (low_width s) k) (above (high_parts s) (low_parts s) (low_width s) (suc k)) (omega arith)
-      ∙ rw (above_is k (omega arith), above_is (suc k) within) (shifted_down rising (first_of s) (slice_index s k) (slice_index s (suc k)) (member_from s k up (omega arith)) (member_from s (suc k) up within)
+      ∙ rw (above_is k (omega arith), above_is (suc k) within) (shifted_down rising (first_of s) (slice_index s k) (slice_index s (suc k)) (element_from s k up (omega arith)) (element_from s (suc k) up within)
       (Orders.each_next-at (order_of rising) s k within h)))
 
   near_decoded : (i : ℕ) → i < length s → IsNear (last_of s - first_of s) (low_width s) i (select true (high_parts s) i)
   unfolding high_of
   near_decoded i within =
       let position = (hold_high s up).position i within in
-      let top : high_of s (slice_index s i) ≤ high_of s (last_of s) = high_up s (slice_index s i) (last_of s) (up i (length s - 1) 0 (omega arith) (omega arith)) (member_from s i up within) in
+      let top : high_of s (slice_index s i) ≤ high_of s (last_of s) = high_up s (slice_index s i) (last_of s) (up i (length s - 1) 0 (omega arith) (omega arith)) (element_from s i up within) in
       record { zero = omega (arith, position); few = omega (arith, position, top) }
 
   pub parts_decoded : 0 < length s → AreDecodable rising (high_parts s) (low_parts s) (last_of s - first_of s) (low_width s) (length s)
@@ -164,7 +164,7 @@ pub counted_of : (s : List ℕ) (n first last : ℕ) (low high : List Bool) → 
 counted_of s n first last low high parts =
     (rw (parts.low_is, parts.len_is, parts.first_is, parts.last_is) (low_counted s), rw (parts.high_is, parts.len_is, parts.first_is, parts.last_is) (high_counted s))
 
--- ---- the parts of no members
+-- ---- the parts of no elements
 
 no_bits : (l : List Bool) → length l ≡ 0 → l ≡ []
 no_bits l none = same_lists l [] none (λ k d h. absurd (omega arith))
@@ -211,7 +211,7 @@ decoded_of rising s n first last w low high h parts some wide =
 -- ---- a list that is made of parts
 
 pub packed_of : (s : List ℕ) (n first last w : ℕ) (low high : List Bool) → IsNonDecreasing s → ArePartsOf s n first last low high → w ≡ width n (last - first) → last < 18446744073709551616 → w < 64
-    → (members high low first w n ≡ s) × IsPacked (members high low first w n) high low first last w
+    → (elements high low first w n ≡ s) × IsPacked (elements high low first w n) high low first last w
 unfolding low_width
 packed_of s n first last w low high ascends parts wide fits narrow =
     let own : w ≡ width (length s) (last_of s - first_of s) =
@@ -222,8 +222,8 @@ packed_of s n first last w low high ascends parts wide fits narrow =
 pub parts_tell : (s t : List ℕ) (n first last : ℕ) (low high : List Bool) → IsNonDecreasing s → IsNonDecreasing t → ArePartsOf s n first last low high → ArePartsOf t n first last low high → s ≡ t
 unfolding low_width
 parts_tell s t n first last low high up_s up_t parts_s parts_t =
-    let decoded_s : members high low first (width n (last - first)) n ≡ s = rw (parts_s.high_is, parts_s.low_is, parts_s.len_is, parts_s.first_is, parts_s.last_is) (packs s up_s) in
-    let decoded_t : members high low first (width n (last - first)) n ≡ t = rw (parts_t.high_is, parts_t.low_is, parts_t.len_is, parts_t.first_is, parts_t.last_is) (packs t up_t) in
+    let decoded_s : elements high low first (width n (last - first)) n ≡ s = rw (parts_s.high_is, parts_s.low_is, parts_s.len_is, parts_s.first_is, parts_s.last_is) (packs s up_s) in
+    let decoded_t : elements high low first (width n (last - first)) n ≡ t = rw (parts_t.high_is, parts_t.low_is, parts_t.len_is, parts_t.first_is, parts_t.last_is) (packs t up_t) in
     sym decoded_s ∙ decoded_t
 
 pub ruleset laws = (packs, parts_tell)

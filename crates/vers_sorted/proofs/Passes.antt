@@ -1,4 +1,4 @@
--- The members that a walk to the successors of rising numbers passes.
+-- The elements that a walk to the successors of rising numbers passes.
 unfoldable use Rattle.vers_bits.specs.Bits.{count, limb}
 use Rattle.vers_sorted.proofs.Names.{◌≡◌, ℕ, ◌+◌, ◌-◌, ◌<◌, ◌≤◌, Bool, true, List, [], length, take, drop, refl, sym, ap, ◌∙◌, arith, Some, None, cond, slice_index, w64, trailing_zeros, IsNonDecreasing, number, number-lt, is_bit, count_le, count_up, count_none, count_more_yes, select, select_below, high_parts, high_of, first_of, below, least_not_below, IsPacked, inl, inr, cases_lt, ◌*◌, ◌%◌, ◌^◌, length-take, take_all, mod-eq_of_lt, part_number_or_zero, get_or_from_slice_get, slice_get_within}
 use Rattle.std.proofs.Math.Seq.{take-add}
@@ -19,10 +19,10 @@ use Rattle.vers_sorted.proofs.Packed.{high_at, high_same}
 use Rattle.vers_sorted.proofs.Scans.{part_of, counted_past, select_within}
 use Rattle.vers_sorted.proofs.Split.{high_up}
 
--- ---- the next member, whose one was read ahead
+-- ---- the next element, whose one was read ahead
 
 module _ (s : List ℕ) (i : ℕ) (a : Ahead) (up : IsNonDecreasing s) (read : HasRead s i a) (some : 0 < a.word) where
-  -- it is a member
+  -- it is an element
   pub read_within : i < length s
   read_within =
       let found = lowest (high_parts s) a.position a.len read.within read.few (omega (arith, read.bits)) in
@@ -53,16 +53,16 @@ count_part l p n few =
     ap (count_by (is_bit true)) (take-add p n l) ∙ sum_by-append (λ x. cond (is_bit true x) 1 0) (take p l) (take n (drop p l))
     ∙ ap (λ m. count true l p + m) (ones_of (take n (drop p l)) (simp length-take (omega arith)))
 
--- ---- members below a number
+-- ---- elements below a number
 
--- a member with a lesser high part than v is below it
+-- an element with a lesser high part than v is below it
 pub lesser_below : (s : List ℕ) (v i : ℕ) → IsNonDecreasing s → first_of s ≤ v → i < length s → high_of s (slice_index s i) < high_of s v → i + 1 ≤ below s v
 lesser_below s v i up from h less = elim (cases_lt (slice_index s i) v) [
   | inl before ↦ below_from s v i up h before
   | inr above ↦ absurd (omega (arith, less, high_up s v (slice_index s i) above from))
 ]
 
--- a member that isn't below v, after some that are, is its successor
+-- an element that isn't below v, after some that are, is its successor
 pub succ_found : (s : List ℕ) (v i : ℕ) → IsNonDecreasing s → i < length s → i ≤ below s v → v ≤ slice_index s i → (least_not_below s v ≡ Some (slice_index s i)) × (i ≡ below s v)
 succ_found s v i up h before above =
     let here : i ≡ below s v = omega (arith, below_to s v i up h above) in
@@ -76,14 +76,14 @@ module _ (s : List ℕ) (p : Passed) (read : HasRead s p.next p.ahead) (used : p
   count_used = omega (arith, count_part (high_parts s) p.ahead.position p.ahead.len read.few, ap count_ones read.bits, ap count_ones used, ones_of_none, read.before)
 
 module _ (s : List ℕ) (i : ℕ) (a : Ahead) (read : HasRead s i a) where
-  -- up to its end are the ones of all members before it and in it
+  -- up to its end are the ones of all elements before it and in it
   pub count_word : count true (high_parts s) (a.position + a.len) ≡ i + count_ones a.word
   count_word = omega (arith, count_part (high_parts s) a.position a.len read.few, ap count_ones read.bits, read.before)
 
   pub word_fits : (i + count_ones a.word ≤ a.position + a.len) × (a.position + a.len ≤ length (high_parts s))
   word_fits = (omega (arith, count_word, (count_le true (high_parts s) (a.position + a.len)).0), read.within)
 
-  -- if so few zeros are before its end, all these members have a lesser high part than v, and are below v
+  -- if so few zeros are before its end, all these elements have a lesser high part than v, and are below v
   pub word_passed : (v : ℕ) → IsNonDecreasing s → first_of s ≤ v → i ≤ below s v → a.position + a.len - (i + count_ones a.word) ≤ high_of s v → i + count_ones a.word ≤ below s v
   word_passed v up from before few = elim (cases_lt i (i + count_ones a.word)) [
     | inl more ↦
@@ -106,14 +106,14 @@ module _ {s : List ℕ} {high low : List Bool} {first last width : ℕ} (packed 
   pub bits_read : (i p n w : ℕ) → count true (high_parts s) p ≡ i → part_number_or_zero high p n ≡ Some w → HasRead s i (record { position = p; len = n; word = w })
   bits_read i p n w before read = grind (arith, high_same, part_of)
 
-  -- past the one of a member
+  -- past the one of an element
   pub one_past : (i p : ℕ) → i < length s → p ≡ select true high i → (p + 1 ≤ length (high_parts s)) × (count true (high_parts s) (p + 1) ≡ i + 1)
   one_past i p h e =
       let counted : i < count true (high_parts s) (length (high_parts s)) = omega (arith, h, (hold_high s packed.ascending).ones) in
       let here : p ≡ select true (high_parts s) i = e ∙ ap (λ l. select true l i) (high_same packed) in
       (omega (arith, select_within true (high_parts s) i p counted here), counted_past true (high_parts s) i p counted here)
 
-  -- the high part of a member, by the position of its one
+  -- the high part of an element, by the position of its one
   pub part_at : (i p : ℕ) → i < length s → p ≡ select true high i → p ≡ high_of s (slice_index s i) + i + 1
   part_at i p h e = e ∙ high_at i packed h
 
@@ -138,7 +138,7 @@ none_again s from v up none above = elim (cases_lt (below s from) (length s)) [
   | inr past ↦ succ_past s v up (omega (arith, past, below_up s from v above, below_le s v))
 ]
 
--- a number above the successor of a lesser one has more members below it
+-- a number above the successor of a lesser one has more elements below it
 pub more_below : (s : List ℕ) (from v x : ℕ) → IsNonDecreasing s → Some x ≡ least_not_below s from → x < v → below s from + 1 ≤ below s v
 more_below s from v x up found above =
     let position : ℕ = below s from in

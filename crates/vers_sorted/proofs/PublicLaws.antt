@@ -1,5 +1,5 @@
 -- The laws that proofs of other crates may cite. A crate above imports this file and no other of this folder.
-use Rattle.vers_sorted.proofs.Names.{◌≡◌, ℕ, ◌+◌, ◌-◌, ◌<◌, ◌≤◌, Bool, true, false, List, [], ◌∷◌, ◌++◌, length, slice_get, None, refl, ◌↔◌, IsTrue, slice_index, map, nat_le, nat_lt, IsNonDecreasing, IsStrictlyIncreasing, ArePartsOf, first_of, high_count, high_parts, low_count, low_parts, low_width, members, order_of, is_bit, positions, ones_at, each_next, below, eqb, greatest_not_above, is_member, least_not_below}
+use Rattle.vers_sorted.proofs.Names.{◌≡◌, ℕ, ◌+◌, ◌-◌, ◌<◌, ◌≤◌, Bool, true, false, List, [], ◌∷◌, ◌++◌, length, slice_get, None, refl, ◌↔◌, IsTrue, slice_index, map, nat_le, nat_lt, IsNonDecreasing, IsStrictlyIncreasing, ArePartsOf, first_of, high_count, high_parts, low_count, low_parts, low_width, elements, order_of, is_bit, positions, ones_at, each_next, below, eqb, greatest_not_above, is_element, least_not_below}
 use Rattle.std.specs.Prelude.{◌||◌}
 use Rattle.vers_sorted.proofs.Below as Below
 use Rattle.vers_sorted.proofs.Membership as Membership
@@ -19,55 +19,55 @@ each_next-rising numbers = Orders.rising_is numbers (each_next nat_lt numbers) r
 pub each_next-ascending : (numbers : List ℕ) → IsTrue (each_next nat_le numbers) ↔ IsNonDecreasing numbers
 each_next-ascending numbers = Orders.ascending_is numbers (each_next nat_le numbers) refl
 
--- ---- members
+-- ---- elements
 
--- a list has the member at each position, and no other
-pub member_at : (members : List ℕ) (v i : ℕ) → i < length members → slice_index members i ≡ v → is_member members v ≡ true
-member_at = Membership.member_at
+-- a list has the element at each position, and no other
+pub element_at : (elements : List ℕ) (v i : ℕ) → i < length elements → slice_index elements i ≡ v → is_element elements v ≡ true
+element_at = Membership.element_at
 
-pub not_member : (members : List ℕ) (v : ℕ) → ((i : ℕ) → i < length members → slice_index members i ≡ v → ⊥) → is_member members v ≡ false
-not_member = Membership.not_member
+pub not_element : (elements : List ℕ) (v : ℕ) → ((i : ℕ) → i < length elements → slice_index elements i ≡ v → ⊥) → is_element elements v ≡ false
+not_element = Membership.not_element
 
--- by the first member, and by the last
-pub member_none : (v : ℕ) → is_member [] v ≡ false
-member_none = Membership.member_none
+-- by the first element, and by the last
+pub element_none : (v : ℕ) → is_element [] v ≡ false
+element_none = Membership.element_none
 
-pub member_head : (first : ℕ) (members : List ℕ) (v : ℕ) → first ≡ v → is_member (first ∷ members) v ≡ true
-member_head = Membership.member_head
+pub element_head : (first : ℕ) (elements : List ℕ) (v : ℕ) → first ≡ v → is_element (first ∷ elements) v ≡ true
+element_head = Membership.element_head
 
-pub member_tail : (first : ℕ) (members : List ℕ) (v : ℕ) → (first ≡ v → ⊥) → is_member (first ∷ members) v ≡ is_member members v
-member_tail = Membership.member_tail
+pub element_tail : (first : ℕ) (elements : List ℕ) (v : ℕ) → (first ≡ v → ⊥) → is_element (first ∷ elements) v ≡ is_element elements v
+element_tail = Membership.element_tail
 
-pub member_more : (members : List ℕ) (last v : ℕ) → is_member (members ++ last ∷ []) v ≡ is_member members v || eqb last v
-member_more = Membership.member_more
+pub element_more : (elements : List ℕ) (last v : ℕ) → is_element (elements ++ last ∷ []) v ≡ is_element elements v || eqb last v
+element_more = Membership.element_more
 
--- ---- members below a number
+-- ---- elements below a number
 
--- no more members are below a number than there are, and no fewer below a greater number
-pub below_le : (members : List ℕ) (v : ℕ) → below members v ≤ length members
+-- no more elements are below a number than there are, and no fewer below a greater number
+pub below_le : (elements : List ℕ) (v : ℕ) → below elements v ≤ length elements
 below_le = Below.below_le
 
-pub below_up : (members : List ℕ) (v w : ℕ) → v ≤ w → below members v ≤ below members w
+pub below_up : (elements : List ℕ) (v w : ℕ) → v ≤ w → below elements v ≤ below elements w
 below_up = Below.below_up
 
--- of an ascending list, the members before position `below members v` are below v, and those from it on are not
-pub below_before : (members : List ℕ) (v i : ℕ) → IsNonDecreasing members → i < below members v → slice_index members i < v
+-- of an ascending list, the elements before position `below elements v` are below v, and those from it on are not
+pub below_before : (elements : List ℕ) (v i : ℕ) → IsNonDecreasing elements → i < below elements v → slice_index elements i < v
 below_before = Below.below_before
 
-pub below_after : (members : List ℕ) (v i : ℕ) → IsNonDecreasing members → below members v ≤ i → i < length members → v ≤ slice_index members i
+pub below_after : (elements : List ℕ) (v i : ℕ) → IsNonDecreasing elements → below elements v ≤ i → i < length elements → v ≤ slice_index elements i
 below_after = Below.below_after
 
 -- ---- neighbours of a number
 
--- the least member that is not below v is at position `below members v`, or there is none
-pub least_not_below_is : (members : List ℕ) (v : ℕ) → IsNonDecreasing members → least_not_below members v ≡ slice_get members (below members v)
+-- the least element that is not below v is at position `below elements v`, or there is none
+pub least_not_below_is : (elements : List ℕ) (v : ℕ) → IsNonDecreasing elements → least_not_below elements v ≡ slice_get elements (below elements v)
 least_not_below_is = Neighbours.succ_is
 
--- the greatest member that is not above v is the last one below v + 1, if there is one
-pub greatest_not_above_some : (members : List ℕ) (v : ℕ) → IsNonDecreasing members → 0 < below members (v + 1) → greatest_not_above members v ≡ slice_get members (below members (v + 1) - 1)
+-- the greatest element that is not above v is the last one below v + 1, if there is one
+pub greatest_not_above_some : (elements : List ℕ) (v : ℕ) → IsNonDecreasing elements → 0 < below elements (v + 1) → greatest_not_above elements v ≡ slice_get elements (below elements (v + 1) - 1)
 greatest_not_above_some = Neighbours.pred_some
 
-pub greatest_not_above_none : (members : List ℕ) (v : ℕ) → IsNonDecreasing members → below members (v + 1) ≡ 0 → greatest_not_above members v ≡ None
+pub greatest_not_above_none : (elements : List ℕ) (v : ℕ) → IsNonDecreasing elements → below elements (v + 1) ≡ 0 → greatest_not_above elements v ≡ None
 greatest_not_above_none = Neighbours.pred_none
 
 -- ---- bits by their positions
@@ -86,8 +86,8 @@ ones_at-same = Ones.ones_at-same
 pub in_order_up : (rising : Bool) (s : List ℕ) → each_next (order_of rising) s ≡ true → IsNonDecreasing s
 in_order_up = Parted.in_order_up
 
--- the parts of an ascending list say its members
-pub parts_decode : (s : List ℕ) → IsNonDecreasing s → members (high_parts s) (low_parts s) (first_of s) (low_width s) (length s) ≡ s
+-- the parts of an ascending list say its elements
+pub parts_decode : (s : List ℕ) → IsNonDecreasing s → elements (high_parts s) (low_parts s) (first_of s) (low_width s) (length s) ≡ s
 parts_decode = Holds.packs
 
 -- how many bits they have

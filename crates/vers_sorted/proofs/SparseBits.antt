@@ -2,7 +2,7 @@
 use Rattle.vers_sorted.proofs.Names.{◌≡◌, ℕ, ◌+◌, ◌-◌, ◌<◌, ◌≤◌, Bool, true, false, List, [], ◌∷◌, length, drop, get_or, eqb, refl, sym, ap, subst, ◌∙◌, arith, min, Some, None, zero, suc, slice_index, slice_get, map, IsNonDecreasing, eq-eqb, ne_eqb, get_or_default, map-id, drop-drop, drop_all, get_or-drop, length-drop, slice_get-get_or, slice_get_past, slice_get_within, get_or_from_slice_get, is_bit, count, positions, count_at_select, count_none, count_both, count_past, count_up, select_at, select_past, length-positions, count_more_yes, below, least_not_below, ones_at, AreSparse, TakesFirst, last_of, select}
 use Rattle.vers_sorted.proofs.Below.{below_le, below_from, below_to, below_after, all_below}
 use Rattle.vers_sorted.proofs.Neighbours.{succ_is}
-use Rattle.vers_sorted.proofs.Ones.{length-ones_at, get_or-ones_at, member_test, ascends, below_member, count-ones_at, select-ones_at, all_ones, positions-ones_at, positions_rise, positions_within, ones_at-positions}
+use Rattle.vers_sorted.proofs.Ones.{length-ones_at, get_or-ones_at, element_test, ascends, below_element, count-ones_at, select-ones_at, all_ones, positions-ones_at, positions_rise, positions_within, ones_at-positions}
 
 module _ {s : List ℕ} {n : ℕ} (sparse : AreSparse s n) where
   last_within : 0 < length s → slice_index s (length s - 1) < n
@@ -22,23 +22,23 @@ module _ {s : List ℕ} {n : ℕ} (sparse : AreSparse s n) where
       let all = all_ones s sparse.rising n last_within in
       grind (arith, slice_get-get_or s r 0, select_past, length-ones_at)
 
-  -- the bit at a position, by the least member that is not below it
+  -- the bit at a position, by the least element that is not below it
   pub bit_some : (p v : ℕ) → p < n → least_not_below s p ≡ Some v → get_or (ones_at s n) p false ≡ eqb v p
   bit_some p v within e =
       let up : IsNonDecreasing s = ascends s sparse.rising in
       let at : slice_get s (below s p) ≡ Some v = sym (succ_is s p up) ∙ e in
       let few = slice_get_within s (below s p) v at in
       let same = get_or_from_slice_get s (below s p) v 0 at in
-      get_or-ones_at s n p false within ∙ grind (arith, member_test, eq-eqb, below_to, below_after, below_from, ne_eqb)
+      get_or-ones_at s n p false within ∙ grind (arith, element_test, eq-eqb, below_to, below_after, below_from, ne_eqb)
 
   pub bit_none : (p : ℕ) → p < n → least_not_below s p ≡ None → get_or (ones_at s n) p false ≡ false
   bit_none p within e =
       let at : slice_get s (below s p) ≡ None = grind (arith, succ_is, ascends) in
-      get_or-ones_at s n p false within ∙ grind (arith, slice_get-get_or s (below s p) 0, below_le s (p + 1), member_test)
+      get_or-ones_at s n p false within ∙ grind (arith, slice_get-get_or s (below s p) 0, below_le s (p + 1), element_test)
 
--- the list has no fewer bits than ones, and each member is one of its positions
-pub members_few : {s : List ℕ} {n : ℕ} → AreSparse s n → length s ≤ length (ones_at s n)
-members_few {s} {n} sparse = omega (arith, all_ones s sparse.rising n (last_within sparse), count_both (ones_at s n) (length (ones_at s n)))
+-- the list has no fewer bits than ones, and each element is one of its positions
+pub elements_few : {s : List ℕ} {n : ℕ} → AreSparse s n → length s ≤ length (ones_at s n)
+elements_few {s} {n} sparse = omega (arith, all_ones s sparse.rising n (last_within sparse), count_both (ones_at s n) (length (ones_at s n)))
 
 -- ---- from the positions of a list's bits
 
@@ -113,7 +113,7 @@ zeros_are l i = omega (arith, count_both l i)
 pub ones_few : (l : List Bool) (i : ℕ) → count true l i ≤ min i (length l)
 ones_few l i = omega (arith, count_both l i)
 
-pub ruleset sparse = (length-ones_at, get_or-ones_at, members_few, positions_are, count_is, select_some, select_none, bit_some, bit_none, ascends, map_ones)
+pub ruleset sparse = (length-ones_at, get_or-ones_at, elements_few, positions_are, count_is, select_some, select_none, bit_some, bit_none, ascends, map_ones)
 
 pub ruleset from_positions = (sparse_positions, positions_ascend, ones_at-positions)
 

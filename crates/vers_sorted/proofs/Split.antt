@@ -14,8 +14,8 @@ pub high_up : (s : List ℕ) (a b : ℕ) → a ≤ b → first_of s ≤ a → hi
 unfolding high_of
 high_up s a b h from = grind arith
 
-pub member_from : (s : List ℕ) (i : ℕ) → IsNonDecreasing s → i < length s → first_of s ≤ slice_index s i
-member_from s i up h = up 0 i 0 (omega arith) h
+pub element_from : (s : List ℕ) (i : ℕ) → IsNonDecreasing s → i < length s → first_of s ≤ slice_index s i
+element_from s i up h = up 0 i 0 (omega arith) h
 
 pub high_zeros : (s : List ℕ) → 0 < length s → high_length s ≡ 2 + length s + high_of s (last_of s)
 unfolding high_length

@@ -1,4 +1,4 @@
--- Members that step up are those of a list in order.
+-- Elements that step up are those of a list in order.
 use Rattle.vers_sorted.proofs.Names.{◌≡◌, ℕ, zero, suc, ◌+◌, ◌-◌, ◌*◌, ◌^◌, ◌<◌, ◌≤◌, ◌⊎◌, Bool, true, false, List, length, take, drop, refl, subst, sym, ap, ◌∙◌, inl, inr, arith, nat_lt, cases_lt, ne_eqb, eq-eqb, eqb-true, le-leb, leb-true, lt-ltb, ltb-true, pow_pos, mul-le-mul_left, bit_value, number, select, count, count_at_select, select_up, order_of}
 use Rattle.std.proofs.lemmas.Bool.{false≢true, le-ltb}
 use Rattle.std.proofs.lemmas.List.{length-take}
@@ -7,7 +7,7 @@ use Rattle.vers_sorted.specs.declared.elias_fano.parts.Walk.{Walk}
 use Rattle.vers_sorted.specs.inside.Decoding.{AreDecodable, AreReadAhead, HasRead, IsNear, StepsUp, above, follows, least_low, low_at, position_ahead, position_before}
 use Rattle.vers_sorted.proofs.Parted.{follows_next}
 
--- ---- one member and the next
+-- ---- one element and the next
 
 -- a test of order as a number
 behind : (b c : ℕ) → ((b < c) × (bit_value (nat_lt b c) ≡ 1)) ⊎ ((c ≤ b) × (bit_value (nat_lt b c) ≡ 0))
@@ -57,7 +57,7 @@ module _ (rising : Bool) (w p q i a b : ℕ) (zero_before : i + 1 ≤ p) (past :
     ]
   ]
 
--- ---- the member before
+-- ---- the element before
 
 pub before_next : (high : List Bool) (i : ℕ) → position_before high (i + 1) ≡ select true high i
 before_next high i = let back : i + 1 - 1 ≡ i = omega arith in rw (ne_eqb (i + 1) 0 (λ e. absurd (omega (arith, e)))) (ap (select true high) back)
@@ -74,7 +74,7 @@ before_within high (suc i) h =
     let e : i + 1 ≡ suc i = omega arith in
     omega (arith, (count_at_select true high i (omega arith)).0, sym (ap (position_before high) e) ∙ before_next high i)
 
--- ---- a walk reads one more member
+-- ---- a walk reads one more element
 
 module _ (rising : Bool) (high low : List Bool) (w i : ℕ) (walk : Walk) (position : ℕ) (read : HasRead rising high low w i walk) (here : select true high i ≡ position) where
   part_is : number (take w (drop (position_ahead walk.lows) low)) ≡ low_at low w i
@@ -103,7 +103,7 @@ module _ (rising : Bool) (high low : List Bool) (w i : ℕ) (walk : Walk) (posit
     ];
   }
 
--- ---- a walk before the first member, and past the last
+-- ---- a walk before the first element, and past the last
 
 pub none_read : (rising : Bool) (high low : List Bool) (w : ℕ) → HasRead rising high low w 0 (record { lows = record { limbs = 0; len = 0; word = 0 }; position = 0; least = 0 })
 none_read rising high low w = record {
@@ -120,7 +120,7 @@ last_read rising high low w n walk some read =
     let e : n ≡ n - 1 + 1 = omega arith in
     (read.position ∙ ap (position_before high) e ∙ before_next high (n - 1), read.least ∙ ap (least_low rising low w) e ∙ least_next rising low w (n - 1))
 
--- ---- all members
+-- ---- all elements
 
 module _ (rising : Bool) (high low : List Bool) (span w n : ℕ) (some : 0 < n) (ones : count true high (length high) ≡ n) where
   step_says : (i : ℕ) → StepsUp rising high low w (i + 1) → select true high i + bit_value (nat_lt (low_at low w (i + 1)) (low_at low w i + bit_value rising)) < select true high (i + 1)

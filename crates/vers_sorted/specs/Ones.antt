@@ -4,11 +4,11 @@ use Rattle.std.specs.Int.{bit_at}
 use Rattle.vers_bits.specs.Bits.{bit_value, is_bit}
 use Rattle.std.specs.List.{range_with_len}
 use Rattle.std.specs.List.Sorted.{IsStrictlyIncreasing}
-use Rattle.vers_sorted.specs.Sorted.{is_member}
+use Rattle.vers_sorted.specs.Sorted.{is_element}
 
 -- the list of n bits whose ones are at these positions
 unfoldable pub ones_at : List ℕ → ℕ → List Bool
-ones_at numbers n = map (is_member numbers) (range_with_len 0 n)
+ones_at numbers n = map (is_element numbers) (range_with_len 0 n)
 
 -- strictly ascending numbers below n
 pub record AreSparse (numbers : List ℕ) (n : ℕ) : Type 0 where

@@ -1,7 +1,7 @@
 //! Ascending lists of numbers.
 ghost use Rattle.std.specs.Prelude.{◌≡◌, ◌<◌, ◌≤◌, ◌==◌, ◌↔◌, [], length, slice_index, slice_get, nat_le, if◌then◌else◌, IsTrue, IsSome, Some};
 ghost use Rattle.std.specs.List.Sorted.{IsNonDecreasing};
-ghost use Rattle.vers_sorted.specs.Sorted.{is_member, below, greatest_not_above, least_not_below, delta};
+ghost use Rattle.vers_sorted.specs.Sorted.{is_element, below, greatest_not_above, least_not_below, delta};
 ghost use Rattle.vers_sorted.specs.Layout.{heap_size_of, first_of, last_of};
 
 mod ahead;
@@ -26,11 +26,11 @@ pub use successors::Successors;
 use vers_rank::fast_rs_vec::RsVec;
 use vers_tally::tally::{CountedBits, Tally, Uncounted};
 
-/// An ascending list of numbers, duplicates allowed, in about two bits per member plus the width of a low part.
-/// Contracts see an `EliasFanoVec` as the list of its members, and each query promises that it ascends.
+/// An ascending list of numbers, duplicates allowed, in about two bits per element plus the width of a low part.
+/// Contracts see an `EliasFanoVec` as the list of its elements, and each query promises that it ascends.
 ///
-/// Each member is stored as its difference to the first. The low parts, the lowest digits of these differences,
-/// all of the same width, are stored one after another in a list of bits; the rest, the high part `h` of member
+/// Each element is stored as its difference to the first. The low parts, the lowest digits of these differences,
+/// all of the same width, are stored one after another in a list of bits; the rest, the high part `h` of element
 /// `i`, is a one at position `h + i + 1` of a list of bits with rank and select.
 #[derive(Drop)]
 pub struct EliasFanoVec<A: Allocator + Copy> {
@@ -44,14 +44,14 @@ pub struct EliasFanoVec<A: Allocator + Copy> {
 
 impl<A: Allocator + Copy> Model for EliasFanoVec<A> {
     ghost use Rattle.std.specs.Prelude.{List, ℕ};
-    ghost use Rattle.vers_sorted.specs.Layout.{members};
+    ghost use Rattle.vers_sorted.specs.Layout.{elements};
     ghost use Rattle.vers_sorted.specs.inside.Parts.{IsPacked};
 
     ghost Value = { List ℕ };
 
-    ghost view = { λ v. members v.high v.low v.first v.width v.len };
+    ghost view = { λ v. elements v.high v.low v.first v.width v.len };
 
-    ghost invariant = { λ v. IsPacked (members v.high v.low v.first v.width v.len)
+    ghost invariant = { λ v. IsPacked (elements v.high v.low v.first v.width v.len)
         v.high v.low v.first v.last v.width };
 }
 
@@ -75,7 +75,7 @@ impl<A: Allocator + Copy> Clone for EliasFanoVec<A> {
 
 #[tactic(auto, using(crate::proofs::Packed::packed))]
 impl<A: Allocator + Copy> EliasFanoVec<A> {
-    /// Returns the number of members.
+    /// Returns the number of elements.
     #[inline]
     pub fn len(&self) -> usize
         ensures value { result ≡ length self.now }
@@ -92,7 +92,7 @@ impl<A: Allocator + Copy> EliasFanoVec<A> {
         self.len() == 0
     }
 
-    // Returns the first member, or 0 if there is none.
+    // Returns the first element, or 0 if there is none.
     #[inline(always)]
     fn first(&self) -> u64
         ensures { result ≡ first_of self.now }
@@ -100,7 +100,7 @@ impl<A: Allocator + Copy> EliasFanoVec<A> {
         self.first
     }
 
-    // Returns the last member, or 0 if there is none.
+    // Returns the last element, or 0 if there is none.
     #[inline(always)]
     fn last(&self) -> u64
         ensures { result ≡ last_of self.now }
@@ -117,7 +117,7 @@ impl<A: Allocator + Copy> EliasFanoVec<A> {
         self.high.heap_size() + 8 * self.low.len().div_ceil(64)
     }
 
-    /// Returns the member at position `i`, or `None` if `i` is out of bounds.
+    /// Returns the element at position `i`, or `None` if `i` is out of bounds.
     #[inline]
     pub fn get(&self, i: usize) -> Option<u64>
         ensures value { result ≡ slice_get self.now i }
@@ -127,7 +127,7 @@ impl<A: Allocator + Copy> EliasFanoVec<A> {
         self.get_counted(i, &mut tally)
     }
 
-    /// Returns the member at position `i`. Precondition: `i` is below the length.
+    /// Returns the element at position `i`. Precondition: `i` is below the length.
     #[inline]
     pub fn get_unchecked(&self, i: usize) -> u64
         requires { i < length self.now }
@@ -136,10 +136,10 @@ impl<A: Allocator + Copy> EliasFanoVec<A> {
     {
         let _ = self.len();
         let mut tally = Tally::new();
-        self.member(i, &mut tally)
+        self.element(i, &mut tally)
     }
 
-    /// Returns the member at position `i`, or `None` if `i` is out of bounds: `get(i)`.
+    /// Returns the element at position `i`, or `None` if `i` is out of bounds: `get(i)`.
     #[inline]
     pub fn select(&self, i: usize) -> Option<u64>
         ensures value { result ≡ slice_get self.now i }
@@ -149,7 +149,7 @@ impl<A: Allocator + Copy> EliasFanoVec<A> {
         self.select_counted(i, &mut tally)
     }
 
-    /// Returns the difference between member `i` and the previous one, or the first member itself if `i` is 0.
+    /// Returns the difference between element `i` and the previous one, or the first element itself if `i` is 0.
     /// `None` if `i` is out of bounds.
     #[inline]
     pub fn delta(&self, i: usize) -> Option<u64>
@@ -160,7 +160,7 @@ impl<A: Allocator + Copy> EliasFanoVec<A> {
         self.delta_counted(i, &mut tally)
     }
 
-    /// Returns the number of members below `v`.
+    /// Returns the number of elements below `v`.
     #[inline]
     pub fn rank(&self, v: u64) -> u64
         ensures value { result ≡ below self.now v }
@@ -171,17 +171,17 @@ impl<A: Allocator + Copy> EliasFanoVec<A> {
         self.rank_counted(v, &mut tally)
     }
 
-    /// Returns true if `v` is a member.
+    /// Returns true if `v` is an element.
     #[inline]
     pub fn has(&self, v: u64) -> bool
-        ensures value { result ≡ is_member self.now v }
+        ensures value { result ≡ is_element self.now v }
         ensures ascending { IsNonDecreasing self.now }
     {
         let mut tally = Tally::new();
         self.has_counted(v, &mut tally)
     }
 
-    /// Returns the greatest member that is at most `v`, or `None` if there is none.
+    /// Returns the greatest element that is at most `v`, or `None` if there is none.
     #[inline]
     pub fn predecessor(&self, v: u64) -> Option<u64>
         ensures value { result ≡ greatest_not_above self.now v }
@@ -191,7 +191,7 @@ impl<A: Allocator + Copy> EliasFanoVec<A> {
         self.predecessor_counted(v, &mut tally)
     }
 
-    /// Returns the greatest member that is at most `v`. Precondition: there is one.
+    /// Returns the greatest element that is at most `v`. Precondition: there is one.
     #[inline]
     pub fn predecessor_unchecked(&self, v: u64) -> u64
         requires { IsSome (greatest_not_above self.now v) }
@@ -201,7 +201,7 @@ impl<A: Allocator + Copy> EliasFanoVec<A> {
         self.predecessor(v).unwrap()
     }
 
-    /// Returns the least member that is at least `v`, or `None` if there is none.
+    /// Returns the least element that is at least `v`, or `None` if there is none.
     #[inline]
     pub fn successor(&self, v: u64) -> Option<u64>
         ensures value { result ≡ least_not_below self.now v }
@@ -211,7 +211,7 @@ impl<A: Allocator + Copy> EliasFanoVec<A> {
         self.successor_counted(v, &mut tally)
     }
 
-    /// Returns the least member that is at least `v`. Precondition: there is one.
+    /// Returns the least element that is at least `v`. Precondition: there is one.
     #[inline]
     pub fn successor_unchecked(&self, v: u64) -> u64
         requires { IsSome (least_not_below self.now v) }

@@ -1,39 +1,39 @@
 //! Laws of ascending lists. Each function does nothing: its contract is the law, and its proof is
 //! checked with the crate.
-ghost use Rattle.vers_sorted.specs.Laws.{BelowIsAtMostAll, BelowRises, FirstMembersAreBelow, OtherMembersAreNotBelow, LeastNotBelowIsNext, GreatestNotAboveIsLast, GreatestNotAboveIsGreatest, LeastNotBelowIsLeast, NoneBelowNoneNotAbove, ClogIsLeast, HighPartsAreFew, PartsDetermineList, PartsDecodeToList};
+ghost use Rattle.vers_sorted.specs.Laws.{BelowIsAtMostAll, BelowRises, FirstElementsAreBelow, OtherElementsAreNotBelow, LeastNotBelowIsNext, GreatestNotAboveIsLast, GreatestNotAboveIsGreatest, LeastNotBelowIsLeast, NoneBelowNoneNotAbove, ClogIsLeast, HighPartsAreFew, PartsDetermineList, PartsDecodeToList};
 
-/// At most all members are below a number.
+/// At most all elements are below a number.
 #[tactic(auto, using(crate::proofs::Neighbours::laws))]
 pub fn below_is_at_most_all()
     ensures { BelowIsAtMostAll }
 {}
 
-/// No fewer members are below a greater number.
+/// No fewer elements are below a greater number.
 #[tactic(auto, using(crate::proofs::Neighbours::laws))]
 pub fn below_rises()
     ensures { BelowRises }
 {}
 
-/// The members of an ascending list before position `below members v` are below `v`.
+/// The elements of an ascending list before position `below elements v` are below `v`.
 #[tactic(auto, using(crate::proofs::Neighbours::laws))]
-pub fn first_members_are_below()
-    ensures { FirstMembersAreBelow }
+pub fn first_elements_are_below()
+    ensures { FirstElementsAreBelow }
 {}
 
-/// The members of an ascending list from position `below members v` on are at least `v`.
+/// The elements of an ascending list from position `below elements v` on are at least `v`.
 #[tactic(auto, using(crate::proofs::Neighbours::laws))]
-pub fn other_members_are_not_below()
-    ensures { OtherMembersAreNotBelow }
+pub fn other_elements_are_not_below()
+    ensures { OtherElementsAreNotBelow }
 {}
 
-/// The least member that is at least `v` is at position `below members v`. There is none if the list has no
+/// The least element that is at least `v` is at position `below elements v`. There is none if the list has no
 /// such position.
 #[tactic(auto, using(crate::proofs::Neighbours::laws))]
 pub fn least_not_below_is_next()
     ensures { LeastNotBelowIsNext }
 {}
 
-/// The greatest member that is at most `v` is the last one below `v + 1`, if there is one.
+/// The greatest element that is at most `v` is the last one below `v + 1`, if there is one.
 #[tactic(auto, using(crate::proofs::Neighbours::laws))]
 pub fn greatest_not_above_is_last()
     ensures { GreatestNotAboveIsLast }
@@ -51,7 +51,7 @@ pub fn least_not_below_is_least()
     ensures { LeastNotBelowIsLeast }
 {}
 
-/// If no member is below `v + 1`, none is at most `v`.
+/// If no element is below `v + 1`, none is at most `v`.
 #[tactic(auto, using(crate::proofs::Neighbours::laws))]
 pub fn none_below_none_not_above()
     ensures { NoneBelowNoneNotAbove }
@@ -63,14 +63,14 @@ pub fn clog_is_least()
     ensures { ClogIsLeast }
 {}
 
-/// The high parts of `n` members have at most `2 + n + p` bits, where `p` is the least power of two that is at
+/// The high parts of `n` elements have at most `2 + n + p` bits, where `p` is the least power of two that is at
 /// least `n` and at least 2.
 #[tactic(auto, using(crate::proofs::Lengths::laws))]
 pub fn high_parts_are_few()
     ensures { HighPartsAreFew }
 {}
 
-/// The parts of an ascending list say its members.
+/// The parts of an ascending list say its elements.
 #[tactic(auto, using(crate::proofs::Parted::laws))]
 pub fn parts_decode_to_list()
     ensures { PartsDecodeToList }

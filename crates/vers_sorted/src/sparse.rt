@@ -3,7 +3,7 @@ ghost use Rattle.std.specs.Prelude.{◌≡◌, ◌+◌, ◌*◌, ◌/◌, ◌<�
 ghost use Rattle.std.specs.List.Sorted.{IsStrictlyIncreasing};
 ghost use Rattle.vers_bits.specs.Bits.{bit_value, count, is_bit, positions, select};
 ghost use Rattle.vers_tally.specs.Reads.{AddsAtMost};
-ghost use Rattle.vers_sorted.specs.Layout.{heap_size_of, last_of, member_reads, search_reads};
+ghost use Rattle.vers_sorted.specs.Layout.{heap_size_of, last_of, element_reads, search_reads};
 ghost use Rattle.vers_sorted.specs.Ones.{AreMarked};
 
 use crate::elias_fano::{EliasFanoRefIter, EliasFanoVec, MAX_LEN, Numbers};
@@ -57,7 +57,7 @@ impl<A: Allocator + Copy> SparseRSVec<A> {
         Ok(SparseRSVec::from_sorted(EliasFanoVec::from_slice(alloc, ones)?, len))
     }
 
-    /// Returns the list of `len` bits with ones at the members of a list. Precondition: these ascend strictly
+    /// Returns the list of `len` bits with ones at the elements of a list. Precondition: these ascend strictly
     /// and are below `len`.
     pub fn from_sorted(ones: EliasFanoVec<A>, len: u64) -> Self
         requires rising { IsStrictlyIncreasing ones }
@@ -89,7 +89,7 @@ impl<A: Allocator + Copy> SparseRSVec<A> {
         ensures { IfOk result (λ v. v ≡ map (is_bit bit) bits.now) }
     {
         let len = count_of(bits, bit);
-        // A list of more members needs more memory than there can be.
+        // A list of more elements needs more memory than there can be.
         if len > MAX_LEN {
             return Err(AllocError);
         }
@@ -208,12 +208,12 @@ impl<A: Allocator + Copy> SparseRSVec<A> {
         self.select1_counted(r, &mut tally)
     }
 
-    /// Returns `select1(r)`. Reads at most what one member of the positions of the ones does.
+    /// Returns `select1(r)`. Reads at most what one element of the positions of the ones does.
     #[inline(always)]
     pub fn select1_counted(&self, r: usize, tally: &mut Tally) -> u64
         ensures value { result ≡ select true self.now r }
         ensures within { result ≤ length self.now }
-        ensures adds { AddsAtMost tally.old tally.new (member_reads (positions true self.now)) }
+        ensures adds { AddsAtMost tally.old tally.new (element_reads (positions true self.now)) }
     {
         let _ = &self.len;
         match self.ones.get_counted(r, tally) {
@@ -277,7 +277,7 @@ impl<A: Allocator + Copy> SparseRSVec<A> {
     pub fn iter1(&self) -> EliasFanoRefIter<'_, A>
         ensures { result ≡ record {
           left = positions true self.now;
-          step = member_reads (positions true self.now);
+          step = element_reads (positions true self.now);
         } }
     {
         let _ = &self.len;

@@ -4,8 +4,8 @@ use Rattle.std.specs.List.Sorted.{IsNonDecreasing}
 
 -- ---- the first of ascending numbers is the least, and the last the greatest
 
-pub first_member : (xs : List ℕ) (m : ℕ) → Some m ≡ slice_get xs 0 → Contains xs m
-first_member xs m e = (0, slice_get_within xs 0 m (sym e), get_or_from_slice_get xs 0 m m (sym e))
+pub first_element : (xs : List ℕ) (m : ℕ) → Some m ≡ slice_get xs 0 → Contains xs m
+first_element xs m e = (0, slice_get_within xs 0 m (sym e), get_or_from_slice_get xs 0 m m (sym e))
 
 first_least : (xs : List ℕ) (m : ℕ) → IsNonDecreasing xs → Some m ≡ slice_get xs 0 → All (λ x. m ≤ x) xs
 first_least xs m up e k d h = omega (arith, up 0 k d (omega arith) h, get_or_from_slice_get xs 0 m d (sym e))
@@ -17,8 +17,8 @@ last_position xs m d e =
     let z : length xs - 1 - 0 ≡ length xs - 1 = omega arith in
     (some, ap (λ k. get_or xs k d) (sym z) ∙ sym (get_or-reverse xs 0 d some) ∙ get_or_from_slice_get (reverse xs) 0 m d (sym e))
 
-pub last_member : (xs : List ℕ) (m : ℕ) → Some m ≡ slice_get (reverse xs) 0 → Contains xs m
-last_member xs m e = (length xs - 1, omega (arith, (last_position xs m m e).0), (last_position xs m m e).1)
+pub last_element : (xs : List ℕ) (m : ℕ) → Some m ≡ slice_get (reverse xs) 0 → Contains xs m
+last_element xs m e = (length xs - 1, omega (arith, (last_position xs m m e).0), (last_position xs m m e).1)
 
 last_greatest : (xs : List ℕ) (m : ℕ) → IsNonDecreasing xs → Some m ≡ slice_get (reverse xs) 0 → All (λ x. x ≤ m) xs
 last_greatest xs m up e k d h = omega (arith, up k (length xs - 1) d (omega arith) (omega (arith, (last_position xs m d e).0)), (last_position xs m d e).1)
@@ -47,6 +47,6 @@ pub ruleset lists = (all_items, length-items_in, last_is)
 -- `next` and `next_back`
 pub ruleset ends = (yields_first, yields_last, goes_first, goes_last)
 
-pub ruleset least = (first_member, least_is, first_none)
+pub ruleset least = (first_element, least_is, first_none)
 
-pub ruleset greatest = (last_member, greatest_is, last_none)
+pub ruleset greatest = (last_element, greatest_is, last_none)

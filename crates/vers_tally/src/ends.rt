@@ -252,7 +252,7 @@ impl<S: Ascending> BothEnds<S> {
     #[tactic(auto, using(crate::proofs::Steps::least))]
     pub fn min(mut self) -> Option<u64>
         ensures none { IsNone result ↔ (self.left ≡ []) }
-        ensures member { IfSome result (Contains self.left) }
+        ensures element { IfSome result (Contains self.left) }
         ensures least { IfSome result (λ m. All (λ x. m ≤ x) self.left) }
     {
         let _ = self.len();
@@ -263,7 +263,7 @@ impl<S: Ascending> BothEnds<S> {
     #[tactic(auto, using(crate::proofs::Steps::greatest))]
     pub fn max(mut self) -> Option<u64>
         ensures none { IsNone result ↔ (self.left ≡ []) }
-        ensures member { IfSome result (Contains self.left) }
+        ensures element { IfSome result (Contains self.left) }
         ensures greatest { IfSome result (λ m. All (λ x. x ≤ m) self.left) }
     {
         let _ = self.len();

@@ -9,7 +9,7 @@ use Rattle.vers_trees.proofs.grammar.Pairs.{contains_map, paired_from_contains, 
 use Rattle.vers_trees.proofs.kin.Kin.{parent_is_search}
 use Rattle.vers_trees.proofs.kin.NodeList.{one_pair, bit_inside, node_pair, opens}
 use Rattle.vers_trees.proofs.layout.Widths.{some_counted}
-use Rattle.vers_trees.proofs.levels.NodeLaws.{AscendsFrom, nodes_ascend, filter_ascends, next_member, member_before, first_member_before, last_by_number, member_passes, passing_holds}
+use Rattle.vers_trees.proofs.levels.NodeLaws.{AscendsFrom, nodes_ascend, filter_ascends, next_element, element_before, first_element_before, last_by_number, element_passes, passing_holds}
 use Rattle.vers_trees.proofs.searches.Beside.{enclosing_open, enclosing_close}
 use Rattle.vers_trees.proofs.searches.Searches.{after_some, after_is, before_some, before_is, before_none, none_before}
 use Rattle.vers_trees.proofs.kin.Partners.{after_from_closes, closes_from_after, before_from_closes, closes_from_before, before_pair, enclose_at_close}
@@ -86,44 +86,44 @@ level_ascends : (F : Forest) (d : ℕ) → AscendsFrom 0 (level F d)
 unfolding level
 level_ascends F d = filter_ascends (λ v. eqb (depth F v) d) 0 (nodes F) (nodes_ascend F)
 
-level_member : (F : Forest) (d i v : ℕ) → slice_get (level F d) i ≡ Some v → IsNode F v × (depth F v ≡ d)
+level_element : (F : Forest) (d i v : ℕ) → slice_get (level F d) i ≡ Some v → IsNode F v × (depth F v ≡ d)
 unfolding level
-level_member F d i v e = grind (arith, member_passes, Decides-eqb)
+level_element F d i v e = grind (arith, element_passes, Decides-eqb)
 
 -- a level holds the nodes of its depth, and nothing else
 pub level_iff_depth : (F : Forest) (d v : ℕ) → Contains (level F d) v ↔ (IsNode F v × (depth F v ≡ d))
 unfolding level
 level_iff_depth F d v = (
-  λ c. level_member F d c.0 v (slice_get-get_or (level F d) c.0 v c.1 ∙ ap Some c.2),
+  λ c. level_element F d c.0 v (slice_get-get_or (level F d) c.0 v c.1 ∙ ap Some c.2),
   λ h. passing_holds (λ v. eqb (depth F v) d) (nodes F) v h.0 ((Decides-eqb (depth F v) d).1 h.1),
 )
 
--- the member of number i of a level is a node of its depth, and the next one on the level is the member after it
+-- the element of number i of a level is a node of its depth, and the next one on the level is the element after it
 pub levels_go_on : (F : Forest) (d i v : ℕ) → slice_get (level F d) i ≡ Some v
     → IsNode F v × (depth F v ≡ d) × (next_of (level F d) v ≡ slice_get (level F d) (i + 1))
 levels_go_on F d i v e =
-    let m = level_member F d i v e in let s : suc i ≡ i + 1 = omega arith in
-    (m.0, m.1, next_member 0 i v (level F d) (level_ascends F d) e ∙ ap (slice_get (level F d)) s)
+    let m = level_element F d i v e in let s : suc i ≡ i + 1 = omega arith in
+    (m.0, m.1, next_element 0 i v (level F d) (level_ascends F d) e ∙ ap (slice_get (level F d)) s)
 
--- the one before on the level is the member before it, and before the first there is none; the last has the greatest number
+-- the one before on the level is the element before it, and before the first there is none; the last has the greatest number
 pub levels_go_back : (F : Forest) (d : ℕ) → (last_of (level F d) ≡ slice_get (level F d) (length (level F d) - 1))
     × ((v : ℕ) → slice_get (level F d) 0 ≡ Some v → previous_of (level F d) v ≡ None)
     × ((i v : ℕ) → slice_get (level F d) (i + 1) ≡ Some v → previous_of (level F d) v ≡ slice_get (level F d) i)
 levels_go_back F d = (
   last_by_number (level F d),
-  λ v e. first_member_before 0 v (level F d) (level_ascends F d) e,
-  λ i v e. let s : i + 1 ≡ suc i = omega arith in member_before 0 i v (level F d) (level_ascends F d) (subst (λ (k : ℕ). slice_get (level F d) k ≡ Some v) s e),
+  λ v e. first_element_before 0 v (level F d) (level_ascends F d) e,
+  λ i v e. let s : i + 1 ≡ suc i = omega arith in element_before 0 i v (level F d) (level_ascends F d) (subst (λ (k : ℕ). slice_get (level F d) k ≡ Some v) s e),
 )
 
--- no level has more members than the forest has nodes
+-- no level has more elements than the forest has nodes
 pub levels_are_parts : (F : Forest) (d : ℕ) → length (level F d) ≤ length (nodes F)
 unfolding level
 levels_are_parts F d = omega (arith, length-filter_both (λ v. eqb (depth F v) d) (λ v. not (eqb (depth F v) d)) (λ v. refl) (nodes F))
 
 -- ---- walks along a level by handles: what a loop by `level_leftmost` and `level_next` keeps
 
-member_met : {H : Type 0} {position : H → ℕ} {F : Forest} {d : ℕ} {met : List H} {next : Option H} {v : H} → IsAlongLevel position F d met next → next ≡ Some v → slice_get (level F d) (length met) ≡ Some (position v)
-member_met {position = position} h e = sym h.then ∙ ap (option_map position) e
+element_met : {H : Type 0} {position : H → ℕ} {F : Forest} {d : ℕ} {met : List H} {next : Option H} {v : H} → IsAlongLevel position F d met next → next ≡ Some v → slice_get (level F d) (length met) ≡ Some (position v)
+element_met {position = position} h e = sym h.then ∙ ap (option_map position) e
 
 -- from the first node of the level
 pub walk_begins : {H : Type 0} {position : H → ℕ} {F : Forest} {d : ℕ} {next : Option H} → option_map position next ≡ first_of (level F d) → IsAlongLevel position F d [] next
@@ -131,13 +131,13 @@ walk_begins e = record { first = refl; then = e }
 
 -- the handle that comes next names a node
 pub walk_meets_nodes : {H : Type 0} {position : H → ℕ} {F : Forest} {d : ℕ} {met : List H} {next : Option H} {v : H} → IsAlongLevel position F d met next → next ≡ Some v → IsNode F (position v)
-walk_meets_nodes {position = position} {F = F} {d = d} {met = met} {v = v} h e = (levels_go_on F d (length met) (position v) (member_met h e)).0
+walk_meets_nodes {position = position} {F = F} {d = d} {met = met} {v = v} h e = (levels_go_on F d (length met) (position v) (element_met h e)).0
 
 -- it is met, and the next node of its depth comes next
 pub walk_goes_on : {H : Type 0} {position : H → ℕ} {F : Forest} {d : ℕ} {met all : List H} {next after : Option H} {v : H} → IsAlongLevel position F d met next → next ≡ Some v
     → all ≡ met ++ v ∷ [] → option_map position after ≡ next_of (level F (depth F (position v))) (position v) → IsAlongLevel position F d all after
 walk_goes_on {position = position} {F = F} {d = d} {met = met} {all = all} {v = v} h e a n =
-    let m = member_met h e in let g = levels_go_on F d (length met) (position v) m in
+    let m = element_met h e in let g = levels_go_on F d (length met) (position v) m in
     let long : length all ≡ length met + 1 = ap (λ (vs : List _). length vs) a ∙ length_push met v in
     record {
       first = ap (map position) a ∙ map-append position met (v ∷ []) ∙ ap (λ (vs : List ℕ). vs ++ position v ∷ []) h.first ∙ sym (take_more (level F d) (length met) 0 (slice_get_within (level F d) (length met) (position v) m) ∙ ap (λ (y : ℕ). take (length met) (level F d) ++ y ∷ []) (get_or_from_slice_get (level F d) (length met) (position v) 0 m)) ∙ ap (λ (k : ℕ). take k (level F d)) (sym long);

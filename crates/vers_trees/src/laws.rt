@@ -98,19 +98,19 @@ pub fn level_iff_depth()
     ensures { LevelIffDepth }
 {}
 
-/// Member `i` of a level is a node of its depth, and the next one on the level is the member after it:
+/// Element `i` of a level is a node of its depth, and the next one on the level is the element after it:
 /// `level_leftmost` and `level_next` go along the level.
 pub fn levels_go_on()
     ensures { LevelsGoOn }
 {}
 
-/// The previous node on a level is the member before it: `level_rightmost` and `level_prev` go back along the
+/// The previous node on a level is the element before it: `level_rightmost` and `level_prev` go back along the
 /// level.
 pub fn levels_go_back()
     ensures { LevelsGoBack }
 {}
 
-/// No level has more members than the forest has nodes.
+/// No level has more elements than the forest has nodes.
 #[tactic(auto, using(crate::proofs::PublicLaws::levels_are_parts))]
 pub fn levels_are_parts()
     ensures { LevelsAreParts }

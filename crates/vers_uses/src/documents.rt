@@ -6,7 +6,7 @@ ghost use Rattle.vers_uses.specs.Documents.{Holds};
 use std::alloc::{AllocError, Allocator};
 use std::marker::Model;
 use vers_vecs::EliasFanoVec;
-use vers_vecs::laws::sorted::{first_members_are_below, other_members_are_not_below};
+use vers_vecs::laws::sorted::{first_elements_are_below, other_elements_are_not_below};
 
 /// The documents of a text: the start of each, and the end of the text. A document ends where the next one
 /// starts.
@@ -64,8 +64,8 @@ impl<A: Allocator + Copy> Documents<A> {
         ensures found { IfSome result (Holds self.now byte) }
         ensures none { IsNone result → (document : ℕ) → Holds self.now byte document → ⊥ }
     {
-        first_members_are_below();
-        other_members_are_not_below();
+        first_elements_are_below();
+        other_elements_are_not_below();
         if byte >= self.end {
             return None;
         }

@@ -2,7 +2,7 @@
 use Rattle.vers_wavelet.proofs.Names.{◌≡◌, ℕ, ◌+◌, ◌-◌, ◌*◌, ◌%◌, ◌^◌, ◌&&◌, ◌<◌, ◌≤◌, Bool, false, leb, List, [], ◌∷◌, length, get_or, refl, sym, ap, ◌∙◌, arith, Option, Some, None, option_map, add-zero, slice_get, IfSome, if◌then◌else◌, le-leb, lt-leb, slice_get-get_or, bit_value, value, values, next, final_position, digit, AreLevels, HasClimbed, occurrences}
 use Rattle.std.proofs.lemmas.Iterator.Adapters.{option_map_id}
 use Rattle.vers_wavelet.proofs.Values.{value_is, value_none, next-up, final_is, final_none}
-use Rattle.vers_wavelet.proofs.Members.{never}
+use Rattle.vers_wavelet.proofs.Elements.{never}
 use Rattle.vers_wavelet.proofs.Steps.{rise_none, rise_all, rise_below, final_within}
 use Rattle.vers_wavelet.proofs.Lists.{length-values, get_or-values, count_is, found_or_none}
 

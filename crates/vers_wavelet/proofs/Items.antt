@@ -15,9 +15,9 @@ pub length-ordered : (ascending : Bool) (xs : List ℕ) → length (ordered asce
 length-ordered true xs = length-by_size xs
 length-ordered false xs = refl
 
--- member i of all symbols by size
-pub sorted_member : (xs : List ℕ) (i x n : ℕ) → n ≡ length xs → x ≡ slice_index (by_size (slice_range xs 0 n)) i → x ≡ slice_index (by_size xs) i
-sorted_member xs i x n e is = is ∙ ap (λ l. slice_index (by_size l) i) (ap (slice_range xs 0) e ∙ whole_range xs)
+-- element i of all symbols by size
+pub sorted_element : (xs : List ℕ) (i x n : ℕ) → n ≡ length xs → x ≡ slice_index (by_size (slice_range xs 0 n)) i → x ≡ slice_index (by_size xs) i
+sorted_element xs i x n e is = is ∙ ap (λ l. slice_index (by_size l) i) (ap (slice_range xs 0) e ∙ whole_range xs)
 
 -- ---- items that are lists of bits
 

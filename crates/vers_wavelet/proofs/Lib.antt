@@ -2,7 +2,7 @@ pub mod Names
 pub mod Digits
 pub mod Values
 pub mod Steps
-pub mod Members
+pub mod Elements
 pub mod Walks
 pub mod Lists
 pub mod Gathered

@@ -1,7 +1,7 @@
 -- What positions and counts of the levels state about the list of symbols.
 use Rattle.vers_wavelet.proofs.Names.{◌≡◌, ℕ, zero, suc, ◌+◌, ◌-◌, ◌%◌, ◌^◌, ◌<◌, ◌≤◌, Bool, true, cond, ltb, leb, eqb, List, ◌∷◌, ◌++◌, length, get_or, take, drop, refl, sym, ap, ◌∙◌, arith, add-one, filter, slice_range, slice_get, Option, Some, None, IsSome, IfSome, All, ◌↔◌, count_by, range_with_len, take-add, drop-cons, drop_more, eq-eqb, nat_tests, map-id, get_or_at, take-append-drop, length-append, length-take, length-drop, filter-append, length-filter, sum_by-append, sum_by-cons, sum_by_more, length-range_with_len, get_or-range_with_len, length-map-range_with_len, get_or-map-range_with_len, take-map-range_with_len, slice_get-get_or, slice_get_past, value, values, count_positions, count_below, count_equal, final_position, AreLevels, IsKthInRange, occurrences, IsKth}
 use Rattle.vers_wavelet.proofs.Values.{final-up, equal_below, value-lt, counts_more, counts_same}
-use Rattle.vers_wavelet.proofs.Members.{never, not_lt}
+use Rattle.vers_wavelet.proofs.Elements.{never, not_lt}
 use Rattle.vers_wavelet.proofs.Steps.{final_equal, final_more, final_parts}
 
 pub length-values : (ls : List (List Bool)) (n : ℕ) → length (values ls n) ≡ n
@@ -29,10 +29,10 @@ pub first_counts : (t : ℕ → Bool) (ls : List (List Bool)) (n i : ℕ) → i 
 first_counts t ls n i h =
     taken_counts t (values ls n) 0 i (omega (arith, length-values ls n)) ∙ counts_same _ _ i (λ p k. ap t (get_or-values ls n p 0 (omega arith)))
 
--- a count over the members of a range
-over_members : (t : ℕ → Bool) (ls : List (List Bool)) (n a b : ℕ) → a ≤ b → b ≤ n
+-- a count over the elements of a range
+over_elements : (t : ℕ → Bool) (ls : List (List Bool)) (n a b : ℕ) → a ≤ b → b ≤ n
     → count_by t (slice_range (values ls n) a b) + count_positions (λ p. t (value ls p)) a ≡ count_positions (λ p. t (value ls p)) b
-over_members t ls n a b order within =
+over_elements t ls n a b order within =
     let e : a + (b - a) ≡ b = omega arith in
     let whole = ap (count_by t) (rw e at (take-add a (b - a) (values ls n))) in
     let parts = sum_by-append (λ x. cond (t x) 1 0) (take a (values ls n)) (slice_range (values ls n) a b) in
@@ -48,10 +48,10 @@ counted_from : (items : List ℕ) (s a n : ℕ) → n ≤ length items - a
 counted_from items s a zero within = refl
 counted_from items s a (suc n) within =
     let first = sum_by-cons (λ p. cond (eqb (get_or items p 0) s) 1 0) a (range_with_len (a + 1) n) in
-    let member = sum_by-cons (λ y. cond (eqb y s) 1 0) (get_or items a 0) (take n (drop (a + 1) items)) in
-    rw (drop_more items a 0 (omega arith)) (omega (arith, counted_from items s (a + 1) n (omega arith), first, member))
+    let element = sum_by-cons (λ y. cond (eqb y s) 1 0) (get_or items a 0) (take n (drop (a + 1) items)) in
+    rw (drop_more items a 0 (omega arith)) (omega (arith, counted_from items s (a + 1) n (omega arith), first, element))
 
--- a symbol occurs in a range as often as the range's members are it
+-- a symbol occurs in a range as often as the range's elements are it
 pub occurrences_are_counted : (items : List ℕ) (a b s : ℕ) → b ≤ length items → length (occurrences items a b s) ≡ count_by (λ y. eqb y s) (slice_range items a b)
 unfolding occurrences
 occurrences_are_counted items a b s within =
@@ -64,14 +64,14 @@ no_positions items a b s past = let none : b - a ≡ 0 = omega arith in rw none
 
 occurrences_are : (ls : List (List Bool)) (n a b s : ℕ) → a ≤ b → b ≤ n → length (occurrences (values ls n) a b s) + count_equal ls s a ≡ count_equal ls s b
 unfolding count_equal
-occurrences_are ls n a b s order within = grind (arith, occurrences_are_counted, length-values, over_members)
+occurrences_are ls n a b s order within = grind (arith, occurrences_are_counted, length-values, over_elements)
 
 pub count_is : {ls : List (List Bool)} {n : ℕ} → AreLevels ls n → (s a b from to : ℕ) → a ≤ b → b ≤ n → from + final_position ls s b ≡ to + final_position ls s a
     → to - from ≡ length (occurrences (values ls n) a b (s % 2 ^ length ls))
 count_is {ls} {n} levels s a b from to order within e =
     omega (arith, e, occurrences_are ls n a b (s % 2 ^ length ls) order within, final_parts levels s a b order within, final-up ls s a b order)
 
--- a member that passes is in the filter at the number of those before it
+-- an element that passes is in the filter at the number of those before it
 pub filter_at : {X : Type 0} (p : X → Bool) (ys : List X) (i : ℕ) (d : X) → i < length ys → p (get_or ys i d) ≡ true
     → (count_by p (take i ys) < length (filter p ys)) × (get_or (filter p ys) (count_by p (take i ys)) d ≡ get_or ys i d)
 filter_at p ys i d h on =
@@ -121,7 +121,7 @@ found_or_none {ls} {n} levels s a r from None start e within holds leads some =
     found_none levels s a r from (final_position ls s n) start e refl (omega (arith, not_lt {a = from + r} {b = final_position ls s n} (λ inside. never (some.1 inside))))
 found_or_none {ls} {n} levels s a r from (Some p) start e within holds leads some = grind (arith, found_is)
 
--- ---- members by size
+-- ---- elements by size
 
 leb_counts : (ls : List (List Bool)) (x i : ℕ) → count_positions (λ p. leb (value ls p) x) i ≡ count_below ls (x + 1) i
 unfolding count_below
@@ -129,14 +129,14 @@ leb_counts ls x i = counts_same _ _ i (λ p h. grind (arith, nat_tests))
 
 pub below_is : (ls : List (List Bool)) (n a b s less : ℕ) → a ≤ b → b ≤ n → less + count_below ls s a ≡ count_below ls s b → less ≡ count_by (λ y. ltb y s) (slice_range (values ls n) a b)
 unfolding count_below
-below_is ls n a b s less order within e = omega (arith, over_members (λ v. ltb v s) ls n a b order within)
+below_is ls n a b s less order within e = omega (arith, over_elements (λ v. ltb v s) ls n a b order within)
 
--- member i by size, by counts over the positions and over the members
+-- element i by size, by counts over the positions and over the elements
 pub kth_is : (ls : List (List Bool)) (n a b i x : ℕ) → a ≤ b → b ≤ n → IsKthInRange ls a b i x ↔ IsKth (slice_range (values ls n) a b) i x
 unfolding count_below
 kth_is ls n a b i x order within =
-    let below = over_members (λ v. ltb v x) ls n a b order within in
-    let not_above = over_members (λ v. leb v x) ls n a b order within in (
+    let below = over_elements (λ v. ltb v x) ls n a b order within in
+    let not_above = over_elements (λ v. leb v x) ls n a b order within in (
       λ kth. record { less = omega (arith, below, kth.less); more = omega (arith, not_above, kth.more, leb_counts ls x a, leb_counts ls x b) },
       λ kth. record { less = omega (arith, below, kth.less); more = omega (arith, not_above, kth.more, leb_counts ls x a, leb_counts ls x b) },
     )
@@ -146,6 +146,6 @@ pub not_above_is : {ls : List (List Bool)} {n : ℕ} → AreLevels ls n → (s a
     → less + (to - from) ≡ count_by (λ y. leb y (s % 2 ^ length ls)) (slice_range (values ls n) a b)
 not_above_is {ls} {n} levels s a b less from to order within e g =
     let v : ℕ = s % 2 ^ length ls in
-    let counted = over_members (λ x. leb x v) ls n a b order within in
+    let counted = over_elements (λ x. leb x v) ls n a b order within in
     let held = final_parts levels s a b order within in
     omega (arith, counted, held, final-up ls s a b order, leb_counts ls v a, leb_counts ls v b, equal_below ls v a, equal_below ls v b)

@@ -31,7 +31,7 @@ pub use Rattle.vers_wavelet.specs.Batches.{Become}
 pub use Rattle.vers_wavelet.specs.Makers.{AllHaveLength, digit}
 unfoldable pub use Rattle.vers_wavelet.specs.Makers.{levels_of, low_symbols, packed_symbols, sorted_by, symbol_levels}
 pub use Rattle.vers_wavelet.specs.Symbols.{IsKth, IsPredecessor, IsSuccessor, Symbols, by_size, digit_list, gathered, in_bits, ordered, placed}
-unfoldable pub use Rattle.vers_wavelet.specs.Symbols.{as_word, greatest_up_to, kth_by_size, least_from, occurrences, range_members, reversed_digits}
+unfoldable pub use Rattle.vers_wavelet.specs.Symbols.{as_word, greatest_up_to, kth_by_size, least_from, occurrences, range_elements, reversed_digits}
 pub use Rattle.vers_wavelet.specs.inside.Batches.{Changed, HasNumber, HasPosition, IsClimbing, asked, no_query}
 pub use Rattle.vers_wavelet.specs.inside.Counts.{IsKthInRange, count_positions}
 unfoldable pub use Rattle.vers_wavelet.specs.inside.Counts.{count_below, count_equal, kth_symbol}

@@ -1,18 +1,18 @@
 -- The laws that proofs of other crates may cite. A crate above imports this file and no other of this folder.
-use Rattle.vers_wavelet.proofs.Names.{◌≡◌, ℕ, ◌-◌, ◌^◌, ◌<◌, ◌≤◌, ◌+◌, Bool, eqb, List, [], length, get_or, Option, Some, None, slice_range, All, Any, IsSome, IfSome, ◌↔◌, count_by, IsNonDecreasing, Symbols, by_size, in_bits, occurrences, range_members, kth_by_size, greatest_up_to, least_from, as_word, IsKth, IsPredecessor, IsSuccessor, low_symbols, symbol_levels}
+use Rattle.vers_wavelet.proofs.Names.{◌≡◌, ℕ, ◌-◌, ◌^◌, ◌<◌, ◌≤◌, ◌+◌, Bool, eqb, List, [], length, get_or, Option, Some, None, slice_range, All, Any, IsSome, IfSome, ◌↔◌, count_by, IsNonDecreasing, Symbols, by_size, in_bits, occurrences, range_elements, kth_by_size, greatest_up_to, least_from, as_word, IsKth, IsPredecessor, IsSuccessor, low_symbols, symbol_levels}
 use Rattle.vers_wavelet.proofs.Answered as Answered
 use Rattle.vers_wavelet.proofs.BySize as BySize
 use Rattle.vers_wavelet.proofs.Inverses as Inverses
 use Rattle.vers_wavelet.proofs.Items as Items
 use Rattle.vers_wavelet.proofs.Lists as Lists
 use Rattle.vers_wavelet.proofs.Makes as Makes
-use Rattle.vers_wavelet.proofs.Members as Members
+use Rattle.vers_wavelet.proofs.Elements as Elements
 use Rattle.vers_wavelet.proofs.Nearest as Nearest
 use Rattle.vers_wavelet.proofs.Ranges as Ranges
 
--- ---- members by size
+-- ---- elements by size
 
--- in ascending order members ascend, and each is there as often
+-- in ascending order elements ascend, and each is there as often
 pub by_size_ascends : (xs : List ℕ) → IsNonDecreasing (by_size xs)
 by_size_ascends = BySize.by_size_ascends
 
@@ -22,7 +22,7 @@ count_by_size = BySize.count_by_size
 pub length-by_size : (xs : List ℕ) → length (by_size xs) ≡ length xs
 length-by_size = BySize.length-by_size
 
--- member i by size is at position i in ascending order, and is one number
+-- element i by size is at position i in ascending order, and is one number
 pub kth_at : (xs : List ℕ) (i x : ℕ) → i < length xs → IsKth xs i x → get_or (by_size xs) i 0 ≡ x
 kth_at = BySize.kth_at
 
@@ -36,20 +36,20 @@ kth_is = BySize.kth_is
 pub kth_item : (xs : List ℕ) (i : ℕ) → i < length xs → kth_by_size xs i ≡ Some (get_or (by_size xs) i 0)
 kth_item = BySize.kth_item
 
--- quantiles in turn list the members in ascending order
+-- quantiles in turn list the elements in ascending order
 pub quantiles_ascend : (numbers quantiles : List ℕ) → length quantiles ≡ length numbers → ((i : ℕ) → i < length numbers → IsKth numbers i (get_or quantiles i 0)) → quantiles ≡ by_size numbers
 quantiles_ascend = BySize.quantiles_ascend
 
 -- ---- neighbours
 
--- the greatest member up to a number is the predecessor, and there where some member is not above the number
+-- the greatest element up to a number is the predecessor, and there where some element is not above the number
 pub greatest_up_to_predecessor : (xs : List ℕ) (s x : ℕ) → (greatest_up_to xs s ≡ Some x) ↔ IsPredecessor xs s x
 greatest_up_to_predecessor = Nearest.greatest_up_to_predecessor
 
 pub greatest_up_to_some : (xs : List ℕ) (s : ℕ) → IsSome (greatest_up_to xs s) ↔ Any (λ y. y ≤ s) xs
 greatest_up_to_some = Nearest.greatest_up_to_some
 
--- the least member from a number on is the successor, and there where some member is not below the number
+-- the least element from a number on is the successor, and there where some element is not below the number
 pub least_from_successor : (xs : List ℕ) (s x : ℕ) → (least_from xs s ≡ Some x) ↔ IsSuccessor xs s x
 least_from_successor = Nearest.least_from_successor
 
@@ -62,7 +62,7 @@ least_from_some = Nearest.least_from_some
 pub small_numbers_stay : (numbers : List ℕ) (k : ℕ) → 0 < k → All (λ y. y < 2 ^ k) numbers → low_symbols numbers k ≡ numbers
 small_numbers_stay = Makes.small_numbers_stay
 
--- a symbol occurs in a range as often as it is among the range's members
+-- a symbol occurs in a range as often as it is among the range's elements
 pub occurrences_are_counted : (numbers : List ℕ) (a b s : ℕ) → b ≤ length numbers → length (occurrences numbers a b s) ≡ count_by (λ y. eqb y s) (slice_range numbers a b)
 occurrences_are_counted = Lists.occurrences_are_counted
 
@@ -70,28 +70,28 @@ occurrences_are_counted = Lists.occurrences_are_counted
 pub whole_range : (xs : List ℕ) → slice_range xs 0 (length xs) ≡ xs
 whole_range = Items.whole_range
 
--- a range that ends within the list has as many members as positions
+-- a range that ends within the list has as many elements as positions
 pub part_length : (xs : List ℕ) (a b : ℕ) → b ≤ length xs → length (slice_range xs a b) ≡ b - a
-part_length = Members.part_length
+part_length = Elements.part_length
 
--- the members of a range, by whether it ends within the list
-pub members_inside : (xs : List ℕ) (a b : ℕ) → b ≤ length xs → range_members xs a b ≡ slice_range xs a b
-members_inside = Ranges.members_inside
+-- the elements of a range, by whether it ends within the list
+pub elements_inside : (xs : List ℕ) (a b : ℕ) → b ≤ length xs → range_elements xs a b ≡ slice_range xs a b
+elements_inside = Ranges.elements_inside
 
-pub members_past : (xs : List ℕ) (a b : ℕ) → length xs < b → range_members xs a b ≡ []
-members_past = Ranges.members_past
+pub elements_past : (xs : List ℕ) (a b : ℕ) → length xs < b → range_elements xs a b ≡ []
+elements_past = Ranges.elements_past
 
--- its member of a number, and its neighbours of a number
-pub range_kth : (xs : List ℕ) (a b i : ℕ) → IfSome (kth_by_size (range_members xs a b) i) (λ x. IsKth (slice_range xs a b) i x)
-    × (IsSome (kth_by_size (range_members xs a b) i) ↔ (b ≤ length xs) × (a + i < b))
+-- its element of a number, and its neighbours of a number
+pub range_kth : (xs : List ℕ) (a b i : ℕ) → IfSome (kth_by_size (range_elements xs a b) i) (λ x. IsKth (slice_range xs a b) i x)
+    × (IsSome (kth_by_size (range_elements xs a b) i) ↔ (b ≤ length xs) × (a + i < b))
 range_kth = Answered.range_kth
 
-pub range_predecessor : (xs : List ℕ) (a b s : ℕ) → IfSome (greatest_up_to (range_members xs a b) s) (λ x. IsPredecessor (slice_range xs a b) s x)
-    × (IsSome (greatest_up_to (range_members xs a b) s) ↔ (a ≤ b) × (b ≤ length xs) × Any (λ y. y ≤ s) (slice_range xs a b))
+pub range_predecessor : (xs : List ℕ) (a b s : ℕ) → IfSome (greatest_up_to (range_elements xs a b) s) (λ x. IsPredecessor (slice_range xs a b) s x)
+    × (IsSome (greatest_up_to (range_elements xs a b) s) ↔ (a ≤ b) × (b ≤ length xs) × Any (λ y. y ≤ s) (slice_range xs a b))
 range_predecessor = Answered.range_predecessor
 
-pub range_successor : (xs : List ℕ) (a b s : ℕ) → IfSome (least_from (range_members xs a b) s) (λ x. IsSuccessor (slice_range xs a b) s x)
-    × (IsSome (least_from (range_members xs a b) s) ↔ (a ≤ b) × (b ≤ length xs) × Any (λ y. s ≤ y) (slice_range xs a b))
+pub range_successor : (xs : List ℕ) (a b s : ℕ) → IfSome (least_from (range_elements xs a b) s) (λ x. IsSuccessor (slice_range xs a b) s x)
+    × (IsSome (least_from (range_elements xs a b) s) ↔ (a ≤ b) × (b ≤ length xs) × Any (λ y. s ≤ y) (slice_range xs a b))
 range_successor = Answered.range_successor
 
 -- symbols of at most 64 bits are numbers of the machine, and others none

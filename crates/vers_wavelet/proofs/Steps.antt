@@ -6,7 +6,7 @@ use Rattle.vers_wavelet.proofs.Values.{same_bit, value-lt, below_all, below_step
 cond_gap : (bit : Bool) (a b : ℕ) → a ≤ b → cond bit b 0 ≡ cond bit a 0 + cond bit (b - a) 0
 cond_gap bit a b order = grind arith
 
--- of the positions that continue with the bit, member j by size makes member i of all
+-- of the positions that continue with the bit, element j by size makes element i of all
 pub kth_step : (bit : Bool) (l : List Bool) (ls : List (List Bool)) (a b i j x : ℕ) → a ≤ b → b ≤ length l → x < 2 ^ length ls
     → j + cond bit (next false l b - next false l a) 0 ≡ i
     → IsKthInRange ls (next bit l a) (next bit l b) j x → IsKthInRange (l ∷ ls) a b i (bit_value bit * 2 ^ length ls + x)
@@ -158,7 +158,7 @@ module _ (ls : List (List Bool)) (k : ℕ) (h : k < length ls) (v : List Bool) (
   abbrev weight : ℕ
   weight = 2 ^ (length ls - (k + 1))
 
-  -- the members by size of a range, by those of the positions that continue with the bit
+  -- the elements by size of a range, by those of the positions that continue with the bit
   pub reduces_more : (bit : Bool) {from to a b c d number made : ℕ} (th more : ℕ) → a ≤ b → b ≤ length v → c ≡ next bit v a → d ≡ next bit v b
       → more ≡ th + cond bit (next false v b - next false v a) 0 → made ≡ number + bit_value bit * weight
       → ((j : ℕ) → ReducesKth ls from to (th + j) k a b j number)
@@ -168,12 +168,12 @@ module _ (ls : List (List Bool)) (k : ℕ) (h : k < length ls) (v : List Bool) (
         let i : ℕ = j + cond bit (next false v b - next false v a) 0 in
         let left = length-drop (k + 1) ls in
         let here = kth_step bit v (drop (k + 1) ls) a b i j x order within (rw left small) refl (rw (first, last) at kth) in
-        let member : more + j ≡ th + i = omega (arith, e) in
+        let element : more + j ≡ th + i = omega (arith, e) in
         let sum : made + x ≡ number + (bit_value bit * weight + x) = omega (arith, is) in
         let deeper : length ls - k ≡ suc (length ls - (k + 1)) = omega arith in
         let fits : bit_value bit * weight + x < 2 ^ (length ls - k) =
         rw deeper (omega (arith, pow-suc 2 (length ls - (k + 1)), mul-le-mul_right weight (bit_value_le bit))) in
-        rw (member, sum) ((s i).each (bit_value bit * weight + x) fits (rw (level_at ls k h v at, ← left) here));
+        rw (element, sum) ((s i).each (bit_value bit * weight + x) fits (rw (level_at ls k h v at, ← left) here));
   }
 
   -- where the digits of s from the level on are held, the bit is the first of them, and the next level holds the others

@@ -122,6 +122,6 @@ module _ {ls : List (List Bool)} {n : ℕ} (levels : AreLevels ls n) (s from to 
       let i : ℕ = cond up 0 (t.beside.end - t.beside.start - 1) in
       let inside : t.beside.start + i < t.beside.end = grind (arith, some, cases_Bool up) in
       let small : x < 2 ^ (length ls - t.beside.level) = subst (λ (i : ℕ). x < 2 ^ i) (length-drop t.beside.level ls) (kth-lt (drop t.beside.level ls) _ _ _ x kth inside) in
-      let member = (kth_is ls n from to _ _ order within).0 ((l.found some number is).each x small kth) in
+      let element = (kth_is ls n from to _ _ order within).0 ((l.found some number is).each x small kth) in
       let many = count_by-le-length (λ y. leb y (number + bit_value up * 2 ^ (length ls - t.beside.level) + x)) xs in
-      nearest_is up xs t.part.less (s % 2 ^ length ls) _ _ low (omega (arith, high, last)) (λ q. grind (arith, q, last, member.more, many)) (λ q. grind (arith, q, (l.some some).2)) (grind (arith, last, cases_Bool up)) (kth_position _ _ _ member)
+      nearest_is up xs t.part.less (s % 2 ^ length ls) _ _ low (omega (arith, high, last)) (λ q. grind (arith, q, last, element.more, many)) (λ q. grind (arith, q, (l.some some).2)) (grind (arith, last, cases_Bool up)) (kth_position _ _ _ element)

@@ -7,7 +7,7 @@ use Rattle.vers_wavelet.proofs.Values.{from_above}
 use Rattle.vers_wavelet.proofs.Steps.{value_parts, even_first, even_rest, reduces_none}
 use Rattle.vers_wavelet.proofs.Lists.{length-values, get_or-values, kth_is}
 use Rattle.vers_wavelet.proofs.BySize.{kth_position}
-use Rattle.vers_wavelet.proofs.Items.{sorted_member}
+use Rattle.vers_wavelet.proofs.Items.{sorted_element}
 
 -- ---- one list of levels
 
@@ -71,8 +71,8 @@ nodes_set ls n k nodes node inside each is j d h =
       | inr other ↦ rw (get_or-set_other nodes k j node d other) (each j d h)
     ]
 
--- member i of the levels is that of the symbols by size
+-- element i of the levels is that of the symbols by size
 pub sorted_kth : (ls : List (List Bool)) (n i x : ℕ) → IsKthInRange ls 0 n i x → x ≡ get_or (by_size (values ls n)) i 0
 sorted_kth ls n i x kth =
-    sorted_member (values ls n) i x n (sym (length-values ls n))
+    sorted_element (values ls n) i x n (sym (length-values ls n))
     (kth_position (slice_range (values ls n) 0 n) i x ((kth_is ls n 0 n i x (omega arith) (omega arith)).0 kth))

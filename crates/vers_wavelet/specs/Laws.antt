@@ -1,16 +1,16 @@
 -- The laws of lists of symbols, as statements.
 use Rattle.std.specs.Prelude.{◌≡◌, ℕ, ◌^◌, ◌<◌, ◌≤◌, ◌==◌, Bool, List, length, slice_index, slice_range, count_by, All, Any, Option, Some, None, IsSome, IfSome, ◌↔◌, ◌+◌}
 use Rattle.std.specs.List.Sorted.{IsNonDecreasing}
-use Rattle.vers_wavelet.specs.Symbols.{Symbols, by_size, occurrences, range_members, kth_by_size, greatest_up_to, least_from, as_word, IsKth, IsPredecessor, IsSuccessor}
+use Rattle.vers_wavelet.specs.Symbols.{Symbols, by_size, occurrences, range_elements, kth_by_size, greatest_up_to, least_from, as_word, IsKth, IsPredecessor, IsSuccessor}
 use Rattle.vers_wavelet.specs.Makers.{low_symbols, symbol_levels}
 
 -- `by_size` ascends
-abbrev pub SortedMembersAscend : Type 0
-SortedMembersAscend = (numbers : List ℕ) → IsNonDecreasing (by_size numbers)
+abbrev pub SortedElementsAscend : Type 0
+SortedElementsAscend = (numbers : List ℕ) → IsNonDecreasing (by_size numbers)
 
 -- `by_size` has the same elements, each as often
-abbrev pub SortingKeepsMembers : Type 0
-SortingKeepsMembers = (test : ℕ → Bool) (numbers : List ℕ) → count_by test (by_size numbers) ≡ count_by test numbers
+abbrev pub SortingKeepsElements : Type 0
+SortingKeepsElements = (test : ℕ → Bool) (numbers : List ℕ) → count_by test (by_size numbers) ≡ count_by test numbers
 
 -- `kth_by_size` is the element that at most i elements are less than, and more than i are not greater than
 abbrev pub KthBySizeIsKth : Type 0
@@ -25,35 +25,35 @@ abbrev pub GreatestUpToIsPredecessor : Type 0
 GreatestUpToIsPredecessor = (numbers : List ℕ) (s x : ℕ) → (greatest_up_to numbers s ≡ Some x) ↔ IsPredecessor numbers s x
 
 -- the predecessor exists exactly if some element is at most the number
-abbrev pub SomeMembersAreUpTo : Type 0
-SomeMembersAreUpTo = (numbers : List ℕ) (s : ℕ) → IsSome (greatest_up_to numbers s) ↔ Any (λ y. y ≤ s) numbers
+abbrev pub SomeElementsAreUpTo : Type 0
+SomeElementsAreUpTo = (numbers : List ℕ) (s : ℕ) → IsSome (greatest_up_to numbers s) ↔ Any (λ y. y ≤ s) numbers
 
 -- `least_from` is the successor
 abbrev pub LeastFromIsSuccessor : Type 0
 LeastFromIsSuccessor = (numbers : List ℕ) (s x : ℕ) → (least_from numbers s ≡ Some x) ↔ IsSuccessor numbers s x
 
 -- the successor exists exactly if some element is at least the number
-abbrev pub SomeMembersAreFrom : Type 0
-SomeMembersAreFrom = (numbers : List ℕ) (s : ℕ) → IsSome (least_from numbers s) ↔ Any (λ y. s ≤ y) numbers
+abbrev pub SomeElementsAreFrom : Type 0
+SomeElementsAreFrom = (numbers : List ℕ) (s : ℕ) → IsSome (least_from numbers s) ↔ Any (λ y. s ≤ y) numbers
 
 -- element i by size of a range satisfies `IsKth`, and exists exactly if the range is within the list and has more than i positions
-abbrev pub RangesHaveMembers : Type 0
-RangesHaveMembers = (numbers : List ℕ) (a b i : ℕ) → IfSome (kth_by_size (range_members numbers a b) i) (λ x. IsKth (slice_range numbers a b) i x)
-    × (IsSome (kth_by_size (range_members numbers a b) i) ↔ (b ≤ length numbers) × (a + i < b))
+abbrev pub RangesHaveElements : Type 0
+RangesHaveElements = (numbers : List ℕ) (a b i : ℕ) → IfSome (kth_by_size (range_elements numbers a b) i) (λ x. IsKth (slice_range numbers a b) i x)
+    × (IsSome (kth_by_size (range_elements numbers a b) i) ↔ (b ≤ length numbers) × (a + i < b))
 
 -- the predecessor in a range satisfies `IsPredecessor`, and exists exactly if the range is within the list and has an element that is at most the number
 abbrev pub RangesHavePredecessors : Type 0
-RangesHavePredecessors = (numbers : List ℕ) (a b s : ℕ) → IfSome (greatest_up_to (range_members numbers a b) s) (λ x. IsPredecessor (slice_range numbers a b) s x)
-    × (IsSome (greatest_up_to (range_members numbers a b) s) ↔ (a ≤ b) × (b ≤ length numbers) × Any (λ y. y ≤ s) (slice_range numbers a b))
+RangesHavePredecessors = (numbers : List ℕ) (a b s : ℕ) → IfSome (greatest_up_to (range_elements numbers a b) s) (λ x. IsPredecessor (slice_range numbers a b) s x)
+    × (IsSome (greatest_up_to (range_elements numbers a b) s) ↔ (a ≤ b) × (b ≤ length numbers) × Any (λ y. y ≤ s) (slice_range numbers a b))
 
 -- the successor in a range satisfies `IsSuccessor`, and exists exactly if the range is within the list and has an element that is at least the number
 abbrev pub RangesHaveSuccessors : Type 0
-RangesHaveSuccessors = (numbers : List ℕ) (a b s : ℕ) → IfSome (least_from (range_members numbers a b) s) (λ x. IsSuccessor (slice_range numbers a b) s x)
-    × (IsSome (least_from (range_members numbers a b) s) ↔ (a ≤ b) × (b ≤ length numbers) × Any (λ y. s ≤ y) (slice_range numbers a b))
+RangesHaveSuccessors = (numbers : List ℕ) (a b s : ℕ) → IfSome (least_from (range_elements numbers a b) s) (λ x. IsSuccessor (slice_range numbers a b) s x)
+    × (IsSome (least_from (range_elements numbers a b) s) ↔ (a ≤ b) × (b ≤ length numbers) × Any (λ y. s ≤ y) (slice_range numbers a b))
 
 -- the elements of a range within the list are those at its positions
 abbrev pub RangesInsideStay : Type 0
-RangesInsideStay = (numbers : List ℕ) (a b : ℕ) → b ≤ length numbers → range_members numbers a b ≡ slice_range numbers a b
+RangesInsideStay = (numbers : List ℕ) (a b : ℕ) → b ≤ length numbers → range_elements numbers a b ≡ slice_range numbers a b
 
 -- a symbol of at most 64 bits is a machine word
 abbrev pub NarrowSymbolsAreWords : Type 0
@@ -64,12 +64,12 @@ abbrev pub WideSymbolsAreNoWords : Type 0
 WideSymbolsAreNoWords = (width : ℕ) (symbol : Option ℕ) → 64 < width → as_word width symbol ≡ None
 
 -- a list has exactly one element i by size
-abbrev pub OneMemberOfANumber : Type 0
-OneMemberOfANumber = (numbers : List ℕ) (i x y : ℕ) → IsKth numbers i x → IsKth numbers i y → x ≡ y
+abbrev pub OneElementOfANumber : Type 0
+OneElementOfANumber = (numbers : List ℕ) (i x y : ℕ) → IsKth numbers i x → IsKth numbers i y → x ≡ y
 
 -- the quantiles from 0 to the length list the elements in ascending order, duplicates included
-abbrev pub QuantilesListMembersBySize : Type 0
-QuantilesListMembersBySize = (numbers quantiles : List ℕ) → length quantiles ≡ length numbers
+abbrev pub QuantilesListElementsBySize : Type 0
+QuantilesListElementsBySize = (numbers quantiles : List ℕ) → length quantiles ≡ length numbers
     → ((i : ℕ) → i < length numbers → IsKth numbers i (slice_index quantiles i)) → quantiles ≡ by_size numbers
 
 -- numbers of at most k digits are their own k low digits

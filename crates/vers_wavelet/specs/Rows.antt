@@ -1,6 +1,6 @@
 -- Worked rows of the definitions, which compute.
 use Rattle.std.specs.Prelude.{◌≡◌, ℕ, List, [], ◌∷◌, Some, None, refl}
-use Rattle.vers_wavelet.specs.Symbols.{by_size, reversed_digits, gathered, occurrences, range_members, kth_by_size, greatest_up_to, least_from}
+use Rattle.vers_wavelet.specs.Symbols.{by_size, reversed_digits, gathered, occurrences, range_elements, kth_by_size, greatest_up_to, least_from}
 
 -- the symbols 5, 1, 3, 1
 abbrev symbols_5131 : List ℕ
@@ -9,18 +9,18 @@ symbols_5131 = 5 ∷ 1 ∷ 3 ∷ 1 ∷ []
 pub by_size-5131 : by_size symbols_5131 ≡ 1 ∷ 1 ∷ 3 ∷ 5 ∷ []
 by_size-5131 = refl
 
-pub range_members-1_3 : range_members symbols_5131 1 3 ≡ 1 ∷ 3 ∷ []
-unfolding range_members
-range_members-1_3 = refl
+pub range_elements-1_3 : range_elements symbols_5131 1 3 ≡ 1 ∷ 3 ∷ []
+unfolding range_elements
+range_elements-1_3 = refl
 
 -- a range that ends past the list, and one that ends before it begins
-pub range_members-1_5 : range_members symbols_5131 1 5 ≡ []
-unfolding range_members
-range_members-1_5 = refl
+pub range_elements-1_5 : range_elements symbols_5131 1 5 ≡ []
+unfolding range_elements
+range_elements-1_5 = refl
 
-pub range_members-3_1 : range_members symbols_5131 3 1 ≡ []
-unfolding range_members
-range_members-3_1 = refl
+pub range_elements-3_1 : range_elements symbols_5131 3 1 ≡ []
+unfolding range_elements
+range_elements-3_1 = refl
 
 pub kth_by_size-1 : kth_by_size symbols_5131 1 ≡ Some 1
 unfolding kth_by_size

@@ -43,8 +43,8 @@ by_size [] = []
 by_size (x ∷ xs) = placed x (by_size xs)
 
 -- the elements from position a to before position b, in order; none if b is past the end
-unfoldable pub range_members : List ℕ → ℕ → ℕ → List ℕ
-range_members items a b = if nat_le b (length items) then slice_range items a b else []
+unfoldable pub range_elements : List ℕ → ℕ → ℕ → List ℕ
+range_elements items a b = if nat_le b (length items) then slice_range items a b else []
 
 -- element i of a list by size, from 0, counting duplicates; `None` if there are at most i
 unfoldable pub kth_by_size : List ℕ → ℕ → Option ℕ
@@ -69,13 +69,13 @@ pub record IsKth (items : List ℕ) (i x : ℕ) : Type 0 where
 
 -- x is the greatest element of the list that is at most s
 pub record IsPredecessor (items : List ℕ) (s x : ℕ) : Type 0 where
-  pub member : Contains items x
+  pub element : Contains items x
   pub within : x ≤ s
   pub greatest : All (λ y. y ≤ s → y ≤ x) items
 
 -- x is the least element of the list that is at least s
 pub record IsSuccessor (items : List ℕ) (s x : ℕ) : Type 0 where
-  pub member : Contains items x
+  pub element : Contains items x
   pub within : s ≤ x
   pub least : All (λ y. s ≤ y → x ≤ y) items
 

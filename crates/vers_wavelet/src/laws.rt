@@ -1,75 +1,75 @@
 //! Laws of lists of symbols. Each function does nothing: its contract is the law, and its proof is
 //! checked with the crate.
-ghost use Rattle.vers_wavelet.specs.Laws.{SortedMembersAscend, SortingKeepsMembers, KthBySizeIsKth, KthBySizeIsItem, RangesHaveMembers, RangesHavePredecessors, RangesHaveSuccessors, GreatestUpToIsPredecessor, SomeMembersAreUpTo, LeastFromIsSuccessor, SomeMembersAreFrom, RangesInsideStay, NarrowSymbolsAreWords, WideSymbolsAreNoWords, OneMemberOfANumber, QuantilesListMembersBySize, SmallNumbersStay, LevelsAreEven, EveryLevelsAreSome, LevelsDetermineSymbols, OccurrencesAreCounted};
+ghost use Rattle.vers_wavelet.specs.Laws.{SortedElementsAscend, SortingKeepsElements, KthBySizeIsKth, KthBySizeIsItem, RangesHaveElements, RangesHavePredecessors, RangesHaveSuccessors, GreatestUpToIsPredecessor, SomeElementsAreUpTo, LeastFromIsSuccessor, SomeElementsAreFrom, RangesInsideStay, NarrowSymbolsAreWords, WideSymbolsAreNoWords, OneElementOfANumber, QuantilesListElementsBySize, SmallNumbersStay, LevelsAreEven, EveryLevelsAreSome, LevelsDetermineSymbols, OccurrencesAreCounted};
 
-/// Sorted members ascend.
+/// Sorted elements ascend.
 #[tactic(auto, using(crate::proofs::BySize::by_size_ascends))]
-pub fn sorted_members_ascend()
-    ensures { SortedMembersAscend }
+pub fn sorted_elements_ascend()
+    ensures { SortedElementsAscend }
 {}
 
-/// Sorting keeps each member as often as it occurs.
+/// Sorting keeps each element as often as it occurs.
 #[tactic(auto, using(crate::proofs::BySize::count_by_size))]
-pub fn sorting_keeps_members()
-    ensures { SortingKeepsMembers }
+pub fn sorting_keeps_elements()
+    ensures { SortingKeepsElements }
 {}
 
-/// The `i`-th smallest member is the one that at most `i` members are below and more than `i` are at most: no
+/// The `i`-th smallest element is the one that at most `i` elements are below and more than `i` are at most: no
 /// other number satisfies this.
 pub fn kth_by_size_is_kth()
     ensures { KthBySizeIsKth }
 {}
 
-/// The `i`-th smallest member is the item at position `i` in ascending order.
+/// The `i`-th smallest element is the item at position `i` in ascending order.
 #[tactic(auto, using(crate::proofs::BySize::kth_item))]
 pub fn kth_by_size_is_item()
     ensures { KthBySizeIsItem }
 {}
 
-/// The greatest member up to a number is the predecessor: a member that is at most the number, and no such
-/// member is above it.
+/// The greatest element up to a number is the predecessor: an element that is at most the number, and no such
+/// element is above it.
 pub fn greatest_up_to_is_predecessor()
     ensures { GreatestUpToIsPredecessor }
 {}
 
-/// There is a greatest member up to a number if some member is at most the number.
+/// There is a greatest element up to a number if some element is at most the number.
 #[tactic(auto, using(crate::proofs::Nearest::greatest_up_to_some))]
-pub fn some_members_are_up_to()
-    ensures { SomeMembersAreUpTo }
+pub fn some_elements_are_up_to()
+    ensures { SomeElementsAreUpTo }
 {}
 
-/// The least member from a number on is the successor: a member that is at least the number, and no such member
+/// The least element from a number on is the successor: an element that is at least the number, and no such element
 /// is below it.
 pub fn least_from_is_successor()
     ensures { LeastFromIsSuccessor }
 {}
 
-/// There is a least member from a number on if some member is at least the number.
+/// There is a least element from a number on if some element is at least the number.
 #[tactic(auto, using(crate::proofs::Nearest::least_from_some))]
-pub fn some_members_are_from()
-    ensures { SomeMembersAreFrom }
+pub fn some_elements_are_from()
+    ensures { SomeElementsAreFrom }
 {}
 
-/// A range's `i`-th smallest member is the one that at most `i` of its members are below and more than `i` are
+/// A range's `i`-th smallest element is the one that at most `i` of its elements are below and more than `i` are
 /// at most. It exists if the range ends within the list and has more than `i` positions.
-pub fn ranges_have_members()
-    ensures { RangesHaveMembers }
+pub fn ranges_have_elements()
+    ensures { RangesHaveElements }
 {}
 
-/// A range's greatest member up to a number is the predecessor among its members. It exists if the range is
-/// within the list and some of its members are at most the number.
+/// A range's greatest element up to a number is the predecessor among its elements. It exists if the range is
+/// within the list and some of its elements are at most the number.
 pub fn ranges_have_predecessors()
     ensures { RangesHavePredecessors }
 {}
 
-/// A range's least member from a number on is the successor among its members. It exists if the range is within
-/// the list and some of its members are at least the number.
+/// A range's least element from a number on is the successor among its elements. It exists if the range is within
+/// the list and some of its elements are at least the number.
 pub fn ranges_have_successors()
     ensures { RangesHaveSuccessors }
 {}
 
-/// The members of a range that ends within the list are those at its positions.
-#[tactic(auto, using(crate::proofs::Ranges::members_inside))]
+/// The elements of a range that ends within the list are those at its positions.
+#[tactic(auto, using(crate::proofs::Ranges::elements_inside))]
 pub fn ranges_inside_stay()
     ensures { RangesInsideStay }
 {}
@@ -86,15 +86,15 @@ pub fn wide_symbols_are_no_words()
     ensures { WideSymbolsAreNoWords }
 {}
 
-/// A list has only one `i`-th smallest member, so a quantile is one number.
-pub fn one_member_of_a_number()
-    ensures { OneMemberOfANumber }
+/// A list has only one `i`-th smallest element, so a quantile is one number.
+pub fn one_element_of_a_number()
+    ensures { OneElementOfANumber }
 {}
 
-/// The quantiles in turn, one for each member, are the members in ascending order, duplicates included.
+/// The quantiles in turn, one for each element, are the elements in ascending order, duplicates included.
 #[tactic(auto, using(crate::proofs::BySize::quantiles_ascend))]
-pub fn quantiles_list_members_by_size()
-    ensures { QuantilesListMembersBySize }
+pub fn quantiles_list_elements_by_size()
+    ensures { QuantilesListElementsBySize }
 {}
 
 /// Numbers of at most `k` digits, where `k` isn't 0, are their own low digits.
@@ -121,7 +121,7 @@ pub fn levels_determine_symbols()
     ensures { LevelsDetermineSymbols }
 {}
 
-/// A symbol occurs in a range as often as it is among the range's members.
+/// A symbol occurs in a range as often as it is among the range's elements.
 #[tactic(auto, using(crate::proofs::Lists::occurrences_are_counted))]
 pub fn occurrences_are_counted()
     ensures { OccurrencesAreCounted }

@@ -138,7 +138,7 @@ counts_all limit xs starts some small short long are = (
     order = some;
     inside = omega (arith, long);
     short = λ k d inside. omega (arith, get_or_default starts k d 0 inside, are k inside, short, count_by-le-length (λ x. ltb x k) xs);
-    members = λ k d inside. (omega arith, small k d inside);
+    elements = λ k d inside. (omega arith, small k d inside);
     counts = λ c from within. omega (arith, are c (omega (arith, within, long)), are 0 (omega (arith, long)), lesser_zero xs);
   },
 )

@@ -71,7 +71,7 @@ same_merged m (x ∷ xs) (y ∷ ys) bits low high =
 -- ---- counts
 
 pub counts_length : {starts : List ℕ} {low end : ℕ} (xs : List ℕ) → CountsWithin starts low end xs → get_or starts end 0 ≡ get_or starts low 0 + length xs
-counts_length {starts} {low} {end} xs counts = omega (arith, counts.order, counts.counts end (omega (arith, counts.order)) (omega arith), lesser_all xs end (λ k d inside. (counts.members k d inside).1))
+counts_length {starts} {low} {end} xs counts = omega (arith, counts.order, counts.counts end (omega (arith, counts.order)) (omega arith), lesser_all xs end (λ k d inside. (counts.elements k d inside).1))
 
 -- both sides are counted, and so are all elements
 pub counts_sides : (starts : List ℕ) (low end m : ℕ) (xs : List ℕ) → CountsWithin starts low m (lows m xs) → CountsWithin starts m end (highs m xs) → CountsWithin starts low end xs
@@ -79,17 +79,17 @@ counts_sides starts low end m xs left right = record {
   order = omega (arith, left.order, right.order);
   inside = right.inside;
   short = right.short;
-  members = λ k d inside. elim (cases_lt (get_or xs k d) m) [
+  elements = λ k d inside. elim (cases_lt (get_or xs k d) m) [
     | inl less ↦
         let passes = lt-ltb (get_or xs k d) m less in
-        let member = left.members _ d (kept_inside (λ x. ltb x m) xs k d inside passes) in
+        let element = left.elements _ d (kept_inside (λ x. ltb x m) xs k d inside passes) in
         let is = kept_at (λ x. ltb x m) xs k d inside passes in
-        (omega (arith, member.0, is), omega (arith, less, right.order))
+        (omega (arith, element.0, is), omega (arith, less, right.order))
     | inr more ↦
         let passes = le-leb m (get_or xs k d) more in
-        let member = right.members _ d (kept_inside (λ x. leb m x) xs k d inside passes) in
+        let element = right.elements _ d (kept_inside (λ x. leb m x) xs k d inside passes) in
         let is = kept_at (λ x. leb m x) xs k d inside passes in
-        (omega (arith, more, left.order), omega (arith, member.1, is))
+        (omega (arith, more, left.order), omega (arith, element.1, is))
   ];
   counts = λ c from within. elim (cases_lt c m) [
     | inl less ↦ left.counts c from (omega (arith, less)) ∙ ap (λ n. get_or starts low 0 + n) (lesser_lows m c xs (omega (arith, less)))
@@ -225,7 +225,7 @@ joined starts low end m bits start middle elements high ls hs left right element
     let own : List Bool = part bits start elements in
     let long : length own ≡ elements = length_part bits start elements (omega (arith, inside, middle_is)) in
     let counted = ap (λ n. count true bits n) middle_is ∙ count_part bits start elements in
-    let made = merged m own ls hs (λ k d inside. (left.members k d inside).1) (λ k d inside. (right.members k d inside).0) (omega (arith, long, elements_are, lower, upper)) (omega (arith, counted, ones, high_are, upper)) in
+    let made = merged m own ls hs (λ k d inside. (left.elements k d inside).1) (λ k d inside. (right.elements k d inside).0) (omega (arith, long, elements_are, lower, upper)) (omega (arith, counted, ones, high_are, upper)) in
     let many : elements ≡ length made.0 = omega (arith, long, ap length made.1.bits_are, length-map made.0 (λ x. leb m x)) in
     record {
       xs = made.0;
@@ -470,7 +470,7 @@ starts_counted starts limit some long first few up =
         inside = omega (arith, long);
         short = λ k d inside.
             omega (arith, get_or_default starts k d 0 inside, made.1.counts k (omega (arith, inside, long)), made.1.counts limit (omega arith), lesser_up xs k limit (omega (arith, inside, long)), few);
-        members = λ k d inside. (omega arith, made.1.below k d inside);
+        elements = λ k d inside. (omega arith, made.1.below k d inside);
         counts = λ c from within. omega (arith, first, made.1.counts c within);
       },
     )
@@ -525,7 +525,7 @@ loaded width limit len starts nodes bits ended root limit_is narrow long first l
     let counts = made.counts in
     let last : len ≡ length xs = omega (arith, len_is, counts_length xs counts, first) in
     let short : length xs < 2 ^ 63 = omega (arith, last, len_is, counts.short limit 0 counts.inside) in
-    let below : All (λ x. x < limit) xs = λ k d inside. (counts.members k d inside).1 in
+    let below : All (λ x. x < limit) xs = λ k d inside. (counts.elements k d inside).1 in
     let small : All (λ x. x < 2 ^ width) xs = subst (λ n. All (λ x. x < n) xs) limit_is below in
     let starts_are : starts ≡ map (lesser xs) (range_with_len 0 (limit + 1)) =
     (counts_all limit xs starts counts.order below (omega (arith, short)) (omega (arith, long, limit_is)) (λ c inside. omega (arith, first, counts.counts c (omega arith) (omega (arith, inside, long, limit_is))))).0 in

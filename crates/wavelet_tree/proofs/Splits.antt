@@ -135,7 +135,7 @@ split_divides starts low end xs counts =
 pub only_symbol : (starts : List ℕ) (low end m : ℕ) (xs : List ℕ) → CountsWithin starts low end xs → Divides starts low end m → get_or starts m 0 ≡ get_or starts end 0
     → All (λ x. x ≡ m - 1) xs × (get_or starts (m - 1) 0 + length xs ≡ get_or starts end 0)
 only_symbol starts low end m xs counts divides same =
-    let all : lesser xs end ≡ length xs = lesser_all xs end (λ k d inside. (counts.members k d inside).1) in
+    let all : lesser xs end ≡ length xs = lesser_all xs end (λ k d inside. (counts.elements k d inside).1) in
     let alone = divides.alone same in
     let first = counts.counts (m - 1) (omega (arith, divides.from)) (omega (arith, divides.within)) in
     let next = counts.counts m (omega (arith, divides.from)) divides.within in
@@ -149,7 +149,7 @@ low_counts starts low end m xs counts divides = record {
   order = divides.from;
   inside = omega (arith, counts.inside, divides.within);
   short = counts.short;
-  members = λ k d inside. ((All-filter (λ x. ltb x m) (λ x. (low ≤ x) × (x < end)) xs counts.members k d inside).0, all_lows m xs k d inside);
+  elements = λ k d inside. ((All-filter (λ x. ltb x m) (λ x. (low ≤ x) × (x < end)) xs counts.elements k d inside).0, all_lows m xs k d inside);
   counts = λ c from within. counts.counts c from (omega (arith, within, divides.within)) ∙ ap (λ n. get_or starts low 0 + n) (sym (lesser_lows m c xs within));
 }
 
@@ -158,7 +158,7 @@ high_counts starts low end m xs counts divides more = record {
   order = more;
   inside = counts.inside;
   short = counts.short;
-  members = λ k d inside. (all_highs m xs k d inside, (All-filter (λ x. leb m x) (λ x. (low ≤ x) × (x < end)) xs counts.members k d inside).1);
+  elements = λ k d inside. (all_highs m xs k d inside, (All-filter (λ x. leb m x) (λ x. (low ≤ x) × (x < end)) xs counts.elements k d inside).1);
   counts = λ c from within.
       omega (arith, counts.counts c (omega (arith, from, divides.from)) within, counts.counts m (omega (arith, divides.from)) divides.within, lesser_highs m c xs from);
 }

@@ -587,7 +587,7 @@ fn ask_wavelet(log: &mut Log, random: &mut Random, list: &WaveletMatrix) {
     ask!(log, "WaveletMatrix::bit_len", [], list.bit_len());
     for _ in 0..60 {
         ask_symbol(log, random, list);
-        ask_member(log, random, list);
+        ask_element(log, random, list);
     }
     walk(log, "WaveletMatrix::iter", random, len, || list.iter().map(Symbol));
     walk(log, "WaveletMatrix::into_iter", random, len, || list.clone().into_iter().map(Symbol));
@@ -659,7 +659,7 @@ fn ask_symbol(log: &mut Log, random: &mut Random, list: &WaveletMatrix) {
     }
 }
 
-fn ask_member(log: &mut Log, random: &mut Random, list: &WaveletMatrix) {
+fn ask_element(log: &mut Log, random: &mut Random, list: &WaveletMatrix) {
     let (position, range) = (random.position(list.len()), random.range(list.len()));
     let k = random.position(range.end.saturating_sub(range.start).min(list.len()));
     let (s, e, of) = (range.start, range.end, range.clone());

@@ -13,7 +13,7 @@ pub struct Difference {
 const JUNK: &str = "Bits past the length may hold junk";
 const OVERFLOW: &str = "sums and products of a position and a length wrap or panic";
 const ITERATORS: &str =
-    "`nth_back(n)` of select iterators, and `nth(n)` and `nth_back(n)` of iterators over bits, limbs and members";
+    "`nth_back(n)` of select iterators, and `nth(n)` and `nth_back(n)` of iterators over bits, limbs and elements";
 const REVERSED: &str =
     "`rank_range` and `quantile` of wavelet matrices underflow on reversed ranges; `select_offset` overflows";
 const SAMPLES: &str = "padding counts as ones in the select samples";
@@ -122,7 +122,7 @@ pub const KNOWN: &[Difference] = &[
             "EliasFanoVec::into_iter.max",
         ],
         when: |call, _| call.arguments[0] > 0,
-        sentence: "`last` and `max` of Elias-Fano iterators leave out the subtracted first member",
+        sentence: "`last` and `max` of Elias-Fano iterators leave out the subtracted first element",
     },
     Difference {
         names: &["SparseRSVec::is_set_unchecked", "SparseRSVec::get_unchecked"],

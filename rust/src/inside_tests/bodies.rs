@@ -115,16 +115,16 @@ fn empty_is_only_what_has_nothing() {
 
 #[test]
 fn ascending_lists_in_clusters() {
-    let mut members: Plain<u64> = (0..300).map(|k| 1_000_000_000 + 2 * k + k % 5 * (k / 40)).collect();
-    members.extend((0..300).map(|k| 5_000_000_000 + 3 * k));
-    members.extend([7, 9, 1 << 40]);
-    members.sort();
-    let vec = EliasFanoVec::from_slice(Global, &members).ok().unwrap();
-    for at in members.iter().flat_map(|it| [it - 1, *it, it + 1]).filter(|it| *it > 6) {
-        assert!(vec.rank(at) as usize == members.partition_point(|it| *it < at), "{at}");
-        let (before, after) = (members.iter().rev().find(|it| **it <= at), members.iter().find(|it| **it >= at));
+    let mut elements: Plain<u64> = (0..300).map(|k| 1_000_000_000 + 2 * k + k % 5 * (k / 40)).collect();
+    elements.extend((0..300).map(|k| 5_000_000_000 + 3 * k));
+    elements.extend([7, 9, 1 << 40]);
+    elements.sort();
+    let vec = EliasFanoVec::from_slice(Global, &elements).ok().unwrap();
+    for at in elements.iter().flat_map(|it| [it - 1, *it, it + 1]).filter(|it| *it > 6) {
+        assert!(vec.rank(at) as usize == elements.partition_point(|it| *it < at), "{at}");
+        let (before, after) = (elements.iter().rev().find(|it| **it <= at), elements.iter().find(|it| **it >= at));
         assert!(vec.predecessor(at) == before.copied() && vec.successor(at) == after.copied(), "{at}");
-        assert!(vec.has(at) == members.contains(&at));
+        assert!(vec.has(at) == elements.contains(&at));
         if let Some(before) = before {
             assert!(vec.predecessor_unchecked(at) == *before);
         }
@@ -139,14 +139,14 @@ fn sizes_of_ascending_lists() {
     let clog = |it: u64| 64 - u64::from((it - 1).leading_zeros());
     for n in 1u64..200 {
         for (first, step) in [(0, 1), (1 << 50, 1), (1 << 50, 1000), (5, 3)] {
-            let members: Plain<u64> = (0..n).map(|k| first + k * step).collect();
+            let elements: Plain<u64> = (0..n).map(|k| first + k * step).collect();
             let u = (n - 1) * step;
             let width = clog(u.max(2)).max(clog(n + 2)) - clog(n.max(2));
             let high = 2 + n + (u >> width);
             let index = |n: u64, ones: u64| {
                 8 * n.div_ceil(64) + 2 * n.div_ceil(512) + 8 * n.div_ceil(8192) + 16 * (ones.max(n - ones) / 8192 + 2)
             };
-            let vec = EliasFanoVec::from_slice(Global, &members).ok().unwrap();
+            let vec = EliasFanoVec::from_slice(Global, &elements).ok().unwrap();
             assert_eq!(
                 vec.heap_size() as u64,
                 index(high, n) + 8 * (n * width).div_ceil(64),
@@ -219,17 +219,17 @@ fn list_of_form<S: Loaded<Global>>(words: &[u64]) -> S {
 
 #[test]
 fn long_lists_go_round() {
-    let members: Plain<u64> = (0..15_000).map(|k| k * k).collect();
-    let sorted = EliasFanoVec::from_slice(Global, &members).ok().unwrap();
+    let elements: Plain<u64> = (0..15_000).map(|k| k * k).collect();
+    let sorted = EliasFanoVec::from_slice(Global, &elements).ok().unwrap();
     let words = form_words(&sorted);
     assert_eq!(words[5..8], [15_000, 0, 14_999 * 14_999]);
-    assert!(list_of_form::<EliasFanoVec<Global>>(&words).iter().eq(members.iter().copied()));
-    let sparse = form_words(&SparseRSVec::new(Global, &members, 1 << 40).ok().unwrap());
+    assert!(list_of_form::<EliasFanoVec<Global>>(&words).iter().eq(elements.iter().copied()));
+    let sparse = form_words(&SparseRSVec::new(Global, &elements, 1 << 40).ok().unwrap());
     assert_eq!((sparse[5], &sparse[6..sparse.len() - 1]), (1 << 40, &words[5..words.len() - 1]));
-    assert!(list_of_form::<SparseRSVec<Global>>(&sparse).iter1().eq(members.iter().copied()));
-    let costs = Vec::from_slice(Global, &members).ok().unwrap();
-    let posted = form_words(&Postings::from_sorted(&members, costs).ok().unwrap());
-    assert!(posted[5..15_005] == members[..] && posted[15_005..30_005] == members[..]);
+    assert!(list_of_form::<SparseRSVec<Global>>(&sparse).iter1().eq(elements.iter().copied()));
+    let costs = Vec::from_slice(Global, &elements).ok().unwrap();
+    let posted = form_words(&Postings::from_sorted(&elements, costs).ok().unwrap());
+    assert!(posted[5..15_005] == elements[..] && posted[15_005..30_005] == elements[..]);
 }
 
 #[test]

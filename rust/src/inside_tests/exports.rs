@@ -252,20 +252,20 @@ fn bits_answer_as_their_list() {
 }
 
 #[test]
-fn ascending_lists_answer_as_their_members() {
-    let members: Vec<u64> = vec![2, 4, 4, 9, 30, 64, 99, 99, 99, 1000];
-    let mut handle = made(|it| vers_sorted_build(Global, &members, it));
+fn ascending_lists_answer_as_their_elements() {
+    let elements: Vec<u64> = vec![2, 4, 4, 9, 30, 64, 99, 99, 99, 1000];
+    let mut handle = made(|it| vers_sorted_build(Global, &elements, it));
     let heap = heap_of(&mut handle);
     let numbers = [0, 1, 2, 3, 4, 8, 9, 10, 99, 100, 1001, u64::MAX];
     let model = move |code, a: u64, _, _| match code {
         0 => found(10),
-        1 => found_if(item(&members, a)),
+        1 => found_if(item(&elements, a)),
         3 => found(heap),
-        8 => found(members.iter().filter(|it| **it < a).count() as u64),
-        9 => found(u64::from(members.contains(&a))),
-        10 => found_if(members.iter().filter(|it| **it <= a).next_back().copied()),
-        11 => found_if(members.iter().find(|it| **it >= a).copied()),
-        12 => found_if(item(&members, a).map(|it| it - a.checked_sub(1).map_or(0, |a| members[a as usize]))),
+        8 => found(elements.iter().filter(|it| **it < a).count() as u64),
+        9 => found(u64::from(elements.contains(&a))),
+        10 => found_if(elements.iter().filter(|it| **it <= a).next_back().copied()),
+        11 => found_if(elements.iter().find(|it| **it >= a).copied()),
+        12 => found_if(item(&elements, a).map(|it| it - a.checked_sub(1).map_or(0, |a| elements[a as usize]))),
         _ => (UNKNOWN, 0),
     };
     compare(&mut handle, &model, &numbers);

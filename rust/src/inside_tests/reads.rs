@@ -139,7 +139,7 @@ fn are_used_whole(reads: &[Read]) -> bool {
 struct Book {
     rows: BTreeMap<String, Row>,
     lines: BTreeMap<(&'static str, u32), Kind>,
-    // How many words a low part takes, the digits of the number of members, and the lists that are arguments.
+    // How many words a low part takes, the digits of the number of elements, and the lists that are arguments.
     low: u64,
     digits: u64,
     arguments: Plain<usize>,
@@ -471,7 +471,7 @@ fn reads_of_counted_words_are_counted() {
     assert_eq!(book.faults(), [""; 0]);
 }
 
-fn members(n: usize, step: u64, kind: usize) -> Plain<u64> {
+fn elements(n: usize, step: u64, kind: usize) -> Plain<u64> {
     (0..n as u64)
         .map(|k| match kind {
             0 => k * step + k % 3,
@@ -489,14 +489,14 @@ fn words_of_low_part(numbers: &[u64]) -> u64 {
     2 * u64::from(clog(u.max(2)).max(clog(n + 2)) > clog(n.max(2)))
 }
 
-/// Numbers around each of the members at some positions, and around these positions.
+/// Numbers around each of the elements at some positions, and around these positions.
 fn numbers_near(numbers: &[u64], position: usize) -> impl Iterator<Item = u64> {
     [numbers.get(position).copied().unwrap_or(u64::MAX), position as u64]
         .into_iter()
         .flat_map(|it| [it.saturating_sub(1), it, it.saturating_add(1)])
 }
 
-fn ask_members(book: &mut Book, list: &EliasFanoVec<Global>, numbers: &[u64], about: &str) {
+fn ask_elements(book: &mut Book, list: &EliasFanoVec<Global>, numbers: &[u64], about: &str) {
     for position in positions(numbers.len()) {
         asked!(
             book,
@@ -523,7 +523,7 @@ fn ask_members(book: &mut Book, list: &EliasFanoVec<Global>, numbers: &[u64], ab
 }
 
 /// Calls that answer many queries: at positions, and at all of them in turn.
-fn ask_members_at_once(book: &mut Book, list: &EliasFanoVec<Global>, numbers: &[u64], about: &str) {
+fn ask_elements_at_once(book: &mut Book, list: &EliasFanoVec<Global>, numbers: &[u64], about: &str) {
     let n = numbers.len();
     let values: Plain<u64> =
         positions(n).into_iter().map(|it| numbers.get(it).copied().unwrap_or(it as u64).saturating_add(1)).collect();
@@ -565,14 +565,14 @@ fn reads_of_sorted_lists_are_counted() {
     let mut book = Book::default();
     for n in LENGTHS {
         for (step, kind) in [(1, 0), (5, 0), (1 << 40, 0), (3, 1), (1000, 1), (0, 2)] {
-            let mut numbers = members(n, step, kind);
+            let mut numbers = elements(n, step, kind);
             numbers.sort();
             book.low = words_of_low_part(&numbers);
             book.digits = u64::from(64 - (n as u64).leading_zeros());
             let list = EliasFanoVec::from_slice(Global, &numbers).ok().unwrap();
-            let about = format!("{n} members, step {step}, kind {kind}");
-            ask_members(&mut book, &list, &numbers, &about);
-            ask_members_at_once(&mut book, &list, &numbers, &about);
+            let about = format!("{n} elements, step {step}, kind {kind}");
+            ask_elements(&mut book, &list, &numbers, &about);
+            ask_elements_at_once(&mut book, &list, &numbers, &about);
             walked!(book, "EliasFanoVec iter", about.clone(), list.iter());
             walked!(book, "EliasFanoVec into_iter", about.clone(), list.into_iter());
             let mut ones = numbers;
@@ -763,7 +763,7 @@ fn documents_of(documents: &[u64], items: &[u64]) -> Postings<Global> {
 /// bits.
 fn ask_documents(book: &mut Book, items: &[u64], about: &str) {
     let n = items.len();
-    let (documents, others) = (members(n, 7, 0), members(n / 2 + 1, 13, 0));
+    let (documents, others) = (elements(n, 7, 0), elements(n / 2 + 1, 13, 0));
     let (list, other) = (documents_of(&documents, items), documents_of(&others, items));
     book.low = words_of_low_part(&documents);
     for i in positions(n).into_iter().filter(|it| *it < n) {

@@ -3,39 +3,39 @@ use crate::plain::Random;
 use vers_vecs::{BinaryRmq, EliasFanoVec, FastRmq};
 
 #[test]
-fn members_are_found() {
+fn elements_are_found() {
     let mut random = Random::new(1);
     for (length, bound) in [(0, 1), (1, 1), (1, 1 << 40), (200, 50), (500, 10_000), (300, u64::MAX)] {
-        let mut members = random.numbers(length, bound);
-        members.sort_unstable();
-        let list = EliasFanoVec::from_slice(&members);
-        assert!(list.iter().eq(members.iter().copied()));
-        assert!(list.clone().into_iter().rev().eq(members.iter().rev().copied()));
-        assert_eq!(list.iter().min(), members.first().copied());
-        assert_eq!(list.iter().max(), members.last().copied());
+        let mut elements = random.numbers(length, bound);
+        elements.sort_unstable();
+        let list = EliasFanoVec::from_slice(&elements);
+        assert!(list.iter().eq(elements.iter().copied()));
+        assert!(list.clone().into_iter().rev().eq(elements.iter().rev().copied()));
+        assert_eq!(list.iter().min(), elements.first().copied());
+        assert_eq!(list.iter().max(), elements.last().copied());
         for position in 0..length + 2 {
-            assert_eq!(list.get(position), members.get(position).copied());
-            let before = if position == 0 { Some(&0) } else { members.get(position - 1) };
-            assert_eq!(list.delta(position), members.get(position).zip(before).map(|(it, before)| it - before));
+            assert_eq!(list.get(position), elements.get(position).copied());
+            let before = if position == 0 { Some(&0) } else { elements.get(position - 1) };
+            assert_eq!(list.delta(position), elements.get(position).zip(before).map(|(it, before)| it - before));
         }
-        let near = members.iter().flat_map(|&it| [it.saturating_sub(1), it, it.saturating_add(1)]);
+        let near = elements.iter().flat_map(|&it| [it.saturating_sub(1), it, it.saturating_add(1)]);
         for number in near.chain(random.numbers(50, bound)).chain([0, u64::MAX]) {
-            let below = members.partition_point(|&it| it < number);
+            let below = elements.partition_point(|&it| it < number);
             assert_eq!(list.rank(number), below as u64);
-            assert_eq!(list.has(number), members.contains(&number));
-            assert_eq!(list.successor(number), members.get(below).copied());
-            assert_eq!(list.predecessor(number), members.iter().rev().find(|&&it| it <= number).copied());
+            assert_eq!(list.has(number), elements.contains(&number));
+            assert_eq!(list.successor(number), elements.get(below).copied());
+            assert_eq!(list.predecessor(number), elements.iter().rev().find(|&&it| it <= number).copied());
         }
     }
 }
 
 #[test]
-fn many_members_are_found_at_once() {
+fn many_elements_are_found_at_once() {
     let mut random = Random::new(3);
     for (length, bound) in [(0, 1), (1, 9), (300, 400), (1000, 1 << 40)] {
-        let mut members = random.numbers(length, bound);
-        members.sort_unstable();
-        let list = EliasFanoVec::from_slice(&members);
+        let mut elements = random.numbers(length, bound);
+        elements.sort_unstable();
+        let list = EliasFanoVec::from_slice(&elements);
         let positions: Vec<u64> = (0..length as u64 + 3).rev().collect();
         let mut answers = positions.clone();
         list.get_each(&mut answers, 77);

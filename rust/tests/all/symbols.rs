@@ -92,12 +92,12 @@ fn asked(random: &mut Random, numbers: &[u64], list: &WaveletMatrix) {
         range.sort_unstable();
         range
     });
-    let members = by_size.as_deref().unwrap_or(&[]);
-    assert_eq!(list.quantile(start..end, k), symbol(members.get(k)));
-    assert_eq!(list.range_min(start..end), symbol(members.first()));
-    assert_eq!(list.range_max(start..end), symbol(members.last()));
-    assert_eq!(list.range_median(start..end), symbol(members.get(members.len().saturating_sub(1) / 2)));
-    let (below, above) = (members.iter().rev().find(|&&it| it <= number), members.iter().find(|&&it| it >= number));
+    let elements = by_size.as_deref().unwrap_or(&[]);
+    assert_eq!(list.quantile(start..end, k), symbol(elements.get(k)));
+    assert_eq!(list.range_min(start..end), symbol(elements.first()));
+    assert_eq!(list.range_max(start..end), symbol(elements.last()));
+    assert_eq!(list.range_median(start..end), symbol(elements.get(elements.len().saturating_sub(1) / 2)));
+    let (below, above) = (elements.iter().rev().find(|&&it| it <= number), elements.iter().find(|&&it| it >= number));
     assert_eq!(list.predecessor(start..end, &wanted), symbol(below));
     assert_eq!(list.successor(start..end, &wanted), symbol(above));
 
@@ -107,8 +107,8 @@ fn asked(random: &mut Random, numbers: &[u64], list: &WaveletMatrix) {
     assert_eq!(list.rank_u64(end, number), numbers.get(..end).map(held).filter(|_| is_narrow));
     assert_eq!(list.select_u64(k, number), positions(0).nth(k).filter(|_| is_narrow));
     assert_eq!(list.select_offset_u64(start, 1, number), positions(start).nth(1).filter(|_| is_narrow));
-    assert_eq!(list.quantile_u64(start..end, k), members.get(k).copied().filter(|_| is_narrow));
-    assert_eq!(list.range_max_u64(start..end), members.last().copied().filter(|_| is_narrow));
+    assert_eq!(list.quantile_u64(start..end, k), elements.get(k).copied().filter(|_| is_narrow));
+    assert_eq!(list.range_max_u64(start..end), elements.last().copied().filter(|_| is_narrow));
     assert_eq!(list.predecessor_u64(start..end, number), below.copied().filter(|_| is_narrow));
     assert_eq!(list.successor_u64(start..end, number), above.copied().filter(|_| is_narrow));
     assert_eq!(list.iter_u64().is_some(), is_narrow);

@@ -4,13 +4,13 @@ use Rattle.vers_bits.specs.Bits.{number, count}
 use Rattle.vers_sorted.specs.declared.elias_fano.ahead.Ahead.{Ahead}
 use Rattle.vers_sorted.specs.Layout.{high_parts}
 
--- the ones of the high parts before the position are those of the first i members, and the word is the number of the bits from there on
+-- the ones of the high parts before the position are those of the first i elements, and the word is the number of the bits from there on
 pub record HasRead (s : List ℕ) (i : ℕ) (ahead : Ahead) : Type 0 where
   pub before : count true (high_parts s) ahead.position ≡ i
   pub within : ahead.position + ahead.len ≤ length (high_parts s)
   pub few : ahead.len ≤ 64
   pub bits : ahead.word ≡ number (take ahead.len (drop ahead.position (high_parts s)))
 
--- a one that was read ahead is that of member i
+-- a one that was read ahead is that of element i
 abbrev pub IsAhead : List ℕ → ℕ → Ahead → Type 0
 IsAhead s i ahead = 0 < ahead.word → HasRead s i ahead

@@ -8,7 +8,7 @@ use Rattle.vers_rank.specs.Queries.{superblock_count}
 use Rattle.vers_sorted.specs.Layout.{first_of, last_of, low_width, high_of, low_of, high_length, high_position, high_parts}
 use Rattle.vers_sorted.specs.Ones.{ones_at}
 
--- the high parts of s: a one for each member
+-- the high parts of s: a one for each element
 pub record HoldHigh (s : List ℕ) (high : List Bool) : Type 0 where
   pub ones : count true high (length high) ≡ length s
   pub total : length high ≡ high_length s
@@ -19,11 +19,11 @@ pub record HoldLow (s : List ℕ) (low : List Bool) : Type 0 where
   pub counted : length low ≡ low_width s * length s
   pub part : (i : ℕ) → i < length s → number (take (low_width s) (drop (low_width s * i) low)) ≡ low_of s (slice_index s i)
 
--- the high parts before any but the first i members have their ones
+-- the high parts before any but the first i elements have their ones
 unfoldable pub first_high_parts : List ℕ → ℕ → List Bool
 first_high_parts s i = ones_at (map (high_position s) (range_with_len 0 i)) (high_length s)
 
--- the low parts of the first i members
+-- the low parts of the first i elements
 unfoldable pub first_low_parts : List ℕ → ℕ → List Bool
 first_low_parts s i = pack (map (λ m. m - first_of s) (take i s)) (low_width s)
 
@@ -43,7 +43,7 @@ pub record IsPacked (s : List ℕ) (high low : List Bool) (first last width : �
   pub low_parts : HoldLow s low
   pub laid_out : AreHighParts s high
 
--- start is the number of members whose high part is below h
+-- start is the number of elements whose high part is below h
 pub record IsStart (s : List ℕ) (h start : ℕ) : Type 0 where
   pub within : start ≤ length s
   pub before : (i : ℕ) → i < start → high_of s (slice_index s i) < h

@@ -1,4 +1,4 @@
-//! The bits of the high parts that a walk along the members has read ahead.
+//! The bits of the high parts that a walk along the elements has read ahead.
 ghost use Rattle.std.specs.Prelude.{◌≡◌, ◌+◌, ◌<◌, length, slice_index};
 ghost use Rattle.vers_tally.specs.Reads.{AddsAtMost};
 ghost use Rattle.vers_sorted.specs.inside.Ahead.{HasRead, IsAhead};
@@ -32,7 +32,7 @@ impl Ahead {
 }
 
 impl<A: Allocator + Copy> EliasFanoVec<A> {
-    // Returns the position of the one of a member, which mostly was read ahead with those before it.
+    // Returns the position of the one of an element, which mostly was read ahead with those before it.
     #[inline(always)]
     #[tactic(auto, using(crate::proofs::Aheads::steps))]
     pub(super) fn position_ahead(&self, i: usize, ahead: &mut Ahead, tally: &mut Tally) -> usize
@@ -57,7 +57,7 @@ impl<A: Allocator + Copy> EliasFanoVec<A> {
         position
     }
 
-    // Returns the position of the one of a member, which was read ahead.
+    // Returns the position of the one of an element, which was read ahead.
     #[inline(always)]
     #[tactic(auto, using(crate::proofs::Aheads::steps))]
     pub(super) fn position_read(&self, i: usize, ahead: &mut Ahead) -> usize
@@ -76,9 +76,9 @@ impl<A: Allocator + Copy> EliasFanoVec<A> {
         ahead.position - 1
     }
 
-    // Returns a member, by the position of its one.
+    // Returns an element, by the position of its one.
     #[inline(always)]
-    pub(super) fn member_ahead(&self, i: usize, ahead: &mut Ahead, tally: &mut Tally) -> u64
+    pub(super) fn element_ahead(&self, i: usize, ahead: &mut Ahead, tally: &mut Tally) -> u64
         requires within { i < length self.now }
         requires ahead { IsAhead self.now i ahead.old }
         ensures value { result ≡ slice_index self.now i }

@@ -4,19 +4,19 @@ ghost use Rattle.std.specs.List.Sorted.{IsNonDecreasing};
 ghost use Rattle.vers_tally.specs.Reads.{digits, only_low_parts, times, AddsAtMost};
 ghost use Rattle.vers_rank.specs.Batches.{Changed};
 ghost use Rattle.vers_sorted.specs.Sorted.{below};
-ghost use Rattle.vers_sorted.specs.Layout.{high_position, member_reads, search_reads};
+ghost use Rattle.vers_sorted.specs.Layout.{high_position, element_reads, search_reads};
 ghost use Rattle.vers_sorted.specs.inside.Begun.{IsBegun, IsInside};
 
 use super::EliasFanoVec;
-use super::iter::Members;
+use super::iter::Elements;
 use std::alloc::Allocator;
 use vers_tally::tally::Tally;
 
-/// The members that are searched together: enough that the processor has their reads in flight at once, and few
+/// The elements that are searched together: enough that the processor has their reads in flight at once, and few
 /// enough that what they read stays in the cache.
 pub(super) const GROUP: usize = 64;
 
-// Computes the numbers of the ones of the members at `n` positions, past all ones for each `None`.
+// Computes the numbers of the ones of the elements at `n` positions, past all ones for each `None`.
 #[inline(always)]
 fn ask_each(positions: &[Option<u64>], from: usize, n: usize, ones: &mut [usize; GROUP])
     requires within { from + n ≤ length positions.now }
@@ -59,7 +59,7 @@ impl<A: Allocator + Copy> EliasFanoVec<A> {
         ensures value { positions.new ≡ map (option_and_then (slice_get self.now)) positions.old }
         ensures ascending { IsNonDecreasing self.now }
         ensures adds { AddsAtMost tally.old tally.new
-            (times (length positions.old) (member_reads self.now)) }
+            (times (length positions.old) (element_reads self.now)) }
     {
         let _ = self.len();
         let len = positions.len();
@@ -71,15 +71,15 @@ impl<A: Allocator + Copy> EliasFanoVec<A> {
         }
     }
 
-    // Replaces each of `n` positions by the member there: in turn if they are a run, otherwise all selects first, level
-    // by level.
+    // Replaces each of `n` positions by the element there: in turn if they are a run, otherwise by all selects first,
+    // level by level.
     #[inline(always)]
     fn get_group(&self, positions: &mut [Option<u64>], from: usize, n: usize, tally: &mut Tally)
         requires within { from + n ≤ length positions.old }
         requires few { n ≤ GROUP }
         ensures value { Changed None (λ position m. m ≡ option_and_then (slice_get self.now) position)
             from n positions.old positions.new }
-        ensures adds { AddsAtMost tally.old tally.new (times n (member_reads self.now)) }
+        ensures adds { AddsAtMost tally.old tally.new (times n (element_reads self.now)) }
     {
         if is_run(positions, from, n) {
             self.get_in_turn(positions, from, n, tally);
@@ -89,25 +89,25 @@ impl<A: Allocator + Copy> EliasFanoVec<A> {
         let mut ones = [0; GROUP];
         ask_each(positions, from, n, &mut ones);
         self.high.select1_each_counted(&mut ones[..n], tally);
-        self.members_each(positions, from, n, &ones, tally);
+        self.elements_each(positions, from, n, &ones, tally);
     }
 
-    // Replaces each of `n` positions by the member there, as an iterator reads them.
+    // Replaces each of `n` positions by the element there, as an iterator reads them.
     fn get_in_turn(&self, positions: &mut [Option<u64>], from: usize, n: usize, tally: &mut Tally)
         requires { from + n ≤ length positions.old }
         ensures value { Changed None (λ position m. m ≡ option_and_then (slice_get self.now) position)
             from n positions.old positions.new }
-        ensures adds { AddsAtMost tally.old tally.new (times n (member_reads self.now)) }
+        ensures adds { AddsAtMost tally.old tally.new (times n (element_reads self.now)) }
     {
-        let mut members = Members::new(self);
+        let mut elements = Elements::new(self);
         for j in 0..n {
-            positions[from + j] = members.member_of(positions[from + j], tally);
+            positions[from + j] = elements.element_of(positions[from + j], tally);
         }
     }
 
-    // Replaces each of `n` positions by the member there, by the position of its one.
+    // Replaces each of `n` positions by the element there, by the position of its one.
     #[inline(always)]
-    fn members_each(
+    fn elements_each(
         &self,
         positions: &mut [Option<u64>],
         from: usize,
@@ -125,14 +125,14 @@ impl<A: Allocator + Copy> EliasFanoVec<A> {
         ensures adds { AddsAtMost tally.old tally.new (times n (only_low_parts 1)) }
     {
         for j in 0..n {
-            positions[from + j] = self.member_at(positions[from + j], ones[j], tally);
+            positions[from + j] = self.element_at(positions[from + j], ones[j], tally);
         }
     }
 
-    // Returns the member at a position, by the position of its one.
+    // Returns the element at a position, by the position of its one.
     #[inline(always)]
     #[tactic(auto, using(crate::proofs::Packed::gets))]
-    fn member_at(&self, position: Option<u64>, one: usize, tally: &mut Tally) -> Option<u64>
+    fn element_at(&self, position: Option<u64>, one: usize, tally: &mut Tally) -> Option<u64>
         requires { (i : ℕ) → position ≡ Some i → i < length self.now → one ≡ high_position self.now i }
         ensures value { result ≡ option_and_then (slice_get self.now) position }
         ensures adds { AddsAtMost tally.old tally.new (only_low_parts 1) }
@@ -174,7 +174,7 @@ impl<A: Allocator + Copy> EliasFanoVec<A> {
         }
     }
 
-    // Replaces each of `n` numbers by the number of members below it.
+    // Replaces each of `n` numbers by the number of elements below it.
     #[inline(always)]
     #[tactic(auto, using(crate::proofs::Batches::rank_reads))]
     fn rank_group(&self, numbers: &mut [u64], from: usize, n: usize, tally: &mut Tally)
@@ -228,7 +228,7 @@ impl<A: Allocator + Copy> EliasFanoVec<A> {
         }
     }
 
-    // Returns the number of members below a number, from the first results of the search.
+    // Returns the number of elements below a number, from the first results of the search.
     #[inline(always)]
     fn rank_begun(&self, v: u64, before: usize, after: usize, part: u64, tally: &mut Tally) -> u64
         requires { IsInside self.now v → IsBegun self.now v before after part }

@@ -13,7 +13,7 @@ use std::alloc::Allocator;
 use vers_tally::tally::Tally;
 
 impl<A: Allocator + Copy> EliasFanoVec<A> {
-    // Returns the high part of a number, or 0 below the first member.
+    // Returns the high part of a number, or 0 below the first element.
     #[inline(always)]
     #[tactic(auto, using(crate::proofs::Buckets::high_is))]
     fn high_or_zero(&self, v: u64) -> usize
@@ -35,7 +35,7 @@ impl<A: Allocator + Copy> EliasFanoVec<A> {
         }
     }
 
-    // For each number inside the list, finds the positions of the zeros before and after the members with its
+    // For each number inside the list, finds the positions of the zeros before and after the elements with its
     // high part, and the low part of the first of these. Each caller names a type of its own, so each has its
     // own copy, which is inlined into it without the counter.
     #[inline(always)]
@@ -88,7 +88,7 @@ impl<A: Allocator + Copy> EliasFanoVec<A> {
         }
     }
 
-    // Returns the position of the zero after the members with the high part of a number, from that of the zero
+    // Returns the position of the zero after the elements with the high part of a number, from that of the zero
     // before.
     #[inline(always)]
     #[tactic(auto, using(crate::proofs::Buckets::bucket))]
@@ -102,7 +102,7 @@ impl<A: Allocator + Copy> EliasFanoVec<A> {
         zero_after(&self.high, self.high_number(v), before, tally)
     }
 
-    // Returns the low part of the first of these members, or of the next one if there are none.
+    // Returns the low part of the first of these elements, or of the next one if there are none.
     #[inline(always)]
     #[tactic(auto, using(crate::proofs::Begins::first_within, crate::proofs::Buckets::zeros_from))]
     fn first_part(&self, v: u64, before: usize, tally: &mut Tally) -> u64

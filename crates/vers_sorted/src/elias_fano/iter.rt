@@ -1,8 +1,8 @@
-//! Iterators over the members of an ascending list.
+//! Iterators over the elements of an ascending list.
 ghost use Rattle.std.specs.Prelude.{◌≡◌, ℕ, List, option_and_then, slice_get};
 ghost use Rattle.std.specs.List.Sorted.{IsNonDecreasing};
 ghost use Rattle.vers_tally.specs.Reads.{AddsAtMost};
-ghost use Rattle.vers_sorted.specs.Layout.{member_reads};
+ghost use Rattle.vers_sorted.specs.Layout.{element_reads};
 
 use super::EliasFanoVec;
 use super::ahead::Ahead;
@@ -15,17 +15,17 @@ use vers_tally::tally::Tally;
 pub trait Sorted: Drop {
     type Alloc: Allocator + Copy;
 
-    ghost members: { Self → List ℕ };
+    ghost elements: { Self → List ℕ };
 
     /// Returns the list itself.
     fn list(&self) -> &EliasFanoVec<Self::Alloc>
-        ensures { result.now ≡ members self.now };
+        ensures { result.now ≡ elements self.now };
 }
 
 impl<'a, A: Allocator + Copy> Sorted for &'a EliasFanoVec<A> {
     type Alloc = A;
 
-    ghost members = { λ list. list.now };
+    ghost elements = { λ list. list.now };
 
     #[inline]
     fn list(&self) -> &EliasFanoVec<A> {
@@ -36,7 +36,7 @@ impl<'a, A: Allocator + Copy> Sorted for &'a EliasFanoVec<A> {
 impl<A: Allocator + Copy> Sorted for EliasFanoVec<A> {
     type Alloc = A;
 
-    ghost members = { λ list. list };
+    ghost elements = { λ list. list };
 
     #[inline]
     fn list(&self) -> &EliasFanoVec<A> {
@@ -44,44 +44,44 @@ impl<A: Allocator + Copy> Sorted for EliasFanoVec<A> {
     }
 }
 
-/// The members of an ascending list, which iterators read one by one. It keeps the bits that it
-/// has read ahead of member `next`.
+/// The elements of an ascending list, which iterators read one by one. It keeps the bits that it
+/// has read ahead of element `next`.
 #[derive(Drop)]
-pub struct Members<L: Sorted> {
+pub struct Elements<L: Sorted> {
     list: L,
     next: usize,
     ahead: Ahead,
 }
 
-impl<L: Sorted> Model for Members<L> {
+impl<L: Sorted> Model for Elements<L> {
     ghost use Rattle.std.specs.Prelude.{List, ℕ};
     ghost use Rattle.vers_sorted.specs.inside.Ahead.{IsAhead};
 
     ghost Value = { List ℕ };
 
-    ghost view = { λ s. L.members s.list };
+    ghost view = { λ s. L.elements s.list };
 
-    ghost invariant = { λ s. IsAhead (L.members s.list) s.next s.ahead };
+    ghost invariant = { λ s. IsAhead (L.elements s.list) s.next s.ahead };
 }
 
-impl<L: Sorted> Members<L> {
-    // Returns the members of a list, of which nothing is read ahead.
+impl<L: Sorted> Elements<L> {
+    // Returns the elements of a list, of which nothing is read ahead.
     pub(super) fn new(list: L) -> Self
-        ensures { result ≡ L.members list }
+        ensures { result ≡ L.elements list }
     {
-        Members {
+        Elements {
             list,
             next: 0,
             ahead: Ahead::none(),
         }
     }
 
-    // Returns the member at a position, if there is one. It is read fastest at the position after the last one.
+    // Returns the element at a position, if there is one. It is read fastest at the position after the last one.
     #[inline(always)]
-    pub(super) fn member_of(&mut self, position: Option<u64>, tally: &mut Tally) -> Option<u64>
+    pub(super) fn element_of(&mut self, position: Option<u64>, tally: &mut Tally) -> Option<u64>
         ensures value { result ≡ option_and_then (slice_get self.old) position }
         ensures same { self.new ≡ self.old }
-        ensures adds { AddsAtMost tally.old tally.new (member_reads self.old) }
+        ensures adds { AddsAtMost tally.old tally.new (element_reads self.old) }
     {
         let i = position? as usize;
         if i >= self.count_items() {
@@ -91,13 +91,13 @@ impl<L: Sorted> Members<L> {
     }
 }
 
-#[tactic(auto, using(crate::proofs::BothEnds::members))]
-impl<L: Sorted> Source for Members<L> {
+#[tactic(auto, using(crate::proofs::BothEnds::elements))]
+impl<L: Sorted> Source for Elements<L> {
     type Item = u64;
 
-    ghost items = { λ members. members };
+    ghost items = { λ elements. elements };
 
-    ghost step = { λ members. member_reads members };
+    ghost step = { λ elements. element_reads elements };
 
     ghost in_order = { IsNonDecreasing };
 
@@ -114,46 +114,46 @@ impl<L: Sorted> Source for Members<L> {
             self.ahead = Ahead::none();
         }
         self.next = i + 1;
-        list.member_ahead(i, &mut self.ahead, tally)
+        list.element_ahead(i, &mut self.ahead, tally)
     }
 
     #[inline(always)]
     fn item_at_back(&mut self, i: usize, tally: &mut Tally) -> u64 {
-        self.list.list().member(i, tally)
+        self.list.list().element(i, tally)
     }
 }
 
-impl<L: Sorted> Ascending for Members<L> {
+impl<L: Sorted> Ascending for Elements<L> {
     ghost ascends = { λ numbers up. up };
 }
 
-impl<'a, A: Allocator + Copy> Borrowing for Members<&'a EliasFanoVec<A>> {
+impl<'a, A: Allocator + Copy> Borrowing for Elements<&'a EliasFanoVec<A>> {
     fn second(&self) -> Self {
-        Members::new(self.list)
+        Elements::new(self.list)
     }
 }
 
-impl<A: Allocator + Copy> Owning for Members<EliasFanoVec<A>> {
+impl<A: Allocator + Copy> Owning for Elements<EliasFanoVec<A>> {
     fn second(&self) -> Result<Self, AllocError> {
         let list = self.list.clone()?;
-        Ok(Members::new(list))
+        Ok(Elements::new(list))
     }
 }
 
-/// An iterator over the members of a list. Each step reads at most what one `get` does.
-pub type EliasFanoRefIter<'a, A> = BothEnds<Members<&'a EliasFanoVec<A>>>;
+/// An iterator over the elements of a list. Each step reads at most what one `get` does.
+pub type EliasFanoRefIter<'a, A> = BothEnds<Elements<&'a EliasFanoVec<A>>>;
 
-/// An iterator over the members of a list that it owns. Each step reads at most what one `get`
+/// An iterator over the elements of a list that it owns. Each step reads at most what one `get`
 /// does.
-pub type EliasFanoIter<A> = BothEnds<Members<EliasFanoVec<A>>>;
+pub type EliasFanoIter<A> = BothEnds<Elements<EliasFanoVec<A>>>;
 
 impl<A: Allocator + Copy> EliasFanoVec<A> {
-    /// Returns an iterator over the members.
+    /// Returns an iterator over the elements.
     pub fn iter(&self) -> EliasFanoRefIter<'_, A>
-        ensures value { result ≡ record { left = self.now; step = member_reads self.now } }
+        ensures value { result ≡ record { left = self.now; step = element_reads self.now } }
         ensures ascending { IsNonDecreasing self.now }
     {
-        BothEnds::new(Members::new(self))
+        BothEnds::new(Elements::new(self))
     }
 }
 
@@ -162,7 +162,7 @@ impl<'a, A: Allocator + Copy> IntoIterator for &'a EliasFanoVec<A> {
 
     type IntoIter = EliasFanoRefIter<'a, A>;
 
-    ghost into_iter_gives = { λ list items. items ≡ record { left = list.now; step = member_reads list.now } };
+    ghost into_iter_gives = { λ list items. items ≡ record { left = list.now; step = element_reads list.now } };
 
     fn into_iter(self) -> EliasFanoRefIter<'a, A> {
         self.iter()
@@ -174,7 +174,7 @@ impl<'a, A: Allocator + Copy> IntoIterator for &'a mut EliasFanoVec<A> {
 
     type IntoIter = EliasFanoRefIter<'a, A>;
 
-    ghost into_iter_gives = { λ list items. items ≡ record { left = list.now; step = member_reads list.now } };
+    ghost into_iter_gives = { λ list items. items ≡ record { left = list.now; step = element_reads list.now } };
 
     fn into_iter(self) -> EliasFanoRefIter<'a, A> {
         self.iter()
@@ -186,10 +186,10 @@ impl<A: Allocator + Copy> IntoIterator for EliasFanoVec<A> {
 
     type IntoIter = EliasFanoIter<A>;
 
-    ghost into_iter_gives = { λ list items. items ≡ record { left = list; step = member_reads list } };
+    ghost into_iter_gives = { λ list items. items ≡ record { left = list; step = element_reads list } };
 
-    /// Returns an iterator over the members, which owns the list.
+    /// Returns an iterator over the elements, which owns the list.
     fn into_iter(self) -> EliasFanoIter<A> {
-        BothEnds::new(Members::new(self))
+        BothEnds::new(Elements::new(self))
     }
 }

@@ -13,19 +13,19 @@ use super::batch::GROUP;
 use std::alloc::Allocator;
 use vers_tally::tally::Tally;
 
-// A side of a number, on which a member is searched.
+// A side of a number, on which an element is searched.
 pub(super) trait Side {
-    // The number below which members are counted.
+    // The number below which elements are counted.
     ghost bound: { ℕ → ℕ };
 
-    // The member that is searched.
+    // The element that is searched.
     ghost neighbour: { List ℕ → ℕ → Option ℕ };
 
     // Returns that number, if it fits in 64 bits.
     fn limit(v: u64) -> u64
         ensures { bound v < 2 ^ 64 → result ≡ bound v };
 
-    // Returns that member, from the first results of the search.
+    // Returns that element, from the first results of the search.
     fn begun<A: Allocator + Copy>(
         list: &EliasFanoVec<A>,
         v: u64,
@@ -40,7 +40,7 @@ pub(super) trait Side {
             (reads (digits (length list.now) + 5) 2 (high_length list.now)) };
 }
 
-// The greatest member that is at most a number.
+// The greatest element that is at most a number.
 pub(super) struct Before;
 
 impl Side for Before {
@@ -66,7 +66,7 @@ impl Side for Before {
     }
 }
 
-// The least member that is at least a number.
+// The least element that is at least a number.
 pub(super) struct After;
 
 impl Side for After {
@@ -92,7 +92,7 @@ impl Side for After {
     }
 }
 
-// Computes for each of `n` values the number below which members are counted.
+// Computes for each of `n` values the number below which elements are counted.
 #[inline(always)]
 fn bounds_each<S: Side>(values: &[Option<u64>], from: usize, n: usize, asked: &mut [u64; GROUP])
     requires within { from + n ≤ length values.now }
@@ -247,7 +247,7 @@ impl<A: Allocator + Copy> EliasFanoVec<A> {
 
     // Returns the predecessor of a number, from the first results of the search.
     #[inline(always)]
-    #[tactic(auto, using(crate::proofs::Members::neighbours))]
+    #[tactic(auto, using(crate::proofs::Elements::neighbours))]
     fn predecessor_begun(
         &self,
         v: u64,
@@ -273,7 +273,7 @@ impl<A: Allocator + Copy> EliasFanoVec<A> {
 
     // Returns the successor of a number, from the first results of the search.
     #[inline(always)]
-    #[tactic(auto, using(crate::proofs::Members::neighbours))]
+    #[tactic(auto, using(crate::proofs::Elements::neighbours))]
     fn successor_begun(
         &self,
         v: u64,

@@ -43,14 +43,14 @@ impl<A: Allocator + Copy> Limbs for BitVec<A> {
     }
 }
 
-/// The length of a list, and its first and last member, or 0 if there are none.
+/// The length of a list, and its first and last element, or 0 if there are none.
 #[derive(Clone, Copy, PartialEq, Eq, Debug, Drop)]
 pub struct Ends {
-    /// The number of members.
+    /// The number of elements.
     pub len: usize,
-    /// The first member.
+    /// The first element.
     pub first: u64,
-    /// The last member.
+    /// The last element.
     pub last: u64,
 }
 
@@ -64,7 +64,7 @@ pub struct PartLengths {
 }
 
 impl Ends {
-    // Returns the distance of the last member from the first.
+    // Returns the distance of the last element from the first.
     #[inline]
     fn span(&self) -> u64
         ensures { result ≡ self.now.last - self.now.first }
@@ -143,8 +143,8 @@ fn next_part<L: Limbs>(low: &L, width: usize, bits: &mut Bits) -> u64
     word % (1 << width)
 }
 
-// A walk over the members of a list: what was read ahead of their low parts, the position of the one of the last
-// member, and the least low part that the next member may have if its one is at the next position.
+// A walk over the elements of a list: what was read ahead of their low parts, the position of the one of the last
+// element, and the least low part that the next element may have if its one is at the next position.
 #[derive(Clone, Copy, Drop)]
 struct Walk {
     lows: Bits,
@@ -153,7 +153,7 @@ struct Walk {
 }
 
 impl Walk {
-    // Returns a walk before the first member.
+    // Returns a walk before the first element.
     fn new() -> Walk
         ensures { result ≡ record { lows = record { limbs = 0; len = 0; word = 0 }; position = 0; least = 0 } }
     {
@@ -170,9 +170,9 @@ impl Walk {
     }
 }
 
-// Reads the low part of the next member, whose one is at `position`. Returns true if it may follow the last one.
+// Reads the low part of the next element, whose one is at `position`. Returns true if it may follow the last one.
 #[inline(always)]
-fn read_member<L: Limbs, const RISING: bool>(
+fn read_element<L: Limbs, const RISING: bool>(
     low: &L,
     width: usize,
     position: usize,
@@ -197,7 +197,7 @@ fn read_member<L: Limbs, const RISING: bool>(
     past < position
 }
 
-// Reads the members whose ones are in limb `k` of the high parts. Returns true if each may follow the one before it.
+// Reads the elements whose ones are in limb `k` of the high parts. Returns true if each may follow the one before it.
 #[inline(always)]
 fn read_limb<L: Limbs, H: Limbs, const RISING: bool>(
     low: &L,
@@ -222,7 +222,7 @@ fn read_limb<L: Limbs, H: Limbs, const RISING: bool>(
     while word != 0 {
         let position = 64 * k + word.trailing_zeros() as usize;
         word &= word - 1;
-        if !read_member::<L, RISING>(low, width, position, walk) {
+        if !read_element::<L, RISING>(low, width, position, walk) {
             return false;
         }
     }
@@ -241,7 +241,7 @@ fn count_ones_in<L: Limbs>(bits: &L) -> usize
     ones
 }
 
-// Returns how far a member is above the first, by the position of its one and its low part. `None` if it is too far,
+// Returns how far an element is above the first, by the position of its one and its low part. `None` if it is too far,
 // or there is no zero before that one.
 #[inline(always)]
 #[tactic(auto, using(crate::proofs::Decoding::joins))]
@@ -262,7 +262,7 @@ fn above_of(i: usize, position: usize, low: u64, width: usize, span: u64) -> Opt
     Some((high << width) | low)
 }
 
-// Returns true if member 0 is the first one: its one is at position 1, and its low part is 0.
+// Returns true if element 0 is the first one: its one is at position 1, and its low part is 0.
 #[tactic(auto, using(crate::proofs::Decoding::words))]
 fn begins_at_first<L: Limbs, H: Limbs>(low: &L, high: &H, width: usize) -> bool
     requires narrow { width < 64 }
@@ -311,10 +311,10 @@ fn are_decodable<L: Limbs, H: Limbs, const RISING: bool>(
 /// Returns true if these are the ends and the parts of a list that ascends, strictly if `rising`. Reads the parts
 /// once, and allocates nothing.
 pub fn are_parts<L: Limbs, H: Limbs>(ends: Ends, low: &L, high: &H, rising: bool) -> bool
-    ensures yes { result ≡ true → (members : List ℕ) × (each_next (order_of rising) members ≡ true)
-        × ArePartsOf members ends.len ends.first ends.last (L.bits low.now) (H.bits high.now) }
-    ensures no { result ≡ false → (members : List ℕ) → each_next (order_of rising) members ≡ true
-        → ArePartsOf members ends.len ends.first ends.last (L.bits low.now) (H.bits high.now) → ⊥ }
+    ensures yes { result ≡ true → (elements : List ℕ) × (each_next (order_of rising) elements ≡ true)
+        × ArePartsOf elements ends.len ends.first ends.last (L.bits low.now) (H.bits high.now) }
+    ensures no { result ≡ false → (elements : List ℕ) → each_next (order_of rising) elements ≡ true
+        → ArePartsOf elements ends.len ends.first ends.last (L.bits low.now) (H.bits high.now) → ⊥ }
 {
     let (low_bits, high_bits) = (low.len(), high.len());
     let Some(lengths) = ends.part_lengths() else {
@@ -342,8 +342,8 @@ impl<A: Allocator + Copy> EliasFanoVec<A> {
     /// Returns the list with these ends and parts. Precondition: there is one, as `are_parts` tests. Errors:
     /// `AllocError` only if the allocator refuses a request.
     pub fn from_parts(ends: Ends, low: BitVec<A>, high: BitVec<A>) -> Result<Self, AllocError>
-        requires { (members : List ℕ) × IsNonDecreasing members
-            × ArePartsOf members ends.len ends.first ends.last low high }
+        requires { (elements : List ℕ) × IsNonDecreasing elements
+            × ArePartsOf elements ends.len ends.first ends.last low high }
         ensures parts { IfOk result (λ v. ArePartsOf v ends.len ends.first ends.last low high) }
         ensures ascending { IfOk result (λ v. IsNonDecreasing v) }
     {
@@ -358,7 +358,7 @@ impl<A: Allocator + Copy> EliasFanoVec<A> {
         })
     }
 
-    /// Returns the number of members, the first and the last.
+    /// Returns the number of elements, the first and the last.
     pub fn ends(&self) -> Ends
         ensures len { result.len ≡ length self.now }
         ensures first { result.first ≡ first_of self.now }
@@ -371,7 +371,7 @@ impl<A: Allocator + Copy> EliasFanoVec<A> {
         }
     }
 
-    /// Returns the low parts of the members, one after another.
+    /// Returns the low parts of the elements, one after another.
     #[tactic(auto, using(crate::proofs::Chunks::low_same))]
     pub fn low_parts(&self) -> &BitVec<A>
         ensures { result.now ≡ low_parts self.now }
@@ -380,7 +380,7 @@ impl<A: Allocator + Copy> EliasFanoVec<A> {
         self.low.as_bit_vec(Uncounted)
     }
 
-    /// Returns the high parts of the members, with their index.
+    /// Returns the high parts of the elements, with their index.
     #[tactic(auto, using(crate::proofs::Packed::high_same))]
     pub fn high_parts(&self) -> &RsVec<A>
         ensures { result.now ≡ high_parts self.now }

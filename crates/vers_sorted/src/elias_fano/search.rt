@@ -3,8 +3,8 @@ ghost use Rattle.std.specs.Prelude.{◌≡◌, ℕ, ◌+◌, ◌-◌, ◌*◌, �
 ghost use Rattle.vers_bits.specs.Bits.{select};
 ghost use Rattle.std.specs.List.Sorted.{IsNonDecreasing};
 ghost use Rattle.vers_tally.specs.Reads.{only_low_parts, digits, AddsAtMost};
-ghost use Rattle.vers_sorted.specs.Sorted.{is_member, below, greatest_not_above, least_not_below, delta};
-ghost use Rattle.vers_sorted.specs.Layout.{first_of, last_of, high_of, low_of, high_length, high_parts, member_reads, search_reads};
+ghost use Rattle.vers_sorted.specs.Sorted.{is_element, below, greatest_not_above, least_not_below, delta};
+ghost use Rattle.vers_sorted.specs.Layout.{first_of, last_of, high_of, low_of, high_length, high_parts, element_reads, search_reads};
 ghost use Rattle.vers_sorted.specs.inside.Parts.{reads};
 ghost use Rattle.vers_sorted.specs.inside.Buckets.{IsBucket};
 ghost use Rattle.vers_sorted.specs.inside.Begun.{IsInside};
@@ -15,7 +15,7 @@ use crate::elias_fano::scan::{one_before, one_from};
 use std::alloc::Allocator;
 use vers_tally::tally::Tally;
 
-// The members with one high part: those from position `start` up to position `end`.
+// The elements with one high part: those from position `start` up to position `end`.
 #[derive(Clone, Copy, Drop)]
 pub(super) struct Bucket {
     pub(super) high: u64,
@@ -25,7 +25,7 @@ pub(super) struct Bucket {
 
 #[tactic(auto, using(crate::proofs::Packed::packed))]
 impl<A: Allocator + Copy> EliasFanoVec<A> {
-    // Returns the low part of a member.
+    // Returns the low part of an element.
     #[inline(always)]
     #[tactic(auto, using(crate::proofs::Packed::low_parts_read))]
     pub(super) fn low_part(&self, i: usize, tally: &mut Tally) -> u64
@@ -37,7 +37,7 @@ impl<A: Allocator + Copy> EliasFanoVec<A> {
         self.low.low_part(i * self.width, self.width, tally)
     }
 
-    // Returns the high part of a member.
+    // Returns the high part of an element.
     #[inline(always)]
     #[tactic(auto, using(crate::proofs::Packed::high_parts_read))]
     fn high_part(&self, i: usize, tally: &mut Tally) -> u64
@@ -49,7 +49,7 @@ impl<A: Allocator + Copy> EliasFanoVec<A> {
         (self.high.select1_counted(i, tally) - i - 1) as u64
     }
 
-    // Returns a member from its high part and its low part.
+    // Returns an element from its high part and its low part.
     #[inline(always)]
     #[tactic(auto, using(crate::proofs::Packed::joined_parts))]
     pub(super) fn with_low_part(&self, high: u64, i: usize, tally: &mut Tally) -> u64
@@ -63,9 +63,9 @@ impl<A: Allocator + Copy> EliasFanoVec<A> {
         self.first + ((high << self.width) | low)
     }
 
-    // Returns a member.
+    // Returns an element.
     #[inline(always)]
-    pub(super) fn member(&self, i: usize, tally: &mut Tally) -> u64
+    pub(super) fn element(&self, i: usize, tally: &mut Tally) -> u64
         requires { i < length self.now }
         ensures value { result ≡ slice_index self.now i }
         ensures adds { AddsAtMost tally.old tally.new (reads 1 1 (high_length self.now)) }
@@ -74,7 +74,7 @@ impl<A: Allocator + Copy> EliasFanoVec<A> {
         self.with_low_part(high, i, tally)
     }
 
-    // Returns the high part of a number that isn't below the first member.
+    // Returns the high part of a number that isn't below the first element.
     #[inline(always)]
     #[tactic(auto, using(crate::proofs::Buckets::high_is))]
     pub(super) fn high_number(&self, v: u64) -> usize
@@ -98,7 +98,7 @@ impl<A: Allocator + Copy> EliasFanoVec<A> {
         (v - self.first) & ((1 << self.width) - 1)
     }
 
-    // Returns the members with the high part of `v`, from the positions of two zeros, mostly by one select.
+    // Returns the elements with the high part of `v`, from the positions of two zeros, mostly by one select.
     #[inline(always)]
     #[tactic(auto, using(crate::proofs::Buckets::bucket))]
     fn bucket_of(&self, v: u64, tally: &mut Tally) -> Bucket
@@ -113,7 +113,7 @@ impl<A: Allocator + Copy> EliasFanoVec<A> {
         self.bucket_between(v, zeros.first, zeros.second)
     }
 
-    // Returns the members with the high part of `v`, from the positions of the zeros before and after them.
+    // Returns the elements with the high part of `v`, from the positions of the zeros before and after them.
     #[inline(always)]
     #[tactic(auto, using(crate::proofs::Buckets::bucket))]
     pub(super) fn bucket_between(&self, v: u64, before: usize, after: usize) -> Bucket
@@ -133,7 +133,7 @@ impl<A: Allocator + Copy> EliasFanoVec<A> {
         }
     }
 
-    // Returns the number of members below `v`, from the members with its high part.
+    // Returns the number of elements below `v`, from the elements with its high part.
     #[inline(always)]
     #[tactic(auto, using(crate::proofs::Buckets::search_steps))]
     pub(super) fn below_in(&self, bucket: Bucket, v: u64, tally: &mut Tally) -> usize
@@ -159,7 +159,7 @@ impl<A: Allocator + Copy> EliasFanoVec<A> {
         from
     }
 
-    // Does the same if the low part of the first of those members is known too.
+    // Does the same if the low part of the first of those elements is known too.
     #[inline(always)]
     #[tactic(auto, using(crate::proofs::Buckets::search_steps))]
     pub(super) fn below_from(&self, bucket: Bucket, part: u64, v: u64, tally: &mut Tally) -> usize
@@ -180,13 +180,13 @@ impl<A: Allocator + Copy> EliasFanoVec<A> {
         self.below_in(bucket, v, tally)
     }
 
-    // Returns true if a bucket of many members has `v` in its middle, as most of those do in which many are
+    // Returns true if a bucket of many elements has `v` in its middle, as most of those do in which many are
     // equal to it. The bucket is that of another number.
     #[inline(always)]
-    #[tactic(auto, using(crate::proofs::Buckets::members))]
+    #[tactic(auto, using(crate::proofs::Buckets::elements))]
     fn is_amid(&self, bucket: Bucket, other: u64, v: u64, tally: &mut Tally) -> bool
         requires { IsBucket self.now other bucket }
-        ensures member { IsTrue result → IsTrue (is_member self.now v) }
+        ensures element { IsTrue result → IsTrue (is_element self.now v) }
         ensures adds { AddsAtMost tally.old tally.new (only_low_parts 1) }
     {
         let _ = self.len();
@@ -197,10 +197,10 @@ impl<A: Allocator + Copy> EliasFanoVec<A> {
         self.with_low_part(bucket.high, bucket.start + count / 2, tally) == v
     }
 
-    // Returns the first member past a bucket. Mostly its one is among the next 64 high parts.
+    // Returns the first element past a bucket. Mostly its one is among the next 64 high parts.
     #[inline(always)]
     #[tactic(auto, using(crate::proofs::Besides::beside, crate::proofs::Packed::high_parts_read))]
-    fn member_past(&self, bucket: Bucket, v: u64, tally: &mut Tally) -> u64
+    fn element_past(&self, bucket: Bucket, v: u64, tally: &mut Tally) -> u64
         requires from { first_of self.now ≤ v }
         requires to { v ≤ last_of self.now }
         requires bucket { IsBucket self.now v bucket }
@@ -215,10 +215,10 @@ impl<A: Allocator + Copy> EliasFanoVec<A> {
         self.with_low_part((position - i - 1) as u64, i, tally)
     }
 
-    // Returns the last member before a bucket. Mostly its one is among the 64 high parts before.
+    // Returns the last element before a bucket. Mostly its one is among the 64 high parts before.
     #[inline(always)]
     #[tactic(auto, using(crate::proofs::Besides::beside, crate::proofs::Packed::high_parts_read))]
-    fn member_before(&self, bucket: Bucket, v: u64, tally: &mut Tally) -> u64
+    fn element_before(&self, bucket: Bucket, v: u64, tally: &mut Tally) -> u64
         requires from { first_of self.now ≤ v }
         requires to { v ≤ last_of self.now }
         requires bucket { IsBucket self.now v bucket }
@@ -236,9 +236,9 @@ impl<A: Allocator + Copy> EliasFanoVec<A> {
     /// Returns `has(v)`. Reads at most as many low parts, and queries the high parts at most as often, as the
     /// length has binary digits, plus 8.
     #[inline(always)]
-    #[tactic(auto, using(crate::proofs::Members::members, crate::proofs::Bounds::bounds))]
+    #[tactic(auto, using(crate::proofs::Elements::elements, crate::proofs::Bounds::bounds))]
     pub fn has_counted(&self, v: u64, tally: &mut Tally) -> bool
-        ensures value { result ≡ is_member self.now v }
+        ensures value { result ≡ is_element self.now v }
         ensures ascending { IsNonDecreasing self.now }
         ensures adds { AddsAtMost tally.old tally.new (search_reads self.now) }
     {
@@ -265,12 +265,12 @@ impl<A: Allocator + Copy> EliasFanoVec<A> {
     pub fn get_counted(&self, i: usize, tally: &mut Tally) -> Option<u64>
         ensures value { result ≡ slice_get self.now i }
         ensures ascending { IsNonDecreasing self.now }
-        ensures adds { AddsAtMost tally.old tally.new (member_reads self.now) }
+        ensures adds { AddsAtMost tally.old tally.new (element_reads self.now) }
     {
         if i >= self.len() {
             return None;
         }
-        Some(self.member(i, tally))
+        Some(self.element(i, tally))
     }
 
     /// Returns `select(i)`. Reads at most what `get_counted` does.
@@ -278,7 +278,7 @@ impl<A: Allocator + Copy> EliasFanoVec<A> {
     pub fn select_counted(&self, i: usize, tally: &mut Tally) -> Option<u64>
         ensures value { result ≡ slice_get self.now i }
         ensures ascending { IsNonDecreasing self.now }
-        ensures adds { AddsAtMost tally.old tally.new (member_reads self.now) }
+        ensures adds { AddsAtMost tally.old tally.new (element_reads self.now) }
     {
         self.get_counted(i, tally)
     }
@@ -289,7 +289,7 @@ impl<A: Allocator + Copy> EliasFanoVec<A> {
     pub fn delta_counted(&self, i: usize, tally: &mut Tally) -> Option<u64>
         ensures value { result ≡ delta self.now i }
         ensures ascending { IsNonDecreasing self.now }
-        ensures adds { AddsAtMost tally.old tally.new (member_reads self.now) }
+        ensures adds { AddsAtMost tally.old tally.new (element_reads self.now) }
     {
         let _ = &self.first;
         if i >= self.len() {
@@ -300,8 +300,8 @@ impl<A: Allocator + Copy> EliasFanoVec<A> {
         }
         let ones = self.high.select1_pair_counted(i - 1, tally);
         let before = self.with_low_part((ones.first - i) as u64, i - 1, tally);
-        let member = self.with_low_part((ones.second - i - 1) as u64, i, tally);
-        Some(member - before)
+        let element = self.with_low_part((ones.second - i - 1) as u64, i, tally);
+        Some(element - before)
     }
 
     /// Returns `rank(v)`. Reads at most as many low parts, and queries the high parts at most as often, as the
@@ -322,7 +322,7 @@ impl<A: Allocator + Copy> EliasFanoVec<A> {
         self.below_in(bucket, v, tally) as u64
     }
 
-    // Returns true if a number is above the first member and at most the last.
+    // Returns true if a number is above the first element and at most the last.
     #[inline(always)]
     #[tactic(auto, using(crate::proofs::Begins::insides))]
     pub(super) fn is_inside(&self, v: u64) -> bool
@@ -333,7 +333,7 @@ impl<A: Allocator + Copy> EliasFanoVec<A> {
         self.first() < v && v <= self.last()
     }
 
-    // Returns the number of members below a number that isn't in that range.
+    // Returns the number of elements below a number that isn't in that range.
     #[inline(always)]
     #[tactic(auto, using(crate::proofs::Neighbours::outside))]
     pub(super) fn rank_outside(&self, v: u64) -> u64
@@ -350,7 +350,7 @@ impl<A: Allocator + Copy> EliasFanoVec<A> {
     /// Returns `predecessor(v)`. Reads at most as many low parts, and queries the high parts at most as often,
     /// as the length has binary digits, plus 8.
     #[inline(always)]
-    #[tactic(auto, using(crate::proofs::Bounds::bounds, crate::proofs::Members::neighbours))]
+    #[tactic(auto, using(crate::proofs::Bounds::bounds, crate::proofs::Elements::neighbours))]
     pub fn predecessor_counted(&self, v: u64, tally: &mut Tally) -> Option<u64>
         ensures value { result ≡ greatest_not_above self.now v }
         ensures ascending { IsNonDecreasing self.now }
@@ -369,7 +369,7 @@ impl<A: Allocator + Copy> EliasFanoVec<A> {
         Some(self.last_below(bucket, v + 1, k, tally))
     }
 
-    // Returns true if the number after `v` is above the first member and at most the last.
+    // Returns true if the number after `v` is above the first element and at most the last.
     #[inline(always)]
     #[tactic(auto, using(crate::proofs::Begins::insides))]
     pub(super) fn is_inside_after(&self, v: u64) -> bool
@@ -394,7 +394,7 @@ impl<A: Allocator + Copy> EliasFanoVec<A> {
         Some(self.last())
     }
 
-    // Returns the last of the `k` members below `v`.
+    // Returns the last of the `k` elements below `v`.
     #[inline(always)]
     #[tactic(auto, using(crate::proofs::Buckets::sides))]
     pub(super) fn last_below(&self, bucket: Bucket, v: u64, k: usize, tally: &mut Tally) -> u64
@@ -408,7 +408,7 @@ impl<A: Allocator + Copy> EliasFanoVec<A> {
     {
         let _ = self.len();
         if k <= bucket.start {
-            return self.member_before(bucket, v, tally);
+            return self.element_before(bucket, v, tally);
         }
         self.with_low_part(bucket.high, k - 1, tally)
     }
@@ -416,7 +416,7 @@ impl<A: Allocator + Copy> EliasFanoVec<A> {
     /// Returns `successor(v)`. Reads at most as many low parts, and queries the high parts at most as often, as
     /// the length has binary digits, plus 8.
     #[inline(always)]
-    #[tactic(auto, using(crate::proofs::Bounds::bounds, crate::proofs::Members::neighbours))]
+    #[tactic(auto, using(crate::proofs::Bounds::bounds, crate::proofs::Elements::neighbours))]
     pub fn successor_counted(&self, v: u64, tally: &mut Tally) -> Option<u64>
         ensures value { result ≡ least_not_below self.now v }
         ensures ascending { IsNonDecreasing self.now }
@@ -434,7 +434,7 @@ impl<A: Allocator + Copy> EliasFanoVec<A> {
         Some(self.first_from(bucket, v, k, tally))
     }
 
-    // Returns the successor of a number that isn't above the first member and at most the last.
+    // Returns the successor of a number that isn't above the first element and at most the last.
     #[inline(always)]
     #[tactic(auto, using(crate::proofs::Neighbours::outside))]
     pub(super) fn successor_outside(&self, v: u64) -> Option<u64>
@@ -448,7 +448,7 @@ impl<A: Allocator + Copy> EliasFanoVec<A> {
         Some(self.first())
     }
 
-    // Returns the member after the `k` members below `v`.
+    // Returns the element after the `k` elements below `v`.
     #[inline(always)]
     #[tactic(auto, using(crate::proofs::Buckets::sides))]
     pub(super) fn first_from(&self, bucket: Bucket, v: u64, k: usize, tally: &mut Tally) -> u64
@@ -462,7 +462,7 @@ impl<A: Allocator + Copy> EliasFanoVec<A> {
     {
         let _ = self.len();
         if bucket.end <= k {
-            return self.member_past(bucket, v, tally);
+            return self.element_past(bucket, v, tally);
         }
         self.with_low_part(bucket.high, k, tally)
     }

@@ -16,7 +16,7 @@ use std::alloc::Allocator;
 use std::marker::Model;
 use vers_tally::tally::Tally;
 
-// The most low parts that are read of members whose ones were read together.
+// The most low parts that are read of elements whose ones were read together.
 const PARTS: usize = 4;
 
 // The most words of high parts that are read in a row.
@@ -25,7 +25,7 @@ const WORDS: usize = 8;
 // The distance of two high parts from which on a search pays off.
 const FAR: usize = 512;
 
-// The number of members that a walk has passed, and the bits of the high parts that it has read past the one of the
+// The number of elements that a walk has passed, and the bits of the high parts that it has read past the one of the
 // last.
 #[derive(Clone, Copy, Drop)]
 pub(super) struct Passed {
@@ -69,7 +69,7 @@ impl<'a, A: Allocator + Copy> Successors<'a, A> {
         }
     }
 
-    /// Returns the least member that is at least `v`, or `None` if there is none.
+    /// Returns the least element that is at least `v`, or `None` if there is none.
     #[inline]
     pub fn successor(&mut self, v: u64) -> Option<u64>
         ensures value { result ≡ least_not_below self.old v }
@@ -80,7 +80,7 @@ impl<'a, A: Allocator + Copy> Successors<'a, A> {
         self.successor_counted(v, &mut tally)
     }
 
-    /// Returns `successor(v)`. Reads at most what one search and 9 members do.
+    /// Returns `successor(v)`. Reads at most what one search and 9 elements do.
     #[inline(always)]
     pub fn successor_counted(&mut self, v: u64, tally: &mut Tally) -> Option<u64>
         ensures value { result ≡ least_not_below self.old v }
@@ -92,11 +92,11 @@ impl<'a, A: Allocator + Copy> Successors<'a, A> {
         if v < self.from {
             self.passed = Passed::none();
         } else {
-            let Some(member) = self.found else {
+            let Some(element) = self.found else {
                 return None;
             };
-            if v <= member {
-                return Some(member);
+            if v <= element {
+                return Some(element);
             }
         }
         let found = self.list.successor_past(v, &mut self.passed, tally);
@@ -120,7 +120,7 @@ impl Passed {
 }
 
 impl<A: Allocator + Copy> EliasFanoVec<A> {
-    // Returns the successor of a number, and passes the members up to it. Those passed before are below the number.
+    // Returns the successor of a number, and passes the elements up to it. Those passed before are below the number.
     #[inline(always)]
     fn successor_past(&self, v: u64, passed: &mut Passed, tally: &mut Tally) -> Option<u64>
         requires { HasPassed self.now (below self.now v) passed.old }
@@ -130,21 +130,21 @@ impl<A: Allocator + Copy> EliasFanoVec<A> {
     {
         let _ = self.len();
         if passed.ahead.word != 0 {
-            let member = self.member_read(passed, tally);
-            if member >= v {
-                return Some(member);
+            let element = self.element_read(passed, tally);
+            if element >= v {
+                return Some(element);
             }
         }
         if !self.is_inside(v) {
             return self.successor_outside(v);
         }
         match self.successor_read(v, passed, tally) {
-            Some(member) => Some(member),
+            Some(element) => Some(element),
             None => Some(self.successor_on(v, passed, tally)),
         }
     }
 
-    // Does the same if the successor isn't among the members whose ones were read.
+    // Does the same if the successor isn't among the elements whose ones were read.
     #[inline(never)]
     fn successor_on(&self, v: u64, passed: &mut Passed, tally: &mut Tally) -> u64
         requires inside { IsInside self.now v }
@@ -156,8 +156,8 @@ impl<A: Allocator + Copy> EliasFanoVec<A> {
     {
         let zeros = passed.ahead.position.saturating_sub(passed.next);
         if self.high_number(v).saturating_sub(zeros) < FAR {
-            if let Some(member) = self.successor_near(v, passed, tally) {
-                return member;
+            if let Some(element) = self.successor_near(v, passed, tally) {
+                return element;
             }
         }
         self.successor_searched(v, passed, tally)
@@ -168,26 +168,26 @@ impl<A: Allocator + Copy> EliasFanoVec<A> {
     fn successor_near(&self, v: u64, passed: &mut Passed, tally: &mut Tally) -> Option<u64>
         requires from { first_of self.now ≤ v }
         requires passed { HasPassed self.now (below self.now v) passed.old }
-        ensures some { IfSome result (λ member. least_not_below self.now v ≡ Some member) }
+        ensures some { IfSome result (λ element. least_not_below self.now v ≡ Some element) }
         ensures some_passed { OnSome result (HasPassed self.now (below self.now v + 1) passed.new) }
         ensures none { IfNone result (HasPassed self.now (below self.now v) passed.new) }
         ensures adds { AddsAtMost tally.old tally.new (reads 8 16 (high_length self.now)) }
     {
         self.pass_words(v, passed, tally);
-        if let Some(member) = self.successor_read(v, passed, tally) {
-            return Some(member);
+        if let Some(element) = self.successor_read(v, passed, tally) {
+            return Some(element);
         }
         self.pass_words(v, passed, tally);
         self.successor_read(v, passed, tally)
     }
 
-    // Passes the members up to the successor of a number, and returns it, if its one was read. Members whose high
-    // part is less are passed unread. `None` too if many members have the high part of the number.
+    // Passes the elements up to the successor of a number, and returns it, if its one was read. Elements whose high
+    // part is less are passed unread. `None` too if many elements have the high part of the number.
     #[inline(always)]
     fn successor_read(&self, v: u64, passed: &mut Passed, tally: &mut Tally) -> Option<u64>
         requires from { first_of self.now ≤ v }
         requires passed { HasPassed self.now (below self.now v) passed.old }
-        ensures some { IfSome result (λ member. least_not_below self.now v ≡ Some member) }
+        ensures some { IfSome result (λ element. least_not_below self.now v ≡ Some element) }
         ensures some_passed { OnSome result (HasPassed self.now (below self.now v + 1) passed.new) }
         ensures none { IfNone result (HasPassed self.now (below self.now v) passed.new) }
         ensures adds { AddsAtMost tally.old tally.new (only_low_parts PARTS) }
@@ -199,9 +199,9 @@ impl<A: Allocator + Copy> EliasFanoVec<A> {
             let part = self.position_read(i, &mut passed.ahead) - i - 1;
             passed.next = i + 1;
             if part >= high {
-                let member = self.with_low_part(part as u64, i, tally);
-                if member >= v {
-                    return Some(member);
+                let element = self.with_low_part(part as u64, i, tally);
+                if element >= v {
+                    return Some(element);
                 }
                 parts += 1;
                 if parts == PARTS {
@@ -212,9 +212,9 @@ impl<A: Allocator + Copy> EliasFanoVec<A> {
         None
     }
 
-    // Passes the next member, whose one was read ahead, and returns it.
+    // Passes the next element, whose one was read ahead, and returns it.
     #[inline(always)]
-    fn member_read(&self, passed: &mut Passed, tally: &mut Tally) -> u64
+    fn element_read(&self, passed: &mut Passed, tally: &mut Tally) -> u64
         requires some { 0 < passed.old.ahead.word }
         requires read { HasRead self.now passed.old.next passed.old.ahead }
         ensures within { passed.old.next < length self.now }
@@ -229,7 +229,7 @@ impl<A: Allocator + Copy> EliasFanoVec<A> {
         self.with_low_part(part as u64, i, tally)
     }
 
-    // Reads the high parts word by word, and passes the members of those words whose members all have a lesser high
+    // Reads the high parts word by word, and passes the elements of those words whose elements all have a lesser high
     // part than a number.
     #[inline(always)]
     fn pass_words(&self, v: u64, passed: &mut Passed, tally: &mut Tally)
@@ -246,7 +246,7 @@ impl<A: Allocator + Copy> EliasFanoVec<A> {
         }
     }
 
-    // Reads the next word of the high parts, and passes its members if they all have a lesser high part than a
+    // Reads the next word of the high parts, and passes its elements if they all have a lesser high part than a
     // number.
     #[inline(always)]
     fn pass_word(&self, v: u64, passed: &mut Passed, tally: &mut Tally)
@@ -272,7 +272,7 @@ impl<A: Allocator + Copy> EliasFanoVec<A> {
         }
     }
 
-    // Returns the successor of a number by a search, and passes the members up to it.
+    // Returns the successor of a number by a search, and passes the elements up to it.
     #[inline(always)]
     fn successor_searched(&self, v: u64, passed: &mut Passed, tally: &mut Tally) -> u64
         requires inside { IsInside self.now v }

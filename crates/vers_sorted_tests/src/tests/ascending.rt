@@ -4,7 +4,7 @@ use std::alloc::{AllocError, Allocator};
 use test_alloc::asked;
 use vers_sorted::elias_fano::EliasFanoVec;
 
-// The members, queries and their answers.
+// The elements, queries and their answers.
 type Case<'a> = (&'a [u64], &'a [(Query, Option<u64>)]);
 
 const CASES: [Case; 7] = [
@@ -184,9 +184,9 @@ fn are_cheap<A: Allocator + Copy>(list: &EliasFanoVec<A>) -> bool {
         && is_cheap(list, Query::Len, 1048581)
 }
 
-// A rank reads at most as many low parts as the length has digits, plus 8, with any number of equal members.
+// A rank reads at most as many low parts as the length has digits, plus 8, with any number of equal elements.
 #[test]
-fn many_equal_members_take_few_reads(rt: HostRuntime) {
+fn many_equal_elements_take_few_reads(rt: HostRuntime) {
     let alloc = rt.alloc();
     let are_cheap = asked(
         with_equal(alloc, &[0, 1, 2, 3], 1048576, 5, 16777216),

@@ -8,14 +8,14 @@ use vers_sorted::elias_fano::EliasFanoVec;
 // The most positions that a batch is tested with.
 const MOST: usize = 130;
 
-// Returns true if the members at some positions of 2, 4, 4 and 9 are these.
+// Returns true if the elements at some positions of 2, 4, 4 and 9 are these.
 fn are_as_written<A: Allocator + Copy>(list: &EliasFanoVec<A>) -> bool {
-    let mut members = [Some(0), None, Some(3), Some(4), Some(u64::MAX), Some(1)];
-    list.get_each(&mut members);
-    members == [Some(2), None, Some(9), None, None, Some(4)]
+    let mut elements = [Some(0), None, Some(3), Some(4), Some(u64::MAX), Some(1)];
+    list.get_each(&mut elements);
+    elements == [Some(2), None, Some(9), None, None, Some(4)]
 }
 
-// Returns true if the numbers of members of 2, 4, 4 and 9 below some numbers are these.
+// Returns true if the numbers of elements of 2, 4, 4 and 9 below some numbers are these.
 fn are_below_as_written<A: Allocator + Copy>(list: &EliasFanoVec<A>) -> bool {
     let mut numbers = [4, 0, u64::MAX, 5, 9, 10, 2, 3];
     list.rank_each(&mut numbers);
@@ -54,19 +54,19 @@ fn position_at(i: usize) -> Option<u64> {
 
 // Returns true if the first `n` of the positions are answered as single calls do, and the others are kept.
 fn is_right<A: Allocator + Copy>(list: &EliasFanoVec<A>, n: usize) -> bool {
-    let mut members = [None; MOST];
-    for (i, member) in members.iter_mut().enumerate() {
-        *member = position_at(i);
+    let mut elements = [None; MOST];
+    for (i, element) in elements.iter_mut().enumerate() {
+        *element = position_at(i);
     }
     if n <= MOST {
-        list.get_each(&mut members[..n]);
+        list.get_each(&mut elements[..n]);
     }
-    members.iter().enumerate().all(|(i, member)| {
+    elements.iter().enumerate().all(|(i, element)| {
         let position = position_at(i);
         if i < n && position.is_some() {
-            *member == list.get(i / 7)
+            *element == list.get(i / 7)
         } else {
-            *member == position
+            *element == position
         }
     })
 }
@@ -85,13 +85,13 @@ fn is_run_right<A: Allocator + Copy>(
     if n > 2 && n <= MOST {
         positions[n / 2] = middle;
     }
-    let mut members = positions;
+    let mut elements = positions;
     if n <= MOST {
-        list.get_each(&mut members[..n]);
+        list.get_each(&mut elements[..n]);
     }
-    members.iter().zip(&positions).enumerate().all(|(i, (member, position))| match position {
-        Some(position) if i < n => *member == list.get(*position as usize),
-        _ => *member == *position,
+    elements.iter().zip(&positions).enumerate().all(|(i, (element, position))| match position {
+        Some(position) if i < n => *element == list.get(*position as usize),
+        _ => *element == *position,
     })
 }
 
@@ -107,7 +107,7 @@ fn are_runs_right<A: Allocator + Copy>(list: &EliasFanoVec<A>) -> bool {
     })
 }
 
-// Returns number `i` of a batch: below, among and above the members, in no order.
+// Returns number `i` of a batch: below, among and above the elements, in no order.
 fn number_at(i: usize) -> u64 {
     (i as u64).wrapping_mul(389) % 1000
 }
@@ -165,28 +165,28 @@ fn are_right<A: Allocator + Copy>(list: &EliasFanoVec<A>) -> bool {
 
 #[test]
 fn batches_of_every_length(rt: HostRuntime) -> Result<(), Fail> {
-    let members = [3, 3, 8, 20, 21, 22, 300, 301, 500, 900, 901, 902, 903];
-    assert!(rt; asked(list_of(rt.alloc(), &members), |list| are_right(list))?);
+    let elements = [3, 3, 8, 20, 21, 22, 300, 301, 500, 900, 901, 902, 903];
+    assert!(rt; asked(list_of(rt.alloc(), &elements), |list| are_right(list))?);
     assert!(rt; asked(list_of(rt.alloc(), &[]), |list| are_right(list))?);
     Ok(())
 }
 
-// More members with one high part than a word has bits, and equal ones among them.
+// More elements with one high part than a word has bits, and equal ones among them.
 #[test]
-fn batches_of_crowded_members(rt: HostRuntime) -> Result<(), Fail> {
-    let mut members = [500; 100];
-    members[0] = 1;
-    members[98] = 501;
-    members[99] = u64::MAX;
-    assert!(rt; asked(list_of(rt.alloc(), &members), |list| are_right(list))?);
-    assert!(rt; asked(list_of(rt.alloc(), &members), |list| are_runs_right(list))?);
+fn batches_of_crowded_elements(rt: HostRuntime) -> Result<(), Fail> {
+    let mut elements = [500; 100];
+    elements[0] = 1;
+    elements[98] = 501;
+    elements[99] = u64::MAX;
+    assert!(rt; asked(list_of(rt.alloc(), &elements), |list| are_right(list))?);
+    assert!(rt; asked(list_of(rt.alloc(), &elements), |list| are_runs_right(list))?);
     Ok(())
 }
 
 #[test]
 fn runs_of_positions(rt: HostRuntime) -> Result<(), Fail> {
-    let members = [3, 3, 8, 20, 21, 22, 300, 301, 500, 900, 901, 902, 903];
-    assert!(rt; asked(list_of(rt.alloc(), &members), |list| are_runs_right(list))?);
+    let elements = [3, 3, 8, 20, 21, 22, 300, 301, 500, 900, 901, 902, 903];
+    assert!(rt; asked(list_of(rt.alloc(), &elements), |list| are_runs_right(list))?);
     assert!(rt; asked(list_of(rt.alloc(), &[]), |list| are_runs_right(list))?);
     Ok(())
 }

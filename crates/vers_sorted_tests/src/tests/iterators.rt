@@ -17,11 +17,11 @@ fn sums<A: Allocator + Copy>(alloc: A, numbers: &[u64]) -> [Result<u64, AllocErr
 }
 
 #[test]
-fn loops_over_members(rt: HostRuntime) {
+fn loops_over_elements(rt: HostRuntime) {
     assert_eq!(rt; sums(rt.alloc(), &[4, 4, 9]), [Ok(17); 3]);
 }
 
-// Mixtures of steps from both ends, by single members and by whole words and blocks of them.
+// Mixtures of steps from both ends, by single elements and by whole words and blocks of them.
 const MIXTURES: [&[Step]; 5] = [
     &[Step::Next, Step::NextBack],
     &[
@@ -61,10 +61,10 @@ const MIXTURES: [&[Step]; 5] = [
     ],
 ];
 
-// Numbers of members: none and few, more than a word has bits, than two words, than a block, and than two.
+// Numbers of elements: none and few, more than a word has bits, than two words, than a block, and than two.
 const LENGTHS: [usize; 8] = [0, 1, 4, 9, 65, 130, 513, 1100];
 
-// The gaps between the members of a list.
+// The gaps between the elements of a list.
 #[derive(Clone, Copy, Drop)]
 enum Lie {
     Twice,
@@ -76,7 +76,7 @@ enum Lie {
 // The last two ascend strictly, and can be positions of ones.
 const LIES: [Lie; 4] = [Lie::Twice, Lie::Equal, Lie::Apart, Lie::WithAGap];
 
-fn member(lie: Lie, i: u64) -> u64 {
+fn element(lie: Lie, i: u64) -> u64 {
     match lie {
         Lie::Twice => i / 2,
         Lie::Equal => 7,
@@ -85,10 +85,14 @@ fn member(lie: Lie, i: u64) -> u64 {
     }
 }
 
-fn members<A: Allocator + Copy>(alloc: A, lie: Lie, len: usize) -> Result<Vec<u64, A>, AllocError> {
+fn elements<A: Allocator + Copy>(
+    alloc: A,
+    lie: Lie,
+    len: usize,
+) -> Result<Vec<u64, A>, AllocError> {
     let mut numbers = Vec::new(alloc);
     for i in 0..len as u64 {
-        numbers.push(member(lie, i))?;
+        numbers.push(element(lie, i))?;
     }
     Ok(numbers)
 }
@@ -148,7 +152,7 @@ fn first_wrong_mixture<A: Allocator + Copy>(
     len: usize,
 ) -> Result<Option<usize>, AllocError> {
     for lie in LIES {
-        let numbers = members(alloc, lie, len)?;
+        let numbers = elements(alloc, lie, len)?;
         for (row, steps) in MIXTURES.iter().enumerate() {
             if !are_followed(alloc, lie, numbers.as_slice(), steps)? {
                 return Ok(Some(row));

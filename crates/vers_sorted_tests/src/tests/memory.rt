@@ -14,8 +14,8 @@ use vers_sorted::sparse::SparseRSVec;
 
 type Heap = Refusing<Global>;
 
-// Returns member `i` of the ascending list: each member twice.
-fn member(i: usize) -> u64 {
+// Returns element `i` of the ascending list: each element twice.
+fn element(i: usize) -> u64 {
     (i as u64 / 2).wrapping_mul(3)
 }
 
@@ -33,10 +33,10 @@ fn bit_count(len: usize) -> u64 {
     (len as u64).wrapping_mul(3)
 }
 
-fn members_of<A: Allocator + Copy>(alloc: A, len: usize) -> Result<Vec<u64, A>, AllocError> {
+fn elements_of<A: Allocator + Copy>(alloc: A, len: usize) -> Result<Vec<u64, A>, AllocError> {
     let mut numbers = Vec::new(alloc);
     for i in 0..len {
-        numbers.push(member(i))?;
+        numbers.push(element(i))?;
     }
     Ok(numbers)
 }
@@ -68,9 +68,9 @@ fn answers_all<A: Allocator + Copy>(list: &EliasFanoVec<A>, rows: &[(Query, Opti
     true
 }
 
-// Returns true if the queries answer about member `i`.
-fn knows_member<A: Allocator + Copy>(list: &EliasFanoVec<A>, i: usize) -> bool {
-    let v = member(i);
+// Returns true if the queries answer about element `i`.
+fn knows_element<A: Allocator + Copy>(list: &EliasFanoVec<A>, i: usize) -> bool {
+    let v = element(i);
     let is_second_value = i > 0 && i % 2 == 0;
     let rows = [
         (Query::Get(i), Some(v)),
@@ -89,11 +89,11 @@ fn knows_member<A: Allocator + Copy>(list: &EliasFanoVec<A>, i: usize) -> bool {
     answers_all(list, &rows) && knows_in_batch(list, i)
 }
 
-// Returns true if a batch answers about member `i`, and keeps each `None`.
+// Returns true if a batch answers about element `i`, and keeps each `None`.
 fn knows_in_batch<A: Allocator + Copy>(list: &EliasFanoVec<A>, i: usize) -> bool {
-    let mut members = [Some(i as u64), None];
-    list.get_each(&mut members);
-    members == [Some(member(i)), None]
+    let mut elements = [Some(i as u64), None];
+    list.get_each(&mut elements);
+    elements == [Some(element(i)), None]
 }
 
 // Returns true if a list has its length and its ends.
@@ -112,29 +112,29 @@ fn knows_ends<A: Allocator + Copy>(list: &EliasFanoVec<A>, len: usize) -> bool {
 
 // Does the same for batches.
 fn knows_ends_in_batches<A: Allocator + Copy>(list: &EliasFanoVec<A>, len: usize) -> bool {
-    let mut members = [Some(len as u64)];
-    list.get_each(&mut members);
+    let mut elements = [Some(len as u64)];
+    list.get_each(&mut elements);
     let mut ranks = [u64::MAX];
     list.rank_each(&mut ranks);
     let mut before = [Some(u64::MAX)];
     list.predecessor_each(&mut before);
     let mut after = [Some(u64::MAX)];
     list.successor_each(&mut after);
-    members == [None]
+    elements == [None]
         && ranks == [len as u64]
         && before[0].is_some() == (len > 0)
         && after == [None]
 }
 
-// Returns true if a list has that many members, and answers about the first, one in the middle and the last.
-fn has_members<A: Allocator + Copy>(list: &EliasFanoVec<A>, len: usize) -> bool {
+// Returns true if a list has that many elements, and answers about the first, one in the middle and the last.
+fn has_elements<A: Allocator + Copy>(list: &EliasFanoVec<A>, len: usize) -> bool {
     for i in 0..len {
-        if list.get(i) != Some(member(i)) {
+        if list.get(i) != Some(element(i)) {
             return false;
         }
     }
     for i in some_of(len) {
-        if i < len && !knows_member(list, i) {
+        if i < len && !knows_element(list, i) {
             return false;
         }
     }
@@ -171,31 +171,31 @@ const STEPS_AND_ENDS: [Step; 7] = [
     Step::Next,
 ];
 
-// The members of a list, its allocator, and whether it is made of numbers that are read one by one.
+// The elements of a list, its allocator, and whether it is made of numbers that are read one by one.
 #[derive(Clone, Copy, Drop)]
-struct Members<'a, 'b> {
+struct Elements<'a, 'b> {
     heap: &'a Heap,
     numbers: &'b [u64],
     in_turn: bool,
 }
 
-impl<A: Allocator + Copy> Check<EliasFanoVec<A>> for Members<'_, '_> {
+impl<A: Allocator + Copy> Check<EliasFanoVec<A>> for Elements<'_, '_> {
     fn is_right(&self, list: &mut EliasFanoVec<A>) -> bool {
-        has_members(list, self.numbers.len())
+        has_elements(list, self.numbers.len())
             && follows(&mut list.iter(), self.numbers, &STEPS)
             && follows(&mut list.iter(), self.numbers, &STEPS_AND_ENDS)
             && sum_by_reference(list) == sum_by_mut(list)
     }
 }
 
-// Checks whether a walk that owns its list returns the members.
-impl<A: Allocator + Copy> Check<EliasFanoIter<A>> for Members<'_, '_> {
+// Checks whether a walk that owns its list returns the elements.
+impl<A: Allocator + Copy> Check<EliasFanoIter<A>> for Elements<'_, '_> {
     fn is_right(&self, walk: &mut EliasFanoIter<A>) -> bool {
         follows(walk, self.numbers, &STEPS)
     }
 }
 
-impl<'a> Making for Members<'a, '_> {
+impl<'a> Making for Elements<'a, '_> {
     type Made = EliasFanoVec<&'a Heap>;
 
     type Fault = AllocError;
@@ -208,7 +208,7 @@ impl<'a> Making for Members<'a, '_> {
     }
 
     fn is_right(&self, list: &EliasFanoVec<&'a Heap>) -> bool {
-        has_members(list, self.numbers.len())
+        has_elements(list, self.numbers.len())
     }
 }
 
@@ -311,15 +311,15 @@ where
 }
 
 fn tried_list(heap: &Heap, call: Call, numbers: &[u64]) -> Ending {
-    let members = Members {
+    let elements = Elements {
         heap,
         numbers,
         in_turn: matches!(call, Call::FromNumbers),
     };
     if matches!(call, Call::FromSlice | Call::FromNumbers) {
-        return try_making(heap, &members);
+        return try_making(heap, &elements);
     }
-    tried_made(heap, list_of(heap, numbers), call, &members, numbers)
+    tried_made(heap, list_of(heap, numbers), call, &elements, numbers)
 }
 
 // Returns true if both forms of each query of a sparse list answer as expected.
@@ -463,8 +463,8 @@ fn tried_sparse(heap: &Heap, call: Call, positions: &[u64]) -> Ending {
     try_use_checked(heap, made, &ones)
 }
 
-fn tried_of_members(heap: &Heap, call: Call, len: usize) -> Ending {
-    match members_of(heap, len) {
+fn tried_of_elements(heap: &Heap, call: Call, len: usize) -> Ending {
+    match elements_of(heap, len) {
         Ok(numbers) => tried_list(heap, call, numbers.as_slice()),
         Err(_) => Ending::Wrong,
     }
@@ -488,7 +488,7 @@ impl Trial<Global> for Call {
             | Call::FromBitvec
             | Call::FromBitvecInverted
             | Call::SparseQueries => tried_of_ones(heap, self, len),
-            _ => tried_of_members(heap, self, len),
+            _ => tried_of_elements(heap, self, len),
         }
     }
 

@@ -17,7 +17,7 @@ fn are_bits<A: Allocator + Copy>(bits: &BitVec<A>, number: u64, len: usize) -> b
     bits.len() == len && bits.get_bits(0, len).unwrap_or(0) == number
 }
 
-// Returns true if a list of a few members has these ends, low and high parts.
+// Returns true if a list of a few elements has these ends, low and high parts.
 fn has_parts<A: Allocator + Copy>(
     list: &EliasFanoVec<A>,
     ends: Ends,
@@ -56,7 +56,7 @@ fn a_list_has_its_parts(rt: HostRuntime) {
     assert!(rt; empty == Ok(true));
 }
 
-// Returns how many lists of bits of 4 members have these high parts.
+// Returns how many lists of bits of 4 elements have these high parts.
 fn count_lows<A: Allocator + Copy>(
     alloc: A,
     ends: Ends,
@@ -90,7 +90,7 @@ fn count_parts<A: Allocator + Copy>(
     Ok(found)
 }
 
-// Of four members from 0 to 7 two are free, in ascending order: 36 lists, of which 15 ascend strictly.
+// Of four elements from 0 to 7 two are free, in ascending order: 36 lists, of which 15 ascend strictly.
 #[test]
 fn as_many_parts_are_right_as_there_are_lists(rt: HostRuntime) {
     assert!(rt; count_parts(rt.alloc(), ENDS_0147, false) == Ok(36));
@@ -129,7 +129,7 @@ fn are_no_bits<A: Allocator + Copy>(alloc: A, ends: Ends) -> bool {
 }
 
 #[test]
-fn no_members_have_no_ends(rt: HostRuntime) {
+fn no_elements_have_no_ends(rt: HostRuntime) {
     let none = Ends {
         len: 0,
         first: 0,
@@ -171,8 +171,8 @@ fn made_again<A: Allocator + Copy>(
     made_of(list.ends(), low, high.into_bit_vec())
 }
 
-// Returns true if a list has these members.
-fn has_members<A: Allocator + Copy>(list: &Option<EliasFanoVec<A>>, numbers: &[u64]) -> bool {
+// Returns true if a list has these elements.
+fn has_elements<A: Allocator + Copy>(list: &Option<EliasFanoVec<A>>, numbers: &[u64]) -> bool {
     let Some(list) = list else {
         return false;
     };
@@ -188,7 +188,7 @@ fn has_members<A: Allocator + Copy>(list: &Option<EliasFanoVec<A>>, numbers: &[u
 fn is_made_again<A: Allocator + Copy>(alloc: A, numbers: &[u64]) -> bool {
     let again = asked(
         list_of(alloc, numbers),
-        |list| asked(made_again(list), |again| has_members(again, numbers)),
+        |list| asked(made_again(list), |again| has_elements(again, numbers)),
     );
     again == Ok(Ok(true))
 }
@@ -209,7 +209,7 @@ fn is_far_made_again<A: Allocator + Copy>(alloc: A) -> Result<bool, AllocError> 
 }
 
 #[test]
-fn far_members_are_made_of_their_parts(rt: HostRuntime) {
+fn far_elements_are_made_of_their_parts(rt: HostRuntime) {
     assert!(rt; is_far_made_again(rt.alloc()) == Ok(true));
 }
 
@@ -254,7 +254,7 @@ fn are_right<A: Allocator + Copy>(
     made.ok()?.ok()
 }
 
-// Returns the same for 62 zeros, 8 ones and 1000, whose low parts have 3 bits. The ones of members 62 and 63 are at
+// Returns the same for 62 zeros, 8 ones and 1000, whose low parts have 3 bits. The ones of elements 62 and 63 are at
 // positions 63 and 64.
 fn are_right_of_ones<A: Allocator + Copy>(
     alloc: A,
@@ -265,15 +265,15 @@ fn are_right_of_ones<A: Allocator + Copy>(
 }
 
 #[test]
-fn members_fall_in_a_limb_and_across_limbs(rt: HostRuntime) {
+fn elements_fall_in_a_limb_and_across_limbs(rt: HostRuntime) {
     let alloc = rt.alloc();
     assert!(rt; are_right_of_ones(alloc, None) == Ok(Some(true)));
-    // Member 69 is 3 and not 1, and 1000 follows.
+    // Element 69 is 3 and not 1, and 1000 follows.
     assert!(rt; are_right_of_ones(alloc, Some(208)) == Ok(Some(true)));
-    // Member 30 is 1 before zeros, and member 21, with bits of two limbs, is 2.
+    // Element 30 is 1 before zeros, and element 21, with bits of two limbs, is 2.
     assert!(rt; are_right_of_ones(alloc, Some(90)) == Ok(Some(false)));
     assert!(rt; are_right_of_ones(alloc, Some(64)) == Ok(Some(false)));
-    // Member 63 is 0 after 1, and member 62 is 3 before 1.
+    // Element 63 is 0 after 1, and element 62 is 3 before 1.
     assert!(rt; are_right_of_ones(alloc, Some(189)) == Ok(Some(false)));
     assert!(rt; are_right_of_ones(alloc, Some(187)) == Ok(Some(false)));
 }
@@ -291,13 +291,13 @@ const TWICE_31: [u64; 33] = [
 ];
 
 #[test]
-fn strictly_ascending_members_are_not_equal_across_limbs(rt: HostRuntime) {
+fn strictly_ascending_elements_are_not_equal_across_limbs(rt: HostRuntime) {
     let alloc = rt.alloc();
     assert!(rt; are_right(alloc, &EVEN_AND_63, None, true) == Some(true));
     // 62 twice.
     assert!(rt; are_right(alloc, &EVEN_AND_63, Some(32), false) == Some(true));
     assert!(rt; are_right(alloc, &EVEN_AND_63, Some(32), true) == Some(false));
-    // 63 for 62 is equal to the next member, and 61 for 60 is below it.
+    // 63 for 62 is equal to the next element, and 61 for 60 is below it.
     assert!(rt; are_right(alloc, &EVEN_AND_63, Some(31), true) == Some(false));
     assert!(rt; are_right(alloc, &EVEN_AND_63, Some(30), true) == Some(true));
     assert!(rt; are_right(alloc, &TWICE_31, None, false) == Some(true));
@@ -305,9 +305,9 @@ fn strictly_ascending_members_are_not_equal_across_limbs(rt: HostRuntime) {
     assert!(rt; are_right(alloc, &TWICE_31[..32], None, true) == Some(true));
 }
 
-// Low parts of 63 bits: the first member is the first one, and the last one is the last.
+// Low parts of 63 bits: the first element is the first one, and the last one is the last.
 #[test]
-fn wide_members_begin_and_end_at_the_ends(rt: HostRuntime) {
+fn wide_elements_begin_and_end_at_the_ends(rt: HostRuntime) {
     let alloc = rt.alloc();
     assert!(rt; are_right(alloc, &[0, u64::MAX], None, true) == Some(true));
     assert!(rt; are_right(alloc, &[0, u64::MAX], Some(62), true) == Some(false));

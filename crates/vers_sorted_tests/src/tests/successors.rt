@@ -7,7 +7,7 @@ use vers_tally::tally::Tally;
 
 // Returns the least of ascending numbers that is at least `v`.
 fn plain(numbers: &[u64], v: u64) -> Option<u64> {
-    let below = numbers.partition_point(|member| *member < v);
+    let below = numbers.partition_point(|element| *element < v);
     numbers.get(below).copied()
 }
 
@@ -33,7 +33,7 @@ fn first_wrong<A: Allocator + Copy>(
     None
 }
 
-// Members, and numbers whose successors are searched in turn.
+// Elements, and numbers whose successors are searched in turn.
 type Row<'a> = (&'a [u64], &'a [u64]);
 
 const ROWS: [Row; 5] = [
@@ -65,11 +65,11 @@ fn first_wrong_row<A: Allocator + Copy>(
 }
 
 #[test]
-fn few_members(rt: HostRuntime) {
+fn few_elements(rt: HostRuntime) {
     assert!(rt; first_wrong_row(rt.alloc(), &ROWS) == Ok(None));
 }
 
-// Members are below this.
+// Elements are below this.
 const LIMIT: u64 = 100000;
 
 // Returns numbers below the limit, each a distance above the last, which grows from `gap` by `more` each time.
@@ -101,11 +101,11 @@ fn rising<A: Allocator + Copy>(alloc: A, step: u64) -> Result<Vec<u64, A>, Alloc
     Ok(numbers)
 }
 
-// Steps past no member, past some, past those of several words, and past more than are read one after another.
+// Steps past no element, past some, past those of several words, and past more than are read one after another.
 const STEPS: [u64; 7] = [1, 9, 70, 700, 2999, 20011, 60013];
 
 // Returns the first step with a wrong successor. A search reads at most as many low parts as the length has digits,
-// plus 8, and 9 members are read twice.
+// plus 8, and 9 elements are read twice.
 fn first_wrong_step<A: Allocator + Copy>(
     alloc: A,
     numbers: &[u64],
@@ -123,7 +123,7 @@ fn first_wrong_step<A: Allocator + Copy>(
     Ok(None)
 }
 
-// The distances of members, and how they grow: dense lists, sparse ones, and uneven ones.
+// The distances of elements, and how they grow: dense lists, sparse ones, and uneven ones.
 const DISTANCES: [(u64, u64); 5] = [(1, 0), (3, 0), (25, 0), (1000, 0), (0, 1)];
 
 // Returns the number of the first list with a wrong successor.
@@ -138,11 +138,11 @@ fn first_wrong_list<A: Allocator + Copy>(alloc: A) -> Result<Option<usize>, Allo
 }
 
 #[test]
-fn many_members(rt: HostRuntime) {
+fn many_elements(rt: HostRuntime) {
     assert!(rt; first_wrong_list(rt.alloc()) == Ok(None));
 }
 
-// Returns the first step with a wrong successor among many members of one high part, of which many are equal.
+// Returns the first step with a wrong successor among many elements of one high part, of which many are equal.
 fn first_wrong_of_equal<A: Allocator + Copy>(alloc: A) -> Result<Option<u64>, AllocError> {
     let mut numbers = with_equal(alloc, &[0, 1, 9, 400], 3000, 2100, 1 << 40)?;
     for k in 0..1000 {
@@ -154,6 +154,6 @@ fn first_wrong_of_equal<A: Allocator + Copy>(alloc: A) -> Result<Option<u64>, Al
 }
 
 #[test]
-fn many_members_with_one_high_part(rt: HostRuntime) {
+fn many_elements_with_one_high_part(rt: HostRuntime) {
     assert!(rt; first_wrong_of_equal(rt.alloc()) == Ok(None));
 }

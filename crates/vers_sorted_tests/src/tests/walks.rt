@@ -1,4 +1,4 @@
-//! Walks along the members of a list.
+//! Walks along the elements of a list.
 use crate::tests::lists::list_of;
 use std::alloc::{AllocError, Allocator};
 use vers_sorted::elias_fano::{EliasFanoIter, EliasFanoRefIter, EliasFanoVec};
@@ -25,18 +25,18 @@ pub enum Step {
 }
 
 /// Returns the end of a walk.
-pub fn end<S: Ascending>(members: BothEnds<S>, asked: Step) -> Option<u64> {
+pub fn end<S: Ascending>(elements: BothEnds<S>, asked: Step) -> Option<u64> {
     match asked {
-        Step::Last => members.last(),
-        Step::Count => Some(members.count() as u64),
-        Step::Min => members.min(),
-        _ => members.max(),
+        Step::Last => elements.last(),
+        Step::Count => Some(elements.count() as u64),
+        Step::Min => elements.min(),
+        _ => elements.max(),
     }
 }
 
 // Does the same for a copy of a walk that owns its list. `None` if there is none.
-fn end_of_copy<S: Ascending + Owning>(members: &BothEnds<S>, asked: Step) -> Option<u64> {
-    let copy: Result<_, _> = members.clone();
+fn end_of_copy<S: Ascending + Owning>(elements: &BothEnds<S>, asked: Step) -> Option<u64> {
+    let copy: Result<_, _> = elements.clone();
     match copy {
         Ok(second) => end(second, asked),
         Err(_) => None,
@@ -48,27 +48,27 @@ fn is_of_copy(asked: Step) -> bool {
 }
 
 // Returns one counted step of a walk.
-fn counted_step<S: Ascending>(members: &mut BothEnds<S>, asked: Step) -> Option<u64> {
+fn counted_step<S: Ascending>(elements: &mut BothEnds<S>, asked: Step) -> Option<u64> {
     let mut tally = Tally::new();
     match asked {
-        Step::NextCounted => members.next_counted(&mut tally),
-        Step::NextBackCounted => members.next_back_counted(&mut tally),
-        Step::NthCounted(n) => members.nth_counted(n, &mut tally),
-        Step::NthBackCounted(n) => members.nth_back_counted(n, &mut tally),
+        Step::NextCounted => elements.next_counted(&mut tally),
+        Step::NextBackCounted => elements.next_back_counted(&mut tally),
+        Step::NthCounted(n) => elements.nth_counted(n, &mut tally),
+        Step::NthBackCounted(n) => elements.nth_back_counted(n, &mut tally),
         _ => None,
     }
 }
 
 // Returns one step of a walk, or `None` if it needs a copy.
-fn answer_of_step<S: Ascending>(members: &mut BothEnds<S>, asked: Step) -> Option<u64> {
+fn answer_of_step<S: Ascending>(elements: &mut BothEnds<S>, asked: Step) -> Option<u64> {
     match asked {
-        Step::Len => Some(members.len() as u64),
-        Step::SizeHint => as_number(members.size_hint().1),
-        Step::Next => members.next(),
-        Step::NextBack => members.next_back(),
-        Step::Nth(n) => members.nth(n),
-        Step::NthBack(n) => members.nth_back(n),
-        _ => counted_step(members, asked),
+        Step::Len => Some(elements.len() as u64),
+        Step::SizeHint => as_number(elements.size_hint().1),
+        Step::Next => elements.next(),
+        Step::NextBack => elements.next_back(),
+        Step::Nth(n) => elements.nth(n),
+        Step::NthBack(n) => elements.nth_back(n),
+        _ => counted_step(elements, asked),
     }
 }
 
@@ -79,21 +79,21 @@ fn as_number(count: Option<usize>) -> Option<u64> {
 
 // Returns the answer of one step of a walk that borrows a list.
 fn answer_of_borrowing<S: Ascending + Borrowing>(
-    members: &mut BothEnds<S>,
+    elements: &mut BothEnds<S>,
     asked: Step,
 ) -> Option<u64> {
     if is_of_copy(asked) {
-        return end(members.clone(), asked);
+        return end(elements.clone(), asked);
     }
-    answer_of_step(members, asked)
+    answer_of_step(elements, asked)
 }
 
 // Does the same for a walk that owns its list.
-fn answer_of_owning<S: Ascending + Owning>(members: &mut BothEnds<S>, asked: Step) -> Option<u64> {
+fn answer_of_owning<S: Ascending + Owning>(elements: &mut BothEnds<S>, asked: Step) -> Option<u64> {
     if is_of_copy(asked) {
-        return end_of_copy(members, asked);
+        return end_of_copy(elements, asked);
     }
-    answer_of_step(members, asked)
+    answer_of_step(elements, asked)
 }
 
 /// A walk that is taken step by step.
@@ -189,16 +189,16 @@ pub fn walk_over<A: Allocator + Copy>(
     Ok(list_of(alloc, numbers)?.into_iter())
 }
 
-// Returns the sum of the members by a loop.
-fn sum_of<S: Ascending>(members: BothEnds<S>) -> u64 {
+// Returns the sum of the elements by a loop.
+fn sum_of<S: Ascending>(elements: BothEnds<S>) -> u64 {
     let mut sum = 0u64;
-    for member in members {
-        sum = sum.wrapping_add(member);
+    for element in elements {
+        sum = sum.wrapping_add(element);
     }
     sum
 }
 
-/// Returns the sum of the members by a loop over a reference to the list.
+/// Returns the sum of the elements by a loop over a reference to the list.
 pub fn sum_by_reference<A: Allocator + Copy>(list: &EliasFanoVec<A>) -> u64 {
     sum_of(list.into_iter())
 }

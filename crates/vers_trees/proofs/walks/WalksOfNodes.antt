@@ -3,7 +3,7 @@ use Rattle.vers_trees.proofs.Names.{◌≡◌, ℕ, zero, suc, ◌+◌, ◌-◌,
 use Rattle.vers_trees.proofs.searches.Searches.{after_is}
 use Rattle.vers_trees.proofs.kin.Partners.{after_from_closes}
 use Rattle.vers_trees.proofs.kin.NodeList.{HasPair, node_pair, nodes_by, opens, option_decides}
-use Rattle.vers_trees.proofs.levels.NodeLaws.{AscendsFrom, nodes_ascend, filter_ascends, next_member, member_before, first_member_before, last_by_number, member_passes}
+use Rattle.vers_trees.proofs.levels.NodeLaws.{AscendsFrom, nodes_ascend, filter_ascends, next_element, element_before, first_element_before, last_by_number, element_passes}
 pub use Rattle.vers_trees.proofs.kin.Kin.{opened_here, closed_before, first_child_is, last_child_is, next_sibling_is, previous_sibling_is, closes_inside}
 use Rattle.vers_trees.proofs.walks.ListsOfNodes.{postorder_by, positions_in, as_part, part_inside, part_size, subtree_is, subtree_size_is, subtree_post_is}
 
@@ -19,7 +19,7 @@ pub walk_short : (step : ℕ → Option (ℕ × ℕ)) (n p : ℕ) → length (wa
 walk_short step zero p = omega arith
 walk_short step (suc n) p = grind (arith, walk_short step n)
 
--- a walk meets a list whose members its steps find one after another
+-- a walk meets a list whose elements its steps find one after another
 steps_meet : (step : ℕ → Option (ℕ × ℕ)) (xs : List ℕ) (At : ℕ → ℕ → Type 0) → ((p i : ℕ) → At p i → slice_get xs i ≡ None → step p ≡ None) → ((p i v : ℕ) → At p i → slice_get xs i ≡ Some v → (q : ℕ) × (step p ≡ Some (v, q)) × At q (suc i)) → (p : ℕ) → At p 0 → MeetsJust step p xs
 steps_meet step [] At none some p a = none p 0 a refl
 steps_meet step (x ∷ xs) At none some p a = let s = some p 0 x a refl in (s.0, s.1, steps_meet step xs (λ p i. At p (suc i)) (λ p i. none p (suc i)) (λ p i. some p (suc i)) s.0 s.2)
@@ -37,18 +37,18 @@ reversed_first (x ∷ xs) =
     reversed_at (x ∷ xs) 0 (omega arith) ∙ ap (slice_get (x ∷ xs)) e ∙ sym (last_by_number (x ∷ xs))
 
 reversed_next : (xs : List ℕ) (i j w : ℕ) → AscendsFrom 0 xs → i + j + 1 ≡ length xs → slice_get xs j ≡ Some w → slice_get (reverse xs) (suc i) ≡ previous_of xs w
-reversed_next xs i zero w a h e = let r = length-reverse xs in slice_get_past (reverse xs) (suc i) (omega arith) ∙ sym (first_member_before 0 w xs a e)
-reversed_next xs i (suc j) w a h e = grind (arith, reversed_at, member_before)
+reversed_next xs i zero w a h e = let r = length-reverse xs in slice_get_past (reverse xs) (suc i) (omega arith) ∙ sym (first_element_before 0 w xs a e)
+reversed_next xs i (suc j) w a h e = grind (arith, reversed_at, element_before)
 
 -- ---- children
 children_ascend : (F : Forest) (v : ℕ) → AscendsFrom 0 (children F v)
 unfolding nodes_under
 children_ascend F v = filter_ascends _ 0 (nodes F) (nodes_ascend F)
 
-child_member : (l : List Bool) (b : IsBalanced l) (v i w : ℕ) → slice_get (children (forest_of l) v) i ≡ Some w → HasPair l w × (siblings (forest_of l) w ≡ children (forest_of l) v)
+child_element : (l : List Bool) (b : IsBalanced l) (v i w : ℕ) → slice_get (children (forest_of l) v) i ≡ Some w → HasPair l w × (siblings (forest_of l) w ≡ children (forest_of l) v)
 unfolding nodes_under
-child_member l b v i w e =
-    let r = member_passes (λ w. option_eq eqb (parent (forest_of l) w) (Some v)) (nodes (forest_of l)) i w e in
+child_element l b v i w e =
+    let r = element_passes (λ w. option_eq eqb (parent (forest_of l) w) (Some v)) (nodes (forest_of l)) i w e in
     (node_pair l b w r.0, ap (nodes_under (forest_of l)) ((option_decides (parent (forest_of l) w) (Some v)).0 r.1))
 
 children_few : (l : List Bool) (b : IsBalanced l) (v : ℕ) → length (children (forest_of l) v) ≤ length l
@@ -59,11 +59,11 @@ meets_forwards : (l : List Bool) (b : IsBalanced l) (v : ℕ) → HasPair l v �
 meets_forwards l b v h = steps_meet (tree_from l) (children (forest_of l) v) (λ p i. slice_get (children (forest_of l) v) i ≡ opened_here l p)
     (λ p i a e. (grind arith))
     (λ p i w a e.
-    let m = child_member l b v i w e in let k = m.0 in
+    let m = child_element l b v i w e in let k = m.0 in
     let at : p ≡ w = (cond_some (get_or l p false) p w (sym a ∙ e)).1 in (
       closing (forest_of l) w + 1,
       rw (at, opens l w k) (ap (tree_to w) (after_is l w (negsuc 0) (closing (forest_of l) w) (after_from_closes l w (closing (forest_of l) w) k.closes))),
-      sym (next_member 0 i w (children (forest_of l) v) (children_ascend (forest_of l) v) e) ∙ ap (λ (vs : List ℕ). next_of vs w) (sym m.1) ∙ sym (next_sibling_is l b w k),
+      sym (next_element 0 i w (children (forest_of l) v) (children_ascend (forest_of l) v) e) ∙ ap (λ (vs : List ℕ). next_of vs w) (sym m.1) ∙ sym (next_sibling_is l b w k),
     ))
     (v + 1)
     (sym (first_child_is l b v h))
@@ -78,7 +78,7 @@ meets_backwards l b v h =
     (λ p i a e. before_step l p ∙ ap opened (sym a ∙ e))
     (λ p i w a e.
     let r = length-reverse xs in let n = slice_get_within (reverse xs) i w e in let at = sym (reversed_at xs i (omega arith)) ∙ e in
-    let m = child_member l b v (length xs - 1 - i) w at in (
+    let m = child_element l b v (length xs - 1 - i) w at in (
       w,
       before_step l p ∙ ap opened (sym a ∙ e),
       reversed_next xs i (length xs - 1 - i) w (children_ascend (forest_of l) v) (omega arith) at ∙ ap (λ (vs : List ℕ). previous_of vs w) (sym m.1) ∙ sym (previous_sibling_is l b w m.0),

@@ -142,7 +142,7 @@ impl<A: Allocator + Copy> Owning for Numbers<WaveletMatrix<A>> {
 }
 
 /// The symbols of a matrix as numbers, ascending, which iterators read one by one. A symbol has at most 64
-/// bits. It keeps the last symbol found, with the members that are equal to it, and the path down to it, from
+/// bits. It keeps the last symbol found, with the elements that are equal to it, and the path down to it, from
 /// which the next one is found.
 #[derive(Drop)]
 pub struct SortedNumbers<M: Matrix> {
@@ -267,7 +267,7 @@ impl<O: Order, M: Matrix> Maker for SymbolLists<O, M> {
     fn make_at(&mut self, i: usize, tally: &mut Tally) -> Result<BitVec<M::Alloc>, AllocError> {
         let matrix = self.matrix.matrix();
         let mut answer = matrix.zero_symbol()?;
-        matrix.member(O::is_by_size(), i, &mut answer, tally);
+        matrix.element(O::is_by_size(), i, &mut answer, tally);
         Ok(answer)
     }
 }

@@ -2,7 +2,7 @@
 ghost use Rattle.std.specs.Prelude.{◌≡◌, ◌≢◌, ◌%◌, ◌^◌, ◌<◌, ◌≤◌, length, option_map, Ok, None, IfSome, IfOk};
 ghost use Rattle.vers_bits.specs.Bits.{number};
 ghost use Rattle.vers_tally.specs.Reads.{AddsAtMost, times};
-ghost use Rattle.vers_wavelet.specs.Symbols.{range_members, greatest_up_to, least_from, as_word};
+ghost use Rattle.vers_wavelet.specs.Symbols.{range_elements, greatest_up_to, least_from, as_word};
 ghost use Rattle.vers_wavelet.specs.Reads.{walk_reads};
 
 use crate::wavelet::WaveletMatrix;
@@ -22,7 +22,7 @@ impl<A: Allocator + Copy> WaveletMatrix<A> {
         symbol: &BitVec<A>,
     ) -> Result<Option<BitVec<A>>, AllocError>
         ensures value { length symbol.now ≡ self.now.width → IfOk result (λ o. option_map number o
-            ≡ greatest_up_to (range_members self.now.items range.start range.end)
+            ≡ greatest_up_to (range_elements self.now.items range.start range.end)
             (number symbol.now)) }
         ensures width { IfOk result (λ o. IfSome o (λ v. length v ≡ self.now.width)) }
         ensures other_width { length symbol.now ≢ self.now.width → result ≡ Ok None }
@@ -43,7 +43,7 @@ impl<A: Allocator + Copy> WaveletMatrix<A> {
         tally: &mut Tally,
     ) -> Result<Option<BitVec<A>>, AllocError>
         ensures value { length symbol.now ≡ self.now.width → IfOk result (λ o. option_map number o
-            ≡ greatest_up_to (range_members self.now.items range.start range.end)
+            ≡ greatest_up_to (range_elements self.now.items range.start range.end)
             (number symbol.now)) }
         ensures width { IfOk result (λ o. IfSome o (λ v. length v ≡ self.now.width)) }
         ensures other_width { length symbol.now ≢ self.now.width → result ≡ Ok None }
@@ -73,7 +73,7 @@ impl<A: Allocator + Copy> WaveletMatrix<A> {
         symbol: &BitVec<A>,
     ) -> Result<Option<BitVec<A>>, AllocError>
         ensures value { length symbol.now ≡ self.now.width → IfOk result (λ o. option_map number o
-            ≡ least_from (range_members self.now.items range.start range.end)
+            ≡ least_from (range_elements self.now.items range.start range.end)
             (number symbol.now)) }
         ensures width { IfOk result (λ o. IfSome o (λ v. length v ≡ self.now.width)) }
         ensures other_width { length symbol.now ≢ self.now.width → result ≡ Ok None }
@@ -93,7 +93,7 @@ impl<A: Allocator + Copy> WaveletMatrix<A> {
         tally: &mut Tally,
     ) -> Result<Option<BitVec<A>>, AllocError>
         ensures value { length symbol.now ≡ self.now.width → IfOk result (λ o. option_map number o
-            ≡ least_from (range_members self.now.items range.start range.end)
+            ≡ least_from (range_elements self.now.items range.start range.end)
             (number symbol.now)) }
         ensures width { IfOk result (λ o. IfSome o (λ v. length v ≡ self.now.width)) }
         ensures other_width { length symbol.now ≢ self.now.width → result ≡ Ok None }
@@ -119,7 +119,7 @@ impl<A: Allocator + Copy> WaveletMatrix<A> {
     /// such symbol.
     pub fn predecessor_u64(&self, range: Range<usize>, symbol: u64) -> Option<u64>
         ensures { result ≡ as_word self.now.width
-            (greatest_up_to (range_members self.now.items range.start range.end)
+            (greatest_up_to (range_elements self.now.items range.start range.end)
             (symbol % 2 ^ self.now.width)) }
     {
         let mut tally = Tally::new();
@@ -136,7 +136,7 @@ impl<A: Allocator + Copy> WaveletMatrix<A> {
         tally: &mut Tally,
     ) -> Option<u64>
         ensures value { result ≡ as_word self.now.width
-            (greatest_up_to (range_members self.now.items range.start range.end)
+            (greatest_up_to (range_elements self.now.items range.start range.end)
             (symbol % 2 ^ self.now.width)) }
         ensures adds { AddsAtMost tally.old tally.new (times 2 (walk_reads self.now)) }
     {
@@ -155,7 +155,7 @@ impl<A: Allocator + Copy> WaveletMatrix<A> {
     /// symbol.
     pub fn successor_u64(&self, range: Range<usize>, symbol: u64) -> Option<u64>
         ensures { result ≡ as_word self.now.width
-            (least_from (range_members self.now.items range.start range.end)
+            (least_from (range_elements self.now.items range.start range.end)
             (symbol % 2 ^ self.now.width)) }
     {
         let mut tally = Tally::new();
@@ -172,7 +172,7 @@ impl<A: Allocator + Copy> WaveletMatrix<A> {
         tally: &mut Tally,
     ) -> Option<u64>
         ensures value { result ≡ as_word self.now.width
-            (least_from (range_members self.now.items range.start range.end)
+            (least_from (range_elements self.now.items range.start range.end)
             (symbol % 2 ^ self.now.width)) }
         ensures adds { AddsAtMost tally.old tally.new (times 2 (walk_reads self.now)) }
     {

@@ -1,8 +1,8 @@
-//! Quantiles: members of a range by size.
+//! Quantiles: elements of a range by size.
 ghost use Rattle.std.specs.Prelude.{◌≡◌, ℕ, ◌+◌, ◌-◌, ◌/◌, ◌<◌, ◌≤◌, length, slice_index, slice_range, option_map, Ok, None, IfSome, IfOk};
 ghost use Rattle.vers_bits.specs.Bits.{number};
 ghost use Rattle.vers_tally.specs.Reads.{AddsAtMost};
-ghost use Rattle.vers_wavelet.specs.Symbols.{by_size, range_members, kth_by_size, as_word};
+ghost use Rattle.vers_wavelet.specs.Symbols.{by_size, range_elements, kth_by_size, as_word};
 ghost use Rattle.vers_wavelet.specs.Reads.{walk_reads};
 
 use crate::wavelet::WaveletMatrix;
@@ -11,13 +11,13 @@ use std::ops::Range;
 use vers_bits::bit_vec::BitVec;
 use vers_tally::tally::Tally;
 
-#[tactic(auto, using(crate::proofs::Digits::symbols, crate::proofs::Ranges::members))]
+#[tactic(auto, using(crate::proofs::Digits::symbols, crate::proofs::Ranges::elements))]
 impl<A: Allocator + Copy> WaveletMatrix<A> {
     /// Returns the `i`-th smallest symbol of a range (from 0, counting duplicates). `None` if the range ends
     /// past the end or has at most `i` positions. Errors: `AllocError` if the allocator refuses a request.
     pub fn quantile(&self, range: Range<usize>, i: usize) -> Result<Option<BitVec<A>>, AllocError>
         ensures value { IfOk result (λ o. option_map number o
-            ≡ kth_by_size (range_members self.now.items range.start range.end) i) }
+            ≡ kth_by_size (range_elements self.now.items range.start range.end) i) }
         ensures width { IfOk result (λ o. IfSome o (λ v. length v ≡ self.now.width)) }
         ensures past { length self.now.items < range.end → result ≡ Ok None }
         ensures few { range.end ≤ range.start + i → result ≡ Ok None }
@@ -35,7 +35,7 @@ impl<A: Allocator + Copy> WaveletMatrix<A> {
         tally: &mut Tally,
     ) -> Result<Option<BitVec<A>>, AllocError>
         ensures value { IfOk result (λ o. option_map number o
-            ≡ kth_by_size (range_members self.now.items range.start range.end) i) }
+            ≡ kth_by_size (range_elements self.now.items range.start range.end) i) }
         ensures width { IfOk result (λ o. IfSome o (λ v. length v ≡ self.now.width)) }
         ensures past { length self.now.items < range.end → result ≡ Ok None }
         ensures few { range.end ≤ range.start + i → result ≡ Ok None }
@@ -105,7 +105,7 @@ impl<A: Allocator + Copy> WaveletMatrix<A> {
     /// Errors: `AllocError` if the allocator refuses a request.
     pub fn range_min(&self, range: Range<usize>) -> Result<Option<BitVec<A>>, AllocError>
         ensures value { IfOk result (λ o. option_map number o
-            ≡ kth_by_size (range_members self.now.items range.start range.end) 0) }
+            ≡ kth_by_size (range_elements self.now.items range.start range.end) 0) }
         ensures width { IfOk result (λ o. IfSome o (λ v. length v ≡ self.now.width)) }
         ensures past { length self.now.items < range.end → result ≡ Ok None }
         ensures empty { range.end ≤ range.start → result ≡ Ok None }
@@ -123,7 +123,7 @@ impl<A: Allocator + Copy> WaveletMatrix<A> {
         tally: &mut Tally,
     ) -> Result<Option<BitVec<A>>, AllocError>
         ensures value { IfOk result (λ o. option_map number o
-            ≡ kth_by_size (range_members self.now.items range.start range.end) 0) }
+            ≡ kth_by_size (range_elements self.now.items range.start range.end) 0) }
         ensures width { IfOk result (λ o. IfSome o (λ v. length v ≡ self.now.width)) }
         ensures past { length self.now.items < range.end → result ≡ Ok None }
         ensures empty { range.end ≤ range.start → result ≡ Ok None }
@@ -148,7 +148,7 @@ impl<A: Allocator + Copy> WaveletMatrix<A> {
     /// Errors: `AllocError` if the allocator refuses a request.
     pub fn range_max(&self, range: Range<usize>) -> Result<Option<BitVec<A>>, AllocError>
         ensures value { IfOk result (λ o. option_map number o
-            ≡ kth_by_size (range_members self.now.items range.start range.end)
+            ≡ kth_by_size (range_elements self.now.items range.start range.end)
             (range.end - range.start - 1)) }
         ensures width { IfOk result (λ o. IfSome o (λ v. length v ≡ self.now.width)) }
         ensures past { length self.now.items < range.end → result ≡ Ok None }
@@ -167,7 +167,7 @@ impl<A: Allocator + Copy> WaveletMatrix<A> {
         tally: &mut Tally,
     ) -> Result<Option<BitVec<A>>, AllocError>
         ensures value { IfOk result (λ o. option_map number o
-            ≡ kth_by_size (range_members self.now.items range.start range.end)
+            ≡ kth_by_size (range_elements self.now.items range.start range.end)
             (range.end - range.start - 1)) }
         ensures width { IfOk result (λ o. IfSome o (λ v. length v ≡ self.now.width)) }
         ensures past { length self.now.items < range.end → result ≡ Ok None }
@@ -199,7 +199,7 @@ impl<A: Allocator + Copy> WaveletMatrix<A> {
     /// ends past the end. Errors: `AllocError` if the allocator refuses a request.
     pub fn range_median(&self, range: Range<usize>) -> Result<Option<BitVec<A>>, AllocError>
         ensures value { IfOk result (λ o. option_map number o
-            ≡ kth_by_size (range_members self.now.items range.start range.end)
+            ≡ kth_by_size (range_elements self.now.items range.start range.end)
             ((range.end - 1 - range.start) / 2)) }
         ensures width { IfOk result (λ o. IfSome o (λ v. length v ≡ self.now.width)) }
         ensures past { length self.now.items < range.end → result ≡ Ok None }
@@ -218,7 +218,7 @@ impl<A: Allocator + Copy> WaveletMatrix<A> {
         tally: &mut Tally,
     ) -> Result<Option<BitVec<A>>, AllocError>
         ensures value { IfOk result (λ o. option_map number o
-            ≡ kth_by_size (range_members self.now.items range.start range.end)
+            ≡ kth_by_size (range_elements self.now.items range.start range.end)
             ((range.end - 1 - range.start) / 2)) }
         ensures width { IfOk result (λ o. IfSome o (λ v. length v ≡ self.now.width)) }
         ensures past { length self.now.items < range.end → result ≡ Ok None }
@@ -250,7 +250,7 @@ impl<A: Allocator + Copy> WaveletMatrix<A> {
     /// more than 64 bits, or the range ends past the end or has at most `i` positions.
     pub fn quantile_u64(&self, range: Range<usize>, i: usize) -> Option<u64>
         ensures { result ≡ as_word self.now.width
-            (kth_by_size (range_members self.now.items range.start range.end) i) }
+            (kth_by_size (range_elements self.now.items range.start range.end) i) }
     {
         let mut tally = Tally::new();
         self.quantile_u64_counted(range, i, &mut tally)
@@ -266,7 +266,7 @@ impl<A: Allocator + Copy> WaveletMatrix<A> {
         tally: &mut Tally,
     ) -> Option<u64>
         ensures value { result ≡ as_word self.now.width
-            (kth_by_size (range_members self.now.items range.start range.end) i) }
+            (kth_by_size (range_elements self.now.items range.start range.end) i) }
         ensures adds { AddsAtMost tally.old tally.new (walk_reads self.now) }
     {
         if !self.fits_word()
@@ -329,7 +329,7 @@ impl<A: Allocator + Copy> WaveletMatrix<A> {
     /// empty, reversed or ends past the end.
     pub fn range_min_u64(&self, range: Range<usize>) -> Option<u64>
         ensures { result ≡ as_word self.now.width
-            (kth_by_size (range_members self.now.items range.start range.end) 0) }
+            (kth_by_size (range_elements self.now.items range.start range.end) 0) }
     {
         let mut tally = Tally::new();
         self.range_min_u64_counted(range, &mut tally)
@@ -340,7 +340,7 @@ impl<A: Allocator + Copy> WaveletMatrix<A> {
     #[inline(always)]
     pub fn range_min_u64_counted(&self, range: Range<usize>, tally: &mut Tally) -> Option<u64>
         ensures value { result ≡ as_word self.now.width
-            (kth_by_size (range_members self.now.items range.start range.end) 0) }
+            (kth_by_size (range_elements self.now.items range.start range.end) 0) }
         ensures adds { AddsAtMost tally.old tally.new (walk_reads self.now) }
     {
         self.quantile_u64_counted(range, 0, tally)
@@ -362,7 +362,7 @@ impl<A: Allocator + Copy> WaveletMatrix<A> {
     /// empty, reversed or ends past the end.
     pub fn range_max_u64(&self, range: Range<usize>) -> Option<u64>
         ensures { result ≡ as_word self.now.width
-            (kth_by_size (range_members self.now.items range.start range.end)
+            (kth_by_size (range_elements self.now.items range.start range.end)
             (range.end - range.start - 1)) }
     {
         let mut tally = Tally::new();
@@ -374,7 +374,7 @@ impl<A: Allocator + Copy> WaveletMatrix<A> {
     #[inline(always)]
     pub fn range_max_u64_counted(&self, range: Range<usize>, tally: &mut Tally) -> Option<u64>
         ensures value { result ≡ as_word self.now.width
-            (kth_by_size (range_members self.now.items range.start range.end)
+            (kth_by_size (range_elements self.now.items range.start range.end)
             (range.end - range.start - 1)) }
         ensures adds { AddsAtMost tally.old tally.new (walk_reads self.now) }
     {
@@ -403,7 +403,7 @@ impl<A: Allocator + Copy> WaveletMatrix<A> {
     /// bits, or the range is empty, reversed or ends past the end.
     pub fn range_median_u64(&self, range: Range<usize>) -> Option<u64>
         ensures { result ≡ as_word self.now.width
-            (kth_by_size (range_members self.now.items range.start range.end)
+            (kth_by_size (range_elements self.now.items range.start range.end)
             ((range.end - 1 - range.start) / 2)) }
     {
         let mut tally = Tally::new();
@@ -415,7 +415,7 @@ impl<A: Allocator + Copy> WaveletMatrix<A> {
     #[inline(always)]
     pub fn range_median_u64_counted(&self, range: Range<usize>, tally: &mut Tally) -> Option<u64>
         ensures value { result ≡ as_word self.now.width
-            (kth_by_size (range_members self.now.items range.start range.end)
+            (kth_by_size (range_elements self.now.items range.start range.end)
             ((range.end - 1 - range.start) / 2)) }
         ensures adds { AddsAtMost tally.old tally.new (walk_reads self.now) }
     {

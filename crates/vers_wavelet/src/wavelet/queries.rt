@@ -2,7 +2,7 @@
 ghost use Rattle.std.specs.Prelude.{◌≡◌, ℕ, ◌+◌, ◌-◌, ◌*◌, ◌%◌, ◌^◌, ◌<◌, ◌≤◌, ◌↔◌, length, slice_get, slice_index, slice_index_or, slice_range, count_by, nat_lt, nat_le, Some, None, false, IsTrue, IfOk};
 ghost use Rattle.vers_bits.specs.Bits.{number};
 ghost use Rattle.vers_tally.specs.Reads.{AddsAtMost, times};
-ghost use Rattle.vers_wavelet.specs.Symbols.{occurrences, ordered, by_size, range_members};
+ghost use Rattle.vers_wavelet.specs.Symbols.{occurrences, ordered, by_size, range_elements};
 ghost use Rattle.vers_wavelet.specs.inside.Ways.{IsFound, IsWayOf};
 ghost use Rattle.vers_wavelet.specs.inside.Nearest.{nearest};
 ghost use Rattle.vers_wavelet.specs.Reads.{query_reads, walk_reads};
@@ -99,7 +99,7 @@ impl<A: Allocator + Copy> WaveletMatrix<A> {
         read_symbol(self.levels(), self.len(), position, answer, tally);
     }
 
-    // Writes the `i`-th smallest member of a range into a number that is 0.
+    // Writes the `i`-th smallest element of a range into a number that is 0.
     #[inline(always)]
     pub(super) fn kth_in<D: Digits>(
         &self,
@@ -121,7 +121,7 @@ impl<A: Allocator + Copy> WaveletMatrix<A> {
         find_kth(self.levels(), self.len(), start, end, i, answer, tally);
     }
 
-    // Returns the `i`-th smallest symbol, and which members by size are equal to it. It continues from the path
+    // Returns the `i`-th smallest symbol, and which elements by size are equal to it. It continues from the path
     // down to the last one found.
     #[inline(always)]
     pub(super) fn find_by_size(&self, way: &mut Way, i: usize, tally: &mut Tally) -> Found
@@ -139,7 +139,7 @@ impl<A: Allocator + Copy> WaveletMatrix<A> {
     // Writes the `i`-th smallest symbol into a number that is 0 if `by_size`, otherwise the symbol at position
     // `i`.
     #[inline(always)]
-    pub(super) fn member<D: Digits>(
+    pub(super) fn element<D: Digits>(
         &self,
         by_size: bool,
         i: usize,
@@ -178,9 +178,9 @@ impl<A: Allocator + Copy> WaveletMatrix<A> {
         requires symbol { self.now.width ≤ D.width symbol.now }
         requires zero { D.number answer.old ≡ 0 }
         requires wide { self.now.width ≤ D.width answer.old }
-        ensures found { IsTrue result → nearest is_up (range_members self.now.items start end)
+        ensures found { IsTrue result → nearest is_up (range_elements self.now.items start end)
             (D.number symbol.now % 2 ^ self.now.width) ≡ Some (D.number answer.new) }
-        ensures none { result ≡ false → nearest is_up (range_members self.now.items start end)
+        ensures none { result ≡ false → nearest is_up (range_elements self.now.items start end)
             (D.number symbol.now % 2 ^ self.now.width) ≡ None }
         ensures same { D.width answer.new ≡ D.width answer.old }
         ensures adds { AddsAtMost tally.old tally.new (times 2 (walk_reads self.now)) }

@@ -1,4 +1,4 @@
-//! The path down to a member by size, from which the next one is found.
+//! The path down to an element by size, from which the next one is found.
 ghost use Rattle.std.specs.Prelude.{◌≡◌, ℕ, ◌+◌, ◌-◌, ◌*◌, ◌<◌, ◌≤◌, ◌↔◌, List, Bool, length, IsTrue};
 ghost use Rattle.vers_tally.specs.Reads.{AddsAtMost, times};
 ghost use Rattle.vers_rank.specs.Queries.{rank_reads};
@@ -12,7 +12,7 @@ use std::alloc::Allocator;
 use vers_rank::fast_rs_vec::RsVec;
 use vers_tally::tally::Tally;
 
-// A symbol, and the members by size that are equal to it: `count` of them, from number `from` on.
+// A symbol, and the elements by size that are equal to it: `count` of them, from number `from` on.
 #[derive(Clone, Copy, Drop)]
 pub(super) struct Found {
     pub(super) symbol: u64,
@@ -21,7 +21,7 @@ pub(super) struct Found {
 }
 
 impl Found {
-    // Returns true if member `i` is one of them.
+    // Returns true if element `i` is one of them.
     #[inline(always)]
     pub(super) fn has(self, i: usize) -> bool
         ensures { IsTrue result ↔ (self.from ≤ i) × (i - self.from < self.count) }
@@ -41,9 +41,9 @@ pub(super) struct Node {
 }
 
 impl Node {
-    // Returns true if member `i` by size is one of its symbols.
+    // Returns true if element `i` by size is one of its symbols.
     #[inline(always)]
-    fn has_member(self, i: usize) -> bool
+    fn has_element(self, i: usize) -> bool
         requires { self.start ≤ self.end }
         ensures { IsTrue result ↔ (self.from ≤ i) × (self.start + (i - self.from) < self.end) }
     {
@@ -58,7 +58,7 @@ struct Begin {
     node: Node,
 }
 
-// The nodes on the path down to the last member found, one for each level.
+// The nodes on the path down to the last element found, one for each level.
 #[derive(Drop)]
 pub(super) struct Way {
     pub(super) nodes: [Node; 64],
@@ -78,7 +78,7 @@ impl Way {
         Way { nodes: [none; 64] }
     }
 
-    // Returns the deepest node of the path that has member `i`, or all positions of the first level if none has.
+    // Returns the deepest node of the path that has element `i`, or all positions of the first level if none has.
     #[inline(always)]
     fn begin<A: Allocator + Copy>(&self, levels: &[RsVec<A>], len: usize, i: usize) -> Begin
         requires few { length levels.now ≤ 64 }
@@ -92,7 +92,7 @@ impl Way {
         for j in 0..levels.len() {
             let level = levels.len() - (j + 1);
             let node = self.nodes[level];
-            if node.has_member(i) {
+            if node.has_element(i) {
                 return Begin { level, node };
             }
         }
@@ -105,7 +105,7 @@ impl Way {
         Begin { level: 0, node }
     }
 
-    // Returns the `i`-th smallest member of all positions of some levels: from the deepest node that has it on
+    // Returns the `i`-th smallest element of all positions of some levels: from the deepest node that has it on
     // down.
     #[inline(always)]
     pub(super) fn find<A: Allocator + Copy>(

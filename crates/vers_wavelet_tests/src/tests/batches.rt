@@ -75,7 +75,7 @@ fn selects_are_right<A: Allocator + Copy>(
     true
 }
 
-// Returns true if the members by size of each range that begins at a position are those of a plain list.
+// Returns true if the elements by size of each range that begins at a position are those of a plain list.
 fn quantiles_are_right<A: Allocator + Copy>(
     list: &WaveletMatrix<A>,
     numbers: &[u64],
@@ -100,7 +100,7 @@ fn quantiles_are_right<A: Allocator + Copy>(
     true
 }
 
-// Returns true if that holds for each range and each number of a member.
+// Returns true if that holds for each range and each number of an element.
 fn all_quantiles_are_right<A: Allocator + Copy>(list: &WaveletMatrix<A>, numbers: &[u64]) -> bool {
     for start in 0..POSITIONS {
         for i in 0..POSITIONS {

@@ -12,7 +12,7 @@ pub const LISTS: [&[u64]; 3] = [
     &[0, 1, 2, 3, 4, 5, 6, 7, 6, 5, 4, 3, 2],
 ];
 
-/// Returns the number of members of a range that are at least one number and below another.
+/// Returns the number of elements of a range that are at least one number and below another.
 pub fn count(numbers: &[u64], from: u64, end: u64) -> usize {
     let mut found = 0usize;
     for it in numbers {
@@ -23,12 +23,12 @@ pub fn count(numbers: &[u64], from: u64, end: u64) -> usize {
     found
 }
 
-// Returns the number of members of a range below a number.
+// Returns the number of elements of a range below a number.
 fn below(numbers: &[u64], number: u64) -> usize {
     count(numbers, 0, number)
 }
 
-/// Returns the least number of 3 bits that more than `i` members of a range are at most.
+/// Returns the least number of 3 bits that more than `i` elements of a range are at most.
 pub fn kth(numbers: &[u64], i: usize) -> Option<u64> {
     for number in 0..8 {
         if below(numbers, number + 1) > i {
@@ -52,7 +52,7 @@ pub fn found(numbers: &[u64], rank: usize, number: u64) -> Option<u64> {
     None
 }
 
-// Returns the greatest member that is at most a number.
+// Returns the greatest element that is at most a number.
 fn predecessor(numbers: &[u64], number: u64) -> Option<u64> {
     let n = below(numbers, number.saturating_add(1));
     if n == 0 { None } else { kth(numbers, n - 1) }
@@ -69,7 +69,7 @@ fn range_of(query: Query) -> Option<(usize, usize)> {
     }
 }
 
-// Returns the answer of a query by the members of its range.
+// Returns the answer of a query by the elements of its range.
 fn plain_of_range(part: &[u64], query: Query) -> Option<u64> {
     match query {
         Query::RankRange(_, _, s) => Some(count(part, s, s.saturating_add(1)) as u64),
@@ -92,7 +92,7 @@ fn plain_answer(numbers: &[u64], query: Query) -> Option<u64> {
     }
 }
 
-// A range of a list, and a symbol or the number of a member.
+// A range of a list, and a symbol or the number of an element.
 #[derive(Clone, Copy, Drop)]
 struct Part {
     a: usize,

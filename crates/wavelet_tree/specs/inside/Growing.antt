@@ -10,7 +10,7 @@ pub record CountsWithin (starts : List ℕ) (low end : ℕ) (xs : List ℕ) : Ty
   pub order : low < end
   pub inside : end < length starts
   pub short : All (λ n. n < 2 ^ 63) starts
-  pub members : All (λ x. (low ≤ x) × (x < end)) xs
+  pub elements : All (λ x. (low ≤ x) × (x < end)) xs
   pub counts : (c : ℕ) → low ≤ c → c ≤ end → slice_index starts c ≡ slice_index starts low + lesser xs c
 
 -- nodes and bits were appended that are those of a tree, with a link to it

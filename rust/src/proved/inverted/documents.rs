@@ -34,24 +34,24 @@ impl<A: Allocator + Copy> InvertedIndex<A> {
         }
         let first = self.numbers.rank_counted(t * self.universe, tally) as usize;
         Documents {
-            numbers: members_from(&self.numbers, first, tally),
+            numbers: elements_from(&self.numbers, first, tally),
             term: t,
             universe: self.universe,
         }
     }
 }
 
-// Returns an iterator over the members of a list from a position on.
-fn members_from<'a, A: Allocator + Copy>(
+// Returns an iterator over the elements of a list from a position on.
+fn elements_from<'a, A: Allocator + Copy>(
     list: &'a EliasFanoVec<A>,
     first: usize,
     tally: &mut Tally,
 ) -> EliasFanoRefIter<'a, A> {
-    let mut members = list.iter();
+    let mut elements = list.iter();
     if first > 0 {
-        members.nth_counted(first - 1, tally);
+        elements.nth_counted(first - 1, tally);
     }
-    members
+    elements
 }
 
 impl<'a, A: Allocator + Copy> Documents<'a, A> {

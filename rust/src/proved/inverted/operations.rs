@@ -21,7 +21,7 @@ impl<A: Allocator + Copy> InvertedIndex<A> {
         EliasFanoVec::from_slice(alloc, found.as_slice())
     }
 
-    /// Returns the members of `intersection(alloc, one, other)`. Errors: `AllocError` only if the allocator refuses a
+    /// Returns the elements of `intersection(alloc, one, other)`. Errors: `AllocError` only if the allocator refuses a
     /// request.
     pub fn intersection_numbers(
         &self,
@@ -44,7 +44,8 @@ impl<A: Allocator + Copy> InvertedIndex<A> {
         EliasFanoVec::from_slice(alloc, found.as_slice())
     }
 
-    /// Returns the members of `union(alloc, one, other)`. Errors: `AllocError` only if the allocator refuses a request.
+    /// Returns the elements of `union(alloc, one, other)`. Errors: `AllocError` only if the allocator refuses a
+    /// request.
     pub fn union_numbers(&self, alloc: A, one: u64, other: u64) -> Result<Vec<u64, A>, AllocError> {
         let either = Either {
             one: ListOf::new(self, one),
@@ -60,7 +61,7 @@ impl<A: Allocator + Copy> InvertedIndex<A> {
         EliasFanoVec::from_slice(alloc, found.as_slice())
     }
 
-    /// Returns the members of `difference(alloc, one, other)`. Errors: `AllocError` only if the allocator refuses a
+    /// Returns the elements of `difference(alloc, one, other)`. Errors: `AllocError` only if the allocator refuses a
     /// request.
     pub fn difference_numbers(
         &self,

@@ -8,7 +8,7 @@ use crate::rattle::Allocator;
 use crate::proved::vers_sorted::elias_fano::{EliasFanoVec, Successors};
 use crate::proved::vers_tally::tally::Tally;
 
-/// The members of an ascending list, as a source. If the numbers that are searched rise, each search begins where the
+/// The elements of an ascending list, as a source. If the numbers that are searched rise, each search begins where the
 /// last one ended. Contracts see it as the list.
 pub struct Cursor<'a, A: Allocator + Copy> {
     list: &'a EliasFanoVec<A>,
@@ -16,7 +16,7 @@ pub struct Cursor<'a, A: Allocator + Copy> {
 }
 
 impl<'a, A: Allocator + Copy> Cursor<'a, A> {
-    /// Returns a cursor at the first member of a list.
+    /// Returns a cursor at the first element of a list.
     pub fn new(list: &'a EliasFanoVec<A>) -> Self {
         Cursor {
             list,
@@ -32,18 +32,18 @@ impl<'a, A: Allocator + Copy> Seek for Cursor<'a, A> {
     }
 }
 
-// Returns the step to a member. The greatest number of 64 bits is the last member, which is read again.
+// Returns the step to an element. The greatest number of 64 bits is the last element, which is read again.
 fn step_to<A: Allocator + Copy>(
     list: &EliasFanoVec<A>,
     next: Option<u64>,
     tally: &mut Tally,
 ) -> Step {
-    let member = match next { Some(member) => member, _ => {
+    let element = match next { Some(element) => element, _ => {
         return Step::Ended;
     } };
-    if member < u64::MAX {
-        return Step::Found(member);
+    if element < u64::MAX {
+        return Step::Found(element);
     }
     let last = list.get_counted(list.len().saturating_sub(1), tally);
-    Step::Found(last.unwrap_or(member))
+    Step::Found(last.unwrap_or(element))
 }

@@ -1,4 +1,4 @@
-//! Intersections, unions and differences of ascending lists. Equal members count once.
+//! Intersections, unions and differences of ascending lists. Equal elements count once.
 
 use crate::rattle::prelude::*;
 
@@ -22,8 +22,8 @@ pub fn intersection<A: Allocator + Copy>(
     EliasFanoVec::from_slice(alloc, found.as_slice())
 }
 
-/// Returns the members of `intersection(alloc, one, other)`. Takes at most one step more in each list than
-/// the shorter has members.
+/// Returns the elements of `intersection(alloc, one, other)`. Takes at most one step more in each list than
+/// the shorter has elements.
 pub fn intersection_numbers_counted<A: Allocator + Copy>(
     alloc: A,
     one: &EliasFanoVec<A>,
@@ -50,8 +50,8 @@ pub fn union<A: Allocator + Copy>(
     EliasFanoVec::from_slice(alloc, found.as_slice())
 }
 
-/// Returns the members of `union(alloc, one, other)`. Takes at most one step more in each list than both have
-/// members.
+/// Returns the elements of `union(alloc, one, other)`. Takes at most one step more in each list than both have
+/// elements.
 pub fn union_numbers_counted<A: Allocator + Copy>(
     alloc: A,
     one: &EliasFanoVec<A>,
@@ -77,8 +77,8 @@ pub fn difference<A: Allocator + Copy>(
     EliasFanoVec::from_slice(alloc, found.as_slice())
 }
 
-/// Returns the members of `difference(alloc, one, other)`. Takes at most one step more in each list than
-/// the first has members.
+/// Returns the elements of `difference(alloc, one, other)`. Takes at most one step more in each list than
+/// the first has elements.
 pub fn difference_numbers_counted<A: Allocator + Copy>(
     alloc: A,
     one: &EliasFanoVec<A>,
@@ -92,7 +92,7 @@ pub fn difference_numbers_counted<A: Allocator + Copy>(
     numbers_of_counted(alloc, without, tally)
 }
 
-/// Returns the numbers that are in the first list and in each of the others. The fewer members the first has,
+/// Returns the numbers that are in the first list and in each of the others. The fewer elements the first has,
 /// the fewer steps. Errors: `AllocError` only if the allocator refuses a request.
 pub fn intersection_of<'a, A: Allocator + Copy>(
     alloc: A,
@@ -104,8 +104,8 @@ pub fn intersection_of<'a, A: Allocator + Copy>(
     EliasFanoVec::from_slice(alloc, found.as_slice())
 }
 
-/// Returns the members of `intersection_of(alloc, first, others)`. Takes at most one step more in each list than
-/// the first has members.
+/// Returns the elements of `intersection_of(alloc, first, others)`. Takes at most one step more in each list than
+/// the first has elements.
 pub fn intersection_of_numbers_counted<'a, A: Allocator + Copy>(
     alloc: A,
     first: &'a EliasFanoVec<A>,
@@ -132,8 +132,8 @@ pub fn union_of<'a, A: Allocator + Copy>(
     EliasFanoVec::from_slice(alloc, found.as_slice())
 }
 
-/// Returns the members of `union_of(alloc, first, others)`. Takes at most one step more in each list than
-/// all have members.
+/// Returns the elements of `union_of(alloc, first, others)`. Takes at most one step more in each list than
+/// all have elements.
 pub fn union_of_numbers_counted<'a, A: Allocator + Copy>(
     alloc: A,
     first: &'a EliasFanoVec<A>,
@@ -160,8 +160,8 @@ pub fn difference_of<'a, A: Allocator + Copy>(
     EliasFanoVec::from_slice(alloc, found.as_slice())
 }
 
-/// Returns the members of `difference_of(alloc, first, others)`. Takes at most one step more in each list than
-/// the first has members.
+/// Returns the elements of `difference_of(alloc, first, others)`. Takes at most one step more in each list than
+/// the first has elements.
 pub fn difference_of_numbers_counted<'a, A: Allocator + Copy>(
     alloc: A,
     first: &'a EliasFanoVec<A>,
@@ -182,7 +182,7 @@ pub fn difference_of_numbers_counted<'a, A: Allocator + Copy>(
     numbers_of_counted(alloc, remaining, tally)
 }
 
-// Returns a cursor at the first member of each list.
+// Returns a cursor at the first element of each list.
 fn cursors_of<'a, A: Allocator + Copy>(
     alloc: A,
     lists: &[&'a EliasFanoVec<A>],

@@ -4,7 +4,7 @@ use crate::rattle::prelude::*;
 
 use crate::proved::vers_saved::form::Shape;
 use crate::proved::vers_saved::kind::{Kind, POSTING_LISTS};
-use crate::proved::vers_saved::numbers::{are_words, copy_members};
+use crate::proved::vers_saved::numbers::{are_words, copy_elements};
 use crate::proved::vers_saved::saved::{Loaded, Saved};
 use crate::proved::postings::Postings;
 use crate::rattle::AllocError;
@@ -36,7 +36,7 @@ impl<A: Allocator + Copy> Saved for Postings<A> {
     }
 
     fn copy_words(&self, from: usize, out: &mut [u64]) {
-        copy_members(self.documents().iter(), self.costs(), from, out)
+        copy_elements(self.documents().iter(), self.costs(), from, out)
     }
 }
 

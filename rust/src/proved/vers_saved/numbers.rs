@@ -20,11 +20,11 @@ pub(crate) fn words_shape(count: usize) -> Shape {
 // Shows that all items of a slice are words.
 pub(crate) fn are_words(items: &[u64]) {}
 
-// Skips the first `n` members that a walk has left.
+// Skips the first `n` elements that a walk has left.
 #[inline(always)]
-fn drop_first<A: Allocator + Copy>(members: &mut EliasFanoRefIter<'_, A>, n: usize) {
+fn drop_first<A: Allocator + Copy>(elements: &mut EliasFanoRefIter<'_, A>, n: usize) {
     if n > 0 {
-        members.nth(n - 1);
+        elements.nth(n - 1);
     }
 }
 
@@ -38,17 +38,17 @@ fn given_or(given: Option<u64>, others: &[u64], position: usize, count: usize) -
     }
 }
 
-// Copies the members that a walk has left, and then other numbers, from a position on.
-pub(crate) fn copy_members<A: Allocator + Copy>(
-    mut members: EliasFanoRefIter<'_, A>,
+// Copies the elements that a walk has left, and then other numbers, from a position on.
+pub(crate) fn copy_elements<A: Allocator + Copy>(
+    mut elements: EliasFanoRefIter<'_, A>,
     others: &[u64],
     from: usize,
     out: &mut [u64],
 ) {
-    let count = members.len();
-    drop_first(&mut members, from);
+    let count = elements.len();
+    drop_first(&mut elements, from);
     for k in 0..out.len() {
-        out[k] = given_or(members.next(), others, from + k, count);
+        out[k] = given_or(elements.next(), others, from + k, count);
     }
 }
 

@@ -24,11 +24,11 @@ pub use successors::Successors;
 use crate::proved::vers_rank::fast_rs_vec::RsVec;
 use crate::proved::vers_tally::tally::{CountedBits, Tally, Uncounted};
 
-/// An ascending list of numbers, duplicates allowed, in about two bits per member plus the width of a low part.
-/// Contracts see an `EliasFanoVec` as the list of its members, and each query promises that it ascends.
+/// An ascending list of numbers, duplicates allowed, in about two bits per element plus the width of a low part.
+/// Contracts see an `EliasFanoVec` as the list of its elements, and each query promises that it ascends.
 ///
-/// Each member is stored as its difference to the first. The low parts, the lowest digits of these differences,
-/// all of the same width, are stored one after another in a list of bits; the rest, the high part `h` of member
+/// Each element is stored as its difference to the first. The low parts, the lowest digits of these differences,
+/// all of the same width, are stored one after another in a list of bits; the rest, the high part `h` of element
 /// `i`, is a one at position `h + i + 1` of a list of bits with rank and select.
 pub struct EliasFanoVec<A: Allocator + Copy> {
     high: RsVec<A>,
@@ -56,7 +56,7 @@ impl<A: Allocator + Copy> Clone for EliasFanoVec<A> {
 }
 
 impl<A: Allocator + Copy> EliasFanoVec<A> {
-    /// Returns the number of members.
+    /// Returns the number of elements.
     #[inline]
     pub fn len(&self) -> usize {
         self.len
@@ -68,13 +68,13 @@ impl<A: Allocator + Copy> EliasFanoVec<A> {
         self.len() == 0
     }
 
-    // Returns the first member, or 0 if there is none.
+    // Returns the first element, or 0 if there is none.
     #[inline(always)]
     fn first(&self) -> u64 {
         self.first
     }
 
-    // Returns the last member, or 0 if there is none.
+    // Returns the last element, or 0 if there is none.
     #[inline(always)]
     fn last(&self) -> u64 {
         self.last
@@ -86,29 +86,29 @@ impl<A: Allocator + Copy> EliasFanoVec<A> {
         self.high.heap_size() + 8 * self.low.len().div_ceil(64)
     }
 
-    /// Returns the member at position `i`, or `None` if `i` is out of bounds.
+    /// Returns the element at position `i`, or `None` if `i` is out of bounds.
     #[inline]
     pub fn get(&self, i: usize) -> Option<u64> {
         let mut tally = Tally::new();
         self.get_counted(i, &mut tally)
     }
 
-    /// Returns the member at position `i`. Precondition: `i` is below the length.
+    /// Returns the element at position `i`. Precondition: `i` is below the length.
     #[inline]
     pub fn get_unchecked(&self, i: usize) -> u64 {
         let _ = self.len();
         let mut tally = Tally::new();
-        self.member(i, &mut tally)
+        self.element(i, &mut tally)
     }
 
-    /// Returns the member at position `i`, or `None` if `i` is out of bounds: `get(i)`.
+    /// Returns the element at position `i`, or `None` if `i` is out of bounds: `get(i)`.
     #[inline]
     pub fn select(&self, i: usize) -> Option<u64> {
         let mut tally = Tally::new();
         self.select_counted(i, &mut tally)
     }
 
-    /// Returns the difference between member `i` and the previous one, or the first member itself if `i` is 0.
+    /// Returns the difference between element `i` and the previous one, or the first element itself if `i` is 0.
     /// `None` if `i` is out of bounds.
     #[inline]
     pub fn delta(&self, i: usize) -> Option<u64> {
@@ -116,41 +116,41 @@ impl<A: Allocator + Copy> EliasFanoVec<A> {
         self.delta_counted(i, &mut tally)
     }
 
-    /// Returns the number of members below `v`.
+    /// Returns the number of elements below `v`.
     #[inline]
     pub fn rank(&self, v: u64) -> u64 {
         let mut tally = Tally::new();
         self.rank_counted(v, &mut tally)
     }
 
-    /// Returns true if `v` is a member.
+    /// Returns true if `v` is an element.
     #[inline]
     pub fn has(&self, v: u64) -> bool {
         let mut tally = Tally::new();
         self.has_counted(v, &mut tally)
     }
 
-    /// Returns the greatest member that is at most `v`, or `None` if there is none.
+    /// Returns the greatest element that is at most `v`, or `None` if there is none.
     #[inline]
     pub fn predecessor(&self, v: u64) -> Option<u64> {
         let mut tally = Tally::new();
         self.predecessor_counted(v, &mut tally)
     }
 
-    /// Returns the greatest member that is at most `v`. Precondition: there is one.
+    /// Returns the greatest element that is at most `v`. Precondition: there is one.
     #[inline]
     pub fn predecessor_unchecked(&self, v: u64) -> u64 {
         self.predecessor(v).unwrap()
     }
 
-    /// Returns the least member that is at least `v`, or `None` if there is none.
+    /// Returns the least element that is at least `v`, or `None` if there is none.
     #[inline]
     pub fn successor(&self, v: u64) -> Option<u64> {
         let mut tally = Tally::new();
         self.successor_counted(v, &mut tally)
     }
 
-    /// Returns the least member that is at least `v`. Precondition: there is one.
+    /// Returns the least element that is at least `v`. Precondition: there is one.
     #[inline]
     pub fn successor_unchecked(&self, v: u64) -> u64 {
         self.successor(v).unwrap()

@@ -33,7 +33,7 @@ impl<A: Allocator + Copy> SparseRSVec<A> {
         Ok(SparseRSVec::from_sorted(EliasFanoVec::from_slice(alloc, ones)?, len))
     }
 
-    /// Returns the list of `len` bits with ones at the members of a list. Precondition: these ascend strictly
+    /// Returns the list of `len` bits with ones at the elements of a list. Precondition: these ascend strictly
     /// and are below `len`.
     pub fn from_sorted(ones: EliasFanoVec<A>, len: u64) -> Self {
         SparseRSVec { ones, len }
@@ -53,7 +53,7 @@ impl<A: Allocator + Copy> SparseRSVec<A> {
     // Returns the list with ones where another has `bit`.
     fn from_positions(bits: &BitVec<A>, bit: bool) -> Result<Self, AllocError> {
         let len = count_of(bits, bit);
-        // A list of more members needs more memory than there can be.
+        // A list of more elements needs more memory than there can be.
         if len > MAX_LEN {
             return Err(AllocError);
         }
@@ -143,7 +143,7 @@ impl<A: Allocator + Copy> SparseRSVec<A> {
         self.select1_counted(r, &mut tally)
     }
 
-    /// Returns `select1(r)`. Reads at most what one member of the positions of the ones does.
+    /// Returns `select1(r)`. Reads at most what one element of the positions of the ones does.
     #[inline(always)]
     pub fn select1_counted(&self, r: usize, tally: &mut Tally) -> u64 {
         let _ = &self.len;

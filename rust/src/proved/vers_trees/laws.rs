@@ -53,15 +53,15 @@ pub fn node_iff_one() {}
 /// A level of a forest consists of exactly the nodes of its depth.
 pub fn level_iff_depth() {}
 
-/// Member `i` of a level is a node of its depth, and the next one on the level is the member after it:
+/// Element `i` of a level is a node of its depth, and the next one on the level is the element after it:
 /// `level_leftmost` and `level_next` go along the level.
 pub fn levels_go_on() {}
 
-/// The previous node on a level is the member before it: `level_rightmost` and `level_prev` go back along the
+/// The previous node on a level is the element before it: `level_rightmost` and `level_prev` go back along the
 /// level.
 pub fn levels_go_back() {}
 
-/// No level has more members than the forest has nodes.
+/// No level has more elements than the forest has nodes.
 pub fn levels_are_parts() {}
 
 /// The bound of each counted function, and of each step of a walk, is at most one bound, `tree_reads`.

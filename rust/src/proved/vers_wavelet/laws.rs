@@ -3,46 +3,46 @@
 
 use crate::rattle::prelude::*;
 
-/// Sorted members ascend.
-pub fn sorted_members_ascend() {}
+/// Sorted elements ascend.
+pub fn sorted_elements_ascend() {}
 
-/// Sorting keeps each member as often as it occurs.
-pub fn sorting_keeps_members() {}
+/// Sorting keeps each element as often as it occurs.
+pub fn sorting_keeps_elements() {}
 
-/// The `i`-th smallest member is the one that at most `i` members are below and more than `i` are at most: no
+/// The `i`-th smallest element is the one that at most `i` elements are below and more than `i` are at most: no
 /// other number satisfies this.
 pub fn kth_by_size_is_kth() {}
 
-/// The `i`-th smallest member is the item at position `i` in ascending order.
+/// The `i`-th smallest element is the item at position `i` in ascending order.
 pub fn kth_by_size_is_item() {}
 
-/// The greatest member up to a number is the predecessor: a member that is at most the number, and no such
-/// member is above it.
+/// The greatest element up to a number is the predecessor: an element that is at most the number, and no such
+/// element is above it.
 pub fn greatest_up_to_is_predecessor() {}
 
-/// There is a greatest member up to a number if some member is at most the number.
-pub fn some_members_are_up_to() {}
+/// There is a greatest element up to a number if some element is at most the number.
+pub fn some_elements_are_up_to() {}
 
-/// The least member from a number on is the successor: a member that is at least the number, and no such member
+/// The least element from a number on is the successor: an element that is at least the number, and no such element
 /// is below it.
 pub fn least_from_is_successor() {}
 
-/// There is a least member from a number on if some member is at least the number.
-pub fn some_members_are_from() {}
+/// There is a least element from a number on if some element is at least the number.
+pub fn some_elements_are_from() {}
 
-/// A range's `i`-th smallest member is the one that at most `i` of its members are below and more than `i` are
+/// A range's `i`-th smallest element is the one that at most `i` of its elements are below and more than `i` are
 /// at most. It exists if the range ends within the list and has more than `i` positions.
-pub fn ranges_have_members() {}
+pub fn ranges_have_elements() {}
 
-/// A range's greatest member up to a number is the predecessor among its members. It exists if the range is
-/// within the list and some of its members are at most the number.
+/// A range's greatest element up to a number is the predecessor among its elements. It exists if the range is
+/// within the list and some of its elements are at most the number.
 pub fn ranges_have_predecessors() {}
 
-/// A range's least member from a number on is the successor among its members. It exists if the range is within
-/// the list and some of its members are at least the number.
+/// A range's least element from a number on is the successor among its elements. It exists if the range is within
+/// the list and some of its elements are at least the number.
 pub fn ranges_have_successors() {}
 
-/// The members of a range that ends within the list are those at its positions.
+/// The elements of a range that ends within the list are those at its positions.
 pub fn ranges_inside_stay() {}
 
 /// Symbols of at most 64 bits fit in a word.
@@ -51,11 +51,11 @@ pub fn narrow_symbols_are_words() {}
 /// Symbols of more than 64 bits don't fit in a word.
 pub fn wide_symbols_are_no_words() {}
 
-/// A list has only one `i`-th smallest member, so a quantile is one number.
-pub fn one_member_of_a_number() {}
+/// A list has only one `i`-th smallest element, so a quantile is one number.
+pub fn one_element_of_a_number() {}
 
-/// The quantiles in turn, one for each member, are the members in ascending order, duplicates included.
-pub fn quantiles_list_members_by_size() {}
+/// The quantiles in turn, one for each element, are the elements in ascending order, duplicates included.
+pub fn quantiles_list_elements_by_size() {}
 
 /// Numbers of at most `k` digits, where `k` isn't 0, are their own low digits.
 pub fn small_numbers_stay() {}
@@ -69,5 +69,5 @@ pub fn every_levels_are_some() {}
 /// Two lists of as many symbols are equal if they have the same levels.
 pub fn levels_determine_symbols() {}
 
-/// A symbol occurs in a range as often as it is among the range's members.
+/// A symbol occurs in a range as often as it is among the range's elements.
 pub fn occurrences_are_counted() {}

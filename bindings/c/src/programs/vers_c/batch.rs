@@ -3,14 +3,14 @@
 use crate::rattle::prelude::*;
 
 pub mod bits;
-pub mod members;
+pub mod elements;
 pub mod symbols;
 pub mod values;
 
 use crate::programs::vers_c::asked::{Ask, Row};
 pub use bits::each_of_bits;
 use crate::programs::catalogue::answer::Answer;
-pub use members::each_of_members;
+pub use elements::each_of_elements;
 use crate::rattle::Global;
 pub use symbols::each_of_symbols;
 pub use values::each_of_values;

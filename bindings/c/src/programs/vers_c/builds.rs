@@ -74,7 +74,7 @@ pub fn vers_sorted_build(alloc: Global, numbers: &[u64], handle: &mut VersHandle
         return REFUSED;
     }
     match EliasFanoVec::from_slice(alloc, numbers) {
-        Ok(members) => fill(alloc, handle, Kept::Other(Structure::Sorted(members))),
+        Ok(elements) => fill(alloc, handle, Kept::Other(Structure::Sorted(elements))),
         Err(_) => NO_MEMORY,
     }
 }

@@ -3,7 +3,7 @@
 use crate::rattle::prelude::*;
 
 use crate::programs::vers_c::asked::{Row, answer_each};
-use crate::programs::vers_c::batch::{each_of_bits, each_of_members, each_of_symbols, each_of_values};
+use crate::programs::vers_c::batch::{each_of_bits, each_of_elements, each_of_symbols, each_of_values};
 use crate::programs::vers_c::change::Change;
 use crate::programs::vers_c::makes::Parentheses;
 use crate::programs::vers_c::status::{DONE, UNKNOWN};
@@ -56,7 +56,7 @@ pub fn answer_as(kept: &Kept, kind: Kind, query: Query, a: u64, b: u64, c: u64) 
             _ => kept.answer(query, a, b, c),
         },
         Kind::Sorted => match kept {
-            Kept::Other(Structure::Sorted(members)) => members.answer(query, a, b, c),
+            Kept::Other(Structure::Sorted(elements)) => elements.answer(query, a, b, c),
             _ => kept.answer(query, a, b, c),
         },
         Kind::Symbols => match kept {
@@ -111,7 +111,7 @@ fn each_other<R: Row>(
 ) {
     match structure {
         Structure::Bits(bits) => each_of_bits(bits, query, rows, b, c, other),
-        Structure::Sorted(members) => each_of_members(members, query, rows, b, c, other),
+        Structure::Sorted(elements) => each_of_elements(elements, query, rows, b, c, other),
         Structure::Symbols(symbols) => each_of_symbols(alloc, symbols, query, rows, b, c, other),
         Structure::Fast(values) => each_of_values(values, query, rows, b, c, other),
         _ => with_list!(structure, list => answer_each(list, query, rows, b, c, other)),

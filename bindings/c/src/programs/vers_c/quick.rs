@@ -76,7 +76,7 @@ pub fn vers_quick_bits_select1(
     ask_as(alloc, handle, Kind::Bits, Query::Select1, number, 0, 0)
 }
 
-/// Returns the member at a position, fastest for ascending lists.
+/// Returns the element at a position, fastest for ascending lists.
 pub fn vers_quick_sorted_get(
     alloc: Global,
     handle: &mut VersHandle,
@@ -85,7 +85,7 @@ pub fn vers_quick_sorted_get(
     ask_as(alloc, handle, Kind::Sorted, Query::Get, position, 0, 0)
 }
 
-/// Returns the number of members below a number, fastest for ascending lists.
+/// Returns the number of elements below a number, fastest for ascending lists.
 pub fn vers_quick_sorted_rank(
     alloc: Global,
     handle: &mut VersHandle,
@@ -94,7 +94,7 @@ pub fn vers_quick_sorted_rank(
     ask_as(alloc, handle, Kind::Sorted, Query::Rank, number, 0, 0)
 }
 
-/// Returns the greatest member that is at most a number, fastest for ascending lists.
+/// Returns the greatest element that is at most a number, fastest for ascending lists.
 pub fn vers_quick_sorted_predecessor(
     alloc: Global,
     handle: &mut VersHandle,
@@ -111,7 +111,7 @@ pub fn vers_quick_sorted_predecessor(
     )
 }
 
-/// Returns the least member that is at least a number, fastest for ascending lists.
+/// Returns the least element that is at least a number, fastest for ascending lists.
 pub fn vers_quick_sorted_successor(
     alloc: Global,
     handle: &mut VersHandle,

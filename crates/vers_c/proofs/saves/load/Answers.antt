@@ -1,5 +1,5 @@
 use Rattle.std.proofs.Common.{◌≡◌, ◌∙◌, Some, ap, inl, inr, refl}
-use Rattle.catalogue.specs.Structures.{DocumentLists, Documents, IndexedText, SortedMembers}
+use Rattle.catalogue.specs.Structures.{DocumentLists, Documents, IndexedText, SortedElements}
 use Rattle.catalogue.specs.declared.structure.Kind.TheVariants as kinds
 use Rattle.catalogue.proofs.PublicLaws.{of_kind}
 use Rattle.vers_saved.specs.declared.fault.LoadError.TheVariants.{Memory}
@@ -15,10 +15,10 @@ returns-in-Ok-load_text_from_slice-clause-back c = λ held named.
 pub returns-in-Ok-load_from_slice-3-clause-back : goal.returns-in-Ok-load_from_slice-3-clause-back
 returns-in-Ok-load_from_slice-3-clause-back c = λ held named.
     let made = c.in-Ok-load_from_slice-3 in
-    of_kind (λ held. IsFormOf c.args.bytes.now held → SortedMembers made.list ≡ held) (Some kinds.Sorted) held (named ∙ ap Some c.in-Sorted.is)
-    (λ members of. ap SortedMembers (elim of.form [
-      | inl latest ↦ made.ensures.back members latest.1 of.fits latest.0
-      | inr first ↦ made.ensures.first members refl first.1 of.fits first.0
+    of_kind (λ held. IsFormOf c.args.bytes.now held → SortedElements made.list ≡ held) (Some kinds.Sorted) held (named ∙ ap Some c.in-Sorted.is)
+    (λ elements of. ap SortedElements (elim of.form [
+      | inl latest ↦ made.ensures.back elements latest.1 of.fits latest.0
+      | inr first ↦ made.ensures.first elements refl first.1 of.fits first.0
     ]))
 
 pub returns-in-Ok-load_from_slice-7-clause-back : goal.returns-in-Ok-load_from_slice-7-clause-back
@@ -37,7 +37,7 @@ pub returns-in-Err-load_from_slice-3-clause-back : goal.returns-in-Err-load_from
 returns-in-Err-load_from_slice-3-clause-back c = λ held named.
     let made = c.in-Err-load_from_slice-3 in
     of_kind (λ held. IsFormOf c.args.bytes.now held → made.error ≡ Memory) (Some kinds.Sorted) held (named ∙ ap Some c.in-Sorted.is)
-    (λ members of. elim of.form [
-      | inl latest ↦ made.ensures.back members latest.1 of.fits latest.0
-      | inr first ↦ made.ensures.first members refl first.1 of.fits first.0
+    (λ elements of. elim of.form [
+      | inl latest ↦ made.ensures.back elements latest.1 of.fits latest.0
+      | inr first ↦ made.ensures.first elements refl first.1 of.fits first.0
     ])

@@ -2,8 +2,8 @@ use Rattle.vers_cli.proofs.Names.{◌≡◌, ◌∷◌, Some, true, refl, sym, �
 use Rattle.vers_cli.proofs.Rises.{all_below, all_are_below, rising_ascends}
 use Rattle.vers_cli.proofs.sparse.load.Goals as goal
 
-pub members_of-requires-clause-ascending : goal.members_of-requires-clause-ascending
-members_of-requires-clause-ascending g c =
+pub elements_of-requires-clause-ascending : goal.elements_of-requires-clause-ascending
+elements_of-requires-clause-ascending g c =
     let ones = first_numbers (words_in c.in-Some.positions.now) in
     (each_next-ascending ones).0 (rising_ascends ones c.in-Some-rise_of.ensures.order)
 

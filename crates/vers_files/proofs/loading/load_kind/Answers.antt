@@ -1,6 +1,6 @@
 use Rattle.std.proofs.Common.{◌≡◌, ◌∙◌, ◌⊎◌, Some, ap}
 use Rattle.catalogue.proofs.PublicLaws.{of_kind}
-use Rattle.catalogue.specs.Structures.{Documents, DocumentLists, Fits, HasForm, SortedMembers, SparseBits, SymbolList, saved_form}
+use Rattle.catalogue.specs.Structures.{Documents, DocumentLists, Fits, HasForm, SortedElements, SparseBits, SymbolList, saved_form}
 use Rattle.catalogue.specs.declared.structure.Kind.TheVariants as kind
 use Rattle.vers_saved.specs.declared.fault.LoadError.TheVariants.{Memory, Read}
 use Rattle.vers_files.proofs.loading.load_kind.Goals as goal
@@ -8,8 +8,8 @@ use Rattle.vers_files.proofs.loading.load_kind.Goals as goal
 pub returns-in-Ok-clause-back : goal.returns-in-Ok-clause-back
 returns-in-Ok-clause-back g c = λ x of_file whole fits is form.
     let made = c.in-Ok in
-    of_kind (λ x. HasForm x → Fits x → g.R.Read.remaining c.args.reader.now ≡ Some (saved_form x) → SortedMembers made.list ≡ x) (Some kind.Sorted) x (is ∙ ap Some c.in-Sorted.is)
-    (λ members whole fits form. ap SortedMembers (made.ensures.back members whole fits form)) whole fits form
+    of_kind (λ x. HasForm x → Fits x → g.R.Read.remaining c.args.reader.now ≡ Some (saved_form x) → SortedElements made.list ≡ x) (Some kind.Sorted) x (is ∙ ap Some c.in-Sorted.is)
+    (λ elements whole fits form. ap SortedElements (made.ensures.back elements whole fits form)) whole fits form
 
 pub returns-in-Err-clause-back : goal.returns-in-Err-clause-back
 returns-in-Err-clause-back g c = λ x of_file whole fits is form.

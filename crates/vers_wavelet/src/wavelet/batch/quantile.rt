@@ -15,16 +15,16 @@ use std::alloc::Allocator;
 use vers_rank::fast_rs_vec::RsVec;
 use vers_tally::tally::Tally;
 
-/// A range, the rank of one of its members by size, and the answer, that member.
+/// A range, the rank of one of its elements by size, and the answer, that element.
 #[derive(Clone, Copy, Drop)]
 pub struct QuantileQuery {
     /// The first position of the range. Answering overwrites it, `end` and `i`.
     pub start: usize,
     /// The position after the range.
     pub end: usize,
-    /// The rank of the member by size (from 0, counting duplicates).
+    /// The rank of the element by size (from 0, counting duplicates).
     pub i: usize,
-    /// The member, once the query is answered.
+    /// The element, once the query is answered.
     pub answer: Option<u64>,
 }
 
@@ -45,7 +45,7 @@ impl QuantileQuery {
         }
     }
 
-    // Returns true if there is such a member, and it fits in a word.
+    // Returns true if there is such an element, and it fits in a word.
     #[inline(always)]
     fn has_answer(self, levels: usize, len: usize) -> bool
         ensures { IsTrue result ↔ (levels ≤ 64) × (self.end ≤ len)

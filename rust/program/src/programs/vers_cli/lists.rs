@@ -22,8 +22,8 @@ pub fn all_reply<A: Allocator + Copy>(
     listing: Listing,
 ) -> Result<Reply<A>, AllocError> {
     match structure {
-        Structure::Sorted(members) => match listing {
-            Listing::Items => numbers_reply(alloc, members.iter()),
+        Structure::Sorted(elements) => match listing {
+            Listing::Items => numbers_reply(alloc, elements.iter()),
             Listing::BySize | Listing::Postorder => Ok(Reply::WrongStructure),
         },
         Structure::Sparse(bits) => match listing {

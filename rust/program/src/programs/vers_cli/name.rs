@@ -52,7 +52,7 @@ pub enum Written {
 /// A list of all items or nodes.
 #[derive(Clone, Copy)]
 pub enum Listing {
-    /// The members, the symbols, the positions of ones, or the nodes in preorder.
+    /// The elements, the symbols, the positions of ones, or the nodes in preorder.
     Items,
     /// The symbols in ascending order.
     BySize,

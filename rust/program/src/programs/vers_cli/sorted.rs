@@ -71,7 +71,7 @@ impl Numbers for LineNumbers<'_> {
 
 /// Returns the list of the numbers of a line, parsed from its text. Precondition: they ascend. Errors:
 /// `AllocError` if the allocator refuses a request.
-pub fn members_of<A: Allocator + Copy>(
+pub fn elements_of<A: Allocator + Copy>(
     alloc: A,
     arguments: &[u8],
     rise: Rise,
@@ -99,8 +99,8 @@ pub fn load<'a, A: Allocator + Copy>(
         }
         return Ok(Loading::Inadmissible);
     };
-    match members_of(*alloc, arguments, rise) {
-        Ok(members) => Ok(Loading::Accepted(Structure::Sorted(members))),
+    match elements_of(*alloc, arguments, rise) {
+        Ok(elements) => Ok(Loading::Accepted(Structure::Sorted(elements))),
         Err(error) => Err(error),
     }
 }

@@ -3,7 +3,7 @@
 use crate::rattle::prelude::*;
 
 use crate::programs::vers_cli::name::Load;
-use crate::programs::vers_cli::sorted::{members_of, rise_of};
+use crate::programs::vers_cli::sorted::{elements_of, rise_of};
 use crate::programs::catalogue::structure::Structure;
 use crate::rattle::AllocError;
 use crate::rattle::Allocator;
@@ -47,7 +47,7 @@ pub fn load<'a, A: Allocator + Copy>(
     if !rise.is_below(len) {
         return Ok(Loading::Inadmissible);
     }
-    match members_of(*alloc, positions, rise) {
+    match elements_of(*alloc, positions, rise) {
         Ok(ones) => Ok(Loading::Accepted(Structure::Sparse(SparseRSVec::from_sorted(ones, len)))),
         Err(error) => Err(error),
     }

@@ -1,4 +1,4 @@
-//! The bits of the high parts that a walk along the members has read ahead.
+//! The bits of the high parts that a walk along the elements has read ahead.
 
 use crate::rattle::prelude::*;
 
@@ -27,7 +27,7 @@ impl Ahead {
 }
 
 impl<A: Allocator + Copy> EliasFanoVec<A> {
-    // Returns the position of the one of a member, which mostly was read ahead with those before it.
+    // Returns the position of the one of an element, which mostly was read ahead with those before it.
     #[inline(always)]
     pub(super) fn position_ahead(&self, i: usize, ahead: &mut Ahead, tally: &mut Tally) -> usize {
         let bits = self.high.len();
@@ -45,7 +45,7 @@ impl<A: Allocator + Copy> EliasFanoVec<A> {
         position
     }
 
-    // Returns the position of the one of a member, which was read ahead.
+    // Returns the position of the one of an element, which was read ahead.
     #[inline(always)]
     pub(super) fn position_read(&self, i: usize, ahead: &mut Ahead) -> usize {
         let _ = self.high.len();
@@ -56,9 +56,9 @@ impl<A: Allocator + Copy> EliasFanoVec<A> {
         ahead.position - 1
     }
 
-    // Returns a member, by the position of its one.
+    // Returns an element, by the position of its one.
     #[inline(always)]
-    pub(super) fn member_ahead(&self, i: usize, ahead: &mut Ahead, tally: &mut Tally) -> u64 {
+    pub(super) fn element_ahead(&self, i: usize, ahead: &mut Ahead, tally: &mut Tally) -> u64 {
         let high = (self.position_ahead(i, ahead, tally) - i - 1) as u64;
         self.with_low_part(high, i, tally)
     }

@@ -3,15 +3,15 @@
 use crate::rattle::prelude::*;
 
 use super::EliasFanoVec;
-use super::iter::Members;
+use super::iter::Elements;
 use crate::rattle::Allocator;
 use crate::proved::vers_tally::tally::Tally;
 
-/// The members that are searched together: enough that the processor has their reads in flight at once, and few
+/// The elements that are searched together: enough that the processor has their reads in flight at once, and few
 /// enough that what they read stays in the cache.
 pub(super) const GROUP: usize = 64;
 
-// Computes the numbers of the ones of the members at `n` positions, past all ones for each `None`.
+// Computes the numbers of the ones of the elements at `n` positions, past all ones for each `None`.
 #[inline(always)]
 fn ask_each(positions: &[Option<u64>], from: usize, n: usize, ones: &mut [usize; GROUP]) {
     for j in 0..n {
@@ -51,8 +51,8 @@ impl<A: Allocator + Copy> EliasFanoVec<A> {
         }
     }
 
-    // Replaces each of `n` positions by the member there: in turn if they are a run, otherwise all selects first, level
-    // by level.
+    // Replaces each of `n` positions by the element there: in turn if they are a run, otherwise by all selects first,
+    // level by level.
     #[inline(always)]
     fn get_group(&self, positions: &mut [Option<u64>], from: usize, n: usize, tally: &mut Tally) {
         if is_run(positions, from, n) {
@@ -63,20 +63,20 @@ impl<A: Allocator + Copy> EliasFanoVec<A> {
         let mut ones = [0; GROUP];
         ask_each(positions, from, n, &mut ones);
         self.high.select1_each_counted(&mut ones[..n], tally);
-        self.members_each(positions, from, n, &ones, tally);
+        self.elements_each(positions, from, n, &ones, tally);
     }
 
-    // Replaces each of `n` positions by the member there, as an iterator reads them.
+    // Replaces each of `n` positions by the element there, as an iterator reads them.
     fn get_in_turn(&self, positions: &mut [Option<u64>], from: usize, n: usize, tally: &mut Tally) {
-        let mut members = Members::new(self);
+        let mut elements = Elements::new(self);
         for j in 0..n {
-            positions[from + j] = members.member_of(positions[from + j], tally);
+            positions[from + j] = elements.element_of(positions[from + j], tally);
         }
     }
 
-    // Replaces each of `n` positions by the member there, by the position of its one.
+    // Replaces each of `n` positions by the element there, by the position of its one.
     #[inline(always)]
-    fn members_each(
+    fn elements_each(
         &self,
         positions: &mut [Option<u64>],
         from: usize,
@@ -85,13 +85,13 @@ impl<A: Allocator + Copy> EliasFanoVec<A> {
         tally: &mut Tally,
     ) {
         for j in 0..n {
-            positions[from + j] = self.member_at(positions[from + j], ones[j], tally);
+            positions[from + j] = self.element_at(positions[from + j], ones[j], tally);
         }
     }
 
-    // Returns the member at a position, by the position of its one.
+    // Returns the element at a position, by the position of its one.
     #[inline(always)]
-    fn member_at(&self, position: Option<u64>, one: usize, tally: &mut Tally) -> Option<u64> {
+    fn element_at(&self, position: Option<u64>, one: usize, tally: &mut Tally) -> Option<u64> {
         let number = match position { Some(number) => number, _ => {
             return None;
         } };
@@ -121,7 +121,7 @@ impl<A: Allocator + Copy> EliasFanoVec<A> {
         }
     }
 
-    // Replaces each of `n` numbers by the number of members below it.
+    // Replaces each of `n` numbers by the number of elements below it.
     #[inline(always)]
     fn rank_group(&self, numbers: &mut [u64], from: usize, n: usize, tally: &mut Tally) {
         let mut before = [0; GROUP];
@@ -160,7 +160,7 @@ impl<A: Allocator + Copy> EliasFanoVec<A> {
         }
     }
 
-    // Returns the number of members below a number, from the first results of the search.
+    // Returns the number of elements below a number, from the first results of the search.
     #[inline(always)]
     fn rank_begun(&self, v: u64, before: usize, after: usize, part: u64, tally: &mut Tally) -> u64 {
         let _ = self.len();

@@ -9,7 +9,7 @@ use crate::rattle::Allocator;
 use crate::proved::vers_tally::tally::Tally;
 
 impl<A: Allocator + Copy> EliasFanoVec<A> {
-    // Returns the high part of a number, or 0 below the first member.
+    // Returns the high part of a number, or 0 below the first element.
     #[inline(always)]
     fn high_or_zero(&self, v: u64) -> usize {
         let _ = &self.len;
@@ -24,7 +24,7 @@ impl<A: Allocator + Copy> EliasFanoVec<A> {
         }
     }
 
-    // For each number inside the list, finds the positions of the zeros before and after the members with its
+    // For each number inside the list, finds the positions of the zeros before and after the elements with its
     // high part, and the low part of the first of these. Each caller names a type of its own, so each has its
     // own copy, which is inlined into it without the counter.
     #[inline(always)]
@@ -61,7 +61,7 @@ impl<A: Allocator + Copy> EliasFanoVec<A> {
         }
     }
 
-    // Returns the position of the zero after the members with the high part of a number, from that of the zero
+    // Returns the position of the zero after the elements with the high part of a number, from that of the zero
     // before.
     #[inline(always)]
     fn zero_past(&self, v: u64, before: usize, tally: &mut Tally) -> usize {
@@ -69,7 +69,7 @@ impl<A: Allocator + Copy> EliasFanoVec<A> {
         zero_after(&self.high, self.high_number(v), before, tally)
     }
 
-    // Returns the low part of the first of these members, or of the next one if there are none.
+    // Returns the low part of the first of these elements, or of the next one if there are none.
     #[inline(always)]
     fn first_part(&self, v: u64, before: usize, tally: &mut Tally) -> u64 {
         let _ = self.len();

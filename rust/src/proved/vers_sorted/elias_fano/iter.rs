@@ -1,4 +1,4 @@
-//! Iterators over the members of an ascending list.
+//! Iterators over the elements of an ascending list.
 
 use crate::rattle::prelude::*;
 
@@ -35,27 +35,27 @@ impl<A: Allocator + Copy> Sorted for EliasFanoVec<A> {
     }
 }
 
-/// The members of an ascending list, which iterators read one by one. It keeps the bits that it
-/// has read ahead of member `next`.
-pub struct Members<L: Sorted> {
+/// The elements of an ascending list, which iterators read one by one. It keeps the bits that it
+/// has read ahead of element `next`.
+pub struct Elements<L: Sorted> {
     list: L,
     next: usize,
     ahead: Ahead,
 }
 
-impl<L: Sorted> Members<L> {
-    // Returns the members of a list, of which nothing is read ahead.
+impl<L: Sorted> Elements<L> {
+    // Returns the elements of a list, of which nothing is read ahead.
     pub(super) fn new(list: L) -> Self {
-        Members {
+        Elements {
             list,
             next: 0,
             ahead: Ahead::none(),
         }
     }
 
-    // Returns the member at a position, if there is one. It is read fastest at the position after the last one.
+    // Returns the element at a position, if there is one. It is read fastest at the position after the last one.
     #[inline(always)]
-    pub(super) fn member_of(&mut self, position: Option<u64>, tally: &mut Tally) -> Option<u64> {
+    pub(super) fn element_of(&mut self, position: Option<u64>, tally: &mut Tally) -> Option<u64> {
         let i = position? as usize;
         if i >= self.count_items() {
             return None;
@@ -64,7 +64,7 @@ impl<L: Sorted> Members<L> {
     }
 }
 
-impl<L: Sorted> Source for Members<L> {
+impl<L: Sorted> Source for Elements<L> {
     type Item = u64;
 
     #[inline]
@@ -80,41 +80,41 @@ impl<L: Sorted> Source for Members<L> {
             self.ahead = Ahead::none();
         }
         self.next = i + 1;
-        list.member_ahead(i, &mut self.ahead, tally)
+        list.element_ahead(i, &mut self.ahead, tally)
     }
 
     #[inline(always)]
     fn item_at_back(&mut self, i: usize, tally: &mut Tally) -> u64 {
-        self.list.list().member(i, tally)
+        self.list.list().element(i, tally)
     }
 }
 
-impl<L: Sorted> Ascending for Members<L> {}
+impl<L: Sorted> Ascending for Elements<L> {}
 
-impl<'a, A: Allocator + Copy> Borrowing for Members<&'a EliasFanoVec<A>> {
+impl<'a, A: Allocator + Copy> Borrowing for Elements<&'a EliasFanoVec<A>> {
     fn second(&self) -> Self {
-        Members::new(self.list)
+        Elements::new(self.list)
     }
 }
 
-impl<A: Allocator + Copy> Owning for Members<EliasFanoVec<A>> {
+impl<A: Allocator + Copy> Owning for Elements<EliasFanoVec<A>> {
     fn second(&self) -> Result<Self, AllocError> {
         let list = self.list.clone()?;
-        Ok(Members::new(list))
+        Ok(Elements::new(list))
     }
 }
 
-/// An iterator over the members of a list. Each step reads at most what one `get` does.
-pub type EliasFanoRefIter<'a, A> = BothEnds<Members<&'a EliasFanoVec<A>>>;
+/// An iterator over the elements of a list. Each step reads at most what one `get` does.
+pub type EliasFanoRefIter<'a, A> = BothEnds<Elements<&'a EliasFanoVec<A>>>;
 
-/// An iterator over the members of a list that it owns. Each step reads at most what one `get`
+/// An iterator over the elements of a list that it owns. Each step reads at most what one `get`
 /// does.
-pub type EliasFanoIter<A> = BothEnds<Members<EliasFanoVec<A>>>;
+pub type EliasFanoIter<A> = BothEnds<Elements<EliasFanoVec<A>>>;
 
 impl<A: Allocator + Copy> EliasFanoVec<A> {
-    /// Returns an iterator over the members.
+    /// Returns an iterator over the elements.
     pub fn iter(&self) -> EliasFanoRefIter<'_, A> {
-        BothEnds::new(Members::new(self))
+        BothEnds::new(Elements::new(self))
     }
 }
 
@@ -143,8 +143,8 @@ impl<A: Allocator + Copy> IntoIterator for EliasFanoVec<A> {
 
     type IntoIter = EliasFanoIter<A>;
 
-    /// Returns an iterator over the members, which owns the list.
+    /// Returns an iterator over the elements, which owns the list.
     fn into_iter(self) -> EliasFanoIter<A> {
-        BothEnds::new(Members::new(self))
+        BothEnds::new(Elements::new(self))
     }
 }

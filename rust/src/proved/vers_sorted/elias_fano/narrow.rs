@@ -1,4 +1,4 @@
-//! Interpolation of a number's position among many members with the same high part.
+//! Interpolation of a number's position among many elements with the same high part.
 
 use crate::rattle::prelude::*;
 
@@ -7,14 +7,14 @@ use super::search::Bucket;
 use crate::rattle::Allocator;
 use crate::proved::vers_tally::tally::Tally;
 
-// The range of positions that contains the end of the members below a number.
+// The range of positions that contains the end of the elements below a number.
 #[derive(Clone, Copy)]
 pub(super) struct Between {
     pub(super) from: usize,
     pub(super) to: usize,
 }
 
-// The number of members with the same high part from which on interpolation pays off.
+// The number of elements with the same high part from which on interpolation pays off.
 pub(super) const MANY: usize = 256;
 
 // Returns the position of a low part among `count` that rise evenly from `first` to `last`.
@@ -28,7 +28,7 @@ fn guess(first: u64, last: u64, low: u64, count: usize) -> usize {
 }
 
 impl<A: Allocator + Copy> EliasFanoVec<A> {
-    // Returns the range that contains the end of the members below `v`. If the members rise evenly, but for a
+    // Returns the range that contains the end of the elements below `v`. If the elements rise evenly, but for a
     // few at both ends, it is short.
     #[inline(always)]
     pub(super) fn narrowed(&self, bucket: Bucket, v: u64, low: u64, tally: &mut Tally) -> Between {
@@ -55,7 +55,7 @@ impl<A: Allocator + Copy> EliasFanoVec<A> {
         self.probed(bucket, v, low, after, near.saturating_add(margin), tally)
     }
 
-    // Returns the side of position `i` that contains the end of the members below `v`, if `i` is one of the
+    // Returns the side of position `i` that contains the end of the elements below `v`, if `i` is one of the
     // positions.
     #[inline(always)]
     fn probed(
@@ -78,7 +78,7 @@ impl<A: Allocator + Copy> EliasFanoVec<A> {
         self.side_of(bucket, v, low, between, i, part)
     }
 
-    // Does the same from the low part of the member at position `i`, which was read.
+    // Does the same from the low part of the element at position `i`, which was read.
     #[inline(always)]
     fn side_of(
         &self,

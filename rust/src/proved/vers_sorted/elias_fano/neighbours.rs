@@ -7,12 +7,12 @@ use super::batch::GROUP;
 use crate::rattle::Allocator;
 use crate::proved::vers_tally::tally::Tally;
 
-// A side of a number, on which a member is searched.
+// A side of a number, on which an element is searched.
 pub(super) trait Side {
     // Returns that number, if it fits in 64 bits.
     fn limit(v: u64) -> u64;
 
-    // Returns that member, from the first results of the search.
+    // Returns that element, from the first results of the search.
     fn begun<A: Allocator + Copy>(
         list: &EliasFanoVec<A>,
         v: u64,
@@ -23,7 +23,7 @@ pub(super) trait Side {
     ) -> Option<u64>;
 }
 
-// The greatest member that is at most a number.
+// The greatest element that is at most a number.
 pub(super) struct Before;
 
 impl Side for Before {
@@ -45,7 +45,7 @@ impl Side for Before {
     }
 }
 
-// The least member that is at least a number.
+// The least element that is at least a number.
 pub(super) struct After;
 
 impl Side for After {
@@ -67,7 +67,7 @@ impl Side for After {
     }
 }
 
-// Computes for each of `n` values the number below which members are counted.
+// Computes for each of `n` values the number below which elements are counted.
 #[inline(always)]
 fn bounds_each<S: Side>(values: &[Option<u64>], from: usize, n: usize, asked: &mut [u64; GROUP]) {
     for j in 0..n {

@@ -31,14 +31,14 @@ impl<A: Allocator + Copy> Limbs for BitVec<A> {
     }
 }
 
-/// The length of a list, and its first and last member, or 0 if there are none.
+/// The length of a list, and its first and last element, or 0 if there are none.
 #[derive(Clone, Copy, PartialEq, Eq, Debug)]
 pub struct Ends {
-    /// The number of members.
+    /// The number of elements.
     pub len: usize,
-    /// The first member.
+    /// The first element.
     pub first: u64,
-    /// The last member.
+    /// The last element.
     pub last: u64,
 }
 
@@ -52,7 +52,7 @@ pub struct PartLengths {
 }
 
 impl Ends {
-    // Returns the distance of the last member from the first.
+    // Returns the distance of the last element from the first.
     #[inline]
     fn span(&self) -> u64 {
         self.last.saturating_sub(self.first)
@@ -111,8 +111,8 @@ fn next_part<L: Limbs>(low: &L, width: usize, bits: &mut Bits) -> u64 {
     word % (1 << width)
 }
 
-// A walk over the members of a list: what was read ahead of their low parts, the position of the one of the last
-// member, and the least low part that the next member may have if its one is at the next position.
+// A walk over the elements of a list: what was read ahead of their low parts, the position of the one of the last
+// element, and the least low part that the next element may have if its one is at the next position.
 #[derive(Clone, Copy)]
 struct Walk {
     lows: Bits,
@@ -121,7 +121,7 @@ struct Walk {
 }
 
 impl Walk {
-    // Returns a walk before the first member.
+    // Returns a walk before the first element.
     fn new() -> Walk {
         let lows = Bits {
             limbs: 0,
@@ -136,9 +136,9 @@ impl Walk {
     }
 }
 
-// Reads the low part of the next member, whose one is at `position`. Returns true if it may follow the last one.
+// Reads the low part of the next element, whose one is at `position`. Returns true if it may follow the last one.
 #[inline(always)]
-fn read_member<L: Limbs, const RISING: bool>(
+fn read_element<L: Limbs, const RISING: bool>(
     low: &L,
     width: usize,
     position: usize,
@@ -151,7 +151,7 @@ fn read_member<L: Limbs, const RISING: bool>(
     past < position
 }
 
-// Reads the members whose ones are in limb `k` of the high parts. Returns true if each may follow the one before it.
+// Reads the elements whose ones are in limb `k` of the high parts. Returns true if each may follow the one before it.
 #[inline(always)]
 fn read_limb<L: Limbs, H: Limbs, const RISING: bool>(
     low: &L,
@@ -165,7 +165,7 @@ fn read_limb<L: Limbs, H: Limbs, const RISING: bool>(
     while word != 0 {
         let position = 64 * k + word.trailing_zeros() as usize;
         word &= word - 1;
-        if !read_member::<L, RISING>(low, width, position, walk) {
+        if !read_element::<L, RISING>(low, width, position, walk) {
             return false;
         }
     }
@@ -181,7 +181,7 @@ fn count_ones_in<L: Limbs>(bits: &L) -> usize {
     ones
 }
 
-// Returns how far a member is above the first, by the position of its one and its low part. `None` if it is too far,
+// Returns how far an element is above the first, by the position of its one and its low part. `None` if it is too far,
 // or there is no zero before that one.
 #[inline(always)]
 fn above_of(i: usize, position: usize, low: u64, width: usize, span: u64) -> Option<u64> {
@@ -195,7 +195,7 @@ fn above_of(i: usize, position: usize, low: u64, width: usize, span: u64) -> Opt
     Some((high << width) | low)
 }
 
-// Returns true if member 0 is the first one: its one is at position 1, and its low part is 0.
+// Returns true if element 0 is the first one: its one is at position 1, and its low part is 0.
 fn begins_at_first<L: Limbs, H: Limbs>(low: &L, high: &H, width: usize) -> bool {
     limb_or_zero(high, 0) % 4 == 2 && limb_or_zero(low, 0) % (1 << width) == 0
 }
@@ -265,7 +265,7 @@ impl<A: Allocator + Copy> EliasFanoVec<A> {
         })
     }
 
-    /// Returns the number of members, the first and the last.
+    /// Returns the number of elements, the first and the last.
     pub fn ends(&self) -> Ends {
         Ends {
             len: self.len,
@@ -274,13 +274,13 @@ impl<A: Allocator + Copy> EliasFanoVec<A> {
         }
     }
 
-    /// Returns the low parts of the members, one after another.
+    /// Returns the low parts of the elements, one after another.
     pub fn low_parts(&self) -> &BitVec<A> {
         let _ = &self.len;
         self.low.as_bit_vec(Uncounted)
     }
 
-    /// Returns the high parts of the members, with their index.
+    /// Returns the high parts of the elements, with their index.
     pub fn high_parts(&self) -> &RsVec<A> {
         let _ = &self.len;
         &self.high

@@ -8,7 +8,7 @@ use crate::proved::vers_sorted::elias_fano::scan::{one_before, one_from};
 use crate::rattle::Allocator;
 use crate::proved::vers_tally::tally::Tally;
 
-// The members with one high part: those from position `start` up to position `end`.
+// The elements with one high part: those from position `start` up to position `end`.
 #[derive(Clone, Copy)]
 pub(super) struct Bucket {
     pub(super) high: u64,
@@ -17,21 +17,21 @@ pub(super) struct Bucket {
 }
 
 impl<A: Allocator + Copy> EliasFanoVec<A> {
-    // Returns the low part of a member.
+    // Returns the low part of an element.
     #[inline(always)]
     pub(super) fn low_part(&self, i: usize, tally: &mut Tally) -> u64 {
         let _ = self.low.len();
         self.low.low_part(i * self.width, self.width, tally)
     }
 
-    // Returns the high part of a member.
+    // Returns the high part of an element.
     #[inline(always)]
     fn high_part(&self, i: usize, tally: &mut Tally) -> u64 {
         let _ = &self.len;
         (self.high.select1_counted(i, tally) - i - 1) as u64
     }
 
-    // Returns a member from its high part and its low part.
+    // Returns an element from its high part and its low part.
     #[inline(always)]
     pub(super) fn with_low_part(&self, high: u64, i: usize, tally: &mut Tally) -> u64 {
         let _ = &self.len;
@@ -39,14 +39,14 @@ impl<A: Allocator + Copy> EliasFanoVec<A> {
         self.first + ((high << self.width) | low)
     }
 
-    // Returns a member.
+    // Returns an element.
     #[inline(always)]
-    pub(super) fn member(&self, i: usize, tally: &mut Tally) -> u64 {
+    pub(super) fn element(&self, i: usize, tally: &mut Tally) -> u64 {
         let high = self.high_part(i, tally);
         self.with_low_part(high, i, tally)
     }
 
-    // Returns the high part of a number that isn't below the first member.
+    // Returns the high part of a number that isn't below the first element.
     #[inline(always)]
     pub(super) fn high_number(&self, v: u64) -> usize {
         let _ = &self.len;
@@ -60,7 +60,7 @@ impl<A: Allocator + Copy> EliasFanoVec<A> {
         (v - self.first) & ((1 << self.width) - 1)
     }
 
-    // Returns the members with the high part of `v`, from the positions of two zeros, mostly by one select.
+    // Returns the elements with the high part of `v`, from the positions of two zeros, mostly by one select.
     #[inline(always)]
     fn bucket_of(&self, v: u64, tally: &mut Tally) -> Bucket {
         let _ = &self.len;
@@ -68,7 +68,7 @@ impl<A: Allocator + Copy> EliasFanoVec<A> {
         self.bucket_between(v, zeros.first, zeros.second)
     }
 
-    // Returns the members with the high part of `v`, from the positions of the zeros before and after them.
+    // Returns the elements with the high part of `v`, from the positions of the zeros before and after them.
     #[inline(always)]
     pub(super) fn bucket_between(&self, v: u64, before: usize, after: usize) -> Bucket {
         let high = self.high_number(v);
@@ -79,7 +79,7 @@ impl<A: Allocator + Copy> EliasFanoVec<A> {
         }
     }
 
-    // Returns the number of members below `v`, from the members with its high part.
+    // Returns the number of elements below `v`, from the elements with its high part.
     #[inline(always)]
     pub(super) fn below_in(&self, bucket: Bucket, v: u64, tally: &mut Tally) -> usize {
         let _ = self.len();
@@ -98,7 +98,7 @@ impl<A: Allocator + Copy> EliasFanoVec<A> {
         from
     }
 
-    // Does the same if the low part of the first of those members is known too.
+    // Does the same if the low part of the first of those elements is known too.
     #[inline(always)]
     pub(super) fn below_from(&self, bucket: Bucket, part: u64, v: u64, tally: &mut Tally) -> usize {
         let low = self.low_number(v);
@@ -111,7 +111,7 @@ impl<A: Allocator + Copy> EliasFanoVec<A> {
         self.below_in(bucket, v, tally)
     }
 
-    // Returns true if a bucket of many members has `v` in its middle, as most of those do in which many are
+    // Returns true if a bucket of many elements has `v` in its middle, as most of those do in which many are
     // equal to it. The bucket is that of another number.
     #[inline(always)]
     fn is_amid(&self, bucket: Bucket, other: u64, v: u64, tally: &mut Tally) -> bool {
@@ -123,9 +123,9 @@ impl<A: Allocator + Copy> EliasFanoVec<A> {
         self.with_low_part(bucket.high, bucket.start + count / 2, tally) == v
     }
 
-    // Returns the first member past a bucket. Mostly its one is among the next 64 high parts.
+    // Returns the first element past a bucket. Mostly its one is among the next 64 high parts.
     #[inline(always)]
-    fn member_past(&self, bucket: Bucket, v: u64, tally: &mut Tally) -> u64 {
+    fn element_past(&self, bucket: Bucket, v: u64, tally: &mut Tally) -> u64 {
         let _ = &self.len;
         let _ = self.high.len();
         let i = bucket.end;
@@ -133,9 +133,9 @@ impl<A: Allocator + Copy> EliasFanoVec<A> {
         self.with_low_part((position - i - 1) as u64, i, tally)
     }
 
-    // Returns the last member before a bucket. Mostly its one is among the 64 high parts before.
+    // Returns the last element before a bucket. Mostly its one is among the 64 high parts before.
     #[inline(always)]
-    fn member_before(&self, bucket: Bucket, v: u64, tally: &mut Tally) -> u64 {
+    fn element_before(&self, bucket: Bucket, v: u64, tally: &mut Tally) -> u64 {
         let _ = &self.len;
         let _ = self.high.len();
         let i = bucket.start - 1;
@@ -170,7 +170,7 @@ impl<A: Allocator + Copy> EliasFanoVec<A> {
         if i >= self.len() {
             return None;
         }
-        Some(self.member(i, tally))
+        Some(self.element(i, tally))
     }
 
     /// Returns `select(i)`. Reads at most what `get_counted` does.
@@ -191,8 +191,8 @@ impl<A: Allocator + Copy> EliasFanoVec<A> {
         }
         let ones = self.high.select1_pair_counted(i - 1, tally);
         let before = self.with_low_part((ones.first - i) as u64, i - 1, tally);
-        let member = self.with_low_part((ones.second - i - 1) as u64, i, tally);
-        Some(member - before)
+        let element = self.with_low_part((ones.second - i - 1) as u64, i, tally);
+        Some(element - before)
     }
 
     /// Returns `rank(v)`. Reads at most as many low parts, and queries the high parts at most as often, as the
@@ -207,14 +207,14 @@ impl<A: Allocator + Copy> EliasFanoVec<A> {
         self.below_in(bucket, v, tally) as u64
     }
 
-    // Returns true if a number is above the first member and at most the last.
+    // Returns true if a number is above the first element and at most the last.
     #[inline(always)]
     pub(super) fn is_inside(&self, v: u64) -> bool {
         let _ = self.len();
         self.first() < v && v <= self.last()
     }
 
-    // Returns the number of members below a number that isn't in that range.
+    // Returns the number of elements below a number that isn't in that range.
     #[inline(always)]
     pub(super) fn rank_outside(&self, v: u64) -> u64 {
         let _ = self.len();
@@ -241,7 +241,7 @@ impl<A: Allocator + Copy> EliasFanoVec<A> {
         Some(self.last_below(bucket, v + 1, k, tally))
     }
 
-    // Returns true if the number after `v` is above the first member and at most the last.
+    // Returns true if the number after `v` is above the first element and at most the last.
     #[inline(always)]
     pub(super) fn is_inside_after(&self, v: u64) -> bool {
         let _ = self.len();
@@ -258,12 +258,12 @@ impl<A: Allocator + Copy> EliasFanoVec<A> {
         Some(self.last())
     }
 
-    // Returns the last of the `k` members below `v`.
+    // Returns the last of the `k` elements below `v`.
     #[inline(always)]
     pub(super) fn last_below(&self, bucket: Bucket, v: u64, k: usize, tally: &mut Tally) -> u64 {
         let _ = self.len();
         if k <= bucket.start {
-            return self.member_before(bucket, v, tally);
+            return self.element_before(bucket, v, tally);
         }
         self.with_low_part(bucket.high, k - 1, tally)
     }
@@ -284,7 +284,7 @@ impl<A: Allocator + Copy> EliasFanoVec<A> {
         Some(self.first_from(bucket, v, k, tally))
     }
 
-    // Returns the successor of a number that isn't above the first member and at most the last.
+    // Returns the successor of a number that isn't above the first element and at most the last.
     #[inline(always)]
     pub(super) fn successor_outside(&self, v: u64) -> Option<u64> {
         let _ = self.len();
@@ -294,12 +294,12 @@ impl<A: Allocator + Copy> EliasFanoVec<A> {
         Some(self.first())
     }
 
-    // Returns the member after the `k` members below `v`.
+    // Returns the element after the `k` elements below `v`.
     #[inline(always)]
     pub(super) fn first_from(&self, bucket: Bucket, v: u64, k: usize, tally: &mut Tally) -> u64 {
         let _ = self.len();
         if bucket.end <= k {
-            return self.member_past(bucket, v, tally);
+            return self.element_past(bucket, v, tally);
         }
         self.with_low_part(bucket.high, k, tally)
     }

@@ -7,7 +7,7 @@ use super::ahead::Ahead;
 use crate::rattle::Allocator;
 use crate::proved::vers_tally::tally::Tally;
 
-// The most low parts that are read of members whose ones were read together.
+// The most low parts that are read of elements whose ones were read together.
 const PARTS: usize = 4;
 
 // The most words of high parts that are read in a row.
@@ -16,7 +16,7 @@ const WORDS: usize = 8;
 // The distance of two high parts from which on a search pays off.
 const FAR: usize = 512;
 
-// The number of members that a walk has passed, and the bits of the high parts that it has read past the one of the
+// The number of elements that a walk has passed, and the bits of the high parts that it has read past the one of the
 // last.
 #[derive(Clone, Copy)]
 pub(super) struct Passed {
@@ -45,25 +45,25 @@ impl<'a, A: Allocator + Copy> Successors<'a, A> {
         }
     }
 
-    /// Returns the least member that is at least `v`, or `None` if there is none.
+    /// Returns the least element that is at least `v`, or `None` if there is none.
     #[inline]
     pub fn successor(&mut self, v: u64) -> Option<u64> {
         let mut tally = Tally::new();
         self.successor_counted(v, &mut tally)
     }
 
-    /// Returns `successor(v)`. Reads at most what one search and 9 members do.
+    /// Returns `successor(v)`. Reads at most what one search and 9 elements do.
     #[inline(always)]
     pub fn successor_counted(&mut self, v: u64, tally: &mut Tally) -> Option<u64> {
         let _ = self.list.len();
         if v < self.from {
             self.passed = Passed::none();
         } else {
-            let member = match self.found { Some(member) => member, _ => {
+            let element = match self.found { Some(element) => element, _ => {
                 return None;
             } };
-            if v <= member {
-                return Some(member);
+            if v <= element {
+                return Some(element);
             }
         }
         let found = self.list.successor_past(v, &mut self.passed, tally);
@@ -85,32 +85,32 @@ impl Passed {
 }
 
 impl<A: Allocator + Copy> EliasFanoVec<A> {
-    // Returns the successor of a number, and passes the members up to it. Those passed before are below the number.
+    // Returns the successor of a number, and passes the elements up to it. Those passed before are below the number.
     #[inline(always)]
     fn successor_past(&self, v: u64, passed: &mut Passed, tally: &mut Tally) -> Option<u64> {
         let _ = self.len();
         if passed.ahead.word != 0 {
-            let member = self.member_read(passed, tally);
-            if member >= v {
-                return Some(member);
+            let element = self.element_read(passed, tally);
+            if element >= v {
+                return Some(element);
             }
         }
         if !self.is_inside(v) {
             return self.successor_outside(v);
         }
         match self.successor_read(v, passed, tally) {
-            Some(member) => Some(member),
+            Some(element) => Some(element),
             None => Some(self.successor_on(v, passed, tally)),
         }
     }
 
-    // Does the same if the successor isn't among the members whose ones were read.
+    // Does the same if the successor isn't among the elements whose ones were read.
     #[inline(never)]
     fn successor_on(&self, v: u64, passed: &mut Passed, tally: &mut Tally) -> u64 {
         let zeros = passed.ahead.position.saturating_sub(passed.next);
         if self.high_number(v).saturating_sub(zeros) < FAR {
-            if let Some(member) = self.successor_near(v, passed, tally) {
-                return member;
+            if let Some(element) = self.successor_near(v, passed, tally) {
+                return element;
             }
         }
         self.successor_searched(v, passed, tally)
@@ -120,15 +120,15 @@ impl<A: Allocator + Copy> EliasFanoVec<A> {
     #[inline(always)]
     fn successor_near(&self, v: u64, passed: &mut Passed, tally: &mut Tally) -> Option<u64> {
         self.pass_words(v, passed, tally);
-        if let Some(member) = self.successor_read(v, passed, tally) {
-            return Some(member);
+        if let Some(element) = self.successor_read(v, passed, tally) {
+            return Some(element);
         }
         self.pass_words(v, passed, tally);
         self.successor_read(v, passed, tally)
     }
 
-    // Passes the members up to the successor of a number, and returns it, if its one was read. Members whose high
-    // part is less are passed unread. `None` too if many members have the high part of the number.
+    // Passes the elements up to the successor of a number, and returns it, if its one was read. Elements whose high
+    // part is less are passed unread. `None` too if many elements have the high part of the number.
     #[inline(always)]
     fn successor_read(&self, v: u64, passed: &mut Passed, tally: &mut Tally) -> Option<u64> {
         let high = self.high_number(v);
@@ -138,9 +138,9 @@ impl<A: Allocator + Copy> EliasFanoVec<A> {
             let part = self.position_read(i, &mut passed.ahead) - i - 1;
             passed.next = i + 1;
             if part >= high {
-                let member = self.with_low_part(part as u64, i, tally);
-                if member >= v {
-                    return Some(member);
+                let element = self.with_low_part(part as u64, i, tally);
+                if element >= v {
+                    return Some(element);
                 }
                 parts += 1;
                 if parts == PARTS {
@@ -151,16 +151,16 @@ impl<A: Allocator + Copy> EliasFanoVec<A> {
         None
     }
 
-    // Passes the next member, whose one was read ahead, and returns it.
+    // Passes the next element, whose one was read ahead, and returns it.
     #[inline(always)]
-    fn member_read(&self, passed: &mut Passed, tally: &mut Tally) -> u64 {
+    fn element_read(&self, passed: &mut Passed, tally: &mut Tally) -> u64 {
         let i = passed.next;
         let part = self.position_read(i, &mut passed.ahead) - i - 1;
         passed.next = i + 1;
         self.with_low_part(part as u64, i, tally)
     }
 
-    // Reads the high parts word by word, and passes the members of those words whose members all have a lesser high
+    // Reads the high parts word by word, and passes the elements of those words whose elements all have a lesser high
     // part than a number.
     #[inline(always)]
     fn pass_words(&self, v: u64, passed: &mut Passed, tally: &mut Tally) {
@@ -172,7 +172,7 @@ impl<A: Allocator + Copy> EliasFanoVec<A> {
         }
     }
 
-    // Reads the next word of the high parts, and passes its members if they all have a lesser high part than a
+    // Reads the next word of the high parts, and passes its elements if they all have a lesser high part than a
     // number.
     #[inline(always)]
     fn pass_word(&self, v: u64, passed: &mut Passed, tally: &mut Tally) {
@@ -192,7 +192,7 @@ impl<A: Allocator + Copy> EliasFanoVec<A> {
         }
     }
 
-    // Returns the successor of a number by a search, and passes the members up to it.
+    // Returns the successor of a number by a search, and passes the elements up to it.
     #[inline(always)]
     fn successor_searched(&self, v: u64, passed: &mut Passed, tally: &mut Tally) -> u64 {
         let _ = self.high.len();

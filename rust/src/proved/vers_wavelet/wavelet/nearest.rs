@@ -89,7 +89,7 @@ fn follow<A: Allocator + Copy, D: Digits>(
     trail
 }
 
-// Returns the index of the first of `many` members, or of the last if `is_up` is false.
+// Returns the index of the first of `many` elements, or of the last if `is_up` is false.
 #[inline(always)]
 fn first_or_last(is_up: bool, many: usize) -> usize {
     if is_up { 0 } else { many - 1 }

@@ -1,4 +1,4 @@
-//! Quantiles: members of a range by size.
+//! Quantiles: elements of a range by size.
 
 use crate::rattle::prelude::*;
 

@@ -64,7 +64,7 @@ impl<A: Allocator + Copy> WaveletMatrix<A> {
         read_symbol(self.levels(), self.len(), position, answer, tally);
     }
 
-    // Writes the `i`-th smallest member of a range into a number that is 0.
+    // Writes the `i`-th smallest element of a range into a number that is 0.
     #[inline(always)]
     pub(super) fn kth_in<D: Digits>(
         &self,
@@ -77,7 +77,7 @@ impl<A: Allocator + Copy> WaveletMatrix<A> {
         find_kth(self.levels(), self.len(), start, end, i, answer, tally);
     }
 
-    // Returns the `i`-th smallest symbol, and which members by size are equal to it. It continues from the path
+    // Returns the `i`-th smallest symbol, and which elements by size are equal to it. It continues from the path
     // down to the last one found.
     #[inline(always)]
     pub(super) fn find_by_size(&self, way: &mut Way, i: usize, tally: &mut Tally) -> Found {
@@ -87,7 +87,7 @@ impl<A: Allocator + Copy> WaveletMatrix<A> {
     // Writes the `i`-th smallest symbol into a number that is 0 if `by_size`, otherwise the symbol at position
     // `i`.
     #[inline(always)]
-    pub(super) fn member<D: Digits>(
+    pub(super) fn element<D: Digits>(
         &self,
         by_size: bool,
         i: usize,

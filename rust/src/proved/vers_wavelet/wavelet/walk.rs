@@ -94,7 +94,7 @@ pub(super) fn read_symbol<A: Allocator + Copy, D: Digits>(
     at
 }
 
-// Adds the `i`-th smallest member of a range of some levels to a number, whose digits of these levels are zeros.
+// Adds the `i`-th smallest element of a range of some levels to a number, whose digits of these levels are zeros.
 #[inline(always)]
 pub(super) fn find_kth<A: Allocator + Copy, D: Digits>(
     levels: &[RsVec<A>],

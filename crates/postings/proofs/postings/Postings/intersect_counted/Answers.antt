@@ -1,5 +1,5 @@
 use Rattle.postings.proofs.Names.{◌≡◌, List, ℕ, length, nat_le, subst, ◌∙◌, Reads, AddsAtMost, common, lookups}
-use Rattle.postings.proofs.Members.{common_either}
+use Rattle.postings.proofs.Elements.{common_either}
 use Rattle.postings.proofs.Sharing.{either_first, same_either_way}
 use Rattle.postings.proofs.postings.Postings.intersect_counted.Goals as goal
 

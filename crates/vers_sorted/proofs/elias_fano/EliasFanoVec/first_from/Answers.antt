@@ -6,7 +6,7 @@ pub returns-then-bucket-k-clause-value : goal.returns-then-bucket-k-clause-value
 returns-then-bucket-k-clause-value g c =
     let end = below_end c.args.self.now c.args.v c.args.bucket.end c.len.ensures.ascending c.requires.from c.requires.bucket.end in
     let same : c.args.bucket.end ≡ c.args.k = omega (arith, end, c.requires.below) in
-    c.member_past.ensures.value ∙ ap (slice_index c.args.self.now) same
+    c.element_past.ensures.value ∙ ap (slice_index c.args.self.now) same
 
 pub with_low_part-requires-clause-high : goal.with_low_part-requires-clause-high
 with_low_part-requires-clause-high g c =

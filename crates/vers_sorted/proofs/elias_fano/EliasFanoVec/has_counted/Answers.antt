@@ -1,12 +1,12 @@
 use Rattle.vers_sorted.proofs.Names.{sym, arith}
 use Rattle.vers_sorted.proofs.Buckets.{start_below, in_bucket}
-use Rattle.vers_sorted.proofs.Membership.{not_member}
-use Rattle.vers_sorted.proofs.Members.{none_past, none_above, all_less}
+use Rattle.vers_sorted.proofs.Membership.{not_element}
+use Rattle.vers_sorted.proofs.Elements.{none_past, none_above, all_less}
 use Rattle.vers_sorted.proofs.elias_fano.EliasFanoVec.has_counted.Goals as goal
 
 pub returns-then-len-eq0-clause-value : goal.returns-then-len-eq0-clause-value
 returns-then-len-eq0-clause-value g c =
-    sym (not_member c.args.self.now c.args.v (λ k inside same. absurd (omega (arith, inside, c.len.ensures.value, c.if-len-eq0.true))))
+    sym (not_element c.args.self.now c.args.v (λ k inside same. absurd (omega (arith, inside, c.len.ensures.value, c.if-len-eq0.true))))
 
 pub returns-then-v-first-clause-value : goal.returns-then-v-first-clause-value
 returns-then-v-first-clause-value g c =

@@ -7,7 +7,7 @@ pub returns-then-k-bucket-clause-value : goal.returns-then-k-bucket-clause-value
 returns-then-k-bucket-clause-value g c =
     let start = start_below c.args.self.now c.args.v c.args.bucket.start c.len.ensures.ascending c.requires.from c.requires.bucket.start in
     let same : c.args.bucket.start - 1 ≡ c.args.k - 1 = omega (arith, start, c.requires.below) in
-    c.member_before.ensures.value ∙ ap (slice_index c.args.self.now) same
+    c.element_before.ensures.value ∙ ap (slice_index c.args.self.now) same
 
 pub with_low_part-requires-clause-high : goal.with_low_part-requires-clause-high
 with_low_part-requires-clause-high g c =

@@ -10,16 +10,16 @@ use crate::rattle::Allocator;
 use crate::proved::vers_rank::fast_rs_vec::RsVec;
 use crate::proved::vers_tally::tally::Tally;
 
-/// A range, the rank of one of its members by size, and the answer, that member.
+/// A range, the rank of one of its elements by size, and the answer, that element.
 #[derive(Clone, Copy)]
 pub struct QuantileQuery {
     /// The first position of the range. Answering overwrites it, `end` and `i`.
     pub start: usize,
     /// The position after the range.
     pub end: usize,
-    /// The rank of the member by size (from 0, counting duplicates).
+    /// The rank of the element by size (from 0, counting duplicates).
     pub i: usize,
-    /// The member, once the query is answered.
+    /// The element, once the query is answered.
     pub answer: Option<u64>,
 }
 
@@ -35,7 +35,7 @@ impl QuantileQuery {
         }
     }
 
-    // Returns true if there is such a member, and it fits in a word.
+    // Returns true if there is such an element, and it fits in a word.
     #[inline(always)]
     fn has_answer(self, levels: usize, len: usize) -> bool {
         levels <= 64 && self.end <= len && self.i < self.end.saturating_sub(self.start)

@@ -1,6 +1,6 @@
 use Rattle.vers_sorted.proofs.Names.{arith}
 use Rattle.vers_sorted.proofs.Besides.{ones_past}
-use Rattle.vers_sorted.proofs.elias_fano.EliasFanoVec.member_past.Goals as goal
+use Rattle.vers_sorted.proofs.elias_fano.EliasFanoVec.element_past.Goals as goal
 
 pub overflow_add-bucket : goal.overflow_add-bucket
 overflow_add-bucket g c =

@@ -9,7 +9,7 @@ use crate::programs::catalogue::query::Query;
 use crate::rattle::Global;
 use crate::proved::vers_sorted::elias_fano::EliasFanoVec;
 
-// Numbers of members below numbers.
+// Numbers of elements below numbers.
 #[derive(Clone, Copy)]
 struct Ranks;
 
@@ -20,8 +20,8 @@ impl Batch<EliasFanoVec<Global>, u64> for Ranks {
     }
 
     #[inline(always)]
-    fn ask_all(self, members: &EliasFanoVec<Global>, numbers: &mut [u64]) {
-        members.rank_each(numbers)
+    fn ask_all(self, elements: &EliasFanoVec<Global>, numbers: &mut [u64]) {
+        elements.rank_each(numbers)
     }
 
     #[inline(always)]
@@ -30,9 +30,9 @@ impl Batch<EliasFanoVec<Global>, u64> for Ranks {
     }
 }
 
-/// The member to be found from a number.
+/// The element to be found from a number.
 #[derive(Clone, Copy)]
-pub enum Member {
+pub enum Element {
     /// The one at a position.
     At,
     /// The greatest that is at most the number.
@@ -41,31 +41,31 @@ pub enum Member {
     After,
 }
 
-impl Batch<EliasFanoVec<Global>, Option<u64>> for Member {
+impl Batch<EliasFanoVec<Global>, Option<u64>> for Element {
     #[inline(always)]
     fn of(self, ask: Ask) -> Option<u64> {
         Some(ask.a)
     }
 
     #[inline(always)]
-    fn ask_all(self, members: &EliasFanoVec<Global>, numbers: &mut [Option<u64>]) {
+    fn ask_all(self, elements: &EliasFanoVec<Global>, numbers: &mut [Option<u64>]) {
         match self {
-            Member::At => members.get_each(numbers),
-            Member::Before => members.predecessor_each(numbers),
-            Member::After => members.successor_each(numbers),
+            Element::At => elements.get_each(numbers),
+            Element::Before => elements.predecessor_each(numbers),
+            Element::After => elements.successor_each(numbers),
         }
     }
 
     #[inline(always)]
-    fn answer(self, member: Option<u64>) -> Answer {
-        Answer::number_or_absent(member)
+    fn answer(self, element: Option<u64>) -> Answer {
+        Answer::number_or_absent(element)
     }
 }
 
 /// Replaces each row by the answer of an ascending list to its numbers, with a batch search for each frequent
 /// query.
-pub fn each_of_members<R: Row>(
-    members: &EliasFanoVec<Global>,
+pub fn each_of_elements<R: Row>(
+    elements: &EliasFanoVec<Global>,
     query: Query,
     rows: &mut [R],
     b: u64,
@@ -73,26 +73,26 @@ pub fn each_of_members<R: Row>(
     other: u64,
 ) {
     match query {
-        Query::Get => find_each(members, Member::At, rows, b, c, other),
-        Query::Predecessor => find_each(members, Member::Before, rows, b, c, other),
-        Query::Successor => find_each(members, Member::After, rows, b, c, other),
+        Query::Get => find_each(elements, Element::At, rows, b, c, other),
+        Query::Predecessor => find_each(elements, Element::Before, rows, b, c, other),
+        Query::Successor => find_each(elements, Element::After, rows, b, c, other),
         Query::Rank => {
             let mut numbers = [0; GROUP];
-            in_groups(Ranks, members, &mut numbers, rows, b, c, other)
+            in_groups(Ranks, elements, &mut numbers, rows, b, c, other)
         }
-        _ => answer_each(members, query, rows, b, c, other),
+        _ => answer_each(elements, query, rows, b, c, other),
     }
 }
 
-// Does the same for a member.
+// Does the same for an element.
 fn find_each<R: Row>(
-    members: &EliasFanoVec<Global>,
-    member: Member,
+    elements: &EliasFanoVec<Global>,
+    element: Element,
     rows: &mut [R],
     b: u64,
     c: u64,
     other: u64,
 ) {
     let mut numbers = [None; GROUP];
-    in_groups(member, members, &mut numbers, rows, b, c, other)
+    in_groups(element, elements, &mut numbers, rows, b, c, other)
 }

@@ -1,5 +1,5 @@
 use Rattle.vers_sorted.proofs.Names.{◌≡◌, None, slice_get, option_and_then, AddsAtMost, times, only_low_parts, Changed}
-use Rattle.vers_sorted.proofs.elias_fano.EliasFanoVec.members_each.Given as goal
+use Rattle.vers_sorted.proofs.elias_fano.EliasFanoVec.elements_each.Given as goal
 
 abbrev pub invariant-loop-j : goal.invariant-loop-j
 invariant-loop-j g l = record {

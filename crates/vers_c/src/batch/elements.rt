@@ -1,0 +1,122 @@
+//! Batches of queries of ascending lists.
+ghost use Rattle.std.specs.Prelude.{◌≡◌, map, option_and_then};
+ghost use Rattle.vers_sorted.specs.Sorted.{below};
+ghost use Rattle.catalogue.specs.Answers.{found_or_absent};
+ghost use Rattle.catalogue.specs.declared.answer.Answer.TheVariants as answer;
+ghost use Rattle.vers_c.specs.Batches.{answered_row};
+ghost use Rattle.catalogue.specs.SortedAnswers.{sorted_answer};
+ghost use Rattle.vers_c.specs.BatchQueries.{element_found, element_query};
+ghost use Rattle.catalogue.specs.declared.query.Query.TheVariants as query;
+
+use super::{Batch, GROUP, in_groups};
+use crate::asked::{Ask, Row, answer_each};
+use catalogue::answer::Answer;
+use catalogue::query::Query;
+use std::alloc::Global;
+use vers_sorted::elias_fano::EliasFanoVec;
+
+// Numbers of elements below numbers.
+#[derive(Clone, Copy)]
+struct Ranks;
+
+impl Batch<EliasFanoVec<Global>, u64> for Ranks {
+    ghost answers = { λ _ elements. sorted_answer elements query.Rank };
+
+    ghost wants = { λ _ elements number. answer.Found (below elements number) };
+
+    ghost says = { λ _ rank. answer.Found rank };
+
+    #[inline(always)]
+    fn of(self, ask: Ask) -> u64 {
+        ask.a
+    }
+
+    #[inline(always)]
+    fn ask_all(self, elements: &EliasFanoVec<Global>, numbers: &mut [u64]) {
+        elements.rank_each(numbers)
+    }
+
+    #[inline(always)]
+    fn answer(self, rank: u64) -> Answer {
+        Answer::Found(rank)
+    }
+}
+
+/// The element to be found from a number.
+#[derive(Clone, Copy)]
+pub enum Element {
+    /// The one at a position.
+    At,
+    /// The greatest that is at most the number.
+    Before,
+    /// The least that is at least the number.
+    After,
+}
+
+impl Batch<EliasFanoVec<Global>, Option<u64>> for Element {
+    ghost answers = { λ element elements. sorted_answer elements (element_query element) };
+
+    ghost wants = { λ element elements number.
+        found_or_absent (option_and_then (element_found element elements) number) };
+
+    ghost says = { λ _ element. found_or_absent element };
+
+    #[inline(always)]
+    fn of(self, ask: Ask) -> Option<u64> {
+        Some(ask.a)
+    }
+
+    #[inline(always)]
+    fn ask_all(self, elements: &EliasFanoVec<Global>, numbers: &mut [Option<u64>]) {
+        match self {
+            Element::At => elements.get_each(numbers),
+            Element::Before => elements.predecessor_each(numbers),
+            Element::After => elements.successor_each(numbers),
+        }
+    }
+
+    #[inline(always)]
+    fn answer(self, element: Option<u64>) -> Answer {
+        Answer::number_or_absent(element)
+    }
+}
+
+/// Replaces each row by the answer of an ascending list to its numbers, with a batch search for each frequent
+/// query.
+pub fn each_of_elements<R: Row>(
+    elements: &EliasFanoVec<Global>,
+    query: Query,
+    rows: &mut [R],
+    b: u64,
+    c: u64,
+    other: u64,
+)
+    ensures { rows.new ≡ map (answered_row R.ask R.with_answer (sorted_answer elements.now query) other b c) rows.old }
+{
+    match query {
+        Query::Get => find_each(elements, Element::At, rows, b, c, other),
+        Query::Predecessor => find_each(elements, Element::Before, rows, b, c, other),
+        Query::Successor => find_each(elements, Element::After, rows, b, c, other),
+        Query::Rank => {
+            let mut numbers = [0; GROUP];
+            in_groups(Ranks, elements, &mut numbers, rows, b, c, other)
+        }
+        _ => answer_each(elements, query, rows, b, c, other),
+    }
+}
+
+// Does the same for an element.
+fn find_each<R: Row>(
+    elements: &EliasFanoVec<Global>,
+    element: Element,
+    rows: &mut [R],
+    b: u64,
+    c: u64,
+    other: u64,
+)
+    ensures { rows.new ≡ map
+        (answered_row R.ask R.with_answer (sorted_answer elements.now (element_query element)) other b c) rows.old }
+{
+    let mut numbers = [None; GROUP];
+    in_groups(element, elements, &mut numbers, rows, b, c, other)
+}
