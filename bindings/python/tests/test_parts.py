@@ -340,15 +340,18 @@ def under_load(test, compares, kill, rounds):
     faults, begun = [], threading.Barrier(3)
 
     def load(some):
+        has_begun = False
         try:
             some[0](test)
             begun.wait()
+            has_begun = True
             for _ in range(rounds):
                 for compare in some:
                     compare(test)
         except BaseException as fault:  # which the thread that waits raises
             faults.append(fault)
-            begun.abort()
+            if not has_begun:  # otherwise a thread that is slow to leave the barrier would find it broken
+                begun.abort()
     threads = [threading.Thread(target=load, args=[some]) for some in (compares, compares[::-1])]
     for it in threads:
         it.start()
