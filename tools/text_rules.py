@@ -31,8 +31,8 @@ DRAWN = "docs/LAYOUTS.md", "crates/vers_layouts/stdout"
 TEXTS = re.compile(r"(?!rust/src/(?:proved|contracts)).*\.(?:md|rt|antt|edits?|py|sh|txt|rs|h|hpp|c|cpp)|(?:.*/)?(?:test|vers|run|stdout)")
 # between two words of a phrase there may be the end of a line and the marks of a comment
 GAP = r"(?:\s|//[/!]?|#|--|\*)+"
-# the files without these phrases: all but the old entries of the changes, the rules of language with their examples,
-# and what only proofs need; and those whose lines have at most 120 columns
+# the files without these phrases: all but the old entries of the changes and the rules of language with their examples,
+# and of proofs the comments; and those whose lines have at most 120 columns
 PLAIN = r"(?!CHANGELOG\.md|CONTRIBUTING\.md|tools/text_rules\.py|crates/\w+/proofs/).*"
 WRAPPED = r"(?:tools|bindings|bench)/\w+\.py|test|package|(?!CHANGELOG|rust/src/definitions|docs/LAYOUTS).*\.md"
 # a phrase that isn't plain English, and what to write instead
@@ -58,8 +58,8 @@ PHRASES = (
 PATTERNS = (
     (r".*(?<!_rules\.py)", r"(?<![\w-])[DFRTW][12]?\d(?![\w-])|(?<![\w./-])/(?:work|opt|tmp|home|root|srv)/",
      "cites {0}, which the repository doesn't hold"),
-    *((PLAIN, rf"(?i)\b(?:{words.replace(' ', GAP)})\b", f"says `{words}`; write `{instead}`")
-      for words, instead in PHRASES),
+    *((files, rf"(?i){before}\b(?:{words.replace(' ', GAP)})\b", f"says `{words}`; write `{instead}`")
+      for words, instead in PHRASES for files, before in ((PLAIN, ""), (r"crates/\w+/proofs/.*", r"(?<=-- )[^\n]*"))),
     (r"docs/DEFINITIONS\.md", r"(?m)^- `(\w+)[^`]*`:$", "`{1}` has no comment in `specs/`"),
     (r"crates/\w+/src/.*\.rt", r"\A(?:.*\n){800}", "has more than 800 lines"),
     (r".*\.rt", r'(?m)^(?! *(?:(?:ghost )?use |#\[))[^"\n]{121,}$', "has more than 120 columns"),

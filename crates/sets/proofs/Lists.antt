@@ -25,7 +25,7 @@ pub no_next : (xs : List ℕ) (v : ℕ) → IsNonDecreasing xs → least_not_bel
 no_next xs v up none x from =
     next_none_before xs v (x + 1) up (λ inside. absurd (none-some (get_or xs (below xs v) 0) (sym none ∙ least_not_below_is xs v up ∙ slice_get-get_or xs (below xs v) 0 inside))) x from (omega arith)
 
--- there is a next element just where some elements aren't below v
+-- there is a next element exactly if some elements aren't below v
 next_inside : (xs : List ℕ) (v x : ℕ) → IsNonDecreasing xs → Some x ≡ least_not_below xs v → slice_get xs (below xs v) ≡ Some x
 next_inside xs v x up next = sym (least_not_below_is xs v up) ∙ sym next
 

@@ -19,7 +19,7 @@ both_tested : (a b : Bool) (found : Option ℕ) → (if a && b then found else N
 both_tested true b found = refl
 both_tested false b found = refl
 
--- a count of positions, if there are so many
+-- a count of positions, if there are that many
 pub rank_inside : (symbols : Symbols) (end s : ℕ) → (if nat_le symbols.width 64 && nat_le end (length symbols.items) then Some (length (occurrences symbols.items 0 end (low_bits_of symbols s))) else None)
     ≡ (if nat_le symbols.width 64 then rank_before symbols end s else None)
 rank_inside symbols end s = both_tested (nat_le symbols.width 64) (nat_le end (length symbols.items)) (Some (length (positions_of symbols 0 end s)))

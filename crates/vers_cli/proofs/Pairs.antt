@@ -42,7 +42,7 @@ not_rising : (documents : List ℕ) (answer : Bool) → answer ≡ each_next nat
 not_rising documents true e not = absurd (not ((each_next-rising documents).0 (rw (← e) refl)))
 not_rising documents false e not = refl
 
--- documents for which it was told that they don't ascend strictly are not admitted
+-- documents that don't ascend strictly, as their test found, are not admitted
 pub not_admitted : (documents costs : List ℕ) (fault : PostingsError) → fault ≡ NotAscending
     → IsRefusedFor documents costs MAX_LEN fault → None ≡ if_admitted (record { documents = documents; costs = costs })
 not_admitted documents costs fault is refused =

@@ -64,7 +64,7 @@ pub all_first : (words : List (List ℕ)) (numbers : List ℕ) → all_numbers w
 all_first [] numbers h = same_Some [] numbers h
 all_first (word ∷ more) numbers h = first_at (number_of word) (all_numbers more) (first_numbers more) numbers (all_first more) h
 
--- what is told of numbers that ascend
+-- what is known of numbers that ascend
 pub told : (order : ℕ → ℕ → Bool) (words : List (List ℕ)) (found : Option (List ℕ)) (end : ℕ × ℕ)
     → all_numbers words ≡ found → rise_after order 0 0 found ≡ Some end
     → (all_numbers words ≡ Some (first_numbers words)) × ((each_next order (first_numbers words) ≡ true) × (end.0 ≡ length (first_numbers words)) × (end.1 ≡ last_of (first_numbers words)))

@@ -28,7 +28,7 @@ whole_reading : (b : Bool) (l : List Bool) (k n edge : ℕ) → count b l (64 * 
 whole_reading b l k n edge start known within =
     grind (arith, count_up b l (64 * k) (64 * k + 64) (omega arith), whole_marked b l k n (count b l (length l)) (omega arith) (count_le_all b l (64 * k + 64)))
 
--- where the word has not so many ones, the limb ends before number r
+-- if the word has fewer ones, the limb ends before number r
 module _ {b : Bool} {l : List Bool} {reader : Reader} (is : IsReading b l reader) (r : ℕ) (from : reader.next ≤ r) (to : r < reader.edge) (ones : ℕ) (all : ones ≡ count_ones reader.word) (few : ones ≤ r - reader.next) where
   passed : (64 * reader.limb + 64 < length l) × (count b l (64 * reader.limb + 64) ≡ reader.next + ones)
   passed =

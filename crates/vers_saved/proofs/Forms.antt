@@ -14,7 +14,7 @@ all_passed [] h = tt
 all_passed ((true, e) ∷ tests) h = (refl, all_passed tests h)
 all_passed ((false, e) ∷ tests) h = cc
 
--- what the tests state about so many bytes that have these words
+-- what the tests state about bytes of this number that have these words
 pub record IsForm (kind : Kind) (size items each : ℕ) (words : List ℕ) : Type 0 where
   pub ours : get_or words 0 0 ≡ MAGIC
   pub version : get_or words 1 0 ≡ kind.version

@@ -50,7 +50,7 @@ pub length-packed_symbols : (bits : List Bool) (k count : ℕ) → 1 ≤ k → l
 unfolding packed_symbols
 length-packed_symbols bits k count some e = length-map-range_with_len (λ e. number (part bits (e * k) k)) 0 (length bits / k) ∙ whole_many (length bits) k count some e
 
--- each has so many digits
+-- each has as many digits
 symbols_fit : (bits : List Bool) (k : ℕ) → All (λ y. y < 2 ^ k) (packed_symbols bits k)
 unfolding packed_symbols
 symbols_fit bits k =

@@ -11,11 +11,11 @@ use Rattle.vers_sorted.proofs.Parted as Parted
 
 -- ---- numbers in order
 
--- each number is below the next just where the list rises strictly
+-- each number is below the next exactly if the list rises strictly
 pub each_next-rising : (numbers : List ℕ) → IsTrue (each_next nat_lt numbers) ↔ IsStrictlyIncreasing numbers
 each_next-rising numbers = Orders.rising_is numbers (each_next nat_lt numbers) refl
 
--- each number is not above the next just where the list ascends
+-- each number is not above the next exactly if the list ascends
 pub each_next-ascending : (numbers : List ℕ) → IsTrue (each_next nat_le numbers) ↔ IsNonDecreasing numbers
 each_next-ascending numbers = Orders.ascending_is numbers (each_next nat_le numbers) refl
 
@@ -76,7 +76,7 @@ greatest_not_above_none = Neighbours.pred_none
 pub ones_at-positions : (bit : Bool) (bits : List Bool) → ones_at (positions bit bits) (length bits) ≡ map (is_bit bit) bits
 ones_at-positions = Ones.ones_at-positions
 
--- the list of so many bits whose ones are at these positions is one
+-- the list of n bits whose ones are at these positions is one
 pub ones_at-same : (bits : List Bool) (n : ℕ) (ones : List ℕ) → length bits ≡ n → positions true bits ≡ ones → bits ≡ ones_at ones n
 ones_at-same = Ones.ones_at-same
 

@@ -20,7 +20,7 @@ width_narrow n u h =
     let step = digits_half (n + 2 - 1) (omega arith) in
     omega (arith, digits_up ((n + 2 - 1) / 2) (max n 2 - 1) (omega arith))
 
--- a low part has so many bits that what is u above 0 has no higher high part than a power of two gives
+-- a low part has enough bits that a number that is u above 0 has no higher high part than a power of two allows
 pub width_enough : (n u : ℕ) → clog (max u 2) ≤ width n u + clog (max n 2)
 unfolding width
 width_enough n u = omega arith

@@ -95,7 +95,7 @@ pub kth_none : (xs : List ℕ) (i : ℕ) → length xs ≤ i → kth_by_size xs 
 unfolding kth_by_size
 kth_none xs i h = slice_get_past (by_size xs) i (omega (arith, length-by_size xs))
 
--- a number is element i by size just where the definition gives it
+-- a number is element i by size exactly if the definition gives it
 pub kth_is : (xs : List ℕ) (i x : ℕ) → (kth_by_size xs i ≡ Some x) ↔ IsKth xs i x
 unfolding kth_by_size
 kth_is xs i x = (

@@ -23,7 +23,7 @@ top_digit s k =
     let e : k + 1 ≡ 1 + k = omega arith in
     ap (λ n. s % 2 ^ n) e ∙ mod-pow-add s 1 k ∙ ap (λ d. d * 2 ^ k + s % 2 ^ k) (sym (digit_value s k))
 
--- a digit and what is less than its weight are told apart in their sum
+-- their sum determines a digit and what is less than its weight
 pub one_split : (b c : Bool) (w x y : ℕ) → x < w → y < w → bit_value b * w + x ≡ bit_value c * w + y → (b ≡ c) × (x ≡ y)
 one_split b c w x y less fewer e = grind arith
 

@@ -111,6 +111,6 @@ length-in_bits = Items.length-in_bits
 pub levels_even : (symbols : Symbols) → (length (symbol_levels symbols) ≡ symbols.width) × All (λ l. length l ≡ length symbols.items) (symbol_levels symbols)
 levels_even = Inverses.levels_even
 
--- as many symbols are told by their levels
+-- as many symbols follow from their levels
 pub levels_tell : (xs ys : Symbols) → All (λ y. y < 2 ^ xs.width) xs.items → All (λ y. y < 2 ^ ys.width) ys.items → length xs.items ≡ length ys.items → symbol_levels xs ≡ symbol_levels ys → xs ≡ ys
 levels_tell = Inverses.levels_tell

@@ -35,7 +35,7 @@ kth_past items a b i past = kth_none (range_elements items a b) i (omega (arith,
 pub kth_few : (items : List ℕ) (a b i : ℕ) → b ≤ a + i → kth_by_size (range_elements items a b) i ≡ None
 kth_few items a b i few = kth_none (range_elements items a b) i (omega (arith, few_elements items a b))
 
--- a range has an element of a number where it ends within the list and has so many positions
+-- a range has an element of a number if it ends within the list and has more positions than the number
 pub range_has_kth : (items : List ℕ) (a b i : ℕ) → IsSome (kth_by_size (range_elements items a b) i) ↔ (b ≤ length items) × (a + i < b)
 range_has_kth items a b i = (
   λ some.

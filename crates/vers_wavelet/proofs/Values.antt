@@ -50,7 +50,7 @@ split_counts l h f g low high (suc i) within =
     let inside : i < length l = omega (arith, within) in
     rw (← add-one i) (grind (arith, cases_Bool (get_or l i false), before, low i, high i, counts_more, next_more true l i inside, next_more false l i inside))
 
--- all symbols are below what no number of so many digits reaches
+-- all symbols are below what no number with as many digits reaches
 pub below_all : (ls : List (List Bool)) (y n : ℕ) → 2 ^ length ls ≤ y → count_below ls y n ≡ n
 unfolding count_below
 below_all ls y n h = counts_all _ true n (λ p. lt-ltb (value ls p) y (omega (arith, value-lt ls p)))
