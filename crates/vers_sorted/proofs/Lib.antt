@@ -20,6 +20,7 @@ pub mod SparseBits
 pub mod BothEnds
 pub mod Scans
 pub mod Aheads
+pub mod Behinds
 pub mod Besides
 pub mod Elements
 pub mod Marks

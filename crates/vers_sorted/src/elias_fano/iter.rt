@@ -44,24 +44,27 @@ impl<A: Allocator + Copy> Sorted for EliasFanoVec<A> {
     }
 }
 
-/// The elements of an ascending list, which iterators read one by one. It keeps the bits that it
-/// has read ahead of element `next`.
+/// The elements of an ascending list, which iterators read one by one. It keeps the bits that it has read: those from
+/// element `next` on, for a walk from the front, and those before element `end`, for one from the back.
 #[derive(Drop)]
 pub struct Elements<L: Sorted> {
     list: L,
     next: usize,
     ahead: Ahead,
+    end: usize,
+    behind: Ahead,
 }
 
 impl<L: Sorted> Model for Elements<L> {
     ghost use Rattle.std.specs.Prelude.{List, ℕ};
-    ghost use Rattle.vers_sorted.specs.inside.Ahead.{IsAhead};
+    ghost use Rattle.vers_sorted.specs.inside.Ahead.{IsAhead, IsBehind};
 
     ghost Value = { List ℕ };
 
     ghost view = { λ s. L.elements s.list };
 
-    ghost invariant = { λ s. IsAhead (L.elements s.list) s.next s.ahead };
+    ghost invariant = { λ s. IsAhead (L.elements s.list) s.next s.ahead
+        × IsBehind (L.elements s.list) s.end s.behind };
 }
 
 impl<L: Sorted> Elements<L> {
@@ -73,6 +76,8 @@ impl<L: Sorted> Elements<L> {
             list,
             next: 0,
             ahead: Ahead::none(),
+            end: 0,
+            behind: Ahead::none(),
         }
     }
 
@@ -119,7 +124,13 @@ impl<L: Sorted> Source for Elements<L> {
 
     #[inline(always)]
     fn item_at_back(&mut self, i: usize, tally: &mut Tally) -> u64 {
-        self.list.list().element(i, tally)
+        let list = self.list.list();
+        let _ = list.len();
+        if i + 1 != self.end {
+            self.behind = Ahead::none();
+        }
+        self.end = i;
+        list.element_behind(i, &mut self.behind, tally)
     }
 }
 

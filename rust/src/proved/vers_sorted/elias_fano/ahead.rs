@@ -1,4 +1,4 @@
-//! The bits of the high parts that a walk along the elements has read ahead.
+//! The bits of the high parts that a walk along the elements has read ahead, from the front or from the back.
 
 use crate::rattle::prelude::*;
 
@@ -60,6 +60,41 @@ impl<A: Allocator + Copy> EliasFanoVec<A> {
     #[inline(always)]
     pub(super) fn element_ahead(&self, i: usize, ahead: &mut Ahead, tally: &mut Tally) -> u64 {
         let high = (self.position_ahead(i, ahead, tally) - i - 1) as u64;
+        self.with_low_part(high, i, tally)
+    }
+
+    // Returns the position of the one of an element in a walk from the back, which mostly was read with a later one.
+    #[inline(always)]
+    fn position_behind(&self, i: usize, behind: &mut Ahead, tally: &mut Tally) -> usize {
+        let _ = self.high.len();
+        if behind.word != 0 {
+            return self.position_read_behind(i, behind);
+        }
+        let position = self.high.select1_counted(i, tally);
+        let len = position.min(64);
+        behind.position = position - len;
+        behind.len = len;
+        behind.word = self
+            .high
+            .get_bits_counted(position - len, len, tally)
+            .unwrap_or(0);
+        position
+    }
+
+    // Returns the position of the one of an element, which was read with a later one.
+    #[inline(always)]
+    fn position_read_behind(&self, i: usize, behind: &mut Ahead) -> usize {
+        let _ = self.high.len();
+        let highest = 63 - behind.word.leading_zeros() as usize;
+        behind.word %= 1 << highest;
+        behind.len = highest;
+        behind.position + highest
+    }
+
+    // Returns an element in a walk from the back, by the position of its one.
+    #[inline(always)]
+    pub(super) fn element_behind(&self, i: usize, behind: &mut Ahead, tally: &mut Tally) -> u64 {
+        let high = (self.position_behind(i, behind, tally) - i - 1) as u64;
         self.with_low_part(high, i, tally)
     }
 }

@@ -35,12 +35,14 @@ impl<A: Allocator + Copy> Sorted for EliasFanoVec<A> {
     }
 }
 
-/// The elements of an ascending list, which iterators read one by one. It keeps the bits that it
-/// has read ahead of element `next`.
+/// The elements of an ascending list, which iterators read one by one. It keeps the bits that it has read: those from
+/// element `next` on, for a walk from the front, and those before element `end`, for one from the back.
 pub struct Elements<L: Sorted> {
     list: L,
     next: usize,
     ahead: Ahead,
+    end: usize,
+    behind: Ahead,
 }
 
 impl<L: Sorted> Elements<L> {
@@ -50,6 +52,8 @@ impl<L: Sorted> Elements<L> {
             list,
             next: 0,
             ahead: Ahead::none(),
+            end: 0,
+            behind: Ahead::none(),
         }
     }
 
@@ -85,7 +89,13 @@ impl<L: Sorted> Source for Elements<L> {
 
     #[inline(always)]
     fn item_at_back(&mut self, i: usize, tally: &mut Tally) -> u64 {
-        self.list.list().element(i, tally)
+        let list = self.list.list();
+        let _ = list.len();
+        if i + 1 != self.end {
+            self.behind = Ahead::none();
+        }
+        self.end = i;
+        list.element_behind(i, &mut self.behind, tally)
     }
 }
 
