@@ -66,7 +66,7 @@ const LENGTHS: [usize; 8] = [0, 1, 4, 9, 65, 130, 513, 1100];
 
 // The gaps between the elements of a list.
 #[derive(Clone, Copy, Drop)]
-enum Lie {
+enum Spacing {
     Twice,
     Equal,
     Apart,
@@ -74,25 +74,30 @@ enum Lie {
 }
 
 // The last two ascend strictly, and can be positions of ones.
-const LIES: [Lie; 4] = [Lie::Twice, Lie::Equal, Lie::Apart, Lie::WithAGap];
+const SPACINGS: [Spacing; 4] = [
+    Spacing::Twice,
+    Spacing::Equal,
+    Spacing::Apart,
+    Spacing::WithAGap,
+];
 
-fn element(lie: Lie, i: u64) -> u64 {
-    match lie {
-        Lie::Twice => i / 2,
-        Lie::Equal => 7,
-        Lie::Apart => i.wrapping_mul(1_000_003),
-        Lie::WithAGap => i.wrapping_add(if i < 70 { 0 } else { 1 << 40 }),
+fn element(spacing: Spacing, i: u64) -> u64 {
+    match spacing {
+        Spacing::Twice => i / 2,
+        Spacing::Equal => 7,
+        Spacing::Apart => i.wrapping_mul(1_000_003),
+        Spacing::WithAGap => i.wrapping_add(if i < 70 { 0 } else { 1 << 40 }),
     }
 }
 
 fn elements<A: Allocator + Copy>(
     alloc: A,
-    lie: Lie,
+    spacing: Spacing,
     len: usize,
 ) -> Result<Vec<u64, A>, AllocError> {
     let mut numbers = Vec::new(alloc);
     for i in 0..len as u64 {
-        numbers.push(element(lie, i))?;
+        numbers.push(element(spacing, i))?;
     }
     Ok(numbers)
 }
@@ -134,11 +139,11 @@ fn made_gives<T: Walked>(
 // Returns true if the iterators over a list, that own one, and over the ones of a sparse list return the numbers.
 fn are_followed<A: Allocator + Copy>(
     alloc: A,
-    lie: Lie,
+    spacing: Spacing,
     numbers: &[u64],
     steps: &[Step],
 ) -> Result<bool, AllocError> {
-    let can_be_ones = matches!(lie, Lie::Apart | Lie::WithAGap);
+    let can_be_ones = matches!(spacing, Spacing::Apart | Spacing::WithAGap);
     Ok(
         made_gives(list_of(alloc, numbers), numbers, steps)?
             && made_gives(walk_over(alloc, numbers), numbers, steps)?
@@ -151,10 +156,10 @@ fn first_wrong_mixture<A: Allocator + Copy>(
     alloc: A,
     len: usize,
 ) -> Result<Option<usize>, AllocError> {
-    for lie in LIES {
-        let numbers = elements(alloc, lie, len)?;
+    for spacing in SPACINGS {
+        let numbers = elements(alloc, spacing, len)?;
         for (row, steps) in MIXTURES.iter().enumerate() {
-            if !are_followed(alloc, lie, numbers.as_slice(), steps)? {
+            if !are_followed(alloc, spacing, numbers.as_slice(), steps)? {
                 return Ok(Some(row));
             }
         }
