@@ -27,6 +27,7 @@ fn run_list(settings: &Settings, name: &str, numbers: &[u64], asked: Asked) {
     series.run("predecessor", asked.count, || folded(values.iter().map(|&it| list.predecessor(it).unwrap_or(NONE))));
     series.run("successor", asked.count, || folded(values.iter().map(|&it| list.successor(it).unwrap_or(NONE))));
     series.walk("iter", len, || summed(list.iter()));
+    series.walk("iter_back", len, || summed(list.iter().rev()));
 }
 
 /// The series `sorted`: lists of `len` members, far apart, with many equal ones, and with a dense cluster. The first

@@ -38,6 +38,11 @@ fn iter_pass(list: &Elements) -> u64 {
     sum_of(list.iter())
 }
 
+#[inline(never)]
+fn back_pass(list: &Elements) -> u64 {
+    sum_of(list.iter().rev())
+}
+
 /// The values that are queried: `span` values from `first` on, by `count` queries.
 #[derive(Clone, Copy)]
 struct Asked {
@@ -64,7 +69,8 @@ fn run_built(report: &Report, values: Asked, list: &Elements) -> io::Result<()> 
     report.queries("rank", list, &values, rank)?;
     report.queries("predecessor", list, &values, predecessor)?;
     report.queries("successor", list, &values, successor)?;
-    report.walk("iter", len, list, iter_pass)
+    report.walk("iter", len, list, iter_pass)?;
+    report.walk("iter_back", len, list, back_pass)
 }
 
 // Runs all series over a list of numbers. Numbers that don't ascend are skipped.

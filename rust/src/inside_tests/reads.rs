@@ -1,4 +1,4 @@
-//! Compares what counted calls read with what their counter says, over lists whose lengths lie around limbs, blocks and
+//! Compares what counted calls read with what their counter says, over lists with lengths near those of limbs, blocks and
 //! superblocks.
 //!
 //! A read is sorted by the type of the entry and by the line that reads: the counted vectors read in a few lines of
