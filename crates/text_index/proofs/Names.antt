@@ -26,7 +26,7 @@ pub use Rattle.text_index.specs.Makers.{count_reads, kept_reads, pattern_reads, 
 pub use Rattle.text_index.specs.Sizes.{column_of, greatest, kept_marks, kept_rows, number_width, packed_size}
 pub use Rattle.text_index.specs.Texts.{IsSuffixOrder, is_kept, row_of, symbols_before}
 unfoldable pub use Rattle.text_index.specs.Sizes.{kept_ranks}
-unfoldable pub use Rattle.text_index.specs.Texts.{begins_with, below, by_suffix, comes_before, positions_in_order, positions_of, occurs_at}
+unfoldable pub use Rattle.text_index.specs.Texts.{begins_with, suffixes_before, by_suffix, comes_before, positions_in_order, positions_of, occurs_at}
 pub use Rattle.text_index.specs.inside.Building.{OrdersBy, PairedUpTo, RankedUpTo, SameOrder, rank_of}
 pub use Rattle.text_index.specs.inside.Checking.{CheckedUpTo, HeadsAt, HeadsUpTo, LeadsBack, follows, led}
 pub use Rattle.text_index.specs.inside.Groups.{AreQueries, AsksFor, HasComeTo, HaveMoved, HaveRows, IsAbsent, taken_reads}

@@ -12,7 +12,7 @@ use Rattle.inverted.specs.Lists.{Lists}
 use Rattle.text_index.specs.Texts.{Text, row_of}
 use Rattle.text_index.specs.Sizes.{column_of, kept_rows}
 use Rattle.vers_wavelet.specs.Symbols.{Symbols}
-use Rattle.wavelet_tree.specs.Trees.{bits_of, starts_of}
+use Rattle.wavelet_tree.specs.Trees.{bits_in_tree, starts_of}
 use Rattle.vers_saved.specs.declared.TheConstants.{MAGIC, VERSION, LEVELS_VERSION, PARTS_VERSION, TREE_VERSION, START, FACTOR, TURN}
 
 -- the eight bytes of a word, the lowest first
@@ -140,7 +140,7 @@ column_symbols text = record { width = text.width; items = column_of text.items 
 
 -- the limbs of the bits of the wavelet tree of the column
 abbrev pub tree_limbs : Text → List ℕ
-tree_limbs text = limbs (bits_of (column_symbols text))
+tree_limbs text = limbs (bits_in_tree (column_symbols text))
 
 -- the limbs of the rows of its sampled positions, 32 bits each
 abbrev pub row_limbs : Text → List ℕ
@@ -148,7 +148,7 @@ row_limbs text = limbs (pack (kept_rows text.step text.items) 32)
 
 -- the numbers of a text: its length, the step of the samples, the row of the whole text, how many bits the tree has, and for each symbol how many elements of the column are below it
 abbrev pub text_numbers : Text → List ℕ
-text_numbers text = length text.items ∷ text.step ∷ row_of text.items 0 ∷ length (bits_of (column_symbols text)) ∷ starts_of (column_symbols text)
+text_numbers text = length text.items ∷ text.step ∷ row_of text.items 0 ∷ length (bits_in_tree (column_symbols text)) ∷ starts_of (column_symbols text)
 
 -- the words of the index of a text: its numbers, its tree, and its rows
 abbrev pub text_words : Text → List ℕ

@@ -10,7 +10,7 @@ use Rattle.std.proofs.lemmas.List.Splits.{slice_split_at, slice_split_none}
 use Rattle.vers_words.proofs.PublicLaws.{lacks, lacks_before, through_byte}
 use Rattle.vers_texts.specs.declared.fasta.FastaError.{FastaError}
 use Rattle.vers_texts.specs.declared.fasta.FastaError.TheVariants.{Memory}
-use Rattle.vers_texts.specs.Fasta.{IsNoFasta, fasta_fault, fasta_text, is_header, is_line, is_right_line, lines_in, name_in, symbols_of}
+use Rattle.vers_texts.specs.Fasta.{IsNoFasta, fasta_fault, fasta_text, is_header, is_line, is_right_line, lines_in, name_in, line_symbols}
 unfoldable use Rattle.vers_texts.specs.Fasta.{text_of_lines, wrong_line}
 
 -- the lines that are still to come
@@ -47,9 +47,9 @@ pub left_is : (left : Option (Bor (List ℕ))) (rest : Bor (List ℕ)) → left 
 left_is left rest is = rw is (refl, refl)
 
 -- one line more
-pub text_then : (text : List ℕ) (line : List ℕ) (lines : List (List ℕ)) → (text ++ symbols_of (name_in line) line) ++ text_of_lines lines ≡ text ++ text_of_lines (line ∷ lines)
+pub text_then : (text : List ℕ) (line : List ℕ) (lines : List (List ℕ)) → (text ++ line_symbols (name_in line) line) ++ text_of_lines lines ≡ text ++ text_of_lines (line ∷ lines)
 unfolding text_of_lines
-text_then text line lines = append_assoc text (symbols_of (name_in line) line) (text_of_lines lines)
+text_then text line lines = append_assoc text (line_symbols (name_in line) line) (text_of_lines lines)
 
 pub text_end : (text : List ℕ) → text ++ text_of_lines [] ≡ text
 unfolding text_of_lines
@@ -61,7 +61,7 @@ text_begun items (Ok t) file empty = ap (λ l. l ++ text_of_lines (lines_in file
 text_begun items (Err e) file empty = tt
 
 pub appended_then : {V E : Type 0} (items : V → List ℕ) (before after : Result V E) (line : List ℕ) (left lines : List (List ℕ)) (whole : List ℕ) → left ≡ line ∷ lines
-    → IfOk after (λ a. IsOkAnd before (λ b. items a ≡ items b ++ symbols_of (name_in line) line))
+    → IfOk after (λ a. IsOkAnd before (λ b. items a ≡ items b ++ line_symbols (name_in line) line))
     → IfOk before (λ b. items b ++ text_of_lines left ≡ whole) → IfOk after (λ a. items a ++ text_of_lines lines ≡ whole)
 appended_then items before (Err e) line left lines whole next more known = tt
 appended_then items (Err f) (Ok a) line left lines whole next more known = absurd more

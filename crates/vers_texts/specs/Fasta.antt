@@ -33,13 +33,13 @@ is_line begun (Some name) line = is_name name
 is_line begun None line = not (has_bytes line) || (begun && list_all is_residue line)
 
 -- the symbols of a line: its residues, or the name of a header between two line feeds, each byte with its highest bit set
-abbrev pub symbols_of : Option (List ℕ) → List ℕ → List ℕ
-symbols_of (Some name) line = 10 ∷ (map (λ b. 128 + b % 128) name ++ 10 ∷ [])
-symbols_of None line = line
+abbrev pub line_symbols : Option (List ℕ) → List ℕ → List ℕ
+line_symbols (Some name) line = 10 ∷ (map (λ b. 128 + b % 128) name ++ 10 ∷ [])
+line_symbols None line = line
 
 -- the symbols of lines
 unfoldable pub text_of_lines : List (List ℕ) → List ℕ
-text_of_lines lines = flat_map (λ line. symbols_of (name_in line) line) lines
+text_of_lines lines = flat_map (λ line. line_symbols (name_in line) line) lines
 
 -- whether a line is a header
 abbrev pub is_header : List ℕ → Bool

@@ -1,7 +1,7 @@
 -- Worked rows of the definitions, which compute.
 use Rattle.std.specs.Prelude.{◌≡◌, ℕ, ◌++◌, List, [], ◌∷◌, codes, Option, Some, None, refl}
 use Rattle.std.specs.Fmt.{digits}
-use Rattle.text_index.specs.Texts.{begins_with, below, by_suffix, comes_before, occurs_at, positions_in_order, positions_of}
+use Rattle.text_index.specs.Texts.{begins_with, suffixes_before, by_suffix, comes_before, occurs_at, positions_in_order, positions_of}
 use Rattle.vers_words.specs.Patterns.{gone_on, pattern_of, pattern_text}
 use Rattle.vers_words.specs.Text.{number_of}
 use Rattle.vers_engine.specs.Lines.{lines_of}
@@ -98,7 +98,7 @@ answer-positions_9 = refl
 
 -- the first two in the order of the suffixes
 pub answer-first_2 : answer_to held_21212 (codes "first 2 2") ≡ ended (codes "4 2")
-unfolding answer_to_parts number_of positions_in_order by_suffix below comes_before occurs_at begins_with digits
+unfolding answer_to_parts number_of positions_in_order by_suffix suffixes_before comes_before occurs_at begins_with digits
 answer-first_2 = refl
 
 -- a text in quotes is its bytes

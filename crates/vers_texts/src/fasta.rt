@@ -1,7 +1,7 @@
 //! FASTA files as texts.
 ghost use Rattle.std.specs.Prelude.{◌≡◌, ◌==◌, ◌||◌, ◌∷◌, ◌++◌, ◌%◌, ◌+◌, ◌<◌, [], map, length, position, None, IfOk, IfErr, IfSome, IsOkAnd, OnOk, option_map, MatchOption};
 ghost use Rattle.std.specs.List.{list_all};
-ghost use Rattle.vers_texts.specs.Fasta.{IsNoFasta, fasta_fault, fasta_text as text_of_fasta, is_line as are_line, is_name as are_name, is_residue, is_visible, lines_in, name_in as name_in_line, symbols_of};
+ghost use Rattle.vers_texts.specs.Fasta.{IsNoFasta, fasta_fault, fasta_text as text_of_fasta, is_line as are_line, is_name as are_name, is_residue, is_visible, lines_in, name_in as name_in_line, line_symbols};
 
 use std::alloc::{AllocError, Allocator};
 use vers_words::text::{position_of, without_return};
@@ -63,7 +63,7 @@ fn appended<A: Allocator>(
     line: &[u8],
 ) -> Result<Vec<u8, A>, AllocError>
     ensures { IfOk result (λ after. IsOkAnd text (λ before.
-        after.items ≡ before.items ++ symbols_of (name_in_line line.now) line.now)) }
+        after.items ≡ before.items ++ line_symbols (name_in_line line.now) line.now)) }
 {
     let mut text = text?;
     append_line(line, &mut text)?;
@@ -139,7 +139,7 @@ pub fn are_residues(bytes: &[u8]) -> bool
 // Appends the symbols of a line.
 fn append_line<A: Allocator>(line: &[u8], text: &mut Vec<u8, A>) -> Result<(), AllocError>
     ensures { OnOk result (text.new.items
-        ≡ text.old.items ++ symbols_of (name_in_line line.now) line.now) }
+        ≡ text.old.items ++ line_symbols (name_in_line line.now) line.now) }
 {
     let Some(name) = name_in(line) else {
         return text.extend_from_slice(line);

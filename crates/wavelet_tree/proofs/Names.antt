@@ -21,7 +21,7 @@ unfoldable pub use Rattle.vers_bits.specs.Bits.{count, limb}
 pub use Rattle.vers_tally.proofs.PublicLaws.{adds_nothing, adds_then, adds_weaker, within_itself}
 pub use Rattle.vers_tally.specs.Reads.{AddsAtMost, IsWithin, Reads, no_reads, only_items, only_nodes, times, plus}
 pub use Rattle.vers_wavelet.specs.Symbols.{Symbols}
-pub use Rattle.wavelet_tree.specs.Trees.{HasParts, Tree, bits_of, lesser, starts_of, nearer, tree_of}
+pub use Rattle.wavelet_tree.specs.Trees.{HasParts, Tree, bits_in_tree, lesser, starts_of, nearer, tree_of}
 unfoldable pub use Rattle.wavelet_tree.specs.Trees.{half_from, split, balanced, depth, forks, height, tree_bits}
 pub use Rattle.wavelet_tree.specs.Trees.Tree.{leaf, fork}
 pub use Rattle.wavelet_tree.specs.Queries.{access_fork_reads, access_reads, symbol_rank_reads, fork_reads, occurring, sorted_position, walk_reads, bit_count, tree_size, IsSortedRange, query_reads}

@@ -1,5 +1,5 @@
 -- The laws that proofs of other crates may cite. A crate above imports this file and no other of this folder.
-use Rattle.wavelet_tree.proofs.Names.{◌≡◌, ℕ, zero, suc, ◌+◌, ◌*◌, ◌++◌, ◌^◌, ◌∙◌, ◌≤◌, leb, ltb, List, map, length, length-filter_both, get_or, ap, sym, arith, inl, inr, cases_eq, cases_lt, eq-eqb, ne_eqb, lt-ltb, le-ltb, length-append, length-map, Symbols, Tree, leaf, fork, balanced, bits_of, depth, height, lows, highs, split, starts_of, tree_bits}
+use Rattle.wavelet_tree.proofs.Names.{◌≡◌, ℕ, zero, suc, ◌+◌, ◌*◌, ◌++◌, ◌^◌, ◌∙◌, ◌≤◌, leb, ltb, List, map, length, length-filter_both, get_or, ap, sym, arith, inl, inr, cases_eq, cases_lt, eq-eqb, ne_eqb, lt-ltb, le-ltb, length-append, length-map, Symbols, Tree, leaf, fork, balanced, bits_in_tree, depth, height, lows, highs, split, starts_of, tree_bits}
 use Rattle.wavelet_tree.proofs.Lists.{sides}
 
 -- no symbol is deeper than the deepest leaf
@@ -36,7 +36,7 @@ bits_within starts (suc n) low end xs =
     ]
 
 -- a tree has at most as many bits as the elements, times the symbols that there may be
-pub bits_few : (symbols : Symbols) → length (bits_of symbols) ≤ length symbols.items * 2 ^ symbols.width
+pub bits_few : (symbols : Symbols) → length (bits_in_tree symbols) ≤ length symbols.items * 2 ^ symbols.width
 bits_few symbols = bits_within (starts_of symbols) (2 ^ symbols.width) 0 (2 ^ symbols.width) symbols.items
 
 pub ruleset depth_law = (depth-le-height)

@@ -1,5 +1,5 @@
 -- The bits of a tree, as they are stored and saved.
-use Rattle.wavelet_tree.proofs.Names.{◌≡◌, ℕ, zero, suc, ◌+◌, ◌*◌, ◌^◌, ◌<◌, ◌≤◌, Bool, true, false, leb, List, [], ◌∷◌, ◌++◌, map, length, take, drop, get_or, refl, sym, ap, ◌∙◌, arith, append_assoc, drop-append-le, drop-cons, drop-drop, drop_all, get_or-drop, get_or-map, get_or-take, get_or_default, length-append, length-drop, length-map, length-take, same_lists, take-append-drop, bit_value, limb, number, part, Symbols, Tree, leaf, fork, bits_of, starts_of, tree_of, tree_bits, lows, highs, weight, IsFork, Stands, IsTreeOf, Node}
+use Rattle.wavelet_tree.proofs.Names.{◌≡◌, ℕ, zero, suc, ◌+◌, ◌*◌, ◌^◌, ◌<◌, ◌≤◌, Bool, true, false, leb, List, [], ◌∷◌, ◌++◌, map, length, take, drop, get_or, refl, sym, ap, ◌∙◌, arith, append_assoc, drop-append-le, drop-cons, drop-drop, drop_all, get_or-drop, get_or-map, get_or-take, get_or_default, length-append, length-drop, length-map, length-take, same_lists, take-append-drop, bit_value, limb, number, part, Symbols, Tree, leaf, fork, bits_in_tree, starts_of, tree_of, tree_bits, lows, highs, weight, IsFork, Stands, IsTreeOf, Node}
 use Rattle.wavelet_tree.proofs.Standing.{weight_fork}
 use Rattle.wavelet_tree.proofs.Growing.{weight_leaf}
 use Rattle.wavelet_tree.proofs.Beginning.{starts_many}
@@ -63,14 +63,14 @@ stored_bits (fork m l r) starts nodes bits used first start xs stands within =
     (ap (λ k. part bits k b) (omega arith) ∙ stored_bits r starts nodes bits used _ (start + n + a) (highs m xs) stands.2 within)
 
 -- a tree stores its bits and a zero
-pub ended_bits : {symbols : Symbols} {starts : List ℕ} {nodes : List Node} {bits : List Bool} {root width len : ℕ} → IsTreeOf symbols starts nodes bits root width len → bits ≡ bits_of symbols ++ false ∷ []
+pub ended_bits : {symbols : Symbols} {starts : List ℕ} {nodes : List Node} {bits : List Bool} {root width len : ℕ} → IsTreeOf symbols starts nodes bits root width len → bits ≡ bits_in_tree symbols ++ false ∷ []
 ended_bits {symbols} {starts} {nodes} {bits} is =
     let w : ℕ = weight (tree_of symbols) symbols.items in
     let inside : w < length bits = omega (arith, is.bits_are) in
-    let first : take w bits ≡ bits_of symbols = stored_bits (tree_of symbols) starts nodes bits w 0 0 symbols.items is.stands (omega (arith, inside)) in
+    let first : take w bits ≡ bits_in_tree symbols = stored_bits (tree_of symbols) starts nodes bits w 0 0 symbols.items is.stands (omega (arith, inside)) in
     let past : drop (suc w) bits ≡ [] = drop_all (suc w) bits (omega (arith, is.bits_are)) in
     let last : drop w bits ≡ false ∷ [] = drop-cons bits w true inside ∙ ap (λ (b : Bool). b ∷ drop (suc w) bits) is.ended ∙ ap (λ (l : List Bool). false ∷ l) past in
-    sym (take-append-drop w bits) ∙ ap (λ (l : List Bool). l ++ drop w bits) first ∙ ap (λ (l : List Bool). bits_of symbols ++ l) last
+    sym (take-append-drop w bits) ∙ ap (λ (l : List Bool). l ++ drop w bits) first ∙ ap (λ (l : List Bool). bits_in_tree symbols ++ l) last
 
 -- ---- what is saved
 
@@ -88,13 +88,13 @@ unfolding limb
 limb_ended bits k inside = ap (λ (l : List Bool). number (take 64 l)) (drop-append-le (64 * k) bits (false ∷ []) (omega (arith, inside))) ∙ number_ended 64 (drop (64 * k) bits)
 
 pub limb_saved : {symbols : Symbols} {starts : List ℕ} {nodes : List Node} {bits : List Bool} {root width len : ℕ} → IsTreeOf symbols starts nodes bits root width len
-    → (k : ℕ) → 64 * k < length (bits_of symbols) → (64 * k < length bits) × (limb bits k ≡ limb (bits_of symbols) k)
+    → (k : ℕ) → 64 * k < length (bits_in_tree symbols) → (64 * k < length bits) × (limb bits k ≡ limb (bits_in_tree symbols) k)
 limb_saved {symbols} {bits = bits} is k inside =
     let all = ended_bits is in
-    (omega (arith, inside, ap length all, length-append (bits_of symbols) (false ∷ [])), ap (λ (l : List Bool). limb l k) all ∙ limb_ended (bits_of symbols) k inside)
+    (omega (arith, inside, ap length all, length-append (bits_in_tree symbols) (false ∷ [])), ap (λ (l : List Bool). limb l k) all ∙ limb_ended (bits_in_tree symbols) k inside)
 
-pub count_saved : {symbols : Symbols} {starts : List ℕ} {nodes : List Node} {bits : List Bool} {root width len : ℕ} → IsTreeOf symbols starts nodes bits root width len → length bits ≡ length (bits_of symbols) + 1
-count_saved {symbols} is = ap length (ended_bits is) ∙ length-append (bits_of symbols) (false ∷ [])
+pub count_saved : {symbols : Symbols} {starts : List ℕ} {nodes : List Node} {bits : List Bool} {root width len : ℕ} → IsTreeOf symbols starts nodes bits root width len → length bits ≡ length (bits_in_tree symbols) + 1
+count_saved {symbols} is = ap length (ended_bits is) ∙ length-append (bits_in_tree symbols) (false ∷ [])
 
 pub start_saved : {symbols : Symbols} {starts : List ℕ} {nodes : List Node} {bits : List Bool} {root width len : ℕ} → IsTreeOf symbols starts nodes bits root width len
     → (s : ℕ) → s ≤ 2 ^ symbols.width → (s < length starts) × (get_or starts s 0 ≡ get_or (starts_of symbols) s 0)

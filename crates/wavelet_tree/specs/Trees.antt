@@ -61,8 +61,8 @@ tree_bits (leaf c) xs = []
 tree_bits (fork m l r) xs = map (λ x. nat_le m x) xs ++ (tree_bits l (filter (λ x. nat_lt x m) xs) ++ tree_bits r (filter (λ x. nat_le m x) xs))
 
 -- the bits of the tree of a list of symbols
-abbrev pub bits_of : Symbols → List Bool
-bits_of symbols = tree_bits (tree_of symbols) symbols.items
+abbrev pub bits_in_tree : Symbols → List Bool
+bits_in_tree symbols = tree_bits (tree_of symbols) symbols.items
 
 -- a list of fewer than 2 ^ 63 symbols of at most 16 bits is saved as these parts: how many of its elements are below each symbol, and the bits of its tree
 pub record HasParts (symbols : Symbols) (starts : List ℕ) (bits : List Bool) : Type 0 where
@@ -70,4 +70,4 @@ pub record HasParts (symbols : Symbols) (starts : List ℕ) (bits : List Bool) :
   pub small : All (λ s. s < 2 ^ symbols.width) symbols.items
   pub short : length symbols.items < 2 ^ 63
   pub starts_are : starts_of symbols ≡ starts
-  pub bits_are : bits_of symbols ≡ bits
+  pub bits_are : bits_in_tree symbols ≡ bits

@@ -3,7 +3,7 @@ ghost use Rattle.std.specs.Prelude.{◌≡◌, ◌+◌, ◌*◌, ◌^◌, ◌<�
 ghost use Rattle.vers_bits.specs.Bits.{limb};
 ghost use Rattle.vers_tally.specs.Reads.{AddsAtMost, only_items};
 ghost use Rattle.vers_wavelet.specs.Symbols.{Symbols};
-ghost use Rattle.wavelet_tree.specs.Trees.{HasParts, bits_of, starts_of};
+ghost use Rattle.wavelet_tree.specs.Trees.{HasParts, bits_in_tree, starts_of};
 ghost use Rattle.wavelet_tree.specs.declared.fault.PartsError.TheVariants.{NotAList};
 
 use crate::fault::PartsError;
@@ -51,7 +51,7 @@ impl<A: Allocator + Copy> WaveletTree<A> {
     /// Returns the number of bits of the tree: for each symbol one for each fork that leads to it.
     #[inline]
     pub fn tree_bit_count(&self) -> usize
-        ensures { result ≡ length (bits_of self.now) }
+        ensures { result ≡ length (bits_in_tree self.now) }
     {
         self.bits.len() - 1
     }
@@ -60,8 +60,8 @@ impl<A: Allocator + Copy> WaveletTree<A> {
     /// zeros past the last bit. Precondition: limb `k` contains at least one bit.
     #[inline]
     pub fn tree_limb(&self, k: usize) -> u64
-        requires { 64 * k < length (bits_of self.now) }
-        ensures { result ≡ limb (bits_of self.now) k }
+        requires { 64 * k < length (bits_in_tree self.now) }
+        ensures { result ≡ limb (bits_in_tree self.now) k }
     {
         self.bits.bits().limb(k)
     }
