@@ -28,24 +28,33 @@ adds_none a p = adds_weaker (adds_nothing a) (grind arith)
 digits_child : (m n : ℕ) → n / 2 ≡ m → 0 < n → digits n ≡ digits m + 1
 digits_child m n e h = omega (arith, digits_half n h, ap digits e)
 
--- going down: a node read at each level, which is one of two
+-- going down: the node at each level is one of two
 pub one_of_two : (b : Bool) → bool_byte b ≤ 1
 one_of_two b = omega (arith, bit_value_le b, byte_value b)
 
-pub read_down : (a b c : Reads) (node child : ℕ) → (child + 1) / 2 ≡ node + 1 → AddsAtMost a b (only_nodes (digits (node + 1) - 1)) → AddsAtMost b c (only_nodes 1) → AddsAtMost a c (only_nodes (digits (child + 1) - 1))
-read_down a b c node child e p q = grind (arith, digits_child, digits_half, adds_then)
+-- two nodes read at each level, and one before the first
+pub read_down : (a b c d : Reads) (node child : ℕ) → (child + 1) / 2 ≡ node + 1 → AddsAtMost a b (only_nodes (2 * digits (node + 1) - 1)) → AddsAtMost b c (only_nodes 1) → AddsAtMost c d (only_nodes 1)
+    → AddsAtMost a d (only_nodes (2 * digits (child + 1) - 1))
+read_down a b c d node child e p q r =
+    let both : AddsAtMost b d (only_nodes 2) = adds_then q r (grind arith) in
+    adds_then p both (grind (arith, digits_child, digits_half))
 
-pub down_ends : (a b : Reads) (node first : ℕ) → node ≤ 2 * first → AddsAtMost a b (only_nodes (digits (node + 1) - 1)) → AddsAtMost a b (only_nodes (digits first))
+pub down_begins : (a b : Reads) (node : ℕ) → AddsAtMost a b (only_nodes 1) → AddsAtMost a b (only_nodes (2 * digits (node + 1) - 1))
+down_begins a b node p = adds_weaker p (grind (arith, digits_half))
+
+pub down_ends : (a b : Reads) (node first : ℕ) → node ≤ 2 * first → AddsAtMost a b (only_nodes (2 * digits (node + 1) - 1)) → AddsAtMost a b (only_nodes (2 * digits first + 1))
 down_ends a b node first h p = grind (arith, digits_up, digits_child, adds_weaker)
 
 -- climbing: at most a node read at each level
 pub read_up : (a b c : Reads) (first node up : ℕ) → node ≤ 2 * first → digits (up + 1) + 1 ≤ digits (node + 1) → AddsAtMost a b (only_nodes (digits (2 * first + 1) - digits (node + 1))) → AddsAtMost b c (only_nodes 1) → AddsAtMost a c (only_nodes (digits (2 * first + 1) - digits (up + 1)))
 read_up a b c first node up h d p q = grind (arith, digits_up, adds_then)
 
-pub up_ends : (a b : Reads) (first node : ℕ) → node ≤ 2 * first → AddsAtMost a b (only_nodes (digits (2 * first + 1) - digits (node + 1))) → AddsAtMost a b (only_nodes (2 * digits first))
+pub up_ends : (a b : Reads) (first node : ℕ) → node ≤ 2 * first → AddsAtMost a b (only_nodes (digits (2 * first + 1) - digits (node + 1))) → AddsAtMost a b (only_nodes (4 * digits first))
 up_ends a b first node h p = grind (arith, digits_child, digits_half, adds_weaker)
 
 -- the last step up, which reads a node, and then nothing or the way down
-pub up_then_down : (a b c d : Reads) (first node : ℕ) → node ≤ 2 * first → 0 < node → AddsAtMost a b (only_nodes (digits (2 * first + 1) - digits (node + 1))) → AddsAtMost b c (only_nodes 1) → AddsAtMost c d (only_nodes (digits first)) → AddsAtMost a d (only_nodes (2 * digits first))
+pub up_then_down : (a b c d : Reads) (first node : ℕ) → node ≤ 2 * first → 0 < node → AddsAtMost a b (only_nodes (digits (2 * first + 1) - digits (node + 1))) → AddsAtMost b c (only_nodes 1) → AddsAtMost c d (only_nodes (2 * digits first + 1)) → AddsAtMost a d (only_nodes (4 * digits first))
 up_then_down a b c d first node h some p q r =
-    let u : AddsAtMost a c (only_nodes (digits first)) = adds_then p q (grind (arith, digits_child, digits_half, digits_up)) in adds_then u r (grind arith)
+    let u : AddsAtMost a c (only_nodes (digits first)) = adds_then p q (grind (arith, digits_child, digits_half, digits_up)) in
+    let one : 1 ≤ digits first = grind (arith, digits_half) in
+    adds_then u r (grind arith)

@@ -88,7 +88,7 @@ module _ (back : Bool) (s : Sought) (first : ℕ) (nodes : List Node) (block : �
           absurd ((rw (e, g) at q).none k.0 (grind (arith, k.1, k.2)) (omega (arith, ints)))
 
 -- what it reads then: the tree's nodes, and the bits of a block
-module _ (back : Bool) (s : Sought) (first : ℕ) (nodes : List Node) (block : ℕ) (rise : ℤ) (p : IsPassed back s first nodes block rise) (a b : Reads) (h : AddsAtMost a b (only_nodes (2 * digits first))) where
+module _ (back : Bool) (s : Sought) (first : ℕ) (nodes : List Node) (block : ℕ) (rise : ℤ) (p : IsPassed back s first nodes block rise) (a b : Reads) (h : AddsAtMost a b (only_nodes (4 * digits first))) where
   few : digits first ≤ levels s.size (length s.bits)
   few = (p.indexed.over (omega arith)).few
 

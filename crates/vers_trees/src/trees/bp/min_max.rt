@@ -156,6 +156,24 @@ impl<A: Allocator + Copy> MinMaxTree<A> {
         self.node_counted(0, tally)
     }
 
+    // Returns the left child of node `i`.
+    #[inline(always)]
+    fn left_child_counted(&self, i: usize, tally: &mut Tally) -> Node
+        ensures value { 2 * i + 1 < 2 ^ 64 → result ≡ slice_index_or self.now.nodes (2 * i + 1) empty_node }
+        ensures adds { AddsAtMost tally.old tally.new (only_nodes 1) }
+    {
+        self.node_counted(i.wrapping_mul(2).wrapping_add(1), tally)
+    }
+
+    // Returns the right child of node `i`.
+    #[inline(always)]
+    fn right_child_counted(&self, i: usize, tally: &mut Tally) -> Node
+        ensures value { 2 * i + 2 < 2 ^ 64 → result ≡ slice_index_or self.now.nodes (2 * i + 2) empty_node }
+        ensures adds { AddsAtMost tally.old tally.new (only_nodes 1) }
+    {
+        self.node_counted(i.wrapping_mul(2).wrapping_add(2), tally)
+    }
+
     // Returns the first block below the node at `position` that has a position with the sum of a search, whose
     // remainder there is `left`; and the remainder at that block.
     #[inline(always)]
@@ -164,15 +182,19 @@ impl<A: Allocator + Copy> MinMaxTree<A> {
         requires leads { (s : Sought) × LeadsTo false s self.now.first self.now.nodes position left }
         ensures found { (s : Sought) → LeadsTo false s self.now.first self.now.nodes position left
             → IsAhead false s result.0 (result.0 + 1) result.1 }
-        ensures adds { AddsAtMost tally.old tally.new (only_nodes (digits self.now.first)) }
+        ensures adds { AddsAtMost tally.old tally.new (only_nodes (2 * digits self.now.first + 1)) }
     {
         let mut node = position;
+        let mut below = self.left_child_counted(node, tally);
         while node < self.first {
-            // No branch on where the sum is, which would often be mispredicted.
-            let below = self.node_counted(2 * node + 1, tally);
+            // Both nodes that may be tested next are read before it is known which, so that a step doesn't wait for
+            // memory. No branch on where the sum is, which would often be mispredicted.
+            let near = self.left_child_counted(2 * node + 1, tally);
+            let far = self.left_child_counted(2 * node + 2, tally);
             let is_past = !below.reaches(left);
             left -= if is_past { below.total } else { 0 };
             node = 2 * node + 1 + usize::from(is_past);
+            below = either(is_past, near, far);
         }
         (node - self.first, left)
     }
@@ -189,7 +211,7 @@ impl<A: Allocator + Copy> MinMaxTree<A> {
         requires begins { (s : Sought) × BeginsAt false s self.now.first self.now.nodes begin left }
         ensures value { (s : Sought) → BeginsAt false s self.now.first self.now.nodes begin left
             → MatchOption result (HasNone false s) (λ p. IsAhead false s p.0 (p.0 + 1) p.1) }
-        ensures adds { AddsAtMost tally.old tally.new (only_nodes (2 * digits self.now.first)) }
+        ensures adds { AddsAtMost tally.old tally.new (only_nodes (4 * digits self.now.first)) }
     {
         if begin >= self.first {
             return None;
@@ -220,15 +242,18 @@ impl<A: Allocator + Copy> MinMaxTree<A> {
         requires leads { (s : Sought) × LeadsTo true s self.now.first self.now.nodes position left }
         ensures found { (s : Sought) → LeadsTo true s self.now.first self.now.nodes position left
             → IsAhead true s result.0 (result.0 + 1) result.1 }
-        ensures adds { AddsAtMost tally.old tally.new (only_nodes (digits self.now.first)) }
+        ensures adds { AddsAtMost tally.old tally.new (only_nodes (2 * digits self.now.first + 1)) }
     {
         let mut node = position;
+        let mut below = self.right_child_counted(node, tally);
         while node < self.first {
-            let below = self.node_counted(2 * node + 2, tally);
+            let near = self.right_child_counted(2 * node + 2, tally);
+            let far = self.right_child_counted(2 * node + 1, tally);
             let before = left + below.total;
             let is_past = !below.meets(before);
             left = if is_past { before } else { left };
             node = 2 * node + 2 - usize::from(is_past);
+            below = either(is_past, near, far);
         }
         (node - self.first, left)
     }
@@ -245,7 +270,7 @@ impl<A: Allocator + Copy> MinMaxTree<A> {
         requires begins { (s : Sought) × BeginsAt true s self.now.first self.now.nodes begin left }
         ensures value { (s : Sought) → BeginsAt true s self.now.first self.now.nodes begin left
             → MatchOption result (HasNone true s) (λ p. IsAhead true s p.0 (p.0 + 1) p.1) }
-        ensures adds { AddsAtMost tally.old tally.new (only_nodes (2 * digits self.now.first)) }
+        ensures adds { AddsAtMost tally.old tally.new (only_nodes (4 * digits self.now.first)) }
     {
         let mut node = node_before(self.first + begin);
         while node > 0 {
@@ -260,6 +285,15 @@ impl<A: Allocator + Copy> MinMaxTree<A> {
         }
         None
     }
+}
+
+// Returns one of two nodes.
+#[inline(always)]
+fn either(is_far: bool, near: Node, far: Node) -> Node
+    ensures near { is_far ≡ false → result ≡ near }
+    ensures far { is_far ≡ true → result ≡ far }
+{
+    if is_far { far } else { near }
 }
 
 // Returns the node over the blocks right after those of `node`: the right sibling of it, or of the nearest

@@ -127,17 +127,33 @@ impl<A: Allocator + Copy> MinMaxTree<A> {
         self.node_counted(0, tally)
     }
 
+    // Returns the left child of node `i`.
+    #[inline(always)]
+    fn left_child_counted(&self, i: usize, tally: &mut Tally) -> Node {
+        self.node_counted(i.wrapping_mul(2).wrapping_add(1), tally)
+    }
+
+    // Returns the right child of node `i`.
+    #[inline(always)]
+    fn right_child_counted(&self, i: usize, tally: &mut Tally) -> Node {
+        self.node_counted(i.wrapping_mul(2).wrapping_add(2), tally)
+    }
+
     // Returns the first block below the node at `position` that has a position with the sum of a search, whose
     // remainder there is `left`; and the remainder at that block.
     #[inline(always)]
     fn descend_counted(&self, position: usize, mut left: i64, tally: &mut Tally) -> (usize, i64) {
         let mut node = position;
+        let mut below = self.left_child_counted(node, tally);
         while node < self.first {
-            // No branch on where the sum is, which would often be mispredicted.
-            let below = self.node_counted(2 * node + 1, tally);
+            // Both nodes that may be tested next are read before it is known which, so that a step doesn't wait for
+            // memory. No branch on where the sum is, which would often be mispredicted.
+            let near = self.left_child_counted(2 * node + 1, tally);
+            let far = self.left_child_counted(2 * node + 2, tally);
             let is_past = !below.reaches(left);
             left -= if is_past { below.total } else { 0 };
             node = 2 * node + 1 + usize::from(is_past);
+            below = either(is_past, near, far);
         }
         (node - self.first, left)
     }
@@ -177,12 +193,15 @@ impl<A: Allocator + Copy> MinMaxTree<A> {
         tally: &mut Tally,
     ) -> (usize, i64) {
         let mut node = position;
+        let mut below = self.right_child_counted(node, tally);
         while node < self.first {
-            let below = self.node_counted(2 * node + 2, tally);
+            let near = self.right_child_counted(2 * node + 2, tally);
+            let far = self.right_child_counted(2 * node + 1, tally);
             let before = left + below.total;
             let is_past = !below.meets(before);
             left = if is_past { before } else { left };
             node = 2 * node + 2 - usize::from(is_past);
+            below = either(is_past, near, far);
         }
         (node - self.first, left)
     }
@@ -209,6 +228,12 @@ impl<A: Allocator + Copy> MinMaxTree<A> {
         }
         None
     }
+}
+
+// Returns one of two nodes.
+#[inline(always)]
+fn either(is_far: bool, near: Node, far: Node) -> Node {
+    if is_far { far } else { near }
 }
 
 // Returns the node over the blocks right after those of `node`: the right sibling of it, or of the nearest
