@@ -6,30 +6,31 @@
  *      auto numbers = vers::EliasFanoVec::from({2, 5, 90});   // nullopt if they don't ascend
  *      if (auto next = numbers->successor(17)) use(*next);    // nullopt if there is none
  *
- *  Owners. Each object owns its list, is moved and not copied, and frees it when it is destroyed. One that was moved
- *  from owns nothing: it answers 0 or nullopt, its clone owns nothing either, and so do the Numbers that it answers.
+ *  Owners. Each object owns its list, can be moved but not copied, and frees the list when it is destroyed. A moved-from
+ *  object owns nothing: its queries return 0 or nullopt, and its clone and the Numbers that it returns own nothing.
  *
  *  Constructors. `from`, `from_words` and `from_bits` take a pointer and a length, two iterators, or a range: a
  *  container, a span, a view, numbers in braces. The other arguments that a class names follow, such as a width; only
  *  InvertedIndex takes its limits first: `from(limit, universe, terms, documents)`. They return the list, or
- *  std::optional of it if the arguments can be refused: then nullopt. With a Status last they return std::optional,
- *  throw only what an iterator throws, and the status says why there is no list.
- *  Null is for a length of 0. Null with another length is refused, or the list owns nothing. An array of 64-bit
- *  numbers is read without a copy. Iterators and ranges are over unsigned whole numbers, those of `from_bits` over
- *  whole numbers or truth values: others, and the characters of a text, don't compile.
+ *  std::optional of it if the arguments can be refused. With a Status as the last argument they return std::optional,
+ *  throw only what an iterator throws, and set the status to the reason if there is no list.
+ *  Null is accepted with length 0. Null with another length is refused, or the list owns nothing. An array of 64-bit
+ *  numbers is read without a copy. Iterators and ranges are over unsigned integers, those of `from_bits` over
+ *  integers or truth values: others, and the characters of a text, don't compile.
  *
  *  Patterns. That of a TextIndex is a pointer and a length, or such a range.
  *
  *  Ranges. A list with `begin` and `end` is a range, with random access in C++20. An iterator refers to the object of
- *  its list: it is invalid once that object is moved from, moved to or destroyed, as by a container of lists that grows.
+ *  its list: it is invalid once that object is moved from, moved to or destroyed, such as by a container of lists that
+ *  grows.
  *  Lists compare by their contents.
  *
- *  Exceptions. Only std::bad_alloc, if memory is out. If exceptions are off, or VERS_NO_EXCEPTIONS is defined, nothing
- *  throws: a change answers Status::no_memory, and a constructor without a Status, or == of a TextIndex, ends the
+ *  Exceptions. Only std::bad_alloc, if an allocation fails. If exceptions are off, or VERS_NO_EXCEPTIONS is defined,
+ *  nothing throws: a change returns Status::no_memory, and a constructor without a Status, or == of a TextIndex, ends the
  *  program.
  *
- *  Threads. An object is used by one thread at a time, though its queries are `const`, which says that the list stays
- *  as it is. Each thread asks an owner of its own, which `clone` makes in constant time. */
+ *  Threads. One thread at a time uses an object, although its queries are `const`, which means that the list doesn't
+ *  change. Each thread uses an owner of its own, which `clone` makes in constant time. */
 #ifndef VERS_HPP
 #define VERS_HPP
 
@@ -50,7 +51,7 @@
 
 namespace vers {
 
-/** How a call went: the statuses of vers.h. */
+/** The result of a call: the statuses of vers.h. */
 enum class Status : std::uint32_t {
     done = VERS_DONE,
     absent = VERS_ABSENT,
@@ -71,13 +72,13 @@ enum class Status : std::uint32_t {
     not_a_text = VERS_NOT_A_TEXT,
 };
 
-/** What a status says, in words. */
+/** Returns the text of a status. */
 inline const char *text(Status status) noexcept { return vers_status_text(static_cast<std::uint32_t>(status)); }
 
-/** A number that an answer of `each` and `rows` is where there is none, unless another is named. */
+/** The number that `each` and `rows` write if there is no answer, unless the caller passes another one. */
 constexpr std::uint64_t none = UINT64_MAX;
 
-/** Three numbers of a query that is asked among many. */
+/** The three numbers of one query of a batch. */
 using Row = vers_row;
 
 class TextIndex;
@@ -138,7 +139,7 @@ public:
     std::size_t size() const noexcept { return count_; }
     std::uint64_t &back() noexcept { return numbers_[count_ - 1]; }
 
-    /** Whether there was memory for one more number. */
+    /** Returns whether there was memory for one more number. */
     bool append(std::uint64_t number) noexcept {
         if (count_ == room_) {
             const std::size_t room = 2 * room_ + 64;
@@ -188,7 +189,7 @@ auto with_numbers(Range &range, Status &status, Make &&make) -> decltype(make(nu
     }
 }
 
-/** The same with the truth values of a range, as words, how many these are, and how many bits. */
+/** Does the same with the truth values of a range, as words, how many these are, and how many bits. */
 template <class Range, class Make>
 auto with_bits(Range &range, Status &status, Make &&make) -> decltype(make(nullptr, 0, 0)) {
     static_assert(std::is_integral_v<Item<Range>>, "the items are truth values, or whole numbers");
@@ -262,8 +263,8 @@ public:
     }
     ~Owner() { vers_free(&raw_.handle); }
 
-    /** One more owner of the list, for another thread. Takes constant time. Of an object that owns nothing, another
-     *  one, or Status::vacant. */
+    /** Returns another owner of the list, for another thread, in constant time. Of an object that owns nothing,
+     *  another one, or Status::vacant. */
     List clone() const {
         Status status;
         return needed(clone(status), status);
@@ -272,36 +273,38 @@ public:
         return made(status, [&](Raw *raw) { return vers_clone(handle(), &raw->handle); });
     }
 
-    /** The number of items. `size` is the same, except that a BpTree has as many nodes. */
+    /** Returns the number of items. `size` is the same, except that a BpTree has as many nodes. */
     std::uint64_t len() const noexcept { return ask(VERS_LEN).value; }
     std::uint64_t size() const noexcept { return len(); }
     bool is_empty() const noexcept { return len() == 0; }
-    /** The item at a position; 0 past the end, for which `get` answers nullopt. */
+    /** Returns the item at a position; 0 past the end, for which `get` returns nullopt. */
     std::uint64_t operator[](std::uint64_t position) const noexcept {
         return static_cast<const List &>(*this).get(position).value_or(0);
     }
-    /** How many bytes of the heap the list takes. 0 for Numbers, which have no such query. */
+    /** Returns the number of bytes of the heap that the list takes. 0 for Numbers, which have no such query. */
     std::uint64_t heap_size() const noexcept { return ask(VERS_HEAP_SIZE).value; }
 
-    /** Replaces each number by the answer of a query of one number to it, and `other` where there is no answer.
+    /** Replaces each number by the answer of a query of this number, or by `other` if there is no answer.
      *  Status::unknown if the list has no such query, and the numbers stay. */
     Status each(vers_query query, std::uint64_t *numbers, std::size_t count,
                 std::uint64_t other = none) const noexcept {
         return static_cast<Status>(vers_asked_each(&raw_.handle, query, numbers, count, 0, 0, other));
     }
 
-    /** The same for queries of up to three numbers, a, b and c: the answer takes the position of a. */
+    /** Replaces the a of each row by the answer of a query of its a, b and c, as `each` does. */
     Status rows(vers_query query, Row *rows, std::size_t count, std::uint64_t other = none) const noexcept {
         return static_cast<Status>(vers_asked_rows(&raw_.handle, query, rows, count, other));
     }
 
-    /** How many bytes the saved form has. nullopt if there is none: of symbols without bits, and of Numbers. */
+    /** Returns the number of bytes of the saved form. nullopt if there is none: of symbols without bits, and of
+     *  Numbers. */
     std::optional<std::uint64_t> saved_size() const noexcept { return found(vers_saved_size(handle())); }
 
-    /** Writes the saved form over `count` bytes, as many as `saved_size` says; Status::refused for another count. */
+    /** Writes the saved form to `count` bytes, which is what `saved_size` returns; Status::refused for another
+     *  count. */
     Status save(std::uint8_t *bytes, std::size_t count) const { return thrown(vers_saved(handle(), bytes, count)); }
 
-    /** Loads a list from its saved form. nullopt if they are of no such list; the status says why. */
+    /** Loads a list from its saved form. nullopt for other bytes; the status names the test that fails. */
     static std::optional<List> load(const std::uint8_t *bytes, std::size_t count) {
         Status status;
         return wanted(load(bytes, count, status), status);
@@ -313,10 +316,10 @@ public:
         });
     }
 
-    /** The list as one of vers.h, which stays this object's. */
+    /** Returns the list as one of vers.h, which this object still owns. */
     const Raw *raw() const noexcept { return &raw_; }
 
-    /** Whether two lists have the same contents, or both own nothing. */
+    /** Returns whether two lists have the same contents, or both own nothing. */
     friend bool operator==(const List &one, const List &other) { return are_equal(one, other); }
     friend bool operator!=(const List &one, const List &other) { return !are_equal(one, other); }
 
@@ -344,10 +347,11 @@ protected:
         return one.has_contents_of(other);
     }
 
-    /** Whether another list of the same length has the same contents. */
+    /** Returns whether another list of the same length has the same contents. */
     bool has_contents_of(const List &other) const { return agrees(other, VERS_GET, len()); }
 
-    /** Whether a query answers the same in another list for each of the numbers 0, `step`, 2 `step` .. below `end`. */
+    /** Returns whether a query answers the same in another list for each of the numbers 0, `step`, 2 `step` .. below
+     *  `end`. */
     bool agrees(const List &other, vers_query query, std::uint64_t end, std::uint64_t step = 1,
                 std::uint64_t b = 0) const noexcept {
         std::uint64_t here[256], there[256];
@@ -362,7 +366,7 @@ protected:
         return true;
     }
 
-    /** The same for all bits, 64 at a time. */
+    /** Does the same for all bits, 64 at a time. */
     bool has_bits_of(const List &other) const noexcept {
         const std::uint64_t rest = len() % 64, last = len() - rest;
         return agrees(other, VERS_GET_BITS, last, 64, 64) &&
@@ -420,7 +424,8 @@ inline constexpr auto narrow_build<vers_text_build, std::uint8_t> = vers_text_bu
 template <>
 inline constexpr auto narrow_build<vers_text_build, std::uint16_t> = vers_text_build_u16s;
 
-/** Whether there is such a call, by its type: under -fsanitize=undefined, g++ compares no address in a constant. */
+/** Returns whether there is such a call, by its type: under -fsanitize=undefined, g++ compares no address in a
+ *  constant. */
 template <auto Build, class Number>
 inline constexpr bool has_narrow_build = !std::is_same_v<decltype(narrow_build<Build, Number>), const std::nullptr_t>;
 
@@ -486,7 +491,7 @@ class FromBits {
     using FromWords = FromNumbers<List, List, Build, std::size_t>;
 
 public:
-    /** The first `length` bits of `count` words, or all of them; the lowest bit of a word comes first. */
+    /** Returns the first `length` bits of `count` words, or all of them; the lowest bit of a word comes first. */
     static List from_words(const std::uint64_t *words, std::size_t count, std::size_t length) {
         return FromWords::from(words, count, length);
     }
@@ -570,10 +575,10 @@ public:
     /** No bits. */
     BitVec() : BitVec(from_words(nullptr, 0, 0)) {}
 
-    /** The bit at a position, 1 or 0. */
+    /** Returns the bit at a position, 1 or 0. */
     std::optional<std::uint64_t> get(std::uint64_t position) const noexcept { return find(VERS_GET, position); }
-    /** The number of the `count` bits from a position on, the lowest first. nullopt if there are fewer, or they
-     *  are none or more than 64. */
+    /** Returns the `count` bits from a position on as a number, the lowest first. nullopt if there are fewer, or
+     *  they are none or more than 64. */
     std::optional<std::uint64_t> get_bits(std::uint64_t position, std::uint64_t count) const noexcept {
         return find(VERS_GET_BITS, position, count);
     }
@@ -581,7 +586,7 @@ public:
     Status append(bool bit) { return change(VERS_PUSH, bit); }
     /** Appends the low bits of a number, the lowest first. Status::refused if they are more than 64. */
     Status append_bits(std::uint64_t bits, std::uint64_t count) { return change(VERS_APPEND, bits, count); }
-    /** Status::refused for a position past the end. */
+    /** Changes a bit. Status::refused for a position past the end. */
     Status set(std::uint64_t position, bool bit) { return change(VERS_SET, position, bit); }
     /** Drops the last `count` bits, or all. */
     Status drop_last(std::uint64_t count) { return change(VERS_DROP_LAST, count); }
@@ -602,35 +607,36 @@ public:
     /** Owns nothing, until a list is moved to it. */
     RsVec() noexcept = default;
 
-    /** The bit at a position, 1 or 0. */
+    /** Returns the bit at a position, 1 or 0. */
     std::optional<std::uint64_t> get(std::uint64_t position) const noexcept {
         return detail::found(vers_bits_get(&raw_, position));
     }
-    /** The number of the `count` bits from a position on, the lowest first; 0 for none. nullopt if there are
+    /** Returns the `count` bits from a position on as a number, the lowest first; 0 for none. nullopt if there are
      *  fewer, or they are more than 64. */
     std::optional<std::uint64_t> get_bits(std::uint64_t position, std::uint64_t count) const noexcept {
         return find(VERS_GET_BITS, position, count);
     }
-    /** The number of ones, or zeros, before a position; of all past the end. */
+    /** Returns the number of ones, or zeros, before a position; of all of them past the end. */
     std::uint64_t rank1(std::uint64_t position) const noexcept { return vers_bits_rank1(&raw_, position).value; }
     std::uint64_t rank0(std::uint64_t position) const noexcept { return vers_bits_rank0(&raw_, position).value; }
-    /** The position of a one, or zero, by its number from 0 on; the length if there are no more, while that of symbols
-     *  is nullopt. */
+    /** Returns the position of the one, or zero, with an index from 0 on; the length if there is none, while that of
+     *  symbols is nullopt. */
     std::uint64_t select1(std::uint64_t number) const noexcept { return vers_bits_select1(&raw_, number).value; }
     std::uint64_t select0(std::uint64_t number) const noexcept { return vers_bits_select0(&raw_, number).value; }
 
-    /** How many ones, or zeros, there are. */
+    /** Returns the number of ones, or zeros. */
     std::uint64_t ones() const noexcept { return vers_bits_ones(&raw_).value; }
     std::uint64_t zeros() const noexcept { return vers_bits_zeros(&raw_).value; }
-    /** The least position of a one, or zero, strictly above a position; that of an ascending list is at or above. */
+    /** Returns the least position of a one, or zero, strictly above a position; that of an ascending list is at or
+     *  above. */
     std::optional<std::uint64_t> successor1(std::uint64_t position) const noexcept {
         return detail::found(vers_bits_successor1(&raw_, position));
     }
     std::optional<std::uint64_t> successor0(std::uint64_t position) const noexcept {
         return detail::found(vers_bits_successor0(&raw_, position));
     }
-    /** The greatest position of a one, or zero, strictly below a position, which may be past the end; that of an
-     *  ascending list is at or below. */
+    /** Returns the greatest position of a one, or zero, strictly below a position, which may be past the end; that
+     *  of an ascending list is at or below. */
     std::optional<std::uint64_t> predecessor1(std::uint64_t position) const noexcept {
         return detail::found(vers_bits_predecessor1(&raw_, position));
     }
@@ -656,13 +662,13 @@ public:
     /** Owns nothing, until a list is moved to it. */
     SparseRSVec() noexcept = default;
 
-    /** The bit at a position, 1 or 0. */
+    /** Returns the bit at a position, 1 or 0. */
     std::optional<std::uint64_t> get(std::uint64_t position) const noexcept { return find(VERS_GET, position); }
-    /** The number of ones, or zeros, before a position; of all past the end. */
+    /** Returns the number of ones, or zeros, before a position; of all of them past the end. */
     std::uint64_t rank1(std::uint64_t position) const noexcept { return ask(VERS_RANK1, position).value; }
     std::uint64_t rank0(std::uint64_t position) const noexcept { return ask(VERS_RANK0, position).value; }
-    /** The position of a one by its number from 0 on; the length if there are no more, while that of symbols is
-     *  nullopt. */
+    /** Returns the position of the one with an index from 0 on; the length if there is none, while that of symbols
+     *  is nullopt. */
     std::uint64_t select1(std::uint64_t number) const noexcept { return ask(VERS_SELECT1, number).value; }
 
     detail::Items<SparseRSVec> begin() const noexcept { return {this, 0}; }
@@ -687,19 +693,19 @@ public:
     std::optional<std::uint64_t> get(std::uint64_t position) const noexcept {
         return detail::found(vers_sorted_get(&raw_, position));
     }
-    /** How many elements are below a number. */
+    /** Returns the number of elements below a number. */
     std::uint64_t rank(std::uint64_t number) const noexcept { return vers_sorted_rank(&raw_, number).value; }
-    /** Whether a number is an element. */
+    /** Returns whether a number is an element. */
     bool has(std::uint64_t number) const noexcept { return ask(VERS_HAS, number).value == 1; }
-    /** The greatest element at or below a number; that of bits is strictly below. */
+    /** Returns the greatest element at or below a number; that of bits is strictly below. */
     std::optional<std::uint64_t> predecessor(std::uint64_t number) const noexcept {
         return detail::found(vers_sorted_predecessor(&raw_, number));
     }
-    /** The least element at or above a number; that of bits is strictly above. */
+    /** Returns the least element at or above a number; that of bits is strictly above. */
     std::optional<std::uint64_t> successor(std::uint64_t number) const noexcept {
         return detail::found(vers_sorted_successor(&raw_, number));
     }
-    /** The element at a position less the one before it; the first element itself. */
+    /** Returns the element at a position less the one before it; the first element itself. */
     std::optional<std::uint64_t> delta(std::uint64_t position) const noexcept { return find(VERS_DELTA, position); }
 
     detail::Items<EliasFanoVec> begin() const noexcept { return {this, 0}; }
@@ -722,42 +728,42 @@ public:
     using Found = std::optional<std::uint64_t>;
 
     Found get(std::uint64_t position) const noexcept { return detail::found(vers_symbols_get(&raw_, position)); }
-    /** How many bits a symbol has. */
+    /** Returns the number of bits of a symbol. */
     std::uint64_t bits_per_element() const noexcept { return ask(VERS_WIDTH).value; }
-    /** How often a symbol occurs before the position `end`. nullopt past the end. */
+    /** Returns the number of occurrences of a symbol before the position `end`. nullopt past the end. */
     Found rank(std::uint64_t end, std::uint64_t symbol) const noexcept {
         return detail::found(vers_symbols_rank(&raw_, end, symbol));
     }
-    /** How often a symbol occurs in a range. */
+    /** Returns the number of occurrences of a symbol in a range. */
     Found rank_range(std::uint64_t start, std::uint64_t end, std::uint64_t symbol) const noexcept {
         return find(VERS_RANK_RANGE, start, end, symbol);
     }
-    /** The position of occurrence `number` of a symbol. nullopt if there are fewer, while that of bits is the
-     *  length. */
+    /** Returns the position of occurrence `number` of a symbol. nullopt if there are fewer, while that of bits is
+     *  the length. */
     Found select(std::uint64_t number, std::uint64_t symbol) const noexcept {
         return find(VERS_SELECT_OF, number, symbol);
     }
-    /** The same among the positions from `offset` on. */
+    /** Does the same among the positions from `offset` on. */
     Found select_offset(std::uint64_t offset, std::uint64_t number, std::uint64_t symbol) const noexcept {
         return find(VERS_SELECT_FROM, offset, number, symbol);
     }
-    /** Symbol `number` of a range in ascending order. */
+    /** Returns symbol `number` of a range in ascending order. */
     Found quantile(std::uint64_t start, std::uint64_t end, std::uint64_t number) const noexcept {
         return detail::found(vers_symbols_quantile(&raw_, start, end, number));
     }
-    /** The least or the greatest symbol of a range without its end; that of minima includes the end, and is a position.
-     *  */
+    /** Returns the least or the greatest symbol of a range without its end; that of minima includes the end, and is
+     *  a position. */
     Found range_min(std::uint64_t start, std::uint64_t end) const noexcept { return find(VERS_LEAST, start, end); }
     Found range_max(std::uint64_t start, std::uint64_t end) const noexcept { return find(VERS_GREATEST, start, end); }
-    /** The middle one in ascending order, the lower one of two. */
+    /** Returns the middle one in ascending order, the lower one of two. */
     Found range_median(std::uint64_t start, std::uint64_t end) const noexcept {
         return find(VERS_MEDIAN, start, end);
     }
-    /** The greatest symbol of a range not above a symbol. */
+    /** Returns the greatest symbol of a range not above a symbol. */
     Found predecessor(std::uint64_t start, std::uint64_t end, std::uint64_t symbol) const noexcept {
         return find(VERS_SYMBOLS_PREDECESSOR, start, end, symbol);
     }
-    /** The least symbol of a range not below a symbol. */
+    /** Returns the least symbol of a range not below a symbol. */
     Found successor(std::uint64_t start, std::uint64_t end, std::uint64_t symbol) const noexcept {
         return find(VERS_SYMBOLS_SUCCESSOR, start, end, symbol);
     }
@@ -783,8 +789,8 @@ public:
     std::optional<std::uint64_t> get(std::uint64_t position) const noexcept {
         return detail::found(vers_fast_rmq_get(&raw_, position));
     }
-    /** The first position of a least value from one position to another, both included, while that of symbols excludes
-     *  the end and is a symbol. nullopt for no such range. */
+    /** Returns the first position of a least value from one position to another, both included, while that of
+     *  symbols excludes the end and is a symbol. nullopt for no such range. */
     std::optional<std::uint64_t> range_min(std::uint64_t first, std::uint64_t last) const noexcept {
         return detail::found(vers_fast_rmq_range_min(&raw_, first, last));
     }
@@ -806,8 +812,8 @@ public:
     BinaryRmq() noexcept = default;
 
     std::optional<std::uint64_t> get(std::uint64_t position) const noexcept { return find(VERS_GET, position); }
-    /** The first position of a least value from one position to another, both included, while that of symbols excludes
-     *  the end and is a symbol. nullopt for no such range. */
+    /** Returns the first position of a least value from one position to another, both included, while that of
+     *  symbols excludes the end and is a symbol. nullopt for no such range. */
     std::optional<std::uint64_t> range_min(std::uint64_t first, std::uint64_t last) const noexcept {
         return find(VERS_RANGE_MIN, first, last);
     }
@@ -820,8 +826,8 @@ private:
     explicit BinaryRmq(Nothing) noexcept {}
 };
 
-/** Trees as parentheses, of which a one opens and a zero closes. A node is the position where it opens. Queries of
- *  nodes answer nullopt also if the parentheses aren't balanced, or no node opens at a position that is passed. */
+/** Trees as parentheses: a one opens and a zero closes. A node is the position at which it opens. Queries of nodes
+ *  return nullopt also if the parentheses aren't balanced, or no node opens at an argument. */
 class BpTree : public detail::Owner<BpTree, vers_tree, VERS_KIND_TREE>,
                public detail::FromBits<BpTree, vers_tree_build> {
 public:
@@ -830,33 +836,34 @@ public:
 
     using Found = std::optional<std::uint64_t>;
 
-    /** The parenthesis at a position, 1 if it opens and 0 if it closes. */
+    /** Returns the parenthesis at a position, 1 if it opens and 0 if it closes. */
     Found get(std::uint64_t position) const noexcept { return detail::found(vers_tree_is_open(&raw_, position)); }
-    /** Whether the parenthesis at a position opens. nullopt past the end. */
+    /** Returns whether the parenthesis at a position opens. nullopt past the end. */
     std::optional<bool> is_open(std::uint64_t position) const noexcept { return truth(get(position)); }
-    /** The first root. nullopt if there are no parentheses. */
+    /** Returns the first root. nullopt if there are no parentheses. */
     Found root() const noexcept { return detail::found(vers_tree_root(&raw_)); }
-    /** How many ones: of balanced parentheses, how many nodes. */
+    /** Returns the number of ones, which is the number of nodes if the parentheses are balanced. */
     std::uint64_t size() const noexcept { return ask(VERS_SIZE).value; }
     bool is_balanced() const noexcept { return ask(VERS_IS_BALANCED).value == 1; }
-    /** The ones less the zeros up to a position and at it. nullopt past the end. */
+    /** Returns the number of ones less that of zeros, up to a position and at it. nullopt past the end. */
     std::optional<std::int64_t> excess(std::uint64_t position) const noexcept {
         Found value = find(VERS_EXCESS, position);
         if (!value) return std::nullopt;
         return vers_signed(*value);
     }
-    /** The position that closes what opens at a position, or opens what closes there. */
+    /** Returns the position that closes what opens at a position, or opens what closes there. */
     Found close(std::uint64_t position) const noexcept { return detail::found(vers_tree_close(&raw_, position)); }
     Found open(std::uint64_t position) const noexcept { return find(VERS_OPEN, position); }
-    /** Where the nearest pair round a position opens. */
+    /** Returns the position at which the nearest pair around a position opens. */
     Found enclose(std::uint64_t position) const noexcept { return find(VERS_ENCLOSE, position); }
-    /** Node `number` in preorder: the position of that one; the length if there are no more. */
+    /** Returns node `number` in preorder, which is the position of the one with that index; the length if there is
+     *  none. */
     std::uint64_t node_handle(std::uint64_t number) const noexcept { return ask(VERS_NODE_HANDLE, number).value; }
-    /** The first position past `position` where the excess has risen by `rise`. */
+    /** Returns the first position past `position` where the excess has risen by `rise`. */
     Found fwd_search(std::uint64_t position, std::int64_t rise) const noexcept {
         return find(VERS_FWD_SEARCH, position, static_cast<std::uint64_t>(rise));
     }
-    /** The last position before `position` before which the excess is `rise` more. */
+    /** Returns the last position before `position` before which the excess is `rise` more. */
     Found bwd_search(std::uint64_t position, std::int64_t rise) const noexcept {
         return find(VERS_BWD_SEARCH, position, static_cast<std::uint64_t>(rise));
     }
@@ -867,25 +874,25 @@ public:
         return detail::found(vers_tree_next_sibling(&raw_, node));
     }
     Found previous_sibling(std::uint64_t node) const noexcept { return find(VERS_PREVIOUS_SIBLING, node); }
-    /** The next node of the same depth, or the one before. */
+    /** Returns the next node of the same depth, or the one before. */
     Found level_next(std::uint64_t node) const noexcept { return find(VERS_LEVEL_NEXT, node); }
     Found level_prev(std::uint64_t node) const noexcept { return find(VERS_LEVEL_PREV, node); }
-    /** The ancestor that many levels up, the node itself at 0. */
+    /** Returns the ancestor that many levels up, the node itself at 0. */
     Found level_ancestor(std::uint64_t node, std::uint64_t levels) const noexcept {
         return find(VERS_LEVEL_ANCESTOR, node, levels);
     }
-    /** The first or the last node of a depth, roots having 0. */
+    /** Returns the first or the last node of a depth, which is 0 for roots. */
     Found level_leftmost(std::uint64_t depth) const noexcept { return find(VERS_LEVEL_LEFTMOST, depth); }
     Found level_rightmost(std::uint64_t depth) const noexcept { return find(VERS_LEVEL_RIGHTMOST, depth); }
-    /** The number of a node in preorder. */
+    /** Returns the index of a node in preorder. */
     Found node_index(std::uint64_t node) const noexcept { return find(VERS_NODE_INDEX, node); }
     Found depth(std::uint64_t node) const noexcept { return detail::found(vers_tree_depth(&raw_, node)); }
-    /** How many nodes a node and those below it are. */
+    /** Returns the number of nodes of the subtree of a node, itself included. */
     Found subtree_size(std::uint64_t node) const noexcept { return find(VERS_SUBTREE_SIZE, node); }
-    /** Whether the parentheses are balanced and a node opens at a position. */
+    /** Returns whether the parentheses are balanced and a node opens at a position. */
     bool has_node(std::uint64_t position) const noexcept { return ask(VERS_HAS_NODE, position).value == 1; }
     std::optional<bool> is_leaf(std::uint64_t node) const noexcept { return truth(find(VERS_IS_LEAF, node)); }
-    /** Whether one node is above another, or is that node. */
+    /** Returns whether one node is above another, or is that node. */
     std::optional<bool> is_ancestor(std::uint64_t ancestor, std::uint64_t node) const noexcept {
         return truth(find(VERS_IS_ANCESTOR, ancestor, node));
     }
@@ -903,7 +910,7 @@ private:
     }
 };
 
-/** Plain numbers, which some calls answer. */
+/** Plain numbers, which some calls return. */
 class Numbers : public detail::Owner<Numbers, vers_numbers> {
 public:
     /** Owns nothing, until a list is moved to it. */
@@ -920,7 +927,7 @@ private:
     friend class TextIndex;
     explicit Numbers(Nothing) noexcept {}
 
-    /** The numbers that a call makes. */
+    /** Returns the numbers that a call makes. */
     template <class Call>
     static std::optional<Numbers> of(Status &status, Call &&call) noexcept {
         return made(status, std::forward<Call>(call));
@@ -973,23 +980,23 @@ public:
         });
     }
 
-    /** The document at a position, and its cost. */
+    /** Returns the document at a position, and its cost. */
     std::optional<std::uint64_t> get(std::uint64_t position) const noexcept { return find(VERS_GET, position); }
     std::optional<std::uint64_t> cost(std::uint64_t position) const noexcept { return find(VERS_COST, position); }
     detail::Items<Postings> begin() const noexcept { return {this, 0}; }
     detail::Items<Postings> end() const noexcept { return {this, len()}; }
-    /** How many documents are below a number. */
+    /** Returns the number of documents below a number. */
     std::uint64_t rank(std::uint64_t number) const noexcept { return ask(VERS_RANK, number).value; }
     bool contains(std::uint64_t document) const noexcept { return ask(VERS_HAS, document).value == 1; }
-    /** The first document not below a number. */
+    /** Returns the first document not below a number. */
     std::optional<std::uint64_t> next_at_least(std::uint64_t number) const noexcept {
         return find(VERS_SUCCESSOR, number);
     }
-    /** The first document of least cost from one number to another, both included. */
+    /** Returns the first document of least cost from one number to another, both included. */
     std::optional<std::uint64_t> cheapest(std::uint64_t first, std::uint64_t last) const noexcept {
         return find(VERS_CHEAPEST, first, last);
     }
-    /** The documents that another list has too, ascending. Status::refused if one of the two owns nothing. */
+    /** Returns the documents that another list has too, ascending. Status::refused if one of the two owns nothing. */
     Numbers intersect(const Postings &other) const {
         Status status;
         return Numbers::needed(intersect(other, status), status);
@@ -1054,30 +1061,30 @@ public:
 
     /** `get` answers documents of a term, and `pair_number` pairs. */
     std::uint64_t operator[](std::uint64_t position) const = delete;
-    /** The number of terms. */
+    /** Returns the number of terms. */
     std::uint64_t terms() const noexcept { return ask(VERS_TERMS).value; }
-    /** The number that all documents are below. */
+    /** Returns the number that all documents are below. */
     std::uint64_t universe() const noexcept { return ask(VERS_UNIVERSE).value; }
-    /** The pair at a position of all pairs as one number: the term times the universe, plus the document. */
+    /** Returns the pair at a position of all pairs as one number: the term times the universe, plus the document. */
     std::optional<std::uint64_t> pair_number(std::uint64_t position) const noexcept { return find(VERS_GET, position); }
-    /** The number of documents of a term. */
+    /** Returns the number of documents of a term. */
     std::uint64_t count(std::uint64_t term) const noexcept { return ask(VERS_COUNT, term).value; }
-    /** The document of a term at a position. */
+    /** Returns the document of a term at a position. */
     std::optional<std::uint64_t> get(std::uint64_t term, std::uint64_t position) const noexcept {
         return find(VERS_TERM_GET, term, position);
     }
-    /** The number of documents of a term that are below a number. */
+    /** Returns the number of documents of a term that are below a number. */
     std::uint64_t rank(std::uint64_t term, std::uint64_t number) const noexcept {
         return ask(VERS_TERM_RANK, term, number).value;
     }
     bool contains(std::uint64_t term, std::uint64_t document) const noexcept {
         return ask(VERS_TERM_HAS, term, document).value == 1;
     }
-    /** The first document of a term that is not below a number. */
+    /** Returns the first document of a term that is not below a number. */
     std::optional<std::uint64_t> next_at_least(std::uint64_t term, std::uint64_t number) const noexcept {
         return find(VERS_TERM_SUCCESSOR, term, number);
     }
-    /** The documents of a term, ascending. Status::refused if the object owns nothing. */
+    /** Returns the documents of a term, ascending. Status::refused if the object owns nothing. */
     Numbers documents(std::uint64_t term) const {
         Status status;
         return Numbers::needed(documents(term, status), status);
@@ -1085,7 +1092,7 @@ public:
     std::optional<Numbers> documents(std::uint64_t term, Status &status) const noexcept {
         return Numbers::of(status, [&](vers_numbers *into) { return vers_inverted_documents(&raw_, term, into); });
     }
-    /** The documents that have both terms, ascending. */
+    /** Returns the documents that have both terms, ascending. */
     Numbers intersection(std::uint64_t one, std::uint64_t other) const {
         Status status;
         return Numbers::needed(intersection(one, other, status), status);
@@ -1095,7 +1102,7 @@ public:
             return vers_inverted_intersection(&raw_, one, other, into);
         });
     }
-    /** The documents that have one of two terms, or both, ascending. */
+    /** Returns the documents that have one of two terms, or both, ascending. */
     Numbers either(std::uint64_t one, std::uint64_t other) const {
         Status status;
         return Numbers::needed(either(one, other, status), status);
@@ -1103,7 +1110,7 @@ public:
     std::optional<Numbers> either(std::uint64_t one, std::uint64_t other, Status &status) const noexcept {
         return Numbers::of(status, [&](vers_numbers *into) { return vers_inverted_union(&raw_, one, other, into); });
     }
-    /** The documents that have the first term and not the other, ascending. */
+    /** Returns the documents that have the first term and not the other, ascending. */
     Numbers difference(std::uint64_t one, std::uint64_t other) const {
         Status status;
         return Numbers::needed(difference(one, other, status), status);
@@ -1122,9 +1129,9 @@ private:
     }
 };
 
-/** A text of symbols of at most 16 bits, in which patterns are found. `from(symbols, width, step)` keeps one position
- *  for each `step`, 32 if none is named. It refuses symbols of more than `width` bits, more than 2^32 - 2 symbols, a
- *  width of 0 or above 16, and a step of 0. The pattern without symbols has each position, and the end. */
+/** A text of symbols of at most 16 bits that counts and locates patterns. `from(symbols, width, step)` samples every
+ *  `step`-th position, by default every 32nd. It refuses symbols of more than `width` bits, more than 2^32 - 2 symbols,
+ *  a width of 0 or above 16, and a step of 0. The empty pattern occurs at each position and at the end. */
 class TextIndex : public detail::Owner<TextIndex, vers_text, VERS_KIND_TEXT>,
                   public detail::FromText,
                   public detail::FromTextByStep {
@@ -1137,11 +1144,11 @@ public:
 
     /** `extract` answers symbols, and `places` positions. */
     std::uint64_t operator[](std::uint64_t position) const = delete;
-    /** How many bits a symbol has. */
+    /** Returns the number of bits of a symbol. */
     std::uint64_t width() const noexcept { return ask(VERS_WIDTH).value; }
-    /** The distance of two sampled positions. */
+    /** Returns the distance between two sampled positions. */
     std::uint64_t step() const noexcept { return ask(VERS_STEP).value; }
-    /** How many positions a pattern has. */
+    /** Returns the number of occurrences of a pattern. */
     std::uint64_t count(const std::uint64_t *pattern, std::size_t length) const noexcept {
         return vers_text_count(raw(), pattern, length).value;
     }
@@ -1163,7 +1170,7 @@ public:
                       std::size_t count) const noexcept {
         return static_cast<Status>(vers_text_count_each(raw(), symbols, length, ends, count));
     }
-    /** How many positions each pattern of a range of patterns has. */
+    /** Returns the number of occurrences of each pattern of a range of patterns. */
     template <class Patterns, class = detail::Item<detail::Item<const Patterns>>>
     std::vector<std::uint64_t> count_each(const Patterns &patterns) const {
         std::vector<std::uint64_t> symbols, ends;
@@ -1185,7 +1192,7 @@ public:
         return count(pattern) > 0;
     }
     bool contains(std::string_view pattern) const { return count(pattern) > 0; }
-    /** The positions of a pattern, ascending. */
+    /** Returns the positions of a pattern, ascending. */
     Numbers places(const std::uint64_t *pattern, std::size_t length) const {
         Status status;
         return Numbers::needed(places(pattern, length, status), status);
@@ -1201,7 +1208,8 @@ public:
         return Numbers::needed(places(pattern, status), status);
     }
     Numbers places(std::string_view pattern) const { return places<std::string_view &>(pattern); }
-    /** The first `limit` positions of a pattern, or all if there are fewer, in the order of the suffixes there. */
+    /** Returns the first `limit` positions of a pattern, or all if there are fewer, in the order of the suffixes
+     *  there. */
     Numbers first_places(const std::uint64_t *pattern, std::size_t length, std::size_t limit) const {
         Status status;
         return Numbers::needed(first_places(pattern, length, limit, status), status);
@@ -1230,7 +1238,7 @@ public:
             return places(numbers, length, status);
         });
     }
-    /** The symbols from a position up to another. nullopt if the text has no such positions. */
+    /** Returns the symbols from a position up to another. nullopt if the text has no such positions. */
     std::optional<Numbers> extract(std::size_t start, std::size_t end) const {
         Status status;
         return Numbers::wanted(extract(start, end, status), status);
