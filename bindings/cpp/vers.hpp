@@ -6,8 +6,9 @@
  *      auto numbers = vers::EliasFanoVec::from({2, 5, 90});   // nullopt if they don't ascend
  *      if (auto next = numbers->successor(17)) use(*next);    // nullopt if there is none
  *
- *  Owners. Each object owns its list, can be moved but not copied, and frees the list when it is destroyed. A moved-from
- *  object owns nothing: its queries return 0 or nullopt, and its clone and the Numbers that it returns own nothing.
+ *  Owners. Each object owns its list, can be moved but not copied, and frees the list when it is destroyed. A
+ *  moved-from object owns nothing: its queries return 0 or nullopt, and its clone and the Numbers that it returns own
+ *  nothing.
  *
  *  Constructors. `from`, `from_words` and `from_bits` take a pointer and a length, two iterators, or a range: a
  *  container, a span, a view, numbers in braces. The other arguments that a class names follow, such as a width; only
@@ -26,8 +27,8 @@
  *  Lists compare by their contents.
  *
  *  Exceptions. Only std::bad_alloc, if an allocation fails. If exceptions are off, or VERS_NO_EXCEPTIONS is defined,
- *  nothing throws: a change returns Status::no_memory, and a constructor without a Status, or == of a TextIndex, ends the
- *  program.
+ *  nothing throws: a change returns Status::no_memory, and a constructor without a Status, or == of a TextIndex, ends
+ *  the program.
  *
  *  Threads. One thread at a time uses an object, although its queries are `const`, which means that the list doesn't
  *  change. Each thread uses an owner of its own, which `clone` makes in constant time. */
@@ -424,8 +425,7 @@ inline constexpr auto narrow_build<vers_text_build, std::uint8_t> = vers_text_bu
 template <>
 inline constexpr auto narrow_build<vers_text_build, std::uint16_t> = vers_text_build_u16s;
 
-/** Returns whether there is such a call, by its type: under -fsanitize=undefined, g++ compares no address in a
- *  constant. */
+/** Whether there is such a call, by its type: under -fsanitize=undefined, g++ compares no address in a constant. */
 template <auto Build, class Number>
 inline constexpr bool has_narrow_build = !std::is_same_v<decltype(narrow_build<Build, Number>), const std::nullptr_t>;
 

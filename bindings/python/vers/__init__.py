@@ -3,12 +3,12 @@ archive, and this layer are tested.
 
     bits = vers.RsVec([1, 0, 1, 1])
     bits.rank1(3), bits.select1(2), bits[0], len(bits)       # 2, 3, 1, 4
-    bits.each("rank1", places)                                  # many at once, numpy arrays in and out
+    bits.each("rank1", places)                               # many at once, numpy arrays in and out
 
-Answers are numbers, or None if there is no such thing. A query takes a number or an array of numbers. Faults are
-exceptions with their names: Refused, Unknown, NoMemory, Shared; for bytes that are no saved form, a kind of Refused
-that says why. A number outside 0 to 2**64 - 1 raises OverflowError, another type TypeError, and a position outside a
-list in brackets IndexError; the text names the position in an array. The module `vers.parts` asks lists in saved parts.
+Answers are numbers, or None if there is no such element. A query takes a number or an array of numbers. Errors are the
+exceptions Refused, Unknown, NoMemory and Shared; for bytes that are no saved form, a subclass of Refused that names the
+reason. A number outside 0 to 2**64 - 1 raises OverflowError, another type TypeError, and a position outside a list in
+brackets IndexError; the text names the position in an array. The module `vers.parts` queries lists in saved parts.
 """
 
 from ._faults import (

@@ -59,7 +59,8 @@ class List(Generic[Q]):
 
     @classmethod
     def _made(cls, build: Any, *arguments: Any, why: Optional[Callable[[], str]] = None) -> Any:
-        """The list that a call of the library makes of its arguments; `why` says for what reason they are refused."""
+        """Returns the list that a call of the library makes from its arguments; `why` gives the reason if they are
+        refused."""
         made = object.__new__(cls)
         made._handle = library.Handle()
         made._at = ctypes.addressof(made._handle)
@@ -98,7 +99,7 @@ class List(Generic[Q]):
         return self._found(code, a, b, c)
 
     def _asked_otherwise(self, code: int, *numbers: Any) -> Optional[int]:
-        """The answer to arrays, and to numbers of other types than int. Names the argument that is refused."""
+        """Returns the answer to arrays, and to numbers of other types than int. Names the argument that is refused."""
         name = self._names[code]
         if any(map(_buffers.is_many, numbers)):
             answers: Optional[int] = self._asked_many(name, numbers, None)
@@ -117,7 +118,7 @@ class List(Generic[Q]):
         return value
 
     def _reason(self, code: int, a: int, b: int) -> str:
-        """Why a query of two numbers is refused."""
+        """Returns the reason why a query of two numbers is refused."""
         return f"{self._names[code]} of {a}, {b} is refused"
 
     def __len__(self) -> int:
@@ -127,7 +128,7 @@ class List(Generic[Q]):
         return self._length() > 0
 
     def _length(self) -> int:
-        """The length, which `len` can't answer from 2**63 on."""
+        """Returns the length, which `len` can't answer from 2**63 on."""
         return self._number(codes.LEN)
 
     def to_bytes(self) -> bytes:
@@ -145,7 +146,7 @@ class List(Generic[Q]):
 
     @classmethod
     def from_bytes(cls, saved: Any) -> Any:
-        """Rebuilds the list from the bytes that `to_bytes` returned. Of other bytes, raises the kind of Refused that
+        """Rebuilds the list from the bytes that `to_bytes` returned. Of other bytes, raises the subclass of Refused that
         says why: TooShort, NotOurs, OtherVersion, OtherKind, BadLength, BadSum, BadPadding, NotAscending or
         NotAText."""
         if cls._kind is None:
@@ -191,7 +192,7 @@ class List(Generic[Q]):
         return [it for part in self._parts(0, len(self)) for it in part]
 
     def _part(self, start: int, end: int) -> Any:
-        """The items from one position up to another, in an array."""
+        """Returns the items from one position up to another, in an array."""
         places = array("Q", range(start, end))
         return self._answers(codes.GET, _buffers.Columns([places], len(places), None), 0, False)
 
@@ -200,7 +201,7 @@ class List(Generic[Q]):
             yield self._part(first, min(first + 4096, end))
 
     def _position(self, position: Any) -> int:
-        """A position, which is from the end if it is negative."""
+        """Returns a position, which is from the end if it is negative."""
         try:
             at = operator.index(position)
         except TypeError:
@@ -211,11 +212,11 @@ class List(Generic[Q]):
         return at
 
     def _traits(self) -> Any:
-        """What equal lists have in common besides their items."""
+        """Returns what equal lists have in common besides their items."""
         return self._length()
 
     def _contents(self) -> Iterator[Any]:
-        """Arrays that are equal if the items of the lists are, and the traits."""
+        """Returns arrays that are equal if the items of the lists are, and the traits."""
         return self._parts(0, len(self))
 
     def __eq__(self, other: object) -> bool:
@@ -264,7 +265,7 @@ class List(Generic[Q]):
         return self._asked_many(query, numbers, other)
 
     def _asked_many(self, name: str, numbers: Tuple[Any, ...], other: Optional[int]) -> Any:
-        """The answers to arrays of numbers, as `each` says."""
+        """Returns the answers to arrays of numbers, as `each` says."""
         asked = self._with_sign(self._queries[name], other)
         columns = _buffers.columns_of(numbers, asked.names)
         answers = self._answers(asked.code, columns, asked.absent, True)
@@ -274,19 +275,19 @@ class List(Generic[Q]):
         return _queries.finished(answers, asked, columns.shape, absent, other)
 
     def _with_sign(self, asked: Query, other: Optional[int]) -> Query:
-        """A query that says whether its answers are signed. Those that are items are, if all items are, unless `other`
-        needs all 64 bits."""
+        """Returns a query that says whether its answers are signed. Those that are items are, if all items are,
+        unless `other` needs all 64 bits."""
         if asked.is_signed is not None:
             return asked
         fits = other is None or _buffers.whole_number(other, "other") < 1 << 63
         return asked._replace(is_signed=fits and self._is_signed())
 
     def _is_signed(self) -> bool:
-        """Whether the items are elements, documents or positions that are all below 2**63."""
+        """Returns whether the items are elements, documents or positions that are all below 2**63."""
         return False
 
     def _absent(self, asked: Query, columns: _buffers.Columns, positions: Any) -> Any:
-        """Those positions, of some, whose query has no answer. Raises Refused for the first one that is refused."""
+        """Returns the positions whose query has no answer. Raises Refused for the first one that is refused."""
         queries = _buffers.taken(columns, positions)
         refused = self._first_refused(asked, queries)
         if refused is not None:
@@ -299,11 +300,12 @@ class List(Generic[Q]):
         return [it for k, it in enumerate(positions) if k not in found] if found else positions
 
     def _first_refused(self, asked: Query, queries: _buffers.Columns) -> Optional[int]:
-        """The first query that is refused, of some that found nothing."""
+        """Returns the first query that is refused, of some that found nothing."""
         return None if asked.is_optional or not asked.is_signed else 0
 
     def _answers(self, code: int, columns: _buffers.Columns, absent: int, keeps: bool) -> Any:
-        """What the library answers to many queries, `absent` if nothing is found. `keeps` the arguments."""
+        """Returns the answers of the library to many queries, and `absent` for a query without one. `keeps` the
+        arguments."""
         first, *others = columns.columns
         if isinstance(first, int) or not all(isinstance(it, int) for it in others):
             rows = _buffers.rows_of(columns)
@@ -315,7 +317,7 @@ class List(Generic[Q]):
         return answers
 
     def _each_below(self, code: int, count: int) -> Iterator[int]:
-        """The answers of a query to each number below a count."""
+        """Returns the answers of a query to each number below a count."""
         for start in range(0, count, 4096):
             places = array("Q", range(start, min(start + 4096, count)))
             yield from self._answers(code, _buffers.Columns([places], len(places), None), 0, False)
@@ -350,7 +352,7 @@ class Shared(List[Q]):
 
 
 class Items(List[Q], Sequence[int]):
-    """A list of which each item can be asked."""
+    """A list with access to each item."""
 
     @query(codes.GET, None)
     def get(self, position: int) -> Optional[int]:
@@ -369,7 +371,7 @@ class Items(List[Q], Sequence[int]):
         return item
 
     def _slice(self, places: range) -> Any:
-        """The items at some positions, in an array."""
+        """Returns the items at some positions, in an array."""
         numbers = array("Q", places)
         return self._answers(codes.GET, _buffers.Columns([numbers], len(numbers), None), 0, False)
 
@@ -390,7 +392,7 @@ class Items(List[Q], Sequence[int]):
         return made
 
     def _numpy_part(self, numpy: Any, start: int, end: int) -> Any:
-        """The items from one position up to another, in a numpy array: of 64 bits an item, of bits of 8."""
+        """Returns the items from one position up to another, in a numpy array: of 64 bits an item, of bits of 8."""
         places = numpy.arange(start, end, dtype=numpy.uint64)
         return self._answers(codes.GET, _buffers.Columns([places], places.size, places.shape), 0, False)
 
@@ -414,7 +416,7 @@ class Items(List[Q], Sequence[int]):
         return self._first_position(value, 0, self._length()) is not None
 
     def _first_position(self, value: Any, start: int, end: int) -> Optional[int]:
-        """The first position of an item in a range. None if there is none."""
+        """Returns the first position of an item in a range. None if there is none."""
         for k, part in enumerate(self._parts(start, end)):
             if value in part:
                 return start + 4096 * k + int(part.index(value))
@@ -433,7 +435,7 @@ class Ascending(Fixed[Q]):
         return _buffers.array_of("q", memoryview(found).cast("B")) if self._is_signed() else found
 
     def _all(self) -> Any:
-        """The items in an array('Q')."""
+        """Returns the items in an array('Q')."""
         return self._part(0, len(self))
 
     def _is_signed(self) -> bool:
@@ -449,7 +451,7 @@ class Bits(Items[Q]):
             yield self._words(start, min(start + 64 * 4096, length))
 
     def _words(self, start: int, end: int) -> Any:
-        """The bits from one position up to another as words. The last word may have zeros after them."""
+        """Returns the bits from one position up to another as words. The last word may have zeros after them."""
         places = array("Q", range(start, end - 63, 64))
         words = self._answers(codes.GET_BITS, _buffers.Columns([places, 64], len(places), None), 0, False)
         rest = (end - start) % 64
@@ -474,7 +476,7 @@ class Bits(Items[Q]):
 
 
 def bits_of(bits: Any, digits: str = "01") -> Tuple[_buffers.Held, int]:
-    """Bits as `_buffers.bits_of` has them. A list of bits in words gives these."""
+    """Returns bits as `_buffers.bits_of` has them. A list of bits in words gives these."""
     if not isinstance(bits, Bits):
         return _buffers.bits_of(bits, digits)
     length = len(bits)

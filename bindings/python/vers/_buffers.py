@@ -35,7 +35,7 @@ class Held(NamedTuple):
 
 
 def number(value: Any, what: str = "the number") -> int:
-    """A number that fits into 64 bits."""
+    """Returns a number that fits into 64 bits."""
     whole = whole_number(value, what)
     if 0 <= whole <= MOST:
         return whole
@@ -43,7 +43,7 @@ def number(value: Any, what: str = "the number") -> int:
 
 
 def signed_number(value: Any, what: str = "the number") -> int:
-    """A number that fits into 64 bits with a sign."""
+    """Returns a number that fits into 64 bits with a sign."""
     whole = whole_number(value, what)
     if -(1 << 63) <= whole < 1 << 63:
         return whole
@@ -51,7 +51,7 @@ def signed_number(value: Any, what: str = "the number") -> int:
 
 
 def bit(value: Any, what: str = "the bit") -> int:
-    """A bit: a truth value, or the number 0 or 1."""
+    """Returns a bit: a truth value, or the number 0 or 1."""
     numpy = sys.modules.get("numpy")
     is_truth = numpy is not None and isinstance(value, numpy.bool_)
     whole = int(value) if is_truth else whole_number(value, what)
@@ -62,7 +62,7 @@ def bit(value: Any, what: str = "the bit") -> int:
 
 
 def whole_number(value: Any, what: str) -> int:
-    """A whole number."""
+    """Returns an integer."""
     try:
         return operator.index(value)
     except TypeError:
@@ -70,7 +70,7 @@ def whole_number(value: Any, what: str) -> int:
 
 
 def item_size(numbers: Any) -> Optional[int]:
-    """The bytes of an item of a buffer. None if the numbers are no buffer."""
+    """Returns the bytes of an item of a buffer. None if the numbers are no buffer."""
     try:
         return memoryview(numbers).itemsize
     except (TypeError, ValueError):
@@ -78,7 +78,7 @@ def item_size(numbers: Any) -> Optional[int]:
 
 
 def equal_number(item: Any) -> Optional[int]:
-    """The number from 0 to 2**64 - 1 that equals an item. None if there is none."""
+    """Returns the number from 0 to 2**64 - 1 that equals an item. None if there is none."""
     try:
         whole = int(item)
         return whole if whole == item and 0 <= whole <= MOST else None
@@ -87,13 +87,13 @@ def equal_number(item: Any) -> Optional[int]:
 
 
 def counted(count: int, items: str) -> str:
-    """A count of items, whose name is singular if there is one."""
+    """Returns a count of items, whose name is singular if there is one."""
     one = {"parentheses": "parenthesis"}.get(items, items[:-1])
     return f"{count} {one if count == 1 else items}"
 
 
 def is_many(value: Any) -> bool:
-    """Whether an argument is many numbers, and not one."""
+    """Returns whether an argument is an array of numbers instead of one number."""
     try:
         iter(value)
     except TypeError:
@@ -102,14 +102,14 @@ def is_many(value: Any) -> bool:
 
 
 def _numpy_of(numbers: Any) -> Any:
-    """The module numpy if the numbers are one of its arrays, else None."""
+    """Returns the module numpy if the numbers are one of its arrays, else None."""
     numpy = sys.modules.get("numpy")
     return numpy if numpy is not None and isinstance(numbers, numpy.ndarray) else None
 
 
 def plain(numbers: Any) -> Any:
-    """The numpy array of an object with `__array__` that is no sequence, such as a Series of pandas; other numbers as
-    they are, also the lists of this package."""
+    """Returns the numpy array of an object with `__array__` that is no sequence, such as a Series of pandas; other
+    numbers as they are, also the lists of this package."""
     numpy = sys.modules.get("numpy")
     if numpy is None or not hasattr(numbers, "__array__") or isinstance(numbers, (numpy.ndarray, Sequence)):
         return numbers
@@ -117,9 +117,9 @@ def plain(numbers: Any) -> Any:
 
 
 def copied(numbers: Any, what: str = "number", sizes: Container[int] = (8,)) -> Any:
-    """The numbers in an array of their own: a numpy array of the same shape for one, or for an object that has one,
-    otherwise an array. Its items have as many bytes as those of the caller's buffer if `sizes` has that number, and
-    otherwise 8."""
+    """Returns the numbers in an array of their own: a numpy array of the same shape for one, or for an object that
+    has one, otherwise an array. Its items have as many bytes as those of the caller's buffer if `sizes` has that
+    number, and otherwise 8."""
     numbers = plain(numbers)
     numpy = _numpy_of(numbers)
     if numpy is not None:
@@ -143,13 +143,13 @@ def copied(numbers: Any, what: str = "number", sizes: Container[int] = (8,)) -> 
 
 
 def _has_no_sign(numbers: memoryview) -> bool:
-    """Whether none of some signed numbers of 64 bits is negative, by the bytes that have their signs."""
+    """Returns whether none of some signed numbers of 64 bits is negative, by the bytes that have their signs."""
     signs = numbers[7 if sys.byteorder == "little" else 0::8].tobytes()
     return not signs.translate(None, bytes(range(128)))
 
 
 def _gathered(numbers: Any, what: str) -> Any:
-    """The numbers of an iterable in an array('Q'): of a list at once, of others some at a time."""
+    """Returns the numbers of an iterable in an array('Q'): of a list at once, of others some at a time."""
     if isinstance(numbers, list):
         with contextlib.suppress(TypeError, OverflowError):
             return array("Q", numbers)
@@ -169,7 +169,7 @@ def _entry(what: str, position: int) -> str:
 
 
 def _chunks(items: Any, what: str) -> Iterator[Any]:
-    """The items of an iterable as lists of `CHUNK`, the last one of fewer."""
+    """Returns the items of an iterable as lists of `CHUNK`, the last one of fewer."""
     try:
         remaining = iter(items)
     except TypeError:
@@ -182,8 +182,8 @@ def _chunks(items: Any, what: str) -> Iterator[Any]:
 
 
 def _checked(numpy: Any, numbers: Any, what: str) -> Any:
-    """A numpy array of whole numbers without a mask. Raises the fault of the first number that is none. Without items,
-    an array of any type is one of whole numbers."""
+    """Returns a numpy array of integers without a mask. Raises the fault of the first number that is none. Without
+    items, an array of any type is one of integers."""
     mask = numpy.ma.getmask(numbers)
     if mask is not numpy.ma.nomask and mask.any():
         raise TypeError(f"{_entry(what, first(mask))} is masked")
@@ -201,19 +201,19 @@ def _checked(numpy: Any, numbers: Any, what: str) -> Any:
 
 
 def first(mask: Any) -> int:
-    """The first position of a true item in a numpy array."""
+    """Returns the first position of a true item in a numpy array."""
     return int(mask.reshape(-1).argmax())
 
 
 def array_of(kind: str, content: Any) -> Any:
-    """An array of a kind, of the bytes of its items."""
+    """Returns an array of a kind, of the bytes of its items."""
     made = array(kind)
     made.frombytes(content)
     return made
 
 
 def narrowed(numbers: Any, bits: int) -> Any:
-    """The numbers of an array('Q') that have some bits, in an array of the narrowest kind that has these."""
+    """Returns the numbers of an array('Q') that have some bits, in an array of the narrowest kind that has these."""
     size = next(it for it in _KINDS if 8 * it >= bits)
     parts = memoryview(numbers).cast("B").cast(_KINDS[size])
     # the part with the low bits is the first one of each number, or the last one
@@ -222,20 +222,20 @@ def narrowed(numbers: Any, bits: int) -> Any:
 
 
 def address_of(made: Any) -> int:
-    """The address of the numbers of an array of `copied`, and some address for those of an empty one."""
+    """Returns the address of the numbers of an array of `copied`, and some address for those of an empty one."""
     at = made.ctypes.data if _numpy_of(made) is not None else made.buffer_info()[0]
     return int(at) or ctypes.addressof(_NOWHERE)
 
 
 def held(numbers: Any, what: str = "number", sizes: Container[int] = (8,)) -> Held:
-    """The numbers in an array of their own, so that no other thread writes them while the library reads. The array is
-    that of `copied`. Raises ValueError for an array of several dimensions."""
+    """Returns the numbers in an array of their own, so that no other thread writes them while the library reads. The
+    array is that of `copied`. Raises ValueError for an array of several dimensions."""
     _refuse_dimensions(numbers, what)
     return _held(copied(numbers, what, sizes))
 
 
 def pattern(symbols: Any) -> Held:
-    """The symbols of a pattern, as `held`."""
+    """Returns the symbols of a pattern, as `held`."""
     _refuse_dimensions(symbols, "symbol", "; use count_each for rows")
     return held(symbols, "symbol")
 
@@ -248,8 +248,8 @@ def _refuse_dimensions(numbers: Any, what: str, hint: str = "") -> None:
 
 
 def joined(patterns: Any) -> Tuple[Held, Held]:
-    """The symbols of some patterns, one pattern after another, and the end of each with a sign: as numpy arrays for the
-    rows of one."""
+    """Returns the symbols of some patterns, one pattern after another, and the end of each with a sign: as numpy
+    arrays for the rows of one."""
     patterns = plain(patterns)
     if not is_many(patterns) and not isinstance(patterns, str):
         raise TypeError(f"the patterns are of type {type(patterns).__name__}, which is not iterable")
@@ -276,7 +276,7 @@ def _held(made: Any) -> Held:
 
 
 def bits_of(bits: Any, digits: str = "01") -> Tuple[Held, int]:
-    """Bits as words of 64 bits, the first as the lowest bit, and how many they are.
+    """Returns bits as words of 64 bits, the first as the lowest bit, and how many they are.
 
     A text is read by its characters: of each pair of `digits`, the first one is 0 and the second one is 1.
     """
@@ -294,12 +294,12 @@ def bits_of(bits: Any, digits: str = "01") -> Tuple[Held, int]:
 
 
 def _packed(flags: bytes) -> bytes:
-    """Bits, each a byte that is 0 or 1, as bytes of eight, the first as the lowest bit."""
+    """Returns bits, each a byte that is 0 or 1, as bytes of eight, the first as the lowest bit."""
     return int(flags[::-1].translate(_DIGITS), 2).to_bytes((len(flags) + 7) // 8, "little")
 
 
 def flags_of(words: Any, count: int) -> Any:
-    """The first bits of words in an array of bytes that are 0 or 1."""
+    """Returns the first bits of words in an array of bytes that are 0 or 1."""
     if sys.byteorder != "little":
         words.byteswap()
     digits = f"{int.from_bytes(words.tobytes(), 'little'):0{count + 1}b}"
@@ -307,7 +307,7 @@ def flags_of(words: Any, count: int) -> Any:
 
 
 def _flags(bits: Any) -> Iterator[Any]:
-    """The bits of an iterable, each a byte that is 0 or 1; of a numpy array, in such arrays."""
+    """Returns the bits of an iterable, each a byte that is 0 or 1; of a numpy array, in such arrays."""
     numpy = _numpy_of(bits)
     if numpy is not None:
         yield from _flags_of_array(numpy, bits)
@@ -322,7 +322,7 @@ def _flags(bits: Any) -> Iterator[Any]:
 
 
 def _pieces(bits: Any) -> Iterator[Any]:
-    """The items of an iterable by `CHUNK`: parts of a buffer of bytes, otherwise lists."""
+    """Returns the items of an iterable by `CHUNK`: parts of a buffer of bytes, otherwise lists."""
     try:
         view = memoryview(bits)
     except TypeError:
@@ -333,7 +333,7 @@ def _pieces(bits: Any) -> Iterator[Any]:
 
 
 def _flags_of_array(numpy: Any, bits: Any) -> Iterator[Any]:
-    """The bits of a numpy array, in arrays of bytes that are 0 or 1."""
+    """Returns the bits of a numpy array, in arrays of bytes that are 0 or 1."""
     flat = _checked(numpy, bits, "bit").reshape(-1)
     for start in range(0, flat.size, CHUNK):
         chunk = flat[start:start + CHUNK]
@@ -344,7 +344,7 @@ def _flags_of_array(numpy: Any, bits: Any) -> Iterator[Any]:
 
 
 def _bytes_of(chunk: Any) -> Optional[bytes]:
-    """Numbers as bytes. None if one of them isn't a whole number of 8 bits."""
+    """Returns numbers as bytes. None if one of them isn't an integer of 8 bits."""
     try:
         return bytes(chunk)
     except (TypeError, ValueError, DeprecationWarning):
@@ -352,7 +352,7 @@ def _bytes_of(chunk: Any) -> Optional[bytes]:
 
 
 def _flags_of_text(text: str, digits: str) -> Iterator[bytes]:
-    """The bits of a text, as bytes that are 0 or 1."""
+    """Returns the bits of a text, as bytes that are 0 or 1."""
     values = str.maketrans(digits, "\0\1" * (len(digits) // 2))
     for start in range(0, len(text), CHUNK):
         chunk = text[start:start + CHUNK]
@@ -409,7 +409,7 @@ def descent_of_pairs(terms: Held, documents: Held) -> str:
 
 
 def _flat(made: Any) -> Any:
-    """The numbers of an array, one after another."""
+    """Returns the numbers of an array, one after another."""
     return made if _numpy_of(made) is None else made.reshape(-1)
 
 
@@ -423,7 +423,7 @@ class Columns(NamedTuple):
 
 
 def columns_of(arguments: Sequence[Any], names: Sequence[str]) -> Columns:
-    """The arguments of many queries. Those of numpy are broadcast."""
+    """Returns the arguments of many queries. Those of numpy are broadcast."""
     columns = [copied(it, name) if is_many(it) else number(it, f"the {name}") for it, name in zip(arguments, names)]
     arrays = [it for it in columns if not isinstance(it, int)]
     numpy = next((found for found in map(_numpy_of, arrays) if found is not None), None)
@@ -439,7 +439,7 @@ def columns_of(arguments: Sequence[Any], names: Sequence[str]) -> Columns:
 
 
 def rows_of(columns: Columns) -> Any:
-    """The numbers of queries, three in a row."""
+    """Returns the numbers of queries, three in a row."""
     rows = array("Q", bytes(24 * columns.size))
     for position, column in enumerate(columns.columns):
         same = isinstance(column, int)
@@ -467,7 +467,7 @@ def stepped(columns: Columns, step: int) -> Columns:
 
 
 def positions_of(answers: Any, value: int) -> Any:
-    """The positions of a number in an array."""
+    """Returns the positions of a number in an array."""
     numpy = _numpy_of(answers)
     if numpy is not None:
         return numpy.flatnonzero(answers == numpy.uint64(value))
@@ -484,7 +484,7 @@ def put(answers: Any, positions: Any, value: Any) -> None:
 
 
 def taken(columns: Columns, positions: Any) -> Columns:
-    """The queries at some positions."""
+    """Returns the queries at some positions."""
     def part(column: Any) -> Any:
         if isinstance(column, int):
             return column

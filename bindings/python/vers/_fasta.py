@@ -17,8 +17,8 @@ _BLANK = re.compile(rb"[ \t]")
 
 
 def text_of(lines: Iterable[bytes], upper: bool) -> bytearray:
-    """The text of the lines of a FASTA file, with residues in `upper` case or as they are. Raises Refused with the number
-    of the first line that is wrong."""
+    """Returns the text of the lines of a FASTA file, with residues in `upper` case or as they are. Raises Refused
+    with the number of the first line that is wrong."""
     text = bytearray()
     for number, line in enumerate(lines, 1):
         if not isinstance(line, bytes):
@@ -32,7 +32,7 @@ def text_of(lines: Iterable[bytes], upper: bool) -> bytearray:
 
 
 def _symbols_of(line: bytes, is_first: bool) -> Optional[bytes]:
-    """The symbols of a line. None if it is no line of a FASTA file, whose first one is a header."""
+    """Returns the symbols of a line. None if it is no line of a FASTA file, whose first one is a header."""
     if not line.startswith(b">"):
         return None if line and is_first or line.translate(None, _RESIDUES) else line
     name = _BLANK.split(line[1:], 1)[0]
@@ -61,26 +61,26 @@ class Sites:
         return len(self._feeds) // 2
 
     def name(self, text: Any, number: int) -> str:
-        """The name of a sequence by its number. Raises Refused if it isn't one."""
+        """Returns the name of a sequence by its number. Raises Refused if it isn't one."""
         symbols = bytes(text[self._feeds[2 * number] + 1:self._feeds[2 * number + 1]])
         if not symbols or min(symbols) < 128:
             raise Refused("the text isn't that of a FASTA file")
         return symbols.translate(_LOW).decode("ascii")
 
     def ends(self, number: int) -> Tuple[int, int]:
-        """Where a sequence starts and ends in the text."""
+        """Returns the start and the end of a sequence in the text."""
         after = self._feeds[2 * number + 2] if number + 1 < len(self) else self._size
         return self._feeds[2 * number + 1] + 1, after
 
     def site(self, position: int) -> Optional[Tuple[int, int]]:
-        """The number of the sequence at a position, and the offset in it. None if there is none."""
+        """Returns the number of the sequence at a position, and the offset in it. None if there is none."""
         before = bisect_left(self._feeds, position)
         if before % 2 or before == 0 or position >= self.ends(before // 2 - 1)[1]:
             return None
         return before // 2 - 1, position - self._feeds[before - 1] - 1
 
     def sites(self, places: Iterable[int]) -> List[Tuple[int, int]]:
-        """`site` for each position. Raises Refused if one is in no sequence."""
+        """Returns `site` for each position. Raises Refused if one is in no sequence."""
         sites = []
         for site in map(self.site, places):
             if site is None:

@@ -1,4 +1,4 @@
-"""The faults that calls of the library answer, as exceptions with their names."""
+"""The errors that calls of the library return, as exceptions."""
 
 from typing import Optional
 
@@ -16,7 +16,7 @@ class Vacant(VersError, ValueError):
 
 
 class Refused(VersError, ValueError):
-    """The numbers that were passed are refused."""
+    """The arguments are refused."""
 
 
 class Occupied(VersError, ValueError):
@@ -24,7 +24,7 @@ class Occupied(VersError, ValueError):
 
 
 class NoMemory(VersError, MemoryError):
-    """There is no memory, or the list would be too long."""
+    """An allocation failed, or the list would be too long."""
 
 
 class Shared(VersError, ValueError):
@@ -32,7 +32,7 @@ class Shared(VersError, ValueError):
 
 
 class TooShort(Refused):
-    """The bytes are fewer than a saved form has, or than its head says."""
+    """There are fewer bytes than a saved form has, or than its head says."""
 
 
 class NotOurs(Refused):
@@ -75,6 +75,6 @@ FAULTS = (
 
 
 def fault(status: int, text: Optional[str] = None) -> VersError:
-    """The exception of a status that is neither done nor absent, with a text or with what it always says."""
+    """Returns the exception of a status that is neither done nor absent, with a text or with what it always says."""
     kind = FAULTS[status - 2]
     return kind(text or kind.__doc__)

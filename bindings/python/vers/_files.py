@@ -13,13 +13,13 @@ Path = Union[str, bytes, "os.PathLike[str]", "os.PathLike[bytes]"]
 
 
 def shown(path: Path) -> str:
-    """A path as a text."""
+    """Returns a path as a text."""
     return os.fsdecode(path)
 
 
 @contextlib.contextmanager
 def opened(path: Path) -> Iterator[Any]:
-    """The lines of a file, which may be compressed by gzip."""
+    """Returns the lines of a file, which may be compressed by gzip."""
     with open(path, "rb") as file:
         is_compressed = file.read(2) == b"\x1f\x8b"
         file.seek(0)

@@ -29,8 +29,8 @@ class Answer(ctypes.Structure):
 
 
 def _opened() -> Tuple[ctypes.PyDLL, ctypes.CDLL]:
-    """The library that VERS_LIBRARY names, or the one that pip has built into the package: with and without Python's
-    lock."""
+    """Returns the library that VERS_LIBRARY names, or the one that pip has built into the package: with and without
+    Python's lock."""
     package, named = os.path.dirname(os.path.abspath(__file__)), os.environ.get("VERS_LIBRARY")
     path = named or os.path.join(package, "libvers.so")
     try:

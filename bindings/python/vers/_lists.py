@@ -61,7 +61,7 @@ def _words(words: Numbers, length: Optional[int]) -> Tuple[Held, int]:
 
 
 class BitVec(Bits[_BitVecQuery]):
-    """A list of bits that can change: `BitVec([1, 0, 1])`. A change while another thread asks `each` raises Shared."""
+    """A list of bits that can change: `BitVec([1, 0, 1])`. A change while another thread runs `each` raises Shared."""
 
     _items = "bits"
     _kind = codes.KIND_GROWING
@@ -181,14 +181,14 @@ class RsVec(Fixed[_RsVecQuery], Bits[_RsVecQuery]):
 
     @query(codes.SELECT1, True)
     def select1(self, number: int) -> int:
-        """Returns the position of a one by its number from 0 on; the length if there are no more, while
-        `WaveletMatrix.select` answers None."""
+        """Returns the position of the one with an index from 0 on; the length if there is none, while
+        `WaveletMatrix.select` returns None."""
         return self._number(codes.SELECT1, number)
 
     @query(codes.SELECT0, True)
     def select0(self, number: int) -> int:
-        """Returns the position of a zero by its number from 0 on; the length if there are no more, while
-        `WaveletMatrix.select` answers None."""
+        """Returns the position of the zero with an index from 0 on; the length if there is none, while
+        `WaveletMatrix.select` returns None."""
         return self._number(codes.SELECT0, number)
 
     def iter1(self) -> Iterator[int]:
@@ -244,8 +244,8 @@ class RsVec(Fixed[_RsVecQuery], Bits[_RsVecQuery]):
         return self._neighbour("predecessor0", position)
 
     def _neighbour(self, name: str, position: Any) -> Optional[int]:
-        """The answer to a query of a neighbour: the next position of a bit above a position, or below it if the step is
-        negative."""
+        """Returns the answer to a query of a neighbour: the next position of a bit above a position, or below it if
+        the step is negative."""
         if _buffers.is_many(position):
             places: Optional[int] = self._asked_many(name, (position,), None)
             return places
@@ -296,8 +296,8 @@ class SparseRSVec(Fixed[_SparseQuery]):
 
     @query(codes.SELECT1)
     def select1(self, number: int) -> int:
-        """Returns the position of a one by its number from 0 on; the length if there are no more, while
-        `WaveletMatrix.select` answers None."""
+        """Returns the position of the one with an index from 0 on; the length if there is none, while
+        `WaveletMatrix.select` returns None."""
         return self._number(codes.SELECT1, number)
 
     def iter1(self) -> Iterator[int]:
@@ -328,7 +328,7 @@ class SparseRSVec(Fixed[_SparseQuery]):
 
 
 class EliasFanoVec(Ascending[_SortedQuery]):
-    """Numbers that ascend, equal ones allowed; Refused if they don't. `x in numbers` asks whether x is an element."""
+    """Numbers that ascend, equal ones allowed; Refused if they don't. `x in numbers` tests whether x is an element."""
 
     _items = "elements"
     _kind = codes.KIND_SORTED
@@ -365,7 +365,7 @@ class EliasFanoVec(Ascending[_SortedQuery]):
         return position if position < min(self._past(element), end) else None
 
     def _past(self, element: int) -> int:
-        """The number of elements that are at most a number."""
+        """Returns the number of elements that are at most a number."""
         return self.rank(element + 1) if element < NONE else len(self)
 
     @query(codes.PREDECESSOR, None)
@@ -428,7 +428,7 @@ class WaveletMatrix(Fixed[_SymbolsQuery]):
         return position if position is not None and position < end else None
 
     def _symbol(self, value: Any) -> Optional[int]:
-        """The symbol that equals a value. None if there is none, since a query takes the low bits."""
+        """Returns the symbol that equals a value. None if there is none, since a query takes the low bits."""
         symbol = _buffers.equal_number(value)
         return None if symbol is None or symbol >> self.bits_per_element() else symbol
 
@@ -438,7 +438,7 @@ class WaveletMatrix(Fixed[_SymbolsQuery]):
 
     @query(codes.RANK_OF, True)
     def rank(self, end: int, symbol: int) -> Optional[int]:
-        """Returns how often a symbol occurs before the position `end`. None past the end."""
+        """Returns the number of occurrences of a symbol before the position `end`. None past the end."""
         return self._find_by(codes.RANK_OF, end, symbol)
 
     @query(codes.RANK_RANGE, True)
@@ -450,7 +450,7 @@ class WaveletMatrix(Fixed[_SymbolsQuery]):
     @query(codes.SELECT_OF, True)
     def select(self, number: int, symbol: int) -> Optional[int]:
         """Returns the position of occurrence `number` of a symbol. None if there are fewer, while `RsVec.select1`
-        answers the length."""
+        returns the length."""
         return self._find_by(codes.SELECT_OF, number, symbol)
 
     @query(codes.SELECT_FROM, True)
@@ -465,7 +465,7 @@ class WaveletMatrix(Fixed[_SymbolsQuery]):
 
     @query(codes.LEAST)
     def range_min(self, start: int, end: int) -> Optional[int]:
-        """Returns the least symbol of a range without its end, while `FastRmq.range_min` includes the end and answers a
+        """Returns the least symbol of a range without its end, while `FastRmq.range_min` includes the end and returns a
         position. None if the range is empty."""
         return self._find_by(codes.LEAST, start, end)
 
@@ -504,7 +504,7 @@ class FastRmq(Fixed[_MinimaQuery]):
     @query(codes.RANGE_MIN, True)
     def range_min(self, first: int, last: int) -> Optional[int]:
         """Returns the first position of a least value from one position to another, both included, while
-        `WaveletMatrix.range_min` excludes the end and answers a symbol. None if that is no range of the list."""
+        `WaveletMatrix.range_min` excludes the end and returns a symbol. None if that is no range of the list."""
         return self._find_by(codes.RANGE_MIN, first, last)
 
 
@@ -613,13 +613,13 @@ class BpTree(Shared[_TreeQuery]):
 
     @query(codes.ENCLOSE, True)
     def enclose(self, position: int) -> Optional[int]:
-        """Returns the position at which the nearest pair round a position opens. None if there is none."""
+        """Returns the position at which the nearest pair around a position opens. None if there is none."""
         return self._find(codes.ENCLOSE, position)
 
     @query(codes.NODE_HANDLE, True)
     def node_handle(self, number: int) -> int:
-        """Returns the position of a one by its number; the length if there are no more. If the parentheses are
-        balanced, that is the node of that number in preorder."""
+        """Returns the position of the one with an index from 0 on, which is the node of that index in preorder if the
+        parentheses are balanced; the length if there is none."""
         return self._number(codes.NODE_HANDLE, number)
 
     def fwd_search(self, position: int, rise: int) -> Optional[int]:
@@ -688,7 +688,7 @@ class BpTree(Shared[_TreeQuery]):
 
     @query(codes.NODE_INDEX, True)
     def node_index(self, node: int) -> int:
-        """Returns the number of a node in preorder."""
+        """Returns the index of a node in preorder."""
         return self._number(codes.NODE_INDEX, node)
 
     @query(codes.HAS_NODE)
@@ -820,11 +820,11 @@ class Postings(Ascending[_PostingsQuery]):
         return made
 
     def _costs(self, documents: Any) -> Any:
-        """The costs of documents that the list has, in an array."""
+        """Returns the costs of documents that the list has, in an array."""
         return self.each("cost", self.each("rank", documents), other=0)
 
     def _with_costs(self, documents: Any) -> Postings:
-        """A list of documents that this one has, with their costs."""
+        """Returns a list of documents that this one has, with their costs."""
         made: Postings = Postings(documents, self._costs(documents))
         return made
 
@@ -939,7 +939,7 @@ class InvertedIndex(Shared[_InvertedQuery]):
         return self._filtered(self._joined(codes.DIFFERENCE, one, others), others[1:], False)
 
     def _filtered(self, found: PlainNumbers, terms: Tuple[int, ...], is_kept: bool) -> PlainNumbers:
-        """Those of some documents that have each of some terms, or that have none of them."""
+        """Returns those of some documents that have each of some terms, or that have none of them."""
         if not terms:
             return found
         documents = found._all()
@@ -949,7 +949,7 @@ class InvertedIndex(Shared[_InvertedQuery]):
         return _plain_again(documents)
 
     def _joined(self, joint: int, one: int, others: Tuple[int, ...]) -> PlainNumbers:
-        """The documents of the first term, joined with those of the second one if there is one."""
+        """Returns the documents of the first term, joined with those of the second one if there is one."""
         if not others:
             return self.documents(one)
         own = self.__copy__()
@@ -959,7 +959,7 @@ class InvertedIndex(Shared[_InvertedQuery]):
 
 
 def _above_all(held: Held) -> int:
-    """The least number that is above some numbers, at most 2**64 - 1."""
+    """Returns the least number that is above some numbers, at most 2**64 - 1."""
     if held.size == 0:
         return 0
     greatest = held.keeper.max() if hasattr(held.keeper, "max") else max(held.keeper)
@@ -967,7 +967,7 @@ def _above_all(held: Held) -> int:
 
 
 class TextIndex(Shared[str]):
-    """A text of symbols of `bits_per_symbol` bits, at most 16, in which patterns are found:
+    """A text of symbols of `bits_per_symbol` bits, at most 16, that counts and locates patterns:
     `TextIndex(b"abracadabra")`. The index keeps one position for each `step`. `pattern in text` is whether a pattern
     occurs. A pattern without symbols occurs at each position and at the end. `from_fasta` makes the index of sequences
     with names."""
@@ -1086,11 +1086,11 @@ class TextIndex(Shared[str]):
         return self._number(codes.WIDTH)
 
     def step(self) -> int:
-        """Returns the step: the index keeps one position for each `step`."""
+        """Returns the distance between two sampled positions."""
         return self._number(codes.STEP)
 
     def count(self, pattern: Numbers) -> int:
-        """Returns how often a pattern occurs."""
+        """Returns the number of occurrences of a pattern."""
         held = _buffers.pattern(pattern)
         answer = library.count(self._at, held.address, held.size)
         library.done(answer.status)
@@ -1098,9 +1098,9 @@ class TextIndex(Shared[str]):
         return value
 
     def count_each(self, patterns: Iterable[Numbers]) -> Any:
-        """Returns how often each of some patterns occurs: an array('q'), or a numpy array for the rows of one. In a
-        text of some millions of symbols this takes less time than a `count` of each. Other threads of Python run
-        meanwhile."""
+        """Returns the number of occurrences of each of some patterns: an array('q'), or a numpy array for the rows of
+        one. In a text of some millions of symbols this takes less time than a `count` of each. Other threads of Python
+        run meanwhile."""
         symbols, ends = _buffers.joined(patterns)
         own = self.__copy__()
         library.done(library.count_each(own._at, *symbols[:2], *ends[:2]))

@@ -1,4 +1,4 @@
-"""What a method asks of the library, so that it takes a number or an array, and `each` finds it by its name."""
+"""The queries behind methods, which take a number or an array, and which `each` finds by name."""
 
 from __future__ import annotations
 
@@ -33,7 +33,7 @@ class Answers(list):  # type: ignore[type-arg]
     """Answers that are truths, or of which one may be None."""
 
     def tolist(self) -> Any:
-        """A plain list of them, as an array answers too."""
+        """Returns a plain list of them, as an array answers too."""
         return list(self)
 
 

@@ -6,7 +6,7 @@
         bits = parts.Bits(engine, ["0.vers", "1.vers"])
         bits.rank1(6), bits.select1([0, 3])                      # 4, [0, 5]
 
-An engine is anything with the `map` of `concurrent.futures`, such as a pool of threads or of processes (`Renewed`
+An engine is an object with the `map` of `concurrent.futures`, such as a pool of threads or of processes (`Renewed`
 replaces a pool that lost a process), or a `Client` of Dask.
 
 - Threads share the parts, which are dropped with the list in parts.
@@ -16,8 +16,8 @@ replaces a pool that lost a process), or a `Client` of Dask.
 The file of a part does not change: if another one has replaced it, a query raises `Refused`. Queries of one position or
 number take an array too, and return a list. A query asks each part at most once in a round.
 
-Each query says how it merges the answers of parts. The library proves the laws that it names. A merge that is called
-tested is only compared with plain lists, by `tests/test_parts.py`.
+The documentation of each query explains how it merges the answers of parts. The library proves the laws that it names.
+For a merge that is called tested, `tests/test_parts.py` only compares answers with plain lists.
 """
 
 from __future__ import annotations
@@ -46,7 +46,7 @@ _DIGIT = 4
 
 
 class Engine(Protocol):
-    """What runs a function on workers."""
+    """An object that runs a function on workers."""
 
     def map(self, __function: Any, *columns: Any) -> Iterable[Any]:
         """Returns the answers of a function to the rows of some columns, in order."""
@@ -235,7 +235,7 @@ class _Parts:
 
     @many
     def get(self, position: int) -> Optional[int]:
-        """Returns the item at a position. None past the end. Asks one part. The merge is tested."""
+        """Returns the item at a position. None past the end. Queries one part. The merge is tested."""
         item: Optional[int] = self._asked("get", position, lambda it: _route(self._starts, it, None, None))
         return item
 
@@ -300,11 +300,11 @@ class Bits(_Parts):
         return self._select(0, number)
 
     def ones(self) -> int:
-        """Returns the number of ones. Asks no part. Merged by the law `CountsOfSpansAddUp`."""
+        """Returns the number of ones. Queries no part. Merged by the law `CountsOfSpansAddUp`."""
         return self._before[1][-1]
 
     def zeros(self) -> int:
-        """Returns the number of zeros. Asks no part. Merged by the law `CountsOfSpansAddUp`."""
+        """Returns the number of zeros. Queries no part. Merged by the law `CountsOfSpansAddUp`."""
         return self._before[0][-1]
 
     def _rank(self, bit: int, places: Any) -> int:
