@@ -66,39 +66,38 @@ NAMES = {
 }
 # The calls that have no row above and no name in C, C++ and Python, by the reason. The first that fits counts.
 LEFT_OUT = {
-    "They serve what is built on the structure in Rattle.":
+    "They are for structures in Rattle that use this one.":
         """*.is_one_counted *.select_counted *.rank0_with_bit *.limb_block *.items *.allocator *.select[01]_pair
         *.*gathered_* BpTree.bits BpTree.relative BpTree.measure BpTree.level_end""",
-    "Words of 64 bits by `get_bits` and `append_bits`; counts by a `vers_bits`.":
+    "`get_bits` and `append_bits` take 64 bits at a time, and a `vers_bits` counts.":
         """BitVec.append_bit BitVec.append_word BitVec.append_bit_u* BitVec.limb BitVec.extend*
         BitVec.from_* BitVec.new BitVec.with_capacity BitVec.count_* BitVec.split_at BitVec.pack_* BitVec.unpack_*
         BitVec.*mask_*""",
-    "A structure is made of an array, and its items are written over one.":
+    "A structure is made from an array, and its items are written to one.":
         """RsVec.into_bit_vec RsVec.*_equals BpTree.into_parentheses_vec SparseRSVec.from_* *.from_iter
         EliasFanoVec.from_numbers InvertedIndex.from_source TextIndex.from_* TextIndex.*_with_step""",
-    "Documents of terms are combined into plain numbers, in C and C++ two terms at a time.":
+    "Combined documents of terms are plain numbers; in C and C++ a call combines two terms.":
         "InvertedIndex.*_of InvertedIndex.*n_numbers InvertedIndex.difference_numbers",
-    "They serve saved forms, which C, C++ and Python load and save whole.":
+    "They are for saved forms, which C, C++ and Python load and save as a whole.":
         """TextIndex.column TextIndex.whole_row TextIndex.kept_len TextIndex.kept_row WaveletMatrix.level
         EliasFanoVec.ends EliasFanoVec.low_parts EliasFanoVec.high_parts EliasFanoVec.from_parts SparseRSVec.ones
         InvertedIndex.pair_numbers InvertedIndex.from_numbers""",
-    "Symbols are numbers of at most 64 bits, and not lists of bits.":
+    "Symbols are numbers of at most 64 bits instead of lists of bits.":
         """WaveletMatrix.bit_len WaveletMatrix.from_* WaveletMatrix.get_value WaveletMatrix.get_sorted
         WaveletMatrix.iter WaveletMatrix.iter_sorted WaveletMatrix.into_iter WaveletMatrix.into_iter_sorted
         WaveletMatrix.rank WaveletMatrix.rank_range WaveletMatrix.rank_offset WaveletMatrix.select
         WaveletMatrix.select_offset WaveletMatrix.quantile WaveletMatrix.predecessor WaveletMatrix.successor
         WaveletMatrix.range_min WaveletMatrix.range_max WaveletMatrix.range_median""",
-    "Iterators: the query of the next position, or `_each` over a range of positions.": "*.*iter* BpTree.*children",
-    "Ranges are from one position to another.": "*Rmq.range_min_*",
-    "Positions are answered ascending, or the first ones by `first_places`.": "TextIndex.places",
+    "Instead of iterators, there are queries of positions, and `_each` over a range of positions.": "*.*iter* BpTree.*children",
+    "The two positions of a range are arguments.": "*Rmq.range_min_*",
+    "`places` returns ascending positions, and `first_places` the first ones.": "TextIndex.places",
 }
 HEAD = """# Names
 
-The name of each call in C, C++, Rust and Python. `bindings/names.py` writes this page from
-[CALLS](../docs/CALLS.md), and fails if a call has neither a name nor a reason, or a binding lacks a name. Rust's names
-are those of the crate [rust](../rust); in Python `[]` is an index, and `()` the class. `each` takes the name of a
-query. Calls with one name in all languages are listed above each table: in C with the prefix, and without `_u64`
-except in Rust.
+The name of each call in C, C++, the Rust crate and Python. `bindings/names.py` writes this page from
+[CALLS](../docs/CALLS.md), and fails if a call has neither a name nor a reason, or a binding lacks a name. In Python
+`[]` is an index, and `each` takes the name of a query. The list above each table has the calls with one name in all
+languages: in C with the prefix of the heading, and without `_u64` except in Rust.
 """
 
 
@@ -188,9 +187,9 @@ def main():
                 rows += f"| `{call}` | {' | '.join(shown(structure, *it) for it in row.items())} |\n"
         text += f"\n## `{structure}`: `vers_{STRUCTURES[structure][0]}_`\n\n{textwrap.fill(', '.join(same), 120)}\n"
         text += f"\n| Call | {' | '.join(LANGUAGES)} |\n|---|{'---|' * len(LANGUAGES)}\n{rows}"
-    text += "\n## Left out of C, C++ and Python\n\nRust has those that vers-vecs has.\n\n| Why | Calls |\n|---|---|\n"
-    text += "| Each call tests what it is asked. | those whose names end in `_unchecked` or `_counted` |\n"
-    text += "| A list of bits that grows, or words, make the tree. | `BpBuilder` |\n"
+    text += "\n## Left out of C, C++ and Python\n\nThe Rust crate has those of vers-vecs.\n\n| Reason | Calls |\n|---|---|\n"
+    text += "| Each call tests its arguments. | those whose names end in `_unchecked` or `_counted` |\n"
+    text += "| A tree is made from a growing list of bits, or from words. | `BpBuilder` |\n"
     text += "".join(f"| {reason} | {', '.join(names)} |\n" for reason, names in left.items())
     print("".join(f"{it}\n" for it in faults), end="", file=sys.stderr)
     return write_or_check({PAGE: text}, "bindings/names.py") or int(bool(faults))
