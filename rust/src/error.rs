@@ -35,7 +35,7 @@ pub enum BuildError {
     },
     /// Symbols can't have this number of bits.
     UnsupportedWidth {
-        /// The number of bits asked for.
+        /// The requested number of bits.
         bits: u16,
     },
     /// The number of bits is no multiple of the width of a symbol.
@@ -44,9 +44,9 @@ pub enum BuildError {
     LengthMismatch,
     /// The sampling step is 0.
     ZeroStep,
-    /// The structure can't have this many items, or limits as great as these.
+    /// The structure can't have this many items, or limits this great.
     TooLong,
-    /// The allocator refused the memory.
+    /// An allocation failed.
     OutOfMemory,
 }
 
@@ -91,10 +91,10 @@ impl From<GrowError> for BuildError {
     }
 }
 
-/// Returns what was made.
+/// Returns the structure.
 ///
 /// # Panics
-/// If it can't be made. The message is that of the error.
+/// If there is an error. The message is that of the error.
 #[inline]
 #[track_caller]
 pub(crate) fn granted<T, E: Into<BuildError>>(made: Result<T, E>) -> T {

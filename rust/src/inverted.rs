@@ -163,7 +163,8 @@ impl InvertedIndex {
         Documents { documents: self.index.documents(t), index: &self.index, term: t, taken: 0 }
     }
 
-    /// Returns the documents that have both terms, by at most one search more for each than the rarer has documents.
+    /// Returns the documents that have both terms, with at most n + 1 searches for each, where n is the number of
+    /// documents of the rarer term.
     #[doc = contract!(InvertedIndex::intersection)]
     #[must_use]
     #[track_caller]
@@ -187,8 +188,8 @@ impl InvertedIndex {
         EliasFanoVec { numbers: granted(self.index.difference(Global, one, other)) }
     }
 
-    /// Returns the documents that have the first term and each of the others, by at most one search more for each than
-    /// the first has documents: the rarest term should come first.
+    /// Returns the documents that have the first term and each of the others, with at most n + 1 searches for each,
+    /// where n is the number of documents of the first: put the rarest term first.
     #[doc = contract!(InvertedIndex::intersection_of)]
     #[must_use]
     #[track_caller]
@@ -239,8 +240,8 @@ impl fmt::Debug for InvertedIndex {
     }
 }
 
-/// An iterator over the documents of a term, which allocates nothing. It finds the number of documents left by two
-/// searches, when it is asked.
+/// An iterator over the documents of a term, which allocates nothing. `len` takes two searches to find the number of
+/// documents left.
 #[must_use = "iterators do nothing unless they are used"]
 pub struct Documents<'a> {
     documents: proved::Documents<'a, Global>,

@@ -1,4 +1,4 @@
-//! The iterators of all lists, over the proved ones, and what several types have alike.
+//! The iterators of all lists, over the proved ones, and what several types share.
 
 use crate::error::{granted, BuildError};
 use crate::proved::vers_bits::bit_vec as proved;
@@ -253,27 +253,27 @@ pub(crate) fn advance(n: usize, left: usize, skip: impl FnOnce(usize) -> bool) -
 /// The calls of an iterator that count what they read.
 macro_rules! counted_iterator {
     ($name:ident [$($declared:tt)*] [$($named:tt)*], $item:ty) => {
-        /// Calls that count what they read.
+        /// Calls that count their reads.
         impl<$($declared)*> $name<$($named)*> {
-            /// Returns the next item, and adds what is read to `tally`.
+            /// Returns the next item, and adds the reads to `tally`.
             #[inline]
             pub fn next_counted(&mut self, tally: &mut crate::reads::Tally) -> Option<$item> {
                 crate::items::Plain::plain(self.0.next_counted(&mut tally.0))
             }
 
-            /// Returns the last item, and adds what is read to `tally`.
+            /// Returns the last item, and adds the reads to `tally`.
             #[inline]
             pub fn next_back_counted(&mut self, tally: &mut crate::reads::Tally) -> Option<$item> {
                 crate::items::Plain::plain(self.0.next_back_counted(&mut tally.0))
             }
 
-            /// Skips `n` items, returns the next, and adds what is read to `tally`.
+            /// Skips `n` items, returns the next, and adds the reads to `tally`.
             #[inline]
             pub fn nth_counted(&mut self, n: usize, tally: &mut crate::reads::Tally) -> Option<$item> {
                 crate::items::Plain::plain(self.0.nth_counted(n, &mut tally.0))
             }
 
-            /// Skips the last `n` items, returns the one before them, and adds what is read to `tally`.
+            /// Skips the last `n` items, returns the one before them, and adds the reads to `tally`.
             #[inline]
             #[track_caller]
             pub fn nth_back_counted(&mut self, n: usize, tally: &mut crate::reads::Tally) -> Option<$item> {
@@ -461,10 +461,10 @@ macro_rules! lengths {
 
 pub(crate) use lengths;
 
-/// The first line of the documentation of a call that counts what it reads: it links the call that it is named after.
+/// The first line of the documentation of a call that counts its reads, with a link to the call without `_counted`.
 macro_rules! counts {
     ($of:ident) => {
-        concat!("Answers as [`", stringify!($of), "`](Self::", stringify!($of), "), and adds what is read to `tally`.")
+        concat!("Does what [`", stringify!($of), "`](Self::", stringify!($of), ") does, and adds the reads to `tally`.")
     };
 }
 
@@ -475,7 +475,7 @@ macro_rules! counted {
     ($name:ident, $field:ident:
         $($call:ident, $of:ident($($arg:ident: $kind:ty),*) $(-> $answer:ty)? $(=> $into:ident)?;)*
     ) => {
-        /// Calls that count what they read: each answers as the call that it is named after.
+        /// Calls that count their reads: each does the same as the call without `_counted`.
         impl $name {
             $(
                 #[doc = crate::items::counts!($of)]
@@ -491,7 +491,7 @@ macro_rules! counted {
 
 pub(crate) use counted;
 
-/// Replaces each item of a slice by its answer, asked in groups. `other` is for a query without one.
+/// Replaces each item of a slice by its answer, in groups. `other` is for a query without one.
 pub(crate) fn answer_each(items: &mut [u64], other: u64, mut ask: impl FnMut(&mut [Option<u64>])) {
     const GROUP: usize = 64;
     for group in items.chunks_mut(GROUP) {

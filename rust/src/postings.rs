@@ -152,7 +152,7 @@ impl Postings {
         granted(self.list.intersect(&other.list)).into_plain()
     }
 
-    /// Answers as [`intersect`](Self::intersect), and adds what is read to `tally`.
+    /// Does the same as [`intersect`](Self::intersect), and adds the reads to `tally`.
     #[doc = contract!(Postings::intersect_counted)]
     #[track_caller]
     pub fn intersect_counted(&self, other: &Postings, tally: &mut Tally) -> Vec<u64> {

@@ -6,7 +6,7 @@ use std::fmt;
 /// Counts the entries that queries read, by kind.
 ///
 /// The calls whose names end in `_counted` add to a tally. Their contracts bound what they add, so the worst case of a
-/// query can be checked on any input. A counter that reaches `u64::MAX` stays there.
+/// query can be checked on any input. A counter doesn't exceed `u64::MAX`.
 ///
 /// ```
 /// use vers_vecs::reads::Tally;

@@ -55,13 +55,14 @@ pub trait Saved: Sized {
     /// `NoForm` for symbols of no bits or more than 64, and `OutOfMemory`.
     fn save(&self) -> Result<Vec<u8>, SaveError>;
 
-    /// Makes the structure of a saved form, in O(`bytes.len()`). No bytes make it panic or answer wrongly later.
+    /// Makes the structure of a saved form, in O(`bytes.len()`). No bytes make this call panic, or the structure return
+    /// wrong answers.
     ///
     /// # Errors
-    /// The first test that the bytes don't pass.
+    /// The first test that fails.
     fn load(bytes: &[u8]) -> Result<Self, LoadError>;
 
-    /// Writes the saved form, such as to a file.
+    /// Writes the saved form to a writer, such as a file.
     ///
     /// ```
     /// use vers_vecs::saved::Saved;
@@ -73,13 +74,13 @@ pub trait Saved: Sized {
     /// ```
     ///
     /// # Errors
-    /// That of the writer, or one of the kind `Other` with the [`SaveError`] before anything is written.
+    /// That of the writer, or one of the kind `Other` with the [`SaveError`], before which nothing is written.
     fn save_to<W: Write>(&self, mut writer: W) -> io::Result<()> {
         let bytes = self.save().map_err(|error| io::Error::new(io::ErrorKind::Other, error))?;
         writer.write_all(&bytes)
     }
 
-    /// Makes the structure of a saved form, which is all that the reader returns up to its end.
+    /// Makes the structure of a saved form, which the reader returns up to its end.
     ///
     /// # Errors
     /// That of the reader, or one of the kind `InvalidData` with the [`LoadError`].
@@ -96,7 +97,7 @@ pub trait Saved: Sized {
 pub enum SaveError {
     /// The structure has no saved form: its symbols have no bits or more than 64.
     NoForm,
-    /// The allocator refused the memory.
+    /// An allocation failed.
     OutOfMemory,
 }
 
@@ -104,7 +105,7 @@ pub enum SaveError {
 #[derive(Clone, Copy, PartialEq, Eq, Hash, Debug)]
 #[non_exhaustive]
 pub enum LoadError {
-    /// The bytes are fewer than a saved form has, or than its head says.
+    /// There are fewer bytes than a saved form has, or than its head says.
     TooShort,
     /// The bytes do not begin as a saved form does.
     NotOurs,
@@ -122,7 +123,7 @@ pub enum LoadError {
     NotAscending,
     /// No text has the column and the rows of the saved form.
     NotAText,
-    /// The allocator refused the memory.
+    /// An allocation failed.
     OutOfMemory,
 }
 

@@ -1,4 +1,4 @@
-//! Serialization as saved forms, so that bytes from strangers are tested as [`Saved::load`] tests them.
+//! Serialization as saved forms, so that deserialization tests untrusted bytes as [`Saved::load`] does.
 
 use crate::inverted::InvertedIndex;
 use crate::postings::Postings;

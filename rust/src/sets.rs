@@ -1,5 +1,5 @@
 //! Intersections, unions and differences of ascending lists, which the crate vers-vecs doesn't have. Equal numbers of a
-//! list count once, and a result has none.
+//! list count once, and a result has no equal numbers.
 //!
 //! ```
 //! use vers_vecs::{sets, EliasFanoVec};
@@ -20,47 +20,48 @@ use crate::proved::sets as proved;
 use crate::proved::vers_sorted::elias_fano as lists;
 use crate::rattle::Global;
 
-/// Returns the numbers that are in both lists, by at most one search more in each than the shorter has numbers.
+/// Returns the numbers that are in both lists, with at most n + 1 searches in each, where n is the length of the
+/// shorter one.
 #[doc = contract!(intersection)]
 #[must_use]
 pub fn intersection(one: &EliasFanoVec, other: &EliasFanoVec) -> EliasFanoVec {
     made(proved::intersection(Global, &one.numbers, &other.numbers))
 }
 
-/// Returns the numbers that are in one of two lists, or in both, by at most one search more in each than both have
-/// numbers.
+/// Returns the numbers that are in one of two lists, or in both, with at most n + 1 searches in each, where n is the
+/// length of both.
 #[doc = contract!(union)]
 #[must_use]
 pub fn union(one: &EliasFanoVec, other: &EliasFanoVec) -> EliasFanoVec {
     made(proved::union(Global, &one.numbers, &other.numbers))
 }
 
-/// Returns the numbers of the first list that are not in the other, by at most one search more in each than the first
-/// has numbers.
+/// Returns the numbers of the first list that are not in the other, with at most n + 1 searches in each, where n is the
+/// length of the first.
 #[doc = contract!(difference)]
 #[must_use]
 pub fn difference(one: &EliasFanoVec, other: &EliasFanoVec) -> EliasFanoVec {
     made(proved::difference(Global, &one.numbers, &other.numbers))
 }
 
-/// Returns the numbers that are in the first list and in each of the others, by at most one search more in each than
-/// the first has numbers: the shortest list should come first.
+/// Returns the numbers that are in the first list and in each of the others, with at most n + 1 searches in each, where
+/// n is the length of the first: put the shortest list first.
 #[doc = contract!(intersection_of)]
 #[must_use]
 pub fn intersection_of(first: &EliasFanoVec, others: &[&EliasFanoVec]) -> EliasFanoVec {
     made(proved::intersection_of(Global, &first.numbers, &numbers_of(others)))
 }
 
-/// Returns the numbers that are in the first list or in one of the others, by at most one search more in each than all
-/// have numbers.
+/// Returns the numbers that are in the first list or in one of the others, with at most n + 1 searches in each, where n
+/// is the length of all.
 #[doc = contract!(union_of)]
 #[must_use]
 pub fn union_of(first: &EliasFanoVec, others: &[&EliasFanoVec]) -> EliasFanoVec {
     made(proved::union_of(Global, &first.numbers, &numbers_of(others)))
 }
 
-/// Returns the numbers of the first list that are in none of the others, by at most one search more in each than the
-/// first has numbers.
+/// Returns the numbers of the first list that are in none of the others, with at most n + 1 searches in each, where n
+/// is the length of the first.
 #[doc = contract!(difference_of)]
 #[must_use]
 pub fn difference_of(first: &EliasFanoVec, others: &[&EliasFanoVec]) -> EliasFanoVec {

@@ -1,4 +1,4 @@
-//! Texts in which patterns are found, which the crate vers-vecs doesn't have.
+//! Texts that count and locate patterns, which the crate vers-vecs doesn't have.
 
 use crate::contracts::contract;
 use crate::error::{granted, BuildError};
@@ -11,10 +11,10 @@ use crate::saved::{bytes_of, LoadError, SaveError, Saved};
 use crate::wavelet_tree::numbers;
 use std::ops::Range;
 
-/// The distance of two sampled positions, if the caller doesn't choose it.
+/// The distance between two sampled positions, if the caller doesn't choose it.
 const DEFAULT_STEP: usize = 32;
 
-/// A compressed text of symbols that counts and finds patterns. The empty pattern occurs at each position and at the
+/// A compressed text of symbols that counts and locates patterns. The empty pattern occurs at each position and at the
 /// end. Texts are equal if their symbols and the bits of a symbol are, whatever the step.
 ///
 /// ```
@@ -53,8 +53,8 @@ impl TextIndex {
         TextIndex::with_step(symbols, bits_per_symbol, DEFAULT_STEP)
     }
 
-    /// Indexes symbols, and samples every `step`-th position: finding a position takes fewer than `step` steps, and a
-    /// smaller `step` more memory.
+    /// Indexes symbols, and samples every `step`-th position: locating an occurrence takes fewer than `step` LF steps,
+    /// and a smaller `step` takes more memory.
     ///
     /// # Errors
     /// `UnsupportedWidth` if `bits_per_symbol` is 0 or above 16, `SymbolTooWide` if a symbol has more bits, `ZeroStep`,
@@ -121,23 +121,23 @@ impl TextIndex {
         self.text.step()
     }
 
-    /// Returns how often a pattern occurs. The cost depends on the pattern's length and the depths of its symbols, not
-    /// on the text's length.
+    /// Returns the number of occurrences of a pattern. The cost depends on the pattern's length and the depths of its
+    /// symbols, not on the text's length.
     #[doc = contract!(TextIndex::count)]
     #[must_use]
     pub fn count(&self, pattern: &[u64]) -> usize {
         self.text.count(pattern)
     }
 
-    /// Returns how often a pattern of bytes occurs, as [`count`](Self::count) does for the same numbers.
+    /// Returns the number of occurrences of a pattern of bytes, as [`count`](Self::count) does for the same numbers.
     #[doc = contract!(TextIndex::count)]
     #[must_use]
     pub fn count_bytes<P: AsRef<[u8]> + ?Sized>(&self, pattern: &P) -> usize {
         self.count(&symbols_of(pattern.as_ref()))
     }
 
-    /// Returns how often each of some patterns occurs, in less time than [`count`](Self::count) for each if the text has
-    /// some millions of symbols.
+    /// Returns the number of occurrences of each of some patterns, in less time than [`count`](Self::count) for each if
+    /// the text has some millions of symbols.
     ///
     /// ```
     /// use vers_vecs::text::TextIndex;
@@ -153,8 +153,8 @@ impl TextIndex {
         counts
     }
 
-    /// Returns how often each of some patterns of bytes occurs, as [`count_each`](Self::count_each) does for the same
-    /// numbers.
+    /// Returns the number of occurrences of each of some patterns of bytes, as [`count_each`](Self::count_each) does
+    /// for the same numbers.
     ///
     /// ```
     /// use vers_vecs::text::TextIndex;
@@ -234,14 +234,14 @@ impl TextIndex {
         Some(self.extract(range)?.into_iter().map(|symbol| symbol as u8).collect())
     }
 
-    /// Answers as [`extract`](Self::extract), and adds what is read to `tally`.
+    /// Does the same as [`extract`](Self::extract), and adds the reads to `tally`.
     #[doc = contract!(TextIndex::extract_counted)]
     #[track_caller]
     pub fn extract_counted(&self, range: Range<usize>, tally: &mut Tally) -> Option<Vec<u64>> {
         Some(granted(self.text.extract_counted(range, &mut tally.0))?.into_plain())
     }
 
-    /// Answers as [`first_places`](Self::first_places), and adds what is read to `tally`.
+    /// Does the same as [`first_places`](Self::first_places), and adds the reads to `tally`.
     #[doc = contract!(TextIndex::first_places_counted)]
     #[track_caller]
     pub fn first_places_counted(&self, pattern: &[u64], limit: usize, tally: &mut Tally) -> Vec<usize> {

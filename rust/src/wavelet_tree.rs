@@ -15,10 +15,9 @@ const MAX_WIDTH: u16 = 16;
 
 /// A list of symbols of at most 16 bits that reads and counts them. It can't change.
 ///
-/// A binary tree divides the symbols at each fork where half of the elements are below, as nearly as symbols allow. The
-/// number of forks that lead to a symbol is the length of its code: that of a frequent symbol is short. A query takes a
-/// rank or two of bits for each fork that leads to its symbol, and those of a [`WaveletMatrix`](crate::WaveletMatrix)
-/// for each bit of the width.
+/// A binary tree divides the symbols at each fork so that about half of the elements are on each side. The number of
+/// forks above a symbol is the length of its code, which is short for a frequent symbol. A query takes one or two ranks
+/// at each fork above its symbol; a [`WaveletMatrix`](crate::WaveletMatrix) takes them for each bit of the width.
 ///
 /// Memory: 1.25 bits for each element and each fork above it, 32 bytes for each symbol that occurs, and 8 for each that
 /// there may be. It has no select, quantile, predecessor or successor.
@@ -71,7 +70,7 @@ fn check_symbols<N: Integer>(symbols: &[N], width: u16) -> Result<(), BuildError
     }
 }
 
-/// Makers.
+/// Constructors.
 impl WaveletTree {
     /// Indexes some symbols of `width` bits. Besides the tree it allocates two buffers of as many numbers of the same
     /// type.
@@ -128,14 +127,14 @@ impl WaveletTree {
         (position < self.len()).then(|| self.symbols.get_sorted(position).into())
     }
 
-    /// Answers as [`get_sorted`](Self::get_sorted), and adds what is read to `tally`.
+    /// Does the same as [`get_sorted`](Self::get_sorted), and adds the reads to `tally`.
     #[doc = contract!(WaveletTree::get_sorted_counted)]
     #[inline]
     pub fn get_sorted_counted(&self, position: usize, tally: &mut Tally) -> Option<SortedPosition> {
         (position < self.len()).then(|| self.symbols.get_sorted_counted(position, &mut tally.0).into())
     }
 
-    /// Returns how often a symbol occurs before `position`, or `None` if `position` is above the length.
+    /// Returns the number of occurrences of a symbol before `position`, or `None` if `position` is above the length.
     #[doc = contract!(WaveletTree::rank)]
     #[must_use]
     #[inline]
@@ -143,7 +142,7 @@ impl WaveletTree {
         (position <= self.len()).then(|| self.symbols.rank(position, symbol))
     }
 
-    /// Answers as [`rank`](Self::rank), and adds what is read to `tally`.
+    /// Does the same as [`rank`](Self::rank), and adds the reads to `tally`.
     #[doc = contract!(WaveletTree::rank_counted)]
     #[inline]
     pub fn rank_counted(&self, position: usize, symbol: u64, tally: &mut Tally) -> Option<usize> {
@@ -162,7 +161,7 @@ impl WaveletTree {
         None
     }
 
-    /// Answers as [`sorted_range`](Self::sorted_range), and adds what is read to `tally`.
+    /// Does the same as [`sorted_range`](Self::sorted_range), and adds the reads to `tally`.
     #[doc = contract!(WaveletTree::sorted_range_counted)]
     #[inline]
     pub fn sorted_range_counted(&self, range: Range<usize>, symbol: u64, tally: &mut Tally) -> Option<Range<usize>> {

@@ -10,11 +10,11 @@ use crate::reads::Tally;
 use crate::BitVec;
 use std::hash::{Hash, Hasher};
 
-/// A list of bits that counts the ones before a position, for queries that are mostly ranks. It can't change.
+/// A list of bits that counts the ones before a position, for uses in which most queries are ranks. It can't change.
 ///
-/// A rank reads one word and two counts, and takes half of the instructions of one of an [`RsVec`](crate::RsVec). The
-/// counts, 16 bits for each word, take about 25 % of the bits' memory instead of 5 %. It has no select, predecessor or
-/// successor.
+/// A rank reads one word and two counts, and takes half of the instructions of a rank in an [`RsVec`](crate::RsVec).
+/// The counts, 16 bits for each word, take about 25 % of the bits' memory instead of 5 %. It has no select, predecessor
+/// or successor.
 ///
 /// ```
 /// use vers_vecs::word_rank::{BitAndRank, WordRank};
@@ -24,7 +24,7 @@ use std::hash::{Hash, Hasher};
 /// assert_eq!((bits.rank1(2), bits.rank1(100)), (1, 3));
 /// assert_eq!((bits.is_one(2), bits.is_one(5)), (Some(true), None));
 /// assert_eq!(bits.get_and_rank1(4), Some(BitAndRank { is_one: true, ones: 2 }));
-/// // the zeros before a position are the others
+/// // the other bits before a position are the zeros
 /// assert_eq!(4 - bits.rank1(4), 2);
 /// ```
 pub struct WordRank {
@@ -64,7 +64,7 @@ impl WordRank {
     /// Counts the ones of a list as [`from_bit_vec`](Self::from_bit_vec) does.
     ///
     /// # Errors
-    /// `OutOfMemory`, if there is no memory for the counts.
+    /// `OutOfMemory` if the allocation of the counts fails.
     #[doc = contract!(WordRank::from_bit_vec)]
     pub fn try_from_bit_vec(bits: BitVec) -> Result<WordRank, BuildError> {
         Ok(WordRank { bits: proved::WordRank::from_bit_vec(bits.bits)? })
@@ -101,7 +101,7 @@ impl WordRank {
         (position < self.len()).then(|| self.bits.is_one(position))
     }
 
-    /// Answers as [`is_one`](Self::is_one), and adds what is read to `tally`.
+    /// Does the same as [`is_one`](Self::is_one), and adds the reads to `tally`.
     #[doc = contract!(WordRank::is_one_counted)]
     #[inline]
     pub fn is_one_counted(&self, position: usize, tally: &mut Tally) -> Option<bool> {
@@ -116,7 +116,7 @@ impl WordRank {
         (position < self.len()).then(|| self.bits.get_and_rank1(position).into())
     }
 
-    /// Answers as [`get_and_rank1`](Self::get_and_rank1), and adds what is read to `tally`.
+    /// Does the same as [`get_and_rank1`](Self::get_and_rank1), and adds the reads to `tally`.
     #[doc = contract!(WordRank::get_and_rank1_counted)]
     #[inline]
     pub fn get_and_rank1_counted(&self, position: usize, tally: &mut Tally) -> Option<BitAndRank> {

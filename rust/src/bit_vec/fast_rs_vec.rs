@@ -50,7 +50,7 @@ shows!(RsVec, "bits", |list| list.iter());
 lengths!(RsVec, bits, "bits", usize);
 saved!(RsVec, bits);
 
-/// Makers and conversions.
+/// Constructors and conversions.
 impl RsVec {
     /// Indexes the bits of a list, whose memory it takes over, in O(`bits.len()`).
     #[doc = contract!(RsVec::from_bit_vec)]
@@ -63,7 +63,7 @@ impl RsVec {
     /// Indexes the bits of a list as [`from_bit_vec`](Self::from_bit_vec) does.
     ///
     /// # Errors
-    /// `OutOfMemory`, if there is no memory for the index.
+    /// `OutOfMemory` if the allocation of the index fails.
     #[doc = contract!(RsVec::from_bit_vec)]
     pub fn try_from_bit_vec(bits: BitVec) -> Result<RsVec, BuildError> {
         Ok(RsVec { bits: proved::RsVec::from_bit_vec(bits.bits)? })
@@ -196,7 +196,7 @@ impl RsVec {
         }
     }
 
-    /// Returns true if the bit at `position` is a one, and adds what is read to `tally`.
+    /// Returns true if the bit at `position` is a one, and adds the reads to `tally`.
     ///
     /// # Panics
     /// If `position` is past the end.
@@ -235,8 +235,8 @@ impl RsVec {
         }
     }
 
-    /// Returns true if both lists have the same length and their ones (their zeros, for `ZERO`) at the same positions.
-    /// Fast if these are few.
+    /// Returns true if both lists have the same length and the same positions of ones (of zeros, for `ZERO`). For
+    /// lists with few of these.
     #[doc = contract!(RsVec::sparse_equals)]
     #[must_use]
     pub fn sparse_equals<const ZERO: bool>(&self, other: &Self) -> bool {
@@ -304,25 +304,25 @@ counted! { RsVec, bits:
 
 /// Iterators over positions.
 impl RsVec {
-    /// Iterates over the positions of the zeros for `ZERO`, else of the ones.
+    /// Iterates over the positions of the zeros for `ZERO`, otherwise of the ones.
     #[doc = contract!(RsVec::select_iter)]
     pub fn select_iter<const ZERO: bool>(&self) -> SelectIter<'_, ZERO> {
         SelectIter(self.bits.select_iter())
     }
 
-    /// Iterates over the positions of the zeros for `ZERO`, else of the ones, and owns the list.
+    /// Iterates over the positions of the zeros for `ZERO`, otherwise of the ones, and owns the list.
     #[doc = contract!(RsVec::into_select_iter)]
     pub fn into_select_iter<const ZERO: bool>(self) -> SelectIntoIter<ZERO> {
         SelectIntoIter(self.bits.into_select_iter())
     }
 
-    /// Iterates over the positions of the zeros by chunks of bits: fast if these are many.
+    /// Iterates over the positions of the zeros by chunks of bits, for lists with many zeros.
     #[doc = contract!(RsVec::bit_set_iter0)]
     pub fn bit_set_iter0(&self) -> BitSetIter<'_, true> {
         BitSetIter(self.bits.bit_set_iter0())
     }
 
-    /// Iterates over the positions of the ones by chunks of bits: fast if these are many.
+    /// Iterates over the positions of the ones by chunks of bits, for lists with many ones.
     #[doc = contract!(RsVec::bit_set_iter1)]
     pub fn bit_set_iter1(&self) -> BitSetIter<'_, false> {
         BitSetIter(self.bits.bit_set_iter1())
@@ -362,7 +362,7 @@ counted_iterator! { RsVecIter [] [], u64 }
 counted_iterator! { RsVecRefIter ['a] ['a], u64 }
 
 iterators! {
-    /// Iterates over the positions of the zeros of an [`RsVec`] for `ZERO`, else of the ones. They ascend.
+    /// Iterates over the positions of the zeros of an [`RsVec`] for `ZERO`, otherwise of the ones. They ascend.
     SelectIntoIter [const ZERO: bool] [ZERO] = proved::SelectIntoIter<ZERO, Global>,
     SelectIter ['a, const ZERO: bool] ['a, ZERO] = proved::SelectIter<'a, ZERO, Global>, usize,
     ascending |it| first_of(it), last_of(it)
@@ -373,13 +373,13 @@ counted_iterator! { SelectIter ['a, const ZERO: bool] ['a, ZERO], usize }
 
 iterates! { RsVec, bits, "bits", u64, RsVecIter, RsVecRefIter }
 
-/// Iterates over the positions of the zeros of an [`RsVec`] for `ZERO`, else of the ones, by chunks of bits. They
+/// Iterates over the positions of the zeros of an [`RsVec`] for `ZERO`, otherwise of the ones, by chunks of bits. They
 /// ascend.
 #[must_use = "iterators do nothing unless they are used"]
 pub struct BitSetIter<'a, const ZERO: bool>(proved::BitSetIter<'a, ZERO, Global>);
 
 impl<const ZERO: bool> BitSetIter<'_, ZERO> {
-    /// Returns the next position, and adds what is read to `tally`.
+    /// Returns the next position, and adds the reads to `tally`.
     #[inline]
     pub fn next_counted(&mut self, tally: &mut Tally) -> Option<usize> {
         self.0.next_counted(&mut tally.0)

@@ -15,7 +15,7 @@ pub mod sparse;
 
 const WORD_SIZE: usize = 64;
 
-/// A list of bits under a mask, combined by a plain function.
+/// A list of bits and a mask, combined by a function pointer.
 pub type BitMask<'s, 'b> = MaskedBitVec<'s, 'b, fn(u64, u64) -> u64>;
 
 /// A list of bits that can change, packed into words (limbs) of 64 bits. Bit 0 is the lowest bit of the first limb.
@@ -71,7 +71,7 @@ shows!(BitVec, "bits", |bits| bits.iter());
 lengths!(BitVec, bits, "bits", usize);
 saved!(BitVec, bits);
 
-/// Makers from slices and numbers, each a call of the proved maker of the same name.
+/// Constructors from slices and numbers, each a call of the proved maker of the same name.
 macro_rules! makers {
     ($($(#[$doc:meta])* $name:ident($($arg:ident: $kind:ty),*);)*) => {
         impl BitVec {
@@ -88,7 +88,7 @@ macro_rules! makers {
     };
 }
 
-/// The same makers, which return an error instead of a panic.
+/// The same constructors, which return an error instead of a panic.
 macro_rules! fallible_makers {
     ($($name:ident, $of:ident($arg:ident: $kind:ty);)*) => {
         impl BitVec {
@@ -106,7 +106,7 @@ macro_rules! fallible_makers {
     };
 }
 
-/// Makers from iterators.
+/// Constructors from iterators.
 macro_rules! makers_from_iterators {
     ($($(#[$doc:meta])* $name:ident($arg:ident: $item:ty $(, $k:ident: $size:ty)?);)*) => {
         impl BitVec {
@@ -179,7 +179,7 @@ makers_from_iterators! {
     pack_from_iter_u64(sequence: u64, k: usize);
 }
 
-/// Makers.
+/// Constructors.
 impl BitVec {
     /// Makes an empty list, which takes no memory.
     #[doc = contract!(BitVec::new)]
@@ -340,8 +340,8 @@ impl BitVec {
         self.bits.set(position, value).map_err(|_| "out of range")
     }
 
-    /// Sets the bit at `position` to the lowest bit of `value`, or does nothing if `position` is past the end but in the last
-    /// limb.
+    /// Sets the bit at `position` to the lowest bit of `value`, or does nothing if `position` is past the end but in the
+    /// last limb.
     ///
     /// # Panics
     /// If no limb has the position.
@@ -384,7 +384,7 @@ impl BitVec {
 
 /// Queries. Those of one bit or word take constant time.
 impl BitVec {
-    /// Stops if no limb has a position that is past the end.
+    /// Panics if no limb has a position that is past the end.
     #[cold]
     #[inline(never)]
     #[track_caller]

@@ -9,8 +9,8 @@ use crate::rattle::Global;
 use crate::saved::saved;
 use crate::BitVec;
 
-/// A list of bits that stores the positions of its ones only, as an ascending list. Its memory depends on the number of
-/// ones, and hardly on the length. It can't change.
+/// A list of bits that stores only the positions of its ones, as an ascending list. Its memory depends mostly on the
+/// number of ones, and little on the length. It can't change.
 ///
 /// ```
 /// use vers_vecs::SparseRSVec;
@@ -33,7 +33,7 @@ compares!(SparseRSVec, |list| list.iter1());
 lengths!(SparseRSVec, bits, "bits", u64);
 saved!(SparseRSVec, bits);
 
-/// Makers.
+/// Constructors.
 impl SparseRSVec {
     /// Makes a list of `len` bits with ones at the positions `ones`, in O(`ones.len()`).
     ///

@@ -35,7 +35,7 @@ compares!(EliasFanoVec, |list| list.iter());
 lengths!(EliasFanoVec, numbers, "numbers", usize);
 saved!(EliasFanoVec, numbers);
 
-/// Makers.
+/// Constructors.
 impl EliasFanoVec {
     /// Compresses some numbers, in O(`numbers.len()`).
     ///
@@ -146,7 +146,7 @@ impl EliasFanoVec {
         self.numbers.delta(i)
     }
 
-    /// Returns how many numbers are less than `v`. O(log `len`) at worst, equal numbers or not.
+    /// Returns how many numbers are less than `v`. O(log `len`) at worst, also with many equal numbers.
     #[doc = contract!(EliasFanoVec::rank)]
     #[must_use]
     #[inline]
@@ -197,19 +197,19 @@ impl EliasFanoVec {
         answer_each(values, other, |group| self.numbers.successor_each(group));
     }
 
-    /// Answers as [`get_each`](Self::get_each), and adds what is read to `tally`.
+    /// Does the same as [`get_each`](Self::get_each), and adds the reads to `tally`.
     #[doc = contract!(EliasFanoVec::get_each_counted)]
     pub fn get_each_counted(&self, positions: &mut [u64], other: u64, tally: &mut Tally) {
         answer_each(positions, other, |group| self.numbers.get_each_counted(group, &mut tally.0));
     }
 
-    /// Answers as [`predecessor_each`](Self::predecessor_each), and adds what is read to `tally`.
+    /// Does the same as [`predecessor_each`](Self::predecessor_each), and adds the reads to `tally`.
     #[doc = contract!(EliasFanoVec::predecessor_each_counted)]
     pub fn predecessor_each_counted(&self, values: &mut [u64], other: u64, tally: &mut Tally) {
         answer_each(values, other, |group| self.numbers.predecessor_each_counted(group, &mut tally.0));
     }
 
-    /// Answers as [`successor_each`](Self::successor_each), and adds what is read to `tally`.
+    /// Does the same as [`successor_each`](Self::successor_each), and adds the reads to `tally`.
     #[doc = contract!(EliasFanoVec::successor_each_counted)]
     pub fn successor_each_counted(&self, values: &mut [u64], other: u64, tally: &mut Tally) {
         answer_each(values, other, |group| self.numbers.successor_each_counted(group, &mut tally.0));

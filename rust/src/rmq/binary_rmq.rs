@@ -12,8 +12,8 @@ use std::ops::{Deref, RangeBounds};
 
 minima! {
     /// A list of values that finds the position of a least value of any range in constant time, by a table of four
-    /// bytes for each value and power of two. It takes at most `u32::MAX` values, and can't change. [`Vec`]'s calls
-    /// that read are there too.
+    /// bytes for each value and power of two. It takes at most `u32::MAX` values, and can't change. It also has the
+    /// reading calls of a [`Vec`].
     ///
     /// ```
     /// use vers_vecs::BinaryRmq;
@@ -52,7 +52,7 @@ impl BinaryRmq {
         PlacedItem { position: found.position, value: found.value }
     }
 
-    /// Answers as [`range_min_item`](Self::range_min_item), and adds what is read to `tally`.
+    /// Does the same as [`range_min_item`](Self::range_min_item), and adds the reads to `tally`.
     ///
     /// # Panics
     /// If `i` is above `j`, or `j` is past the end.
@@ -67,7 +67,7 @@ impl BinaryRmq {
         PlacedItem { position: found.position, value: found.value }
     }
 
-    /// Returns the value at `position`, and adds what is read to `tally`.
+    /// Returns the value at `position`, and adds the reads to `tally`.
     ///
     /// # Panics
     /// If `position` is past the end.

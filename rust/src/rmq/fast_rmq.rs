@@ -12,7 +12,7 @@ use std::ops::{Deref, RangeBounds};
 
 minima! {
     /// A list of values that finds the position of a least value of any range in constant time, by blocks of 128
-    /// values. It takes at most 549755813760 values, and can't change. [`Vec`]'s calls that read are there too.
+    /// values. It takes at most 549755813760 values, and can't change. It also has the reading calls of a [`Vec`].
     ///
     /// ```
     /// use vers_vecs::FastRmq;
@@ -20,7 +20,7 @@ minima! {
     /// let values: FastRmq = (0..1000).map(|i| 1000 - i % 17).collect();
     /// assert_eq!(values.range_min(0, 999), 16);
     /// assert_eq!(values[16], 984);
-    /// // Both ends belong to the range of `range_min`. Of equal values the first is found.
+    /// // Both ends belong to the range of `range_min`. Of equal values it returns the first.
     /// assert_eq!(FastRmq::from_vec(vec![2, 1, 1]).range_min(0, 2), 1);
     /// ```
     FastRmq, proved::FastRmq<Global>, proved::MAX_LEN

@@ -5,8 +5,8 @@ use std::ops::{Bound, RangeBounds};
 pub mod binary_rmq;
 pub mod fast_rmq;
 
-/// Returns the first and the last position of a range in a list of `len` values. Past the end the last position of the
-/// list is meant.
+/// Returns the first and the last position of a range in a list of `len` values. An end past that of the list means the
+/// last position.
 #[track_caller]
 fn bounds(range: impl RangeBounds<usize>, len: usize) -> (usize, usize) {
     assert!(len > 0, "there are no values");
@@ -23,7 +23,7 @@ fn bounds(range: impl RangeBounds<usize>, len: usize) -> (usize, usize) {
     (first.min(len - 1), last.min(len - 1))
 }
 
-/// The type of a list of values with its calls, which differ by the build alone.
+/// The type of a list of values with its calls, which differ only in the build.
 macro_rules! minima {
     ($(#[$doc:meta])* $name:ident, $proved:ty, $most:path) => {
         $(#[$doc])*
@@ -47,7 +47,7 @@ macro_rules! minima {
             /// Indexes some values, in O(`items.len()`).
             ///
             /// # Panics
-            /// If they are too many.
+            /// If there are too many.
             #[doc = contract!($name::from_vec)]
             #[must_use]
             #[track_caller]
@@ -58,7 +58,7 @@ macro_rules! minima {
             /// Indexes some values, in O(`items.len()`).
             ///
             /// # Errors
-            /// `TooLong` if they are too many, and `OutOfMemory`.
+            /// `TooLong` if there are too many, and `OutOfMemory`.
             #[doc = contract!($name::from_vec)]
             pub fn try_from_vec(items: Vec<u64>) -> Result<Self, BuildError> {
                 if items.len() > $most {
@@ -94,7 +94,7 @@ macro_rules! minima {
                 self.index.range_min(i, j)
             }
 
-            /// Answers as [`range_min`](Self::range_min), and adds what is read to `tally`.
+            /// Does the same as [`range_min`](Self::range_min), and adds the reads to `tally`.
             ///
             /// # Panics
             /// If `i` is above `j`, or `j` is past the end.
@@ -108,7 +108,7 @@ macro_rules! minima {
                 self.index.range_min_counted(i, j, &mut tally.0)
             }
 
-            /// Answers as [`range_min_with_range`](Self::range_min_with_range), and adds what is read to `tally`.
+            /// Does the same as [`range_min_with_range`](Self::range_min_with_range), and adds the reads to `tally`.
             ///
             /// # Panics
             /// If there are no values, or the range is empty.

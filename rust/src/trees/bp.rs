@@ -15,8 +15,9 @@ use std::hash::{Hash, Hasher};
 
 const DEFAULT_BLOCK_SIZE: usize = 512;
 
-/// A tree, as the parentheses that a depth-first walk writes: a one when it enters a node, a zero when it leaves it.
-/// The handle of a node is the position of its one. Several trees may follow one another, and roots are siblings then.
+/// A tree, as the parentheses that a depth-first walk writes: a one when it enters a node, and a zero when it leaves
+/// the node. The handle of a node is the position of its one. Several trees may follow one another; their roots are
+/// siblings.
 ///
 /// Calls that take a node expect balanced parentheses and the position of a one. Otherwise, with debug assertions some
 /// of them panic; without, `parent` is [`enclose`](Self::enclose), `first_child` the next position if it has a one, and
@@ -32,7 +33,7 @@ const DEFAULT_BLOCK_SIZE: usize = 512;
 /// assert_eq!(tree.size(), 4);
 /// ```
 ///
-/// `BLOCK_SIZE` is the number of bits of a block of the index: from 1 to 2^32. Others don't compile.
+/// `BLOCK_SIZE` is the number of bits of a block of the index: from 1 to 2^32. Other sizes don't compile.
 ///
 /// ```compile_fail
 /// let tree = vers_vecs::BpTree::<0>::from_bit_vector(vers_vecs::BitVec::new());
@@ -43,7 +44,7 @@ pub struct BpTree<const BLOCK_SIZE: usize = DEFAULT_BLOCK_SIZE> {
     balanced: bool,
 }
 
-/// Makers, and queries of any list of parentheses.
+/// Constructors, and queries of any list of parentheses.
 impl<const BLOCK_SIZE: usize> BpTree<BLOCK_SIZE> {
     const BLOCK_SIZE_FITS: () =
         assert!(0 < BLOCK_SIZE && BLOCK_SIZE <= proved::MAX_BLOCK_SIZE, "a block has 1 to 2^32 bits");
@@ -104,7 +105,7 @@ impl<const BLOCK_SIZE: usize> BpTree<BLOCK_SIZE> {
         self.tree.open(i)
     }
 
-    /// Returns the position of the one of the nearest pair around `i`, or `None` if there is none. O(log `len`).
+    /// Returns the position at which the nearest pair around `i` opens, or `None` if there is none. O(log `len`).
     #[doc = contract!(BpTree::enclose)]
     #[must_use]
     #[inline]
@@ -254,7 +255,7 @@ pub struct ChildrenIter<'a, const BLOCK_SIZE: usize, const FORWARD: bool>(
 );
 
 impl<const BLOCK_SIZE: usize, const FORWARD: bool> ChildrenIter<'_, BLOCK_SIZE, FORWARD> {
-    /// Returns the next child, and adds what is read to `tally`.
+    /// Returns the next child, and adds the reads to `tally`.
     #[inline]
     pub fn next_counted(&mut self, tally: &mut Tally) -> Option<usize> {
         self.0.as_mut()?.next_counted(&mut tally.0)
@@ -281,7 +282,7 @@ impl<const BLOCK_SIZE: usize, const FORWARD: bool> fmt::Debug for ChildrenIter<'
 /// Forms of queries that count what they read, of any list of parentheses.
 macro_rules! counted_searches {
     ($($call:ident, $of:ident($($arg:ident: $kind:ty),*) -> $answer:ty;)*) => {
-        /// Calls that count what they read: each answers as the call that it is named after.
+        /// Calls that count their reads: each does the same as the call without `_counted`.
         impl<const BLOCK_SIZE: usize> BpTree<BLOCK_SIZE> {
             $(
                 #[doc = crate::items::counts!($of)]
@@ -310,11 +311,11 @@ counted_searches! {
 /// Forms of queries of nodes and levels that count what they read, under a condition.
 macro_rules! counted_nodes {
     ($tree:ident, $condition:expr; $($call:ident, $of:ident($($arg:ident: $kind:ty),*) -> $answer:ty;)*) => {
-        /// Calls that count what they read: each answers as the call that it is named after, and panics if there is no
+        /// Calls that count their reads: each does the same as the call without `_counted`, and panics if there is no
         /// such node.
         impl<const BLOCK_SIZE: usize> BpTree<BLOCK_SIZE> {
             $(
-                #[doc = concat!("Answers as `", stringify!($of), "`, and adds what is read to `tally`.")]
+                #[doc = concat!("Does the same as `", stringify!($of), "`, and adds the reads to `tally`.")]
                 ///
                 /// # Panics
                 /// If the parentheses aren't balanced, or a position that is given has no node.
@@ -356,7 +357,7 @@ counted_nodes! { tree, tree.is_balanced();
 }
 
 impl<const BLOCK_SIZE: usize> BpTree<BLOCK_SIZE> {
-    /// Answers as [`excess`](Self::excess), and adds what is read to `tally`.
+    /// Does the same as [`excess`](Self::excess), and adds the reads to `tally`.
     ///
     /// # Panics
     /// If `i` is past the end.
@@ -696,7 +697,7 @@ impl<const BLOCK_SIZE: usize> BpBuilder<BLOCK_SIZE> {
     /// Makes a builder of no nodes, with room for `nodes` of them.
     ///
     /// # Panics
-    /// If there is no memory for them.
+    /// If the allocation fails.
     #[doc = contract!(BpBuilder::with_capacity)]
     #[must_use]
     #[track_caller]

@@ -14,12 +14,12 @@ use std::ops::Range;
 
 pub use crate::proved::vers_wavelet::wavelet::Integer;
 
-/// A symbol, and the position where it goes if equal symbols are gathered.
+/// A symbol, and its gathered position: the one to which it moves if equal symbols are gathered.
 #[derive(Clone, Copy, PartialEq, Eq, Hash, Debug)]
 pub struct Gathered {
     /// The symbol.
     pub symbol: u64,
-    /// The position where it goes.
+    /// The gathered position.
     pub position: usize,
 }
 
@@ -31,12 +31,12 @@ impl From<proved::Gathered> for Gathered {
     }
 }
 
-/// A list of symbols of one width, in memory of about one index for rank and select a bit of the width. It reads,
-/// counts and finds symbols, and finds those of a range by size. It can't change.
+/// A list of symbols of one width, which takes the memory of an `RsVec` for each bit of the width. It reads, counts and
+/// finds symbols, and finds those of a range by size. It can't change.
 ///
 /// Symbols are numbers of at most 64 bits, or lists of bits of any width, the lowest bit first. The calls that end in
-/// `_u64` are for numbers, and of a symbol that they are given the low bits count. With `k` bits a symbol, queries make
-/// at most `2k` rank or select queries of bits. A `range` excludes its end.
+/// `_u64` are for numbers, and use the low bits of a wider symbol. With `k` bits a symbol, queries make at most `2k`
+/// rank or select queries of bits. A `range` excludes its end.
 ///
 /// ```
 /// use vers_vecs::WaveletMatrix;
@@ -57,7 +57,7 @@ pub struct WaveletMatrix {
 clones!(WaveletMatrix, symbols);
 saved!(WaveletMatrix, symbols);
 
-/// Makers.
+/// Constructors.
 impl WaveletMatrix {
     /// Indexes the symbols that follow one another in a list of bits, in O(`bits.len()`).
     ///
@@ -128,7 +128,7 @@ impl WaveletMatrix {
     /// use vers_vecs::error::BuildError;
     /// use vers_vecs::WaveletMatrix;
     ///
-    /// // `from_slice` keeps the low bits alone.
+    /// // `from_slice` keeps only the low bits.
     /// assert_eq!(WaveletMatrix::from_slice(&[9], 3).get_u64(0), Some(1));
     /// let error = WaveletMatrix::try_from_slice(&[9], 3).unwrap_err();
     /// assert_eq!(error, BuildError::SymbolTooWide { position: 0 });
@@ -146,8 +146,8 @@ impl WaveletMatrix {
         }
     }
 
-    /// Indexes symbols as [`from_bit_vec`](Self::from_bit_vec) does. In vers-vecs it counts prefixes, for narrow
-    /// symbols.
+    /// Indexes symbols as [`from_bit_vec`](Self::from_bit_vec) does. The call of this name in vers-vecs counts
+    /// prefixes, for narrow symbols.
     ///
     /// # Panics
     /// If `bits_per_element` is 0 or above 64, or the length is no multiple of it.
@@ -159,7 +159,8 @@ impl WaveletMatrix {
         Self::from_bit_vec(bits, bits_per_element)
     }
 
-    /// Indexes numbers of at most `bits_per_element` bits. In vers-vecs it counts prefixes, for narrow symbols.
+    /// Indexes numbers of at most `bits_per_element` bits. The call of this name in vers-vecs counts prefixes, for
+    /// narrow symbols.
     ///
     /// # Panics
     /// If `bits_per_element` is above 64, or a number has more bits.
@@ -263,7 +264,7 @@ impl WaveletMatrix {
     }
 }
 
-/// How many queries of a batch are asked at once.
+/// The number of queries of a batch in one group.
 const GROUP: usize = 64;
 
 /// A batch of queries of two lists of arguments, and its form that counts what it reads.
@@ -347,7 +348,7 @@ impl WaveletMatrix {
         positions.iter_mut().zip(queries).for_each(|(slot, query)| *slot = number(query.answer, other));
     }
 
-    /// Answers as [`get_u64_each`](Self::get_u64_each), and adds what is read to `tally`.
+    /// Does the same as [`get_u64_each`](Self::get_u64_each), and adds the reads to `tally`.
     pub fn get_u64_each_counted(&self, positions: &mut [u64], other: u64, tally: &mut Tally) {
         let mut queries: Vec<_> = positions.iter().map(|position| proved::GetQuery::new(*position as usize)).collect();
         queries.chunks_mut(GROUP).for_each(|group| self.symbols.get_u64_each_counted(group, &mut tally.0));
@@ -367,7 +368,7 @@ impl WaveletMatrix {
         symbol
     }
 
-    /// Returns how often a symbol occurs in a range, from which positions past the end are left out.
+    /// Returns the number of occurrences of a symbol in a range, from which positions past the end are left out.
     #[track_caller]
     fn ranked(&self, range: Range<usize>, symbol: &BitVec) -> usize {
         assert!(range.start <= range.end, "the range is reversed");
@@ -381,7 +382,7 @@ impl WaveletMatrix {
         found.unwrap_or(0)
     }
 
-    /// Returns how often a symbol occurs in a range, from which positions past the end are left out.
+    /// Returns the number of occurrences of a symbol in a range, from which positions past the end are left out.
     #[track_caller]
     fn ranked_u64(&self, range: Range<usize>, symbol: u64) -> usize {
         assert!(range.start <= range.end, "the range is reversed");
@@ -390,7 +391,7 @@ impl WaveletMatrix {
         self.symbols.rank_range_u64(range, symbol).unwrap_or(0)
     }
 
-    /// Returns how often a symbol occurs in a range. Past the end there are none.
+    /// Returns the number of occurrences of a symbol in a range. Past the end there are none.
     ///
     /// # Panics
     /// If the range is reversed, or the symbol has too few bits.
@@ -401,15 +402,15 @@ impl WaveletMatrix {
         self.ranked(range, symbol)
     }
 
-    /// Returns how often a symbol occurs in a range. `None` if the range starts at or past the end, ends past it or is
-    /// reversed, and if the symbol has another width.
+    /// Returns the number of occurrences of a symbol in a range. `None` if the range starts at or past the end, ends
+    /// past it or is reversed, and if the symbol has another width.
     #[doc = contract!(WaveletMatrix::rank_range)]
     #[must_use]
     pub fn rank_range(&self, range: Range<usize>, symbol: &BitVec) -> Option<usize> {
         self.symbols.rank_range(range, &symbol.bits)
     }
 
-    /// Returns how often a symbol occurs in a range. Past the end there are none.
+    /// Returns the number of occurrences of a symbol in a range. Past the end there are none.
     ///
     /// # Panics
     /// If the range is reversed, or symbols have more than 64 bits.
@@ -420,8 +421,8 @@ impl WaveletMatrix {
         self.ranked_u64(range, symbol)
     }
 
-    /// Returns how often a symbol occurs in a range. `None` if the range starts at or past the end, ends past it or is
-    /// reversed, and if symbols have more than 64 bits.
+    /// Returns the number of occurrences of a symbol in a range. `None` if the range starts at or past the end, ends
+    /// past it or is reversed, and if symbols have more than 64 bits.
     #[doc = contract!(WaveletMatrix::rank_range_u64)]
     #[must_use]
     #[inline]
@@ -429,7 +430,7 @@ impl WaveletMatrix {
         self.symbols.rank_range_u64(range, symbol)
     }
 
-    /// Returns how often a symbol occurs in `offset..end`. Past the end there are none.
+    /// Returns the number of occurrences of a symbol in `offset..end`. Past the end there are none.
     ///
     /// # Panics
     /// If `offset` is above `end`, or the symbol has too few bits.
@@ -440,14 +441,14 @@ impl WaveletMatrix {
         self.ranked(offset..end, symbol)
     }
 
-    /// Returns how often a symbol occurs in `offset..end`. `None` as for [`rank_range`](Self::rank_range).
+    /// Returns the number of occurrences of a symbol in `offset..end`. `None` as for [`rank_range`](Self::rank_range).
     #[doc = contract!(WaveletMatrix::rank_offset)]
     #[must_use]
     pub fn rank_offset(&self, offset: usize, end: usize, symbol: &BitVec) -> Option<usize> {
         self.symbols.rank_offset(offset, end, &symbol.bits)
     }
 
-    /// Returns how often a symbol occurs in `offset..end`. Past the end there are none.
+    /// Returns the number of occurrences of a symbol in `offset..end`. Past the end there are none.
     ///
     /// # Panics
     /// If `offset` is above `end`, or symbols have more than 64 bits.
@@ -458,7 +459,8 @@ impl WaveletMatrix {
         self.ranked_u64(offset..end, symbol)
     }
 
-    /// Returns how often a symbol occurs in `offset..end`. `None` as for [`rank_range_u64`](Self::rank_range_u64).
+    /// Returns the number of occurrences of a symbol in `offset..end`. `None` as for
+    /// [`rank_range_u64`](Self::rank_range_u64).
     #[doc = contract!(WaveletMatrix::rank_offset_u64)]
     #[must_use]
     #[inline]
@@ -466,7 +468,7 @@ impl WaveletMatrix {
         self.symbols.rank_offset_u64(offset, end, symbol)
     }
 
-    /// Returns how often a symbol occurs before `end`. Past the end there are none.
+    /// Returns the number of occurrences of a symbol before `end`. Past the end there are none.
     ///
     /// # Panics
     /// If the symbol has too few bits.
@@ -477,15 +479,15 @@ impl WaveletMatrix {
         self.ranked(0..end, symbol)
     }
 
-    /// Returns how often a symbol occurs before `end`. `None` if `end` is past the end, or the symbol has another
-    /// width.
+    /// Returns the number of occurrences of a symbol before `end`. `None` if `end` is past the end, or the symbol has
+    /// another width.
     #[doc = contract!(WaveletMatrix::rank)]
     #[must_use]
     pub fn rank(&self, end: usize, symbol: &BitVec) -> Option<usize> {
         self.symbols.rank(end, &symbol.bits)
     }
 
-    /// Returns how often a symbol occurs before `end`. Past the end there are none.
+    /// Returns the number of occurrences of a symbol before `end`. Past the end there are none.
     ///
     /// # Panics
     /// If symbols have more than 64 bits.
@@ -496,8 +498,8 @@ impl WaveletMatrix {
         self.ranked_u64(0..end, symbol)
     }
 
-    /// Returns how often a symbol occurs before `end`. `None` if `end` is past the end, or symbols have more than 64
-    /// bits.
+    /// Returns the number of occurrences of a symbol before `end`. `None` if `end` is past the end, or symbols have
+    /// more than 64 bits.
     #[doc = contract!(WaveletMatrix::rank_u64)]
     #[must_use]
     #[inline]
@@ -596,11 +598,10 @@ impl WaveletMatrix {
     }
 }
 
-/// Positions in the order in which equal symbols are gathered: by their bits, the lowest first, and equal symbols as in
-/// the list.
+/// Gathered positions: equal symbols are gathered by their bits, the lowest first, and keep their order.
 impl WaveletMatrix {
-    /// Returns the symbol at `position`, and where the position goes. `None` past the end, and if symbols have more than
-    /// 64 bits.
+    /// Returns the symbol at `position`, and its gathered position. `None` past the end, and if symbols have more than 64
+    /// bits.
     #[doc = contract!(WaveletMatrix::get_gathered_u64)]
     #[must_use]
     #[inline]
@@ -608,15 +609,15 @@ impl WaveletMatrix {
         self.symbols.get_gathered_u64(position).map(Gathered::from)
     }
 
-    /// Answers as [`get_gathered_u64`](Self::get_gathered_u64), and adds what is read to `tally`.
+    /// Does the same as [`get_gathered_u64`](Self::get_gathered_u64), and adds the reads to `tally`.
     #[doc = contract!(WaveletMatrix::get_gathered_u64_counted)]
     #[inline]
     pub fn get_gathered_u64_counted(&self, position: usize, tally: &mut Tally) -> Option<Gathered> {
         self.symbols.get_gathered_u64_counted(position, &mut tally.0).map(Gathered::from)
     }
 
-    /// Returns where the first such symbol from `position` on goes. `None` if `position` is above the length, or symbols have
-    /// more than 64 bits.
+    /// Returns the gathered position of the first occurrence of a symbol from `position` on. `None` if `position` is above
+    /// the length, or symbols have more than 64 bits.
     #[doc = contract!(WaveletMatrix::gathered_u64)]
     #[must_use]
     #[inline]
@@ -638,7 +639,7 @@ impl WaveletMatrix {
 macro_rules! by_size {
     ($($what:literal, $value:ident, $value_counted:ident, $value_unchecked:ident,
         $number:ident, $number_counted:ident, $number_unchecked:ident, ($($arg:ident: $kind:ty),*);)*) => {
-        /// Symbols by size, from 0 for the least; equal ones count each.
+        /// Symbols by size, from 0 for the least; each of equal ones counts.
         impl WaveletMatrix {
             $(
                 #[doc = concat!("Returns ", $what, ", as a list of bits.")]
@@ -767,7 +768,7 @@ counted! { WaveletMatrix, symbols:
 /// Forms of calls with symbols as lists of bits that count what they read.
 macro_rules! counted_lists {
     ($($call:ident, $of:ident($($arg:ident: $kind:ty),*) -> $answer:ty, |$found:ident| $answer_of:expr;)*) => {
-        /// Calls that count what they read, for symbols as lists of bits.
+        /// Calls that count their reads, for symbols as lists of bits.
         impl WaveletMatrix {
             $(
                 #[doc = crate::items::counts!($of)]
@@ -793,7 +794,7 @@ counted_lists! {
 }
 
 impl WaveletMatrix {
-    /// Answers as [`get_value`](Self::get_value), and adds what is read to `tally`.
+    /// Does the same as [`get_value`](Self::get_value), and adds the reads to `tally`.
     #[doc = contract!(WaveletMatrix::get_value_counted)]
     #[track_caller]
     pub fn get_value_counted(&self, position: usize, tally: &mut Tally) -> Option<BitVec> {
