@@ -222,10 +222,10 @@ uint32_t vers_intersect(vers_handle *one, vers_handle *other, vers_handle *into)
 vers_answer vers_count(vers_handle *handle, const uint64_t *pattern, size_t count);
 
 /** Counts many patterns in a vers_text at once: in a text of some millions of symbols this takes less time than one
- *  count after another. `symbols` has the patterns, joined, and `ends` says where each ends: the first pattern
- *  begins at 0, each other one where the one before ends. Each end is replaced by how many positions its pattern
- *  has. VERS_REFUSED if the ends descend, or one is above `length`, VERS_UNKNOWN of another list, and VERS_VACANT:
- *  the ends stay. One handle; reads `symbols`, and writes `ends`. */
+ *  count after another. `symbols` has the patterns, joined, and `ends` the end of each: the first pattern begins at 0,
+ *  each other one at the end before. Replaces each end by the number of occurrences of its pattern. VERS_REFUSED if the
+ *  ends descend, or one is above `length`, VERS_UNKNOWN of another list, and VERS_VACANT: the ends stay. One handle;
+ *  reads `symbols`, and writes `ends`. */
 uint32_t vers_count_each(vers_handle *handle, const uint64_t *symbols, size_t length, uint64_t *ends, size_t count);
 
 /** Puts the positions of a pattern in a vers_text, ascending, into an empty other handle, as vers_numbers.
@@ -1278,7 +1278,8 @@ static inline vers_answer vers_tree_node_handle(const vers_tree *list, uint64_t 
     return vers_asked(&list->handle, VERS_NODE_HANDLE, number, 0, 0);
 }
 
-/** Returns the first position past `position` where the excess has risen by `rise`. VERS_ABSENT if there is none. */
+/** Returns the first position past `position` at which the excess has risen by `rise`. VERS_ABSENT if there is
+ * none. */
 static inline vers_answer vers_tree_fwd_search(const vers_tree *list, uint64_t position, int64_t rise) {
     return vers_asked(&list->handle, VERS_FWD_SEARCH, position, (uint64_t)rise, 0);
 }
@@ -1767,8 +1768,8 @@ static inline vers_answer vers_text_count(const vers_text *text, const uint64_t 
     return vers_count(vers_held(&text->handle), vers_array(pattern), count);
 }
 
-/** Counts many patterns, which are joined in `length` symbols: replaces each of `count` ends of a pattern by how
- *  many positions the pattern has. VERS_REFUSED if the ends descend, or one is above `length`: they stay. */
+/** Counts many patterns, which are joined in `length` symbols: replaces each of the `count` ends by the number of
+ *  occurrences of its pattern. VERS_REFUSED if the ends descend, or one is above `length`: they stay. */
 static inline uint32_t vers_text_count_each(const vers_text *text, const uint64_t *symbols, size_t length,
                                             uint64_t *ends, size_t count) {
     if (vers_is_missing(symbols, length) || vers_is_missing(ends, count)) return VERS_REFUSED;

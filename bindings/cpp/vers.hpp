@@ -518,7 +518,7 @@ public:
         return FromWords::from(range, length, status);
     }
 
-    /** A one where an item is true. */
+    /** A one for each true item. */
     template <class Bit>
     static List from_bits(const Bit *bits, std::size_t count) {
         Status status;
@@ -859,7 +859,7 @@ public:
     /** Returns node `number` in preorder, which is the position of the one with that index; the length if there is
      *  none. */
     std::uint64_t node_handle(std::uint64_t number) const noexcept { return ask(VERS_NODE_HANDLE, number).value; }
-    /** Returns the first position past `position` where the excess has risen by `rise`. */
+    /** Returns the first position past `position` at which the excess has risen by `rise`. */
     Found fwd_search(std::uint64_t position, std::int64_t rise) const noexcept {
         return find(VERS_FWD_SEARCH, position, static_cast<std::uint64_t>(rise));
     }
@@ -1164,8 +1164,8 @@ public:
         return *counted;
     }
     std::uint64_t count(std::string_view pattern) const { return count<std::string_view &>(pattern); }
-    /** Counts many patterns, which are joined in `length` symbols: replaces each of `count` ends of a pattern by how
-     *  many positions the pattern has. Status::refused if the ends descend, or one is above `length`. */
+    /** Counts many patterns, which are joined in `length` symbols: replaces each of the `count` ends by the
+     *  number of occurrences of its pattern. Status::refused if the ends descend, or one is above `length`. */
     Status count_each(const std::uint64_t *symbols, std::size_t length, std::uint64_t *ends,
                       std::size_t count) const noexcept {
         return static_cast<Status>(vers_text_count_each(raw(), symbols, length, ends, count));
