@@ -19,9 +19,8 @@ const DEFAULT_BLOCK_SIZE: usize = 512;
 /// the node. The handle of a node is the position of its one. Several trees may follow one another; their roots are
 /// siblings.
 ///
-/// Calls that take a node expect balanced parentheses and the position of a one. Otherwise, with debug assertions some
-/// of them panic; without, `parent` is [`enclose`](Self::enclose), `first_child` the next position if it has a one, and
-/// so on, and walks are empty.
+/// Calls that take a node expect balanced parentheses and the position of a one. The page of each says what it returns
+/// otherwise, and whether it panics with debug assertions. Walks are empty then.
 ///
 /// ```
 /// use vers_vecs::{BitVec, BpTree, Tree};
@@ -384,11 +383,18 @@ impl<const BLOCK_SIZE: usize> BpTree<BLOCK_SIZE> {
 impl<const BLOCK_SIZE: usize> Tree for BpTree<BLOCK_SIZE> {
     type NodeHandle = usize;
 
+    /// Returns the first root, or `None` if there are no parentheses. O(1).
     #[doc = contract!(BpTree::root)]
     fn root(&self) -> Option<usize> {
         self.tree.root()
     }
 
+    /// Returns the parent of a node, or `None` for a root. O(log `len`).
+    ///
+    /// If no node opens at `node`, returns [`enclose`](Self::enclose) of that position.
+    ///
+    /// # Panics
+    /// With debug assertions, if the bit at `node` isn't a one.
     #[doc = contract!(BpTree::parent)]
     #[inline]
     #[track_caller]
@@ -400,6 +406,12 @@ impl<const BLOCK_SIZE: usize> Tree for BpTree<BLOCK_SIZE> {
         self.tree.enclose(node)
     }
 
+    /// Returns the first child of a node, or `None` for a leaf. O(1).
+    ///
+    /// If no node opens at `node`, returns the next position if that has a one.
+    ///
+    /// # Panics
+    /// With debug assertions, if the bit at `node` isn't a one.
     #[doc = contract!(BpTree::first_child)]
     #[inline]
     #[track_caller]
@@ -411,6 +423,12 @@ impl<const BLOCK_SIZE: usize> Tree for BpTree<BLOCK_SIZE> {
         self.opening(node.checked_add(1)?)
     }
 
+    /// Returns the next node with the same parent, or `None` for the last one. O(log `len`).
+    ///
+    /// If no node opens at `node`, returns the position after its [`close`](Self::close) if that has a one.
+    ///
+    /// # Panics
+    /// With debug assertions, if the bit at `node` isn't a one.
     #[doc = contract!(BpTree::next_sibling)]
     #[inline]
     #[track_caller]
@@ -422,6 +440,12 @@ impl<const BLOCK_SIZE: usize> Tree for BpTree<BLOCK_SIZE> {
         self.opening(self.tree.close(node)? + 1)
     }
 
+    /// Returns the previous node with the same parent, or `None` for the first one. O(log `len`).
+    ///
+    /// If no node opens at `node`, returns [`open`](Self::open) of the position before if that has a zero.
+    ///
+    /// # Panics
+    /// With debug assertions, if the bit at `node` isn't a one.
     #[doc = contract!(BpTree::previous_sibling)]
     #[inline]
     #[track_caller]
@@ -437,6 +461,13 @@ impl<const BLOCK_SIZE: usize> Tree for BpTree<BLOCK_SIZE> {
         self.tree.open(before)
     }
 
+    /// Returns the last child of a node, or `None` for a leaf. O(log `len`).
+    ///
+    /// If no node opens at `node`, returns [`open`](Self::open) of the position before its [`close`](Self::close) if
+    /// the next position has a one.
+    ///
+    /// # Panics
+    /// With debug assertions, if the bit at `node` isn't a one.
     #[doc = contract!(BpTree::last_child)]
     #[inline]
     #[track_caller]
@@ -449,6 +480,12 @@ impl<const BLOCK_SIZE: usize> Tree for BpTree<BLOCK_SIZE> {
         self.tree.open(self.tree.close(node)?.checked_sub(1)?)
     }
 
+    /// Returns the index of a node in preorder, from 0. O(1).
+    ///
+    /// If no node opens at `node`, returns the number of ones before that position.
+    ///
+    /// # Panics
+    /// With debug assertions, if the bit at `node` isn't a one.
     #[doc = contract!(BpTree::node_index)]
     #[inline]
     #[track_caller]
@@ -467,6 +504,12 @@ impl<const BLOCK_SIZE: usize> Tree for BpTree<BLOCK_SIZE> {
         self.tree.node_handle(i)
     }
 
+    /// Returns true if a node has no children. O(1).
+    ///
+    /// If no node opens at `node`, returns true if the next position has a zero.
+    ///
+    /// # Panics
+    /// With debug assertions, if the bit at `node` isn't a one.
     #[doc = contract!(BpTree::is_leaf)]
     #[inline]
     #[track_caller]
@@ -478,6 +521,13 @@ impl<const BLOCK_SIZE: usize> Tree for BpTree<BLOCK_SIZE> {
         self.tree.is_open(node.saturating_add(1)) == Some(false)
     }
 
+    /// Returns the number of ancestors of a node: 0 for a root. O(1).
+    ///
+    /// If no node opens at `node`, returns the [`excess`](Self::excess) up to that position less 1, or 0 if that is
+    /// negative.
+    ///
+    /// # Panics
+    /// With debug assertions, if the bit at `node` isn't a one.
     #[doc = contract!(BpTree::depth)]
     #[inline]
     #[track_caller]
@@ -489,12 +539,14 @@ impl<const BLOCK_SIZE: usize> Tree for BpTree<BLOCK_SIZE> {
         self.excess_before(node.saturating_add(1).min(self.tree.len())).saturating_sub(1).max(0) as u64
     }
 
+    /// Returns the number of nodes, or of ones if the parentheses aren't balanced. O(1).
     #[doc = contract!(BpTree::size)]
     #[inline]
     fn size(&self) -> usize {
         self.tree.size()
     }
 
+    /// Returns true if there are no parentheses. O(1).
     #[doc = contract!(BpTree::is_empty)]
     fn is_empty(&self) -> bool {
         self.tree.is_empty()
@@ -502,6 +554,13 @@ impl<const BLOCK_SIZE: usize> Tree for BpTree<BLOCK_SIZE> {
 }
 
 impl<const BLOCK_SIZE: usize> IsAncestor for BpTree<BLOCK_SIZE> {
+    /// Returns true if the first node is an ancestor of the second, or the same node. O(log `len`).
+    ///
+    /// If no node opens at one of them, returns true if `descendant` is from `ancestor` on and before its
+    /// [`close`](Self::close). `None` if there is no such zero.
+    ///
+    /// # Panics
+    /// With debug assertions, if the bit at one of the positions isn't a one.
     #[doc = contract!(BpTree::is_ancestor)]
     #[inline]
     #[track_caller]
@@ -517,6 +576,11 @@ impl<const BLOCK_SIZE: usize> IsAncestor for BpTree<BLOCK_SIZE> {
 }
 
 impl<const BLOCK_SIZE: usize> LevelTree for BpTree<BLOCK_SIZE> {
+    /// Returns the ancestor that is `levels` levels above a node: the node itself for 0. `None` if there is none. O(log
+    /// `len`).
+    ///
+    /// If no node opens at `node`, returns that position for 0, and otherwise [`bwd_search`](Self::bwd_search) from it
+    /// for `-levels`.
     #[doc = contract!(BpTree::level_ancestor)]
     #[inline]
     fn level_ancestor(&self, node: usize, levels: u64) -> Option<usize> {
@@ -529,6 +593,12 @@ impl<const BLOCK_SIZE: usize> LevelTree for BpTree<BLOCK_SIZE> {
         }
     }
 
+    /// Returns the next node of the same depth, or `None` for the last one. O(log `len`).
+    ///
+    /// If no node opens at `node`, returns [`fwd_search`](Self::fwd_search) from its [`close`](Self::close) for 1.
+    ///
+    /// # Panics
+    /// With debug assertions, if the bit at `node` isn't a one.
     #[doc = contract!(BpTree::level_next)]
     #[inline]
     #[track_caller]
@@ -540,6 +610,13 @@ impl<const BLOCK_SIZE: usize> LevelTree for BpTree<BLOCK_SIZE> {
         self.tree.fwd_search(self.tree.close(node)?, 1)
     }
 
+    /// Returns the previous node of the same depth, or `None` for the first one. O(log `len`).
+    ///
+    /// If no node opens at `node`, returns [`open`](Self::open) of [`bwd_search`](Self::bwd_search) from that position
+    /// for 1.
+    ///
+    /// # Panics
+    /// With debug assertions, if the bit at `node` isn't a one.
     #[doc = contract!(BpTree::level_prev)]
     #[inline]
     #[track_caller]
@@ -551,6 +628,10 @@ impl<const BLOCK_SIZE: usize> LevelTree for BpTree<BLOCK_SIZE> {
         self.tree.open(self.tree.bwd_search(node, 1)?)
     }
 
+    /// Returns the first node of a depth, or `None` if no node is so deep. O(log `len`).
+    ///
+    /// If the parentheses aren't balanced, returns position 0 for depth 0, and otherwise
+    /// [`fwd_search`](Self::fwd_search) from there for `depth`.
     #[doc = contract!(BpTree::level_leftmost)]
     fn level_leftmost(&self, depth: u64) -> Option<usize> {
         if self.balanced {
@@ -562,6 +643,10 @@ impl<const BLOCK_SIZE: usize> LevelTree for BpTree<BLOCK_SIZE> {
         }
     }
 
+    /// Returns the last node of a depth, or `None` if no node is so deep. O(log `len`).
+    ///
+    /// If the parentheses aren't balanced, returns [`open`](Self::open) of [`bwd_search`](Self::bwd_search) from
+    /// position `2 * size() - 1` for `depth`.
     #[doc = contract!(BpTree::level_rightmost)]
     fn level_rightmost(&self, depth: u64) -> Option<usize> {
         if self.balanced {
@@ -573,6 +658,13 @@ impl<const BLOCK_SIZE: usize> LevelTree for BpTree<BLOCK_SIZE> {
 }
 
 impl<const BLOCK_SIZE: usize> SubtreeSize for BpTree<BLOCK_SIZE> {
+    /// Returns the number of nodes of the subtree of a node, itself included. O(log `len`).
+    ///
+    /// If no node opens at `node`, returns the number of ones from that position up to its [`close`](Self::close).
+    /// `None` if there is no such zero.
+    ///
+    /// # Panics
+    /// With debug assertions, if the bit at `node` isn't a one.
     #[doc = contract!(BpTree::subtree_size)]
     #[inline]
     #[track_caller]
@@ -722,18 +814,33 @@ impl<const BLOCK_SIZE: usize> fmt::Debug for BpBuilder<BLOCK_SIZE> {
 impl<const BLOCK_SIZE: usize> TreeBuilder for BpBuilder<BLOCK_SIZE> {
     type Tree = BpTree<BLOCK_SIZE>;
 
+    /// Enters a node: a child of the node entered last and not left, or else a root.
+    ///
+    /// # Panics
+    /// If there is no memory.
     #[doc = contract!(BpBuilder::enter_node)]
     #[track_caller]
     fn enter_node(&mut self) {
         granted(self.builder.enter_node());
     }
 
+    /// Leaves the node that was entered last and not left.
+    ///
+    /// # Panics
+    /// If there is no memory.
     #[doc = contract!(BpBuilder::leave_node)]
     #[track_caller]
     fn leave_node(&mut self) {
         granted(self.builder.leave_node());
     }
 
+    /// Builds the tree, in O(nodes).
+    ///
+    /// # Errors
+    /// If nodes were entered and left unequally often: how many more were entered, or below 0 how many more were left.
+    ///
+    /// # Panics
+    /// If there is no memory for the index.
     #[doc = contract!(BpBuilder::build)]
     #[track_caller]
     fn build(self) -> Result<BpTree<BLOCK_SIZE>, i64> {

@@ -5,6 +5,7 @@ mod features;
 mod inverted;
 mod makers;
 mod numbers;
+mod pages;
 mod panics;
 mod plain;
 mod postings;

@@ -178,3 +178,19 @@ fn positions_where_no_node_opens_stop() {
     let tree: BpTree = BpTree::from(BitVec::from_bits(&[1, 0]));
     let _ = tree.is_ancestor(0, 1);
 }
+
+#[test]
+fn ones_of_uneven_parentheses_answer_as_their_pages_say() {
+    let tree: BpTree = BpTree::from(BitVec::from_bits(&[1, 1, 0]));
+    assert_eq!((tree.parent(0), tree.parent(1)), (tree.enclose(0), tree.enclose(1)));
+    assert_eq!((tree.first_child(0), tree.first_child(1), tree.last_child(0)), (Some(1), None, None));
+    assert_eq!((tree.next_sibling(0), tree.next_sibling(1), tree.previous_sibling(1)), (None, None, None));
+    assert_eq!((tree.node_index(1), tree.is_leaf(0), tree.is_leaf(1), tree.depth(1)), (1, false, true, 1));
+    assert_eq!((tree.size(), tree.subtree_size(0), tree.subtree_size(1)), (2, None, Some(1)));
+    assert_eq!((tree.is_ancestor(0, 1), tree.is_ancestor(1, 1)), (None, Some(true)));
+    assert_eq!((tree.level_ancestor(1, 0), tree.level_ancestor(1, 1)), (Some(1), tree.bwd_search(1, -1)));
+    assert_eq!((tree.level_next(0), tree.level_next(1)), (None, tree.fwd_search(2, 1)));
+    assert_eq!(tree.level_prev(1), tree.bwd_search(1, 1).and_then(|position| tree.open(position)));
+    assert_eq!((tree.level_leftmost(0), tree.level_leftmost(1)), (Some(0), tree.fwd_search(0, 1)));
+    assert_eq!(tree.level_rightmost(1), tree.bwd_search(3, 1).and_then(|position| tree.open(position)));
+}
