@@ -10,6 +10,7 @@ use crate::proved::vers_sorted::order::is_ascending;
 use crate::rattle::Global;
 use crate::reads::Tally;
 use crate::saved::saved;
+use std::ops::{Bound, RangeBounds};
 
 /// A compressed list of ascending numbers, equal ones allowed: about 2 + log(last / length) bits for each. It can't
 /// change.
@@ -160,6 +161,46 @@ impl EliasFanoVec {
     #[inline]
     pub fn has(&self, v: u64) -> bool {
         self.numbers.has(v)
+    }
+}
+
+/// Ranges.
+impl EliasFanoVec {
+    /// Iterates over the numbers in a range of values, from both ends, after two [`rank`](Self::rank)s. A range that ends
+    /// before it starts has no numbers.
+    ///
+    /// ```
+    /// use vers_vecs::EliasFanoVec;
+    ///
+    /// let times = EliasFanoVec::from_slice(&[2, 5, 5, 90, 97]);
+    /// assert_eq!(times.range(5..97).collect::<Vec<_>>(), [5, 5, 90]);
+    /// assert_eq!(times.range(..=90).next_back(), Some(90));
+    /// assert_eq!(times.range(6..).len(), 2);
+    /// ```
+    pub fn range<R: RangeBounds<u64>>(&self, values: R) -> EliasFanoRefIter<'_> {
+        let start = match values.start_bound() {
+            Bound::Included(&least) => self.rank(least) as usize,
+            Bound::Excluded(&value) => self.rank_past(value),
+            Bound::Unbounded => 0,
+        };
+        let end = match values.end_bound() {
+            Bound::Included(&greatest) => self.rank_past(greatest),
+            Bound::Excluded(&value) => self.rank(value) as usize,
+            Bound::Unbounded => self.len(),
+        };
+        let mut numbers = self.iter();
+        if let Some(others) = (self.len() - end).checked_sub(1) {
+            numbers.nth_back(others);
+        }
+        if let Some(others) = start.checked_sub(1) {
+            numbers.nth(others);
+        }
+        numbers
+    }
+
+    /// Returns how many numbers are at most `v`.
+    fn rank_past(&self, v: u64) -> usize {
+        v.checked_add(1).map_or(self.len(), |above| self.rank(above) as usize)
     }
 }
 

@@ -1,5 +1,6 @@
 //! Ascending lists, and the least of ranges, against plain lists.
 use crate::plain::Random;
+use std::ops::RangeBounds;
 use vers_vecs::{BinaryRmq, EliasFanoVec, FastRmq};
 
 #[test]
@@ -25,6 +26,25 @@ fn elements_are_found() {
             assert_eq!(list.has(number), elements.contains(&number));
             assert_eq!(list.successor(number), elements.get(below).copied());
             assert_eq!(list.predecessor(number), elements.iter().rev().find(|&&it| it <= number).copied());
+        }
+    }
+}
+
+#[test]
+fn ranges_of_values_have_their_elements() {
+    use std::ops::Bound::{Excluded, Included, Unbounded};
+    let mut random = Random::new(3);
+    for (length, bound) in [(0, 1), (1, 9), (60, 20), (60, u64::MAX)] {
+        let mut elements = random.numbers(length, bound);
+        elements.sort_unstable();
+        let list = EliasFanoVec::from_slice(&elements);
+        let ends: Vec<u64> = random.numbers(8, bound).into_iter().chain([0, 5, u64::MAX]).collect();
+        let bounds = || ends.iter().flat_map(|&end| [Included(end), Excluded(end)]).chain([Unbounded]);
+        for range in bounds().flat_map(|start| bounds().map(move |end| (start, end))) {
+            let expected: Vec<u64> = elements.iter().copied().filter(|it| range.contains(it)).collect();
+            assert_eq!(list.range(range).len(), expected.len(), "{range:?} of {elements:?}");
+            assert!(list.range(range).eq(expected.iter().copied()), "{range:?} of {elements:?}");
+            assert!(list.range(range).rev().eq(expected.iter().rev().copied()), "{range:?} of {elements:?}");
         }
     }
 }
