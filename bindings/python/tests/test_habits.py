@@ -315,6 +315,30 @@ class Makers(unittest.TestCase):
                 for part in parts:
                     self.assertEqual(made[part], array("B", items[part]))
 
+    def test_loops_run_no_python_for_each_item(self):
+        bits, count = vers.RsVec([1, 0] * 5000), [0]
+
+        def note(_frame, event, _argument):
+            count[0] += event == "call"
+        loops = {
+            "bits": lambda: iter(bits), "growing": lambda: iter(vers.BitVec(bits)), "ones": bits.iter1,
+            "numbers": lambda: iter(vers.EliasFanoVec(range(5000))), "text": lambda: iter(vers.TextIndex(bytes(5000))),
+            "sparse": vers.SparseRSVec(range(5000), 5000).iter1, "nodes": vers.BpTree("()" * 5000).dfs_iter,
+        }
+        for name, made in loops.items():
+            items, count[0] = made(), 0
+            sys.setprofile(note)
+            collections.deque(items, 0)
+            sys.setprofile(None)
+            with self.subTest(name):
+                self.assertLess(count[0], 500)
+
+    @unittest.skipIf(numpy is None, "numpy isn't there")
+    def test_positions_of_ones_in_numpy(self):
+        items = [1, 0, 1, 1] * 40_000
+        for made in vers.RsVec(items), vers.BitVec(items):
+            self.assertEqual(numpy.flatnonzero(made).tolist(), [k for k, it in enumerate(items) if it])
+
     def test_narrow_symbols_are_not_widened(self):
         symbols = bytes(10 ** 6)
         tracemalloc.start()

@@ -7,6 +7,7 @@ import difflib
 import operator
 import sys
 from array import array
+from itertools import chain
 from typing import Any, Callable, Dict, Generic, Iterator, Optional, Sequence, Tuple, Type, TypeVar, Union
 
 from . import _buffers, _codes as codes, _files, _library as library, _queries
@@ -193,8 +194,7 @@ class List(Generic[Q]):
 
     def _part(self, start: int, end: int) -> Any:
         """Returns the items from one position up to another, in an array."""
-        places = array("Q", range(start, end))
-        return self._answers(codes.GET, _buffers.Columns([places], len(places), None), 0, False)
+        return self._answers_from(codes.GET, start, end)
 
     def _parts(self, start: int, end: int) -> Iterator[Any]:
         for first in range(start, end, 4096):
@@ -318,9 +318,13 @@ class List(Generic[Q]):
 
     def _each_below(self, code: int, count: int) -> Iterator[int]:
         """Returns the answers of a query to each number below a count."""
-        for start in range(0, count, 4096):
-            places = array("Q", range(start, min(start + 4096, count)))
-            yield from self._answers(code, _buffers.Columns([places], len(places), None), 0, False)
+        starts = range(0, count, 4096)
+        return chain.from_iterable(self._answers_from(code, start, min(start + 4096, count)) for start in starts)
+
+    def _answers_from(self, code: int, start: int, end: int) -> Any:
+        """Returns the answers of a query to each number from one up to another, in an array('Q')."""
+        numbers = array("Q", range(start, end))
+        return self._answers(code, _buffers.Columns([numbers], len(numbers), None), 0, False)
 
     def _batch(self, ask: Any, *arguments: Any) -> None:
         handle = library.Handle()
@@ -397,8 +401,7 @@ class Items(List[Q], Sequence[int]):
         return self._answers(codes.GET, _buffers.Columns([places], places.size, places.shape), 0, False)
 
     def __iter__(self) -> Iterator[int]:
-        for part in self._parts(0, len(self)):
-            yield from part
+        return chain.from_iterable(self._parts(0, len(self)))
 
     def index(self, value: Any, start: int = 0, stop: Optional[int] = None) -> int:
         """Returns the first position of an item, from `start` on and below `stop`. Raises ValueError if there is

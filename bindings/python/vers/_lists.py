@@ -1061,8 +1061,7 @@ class TextIndex(Shared[str]):
         return self._part(at, at + 1)[0]
 
     def __iter__(self) -> Iterator[int]:
-        for part in self._parts(0, len(self)):
-            yield from part
+        return chain.from_iterable(self._parts(0, len(self)))
 
     def _traits(self) -> Any:
         return len(self), self.bits_per_symbol()
