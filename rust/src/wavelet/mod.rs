@@ -701,9 +701,9 @@ macro_rules! by_size {
 }
 
 by_size! {
-    "symbol `i` by size of a range", quantile, quantile_counted, quantile_unchecked,
+    "the `i`-th least symbol of a range, counted from 0", quantile, quantile_counted, quantile_unchecked,
         quantile_u64, quantile_u64_counted, quantile_u64_unchecked, (range: Range<usize>, i: usize);
-    "symbol `i` by size of the whole list", get_sorted, get_sorted_counted, get_sorted_unchecked,
+    "the `i`-th least symbol of the whole list, counted from 0", get_sorted, get_sorted_counted, get_sorted_unchecked,
         get_sorted_u64, get_sorted_u64_counted, get_sorted_u64_unchecked, (i: usize);
     "the least symbol of a range", range_min, range_min_counted, range_min_unchecked,
         range_min_u64, range_min_u64_counted, range_min_u64_unchecked, (range: Range<usize>);
