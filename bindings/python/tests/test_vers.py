@@ -4,9 +4,12 @@ import bisect
 import copy
 import ctypes
 import operator
+import os
 import pickle
 import random
 import re
+import subprocess
+import sys
 import threading
 import unittest
 from array import array
@@ -417,7 +420,7 @@ class Owners(unittest.TestCase):
         self.assertEqual(list(made), [1, 0, 1, 1])
 
     def test_names_of_faults(self):
-        for kind in _faults.FAULTS:
+        for kind, _ in _faults.FAULTS:
             status = getattr(_codes, re.sub("(?<=[a-zA])(?=[A-Z])", "_", kind.__name__).upper())
             self.assertEqual((type(_faults.fault(status)), getattr(vers, kind.__name__)), (kind, kind))
         self.assertEqual(_codes.NOT_A_TEXT, len(_faults.FAULTS) + 1)
@@ -513,6 +516,14 @@ class Owners(unittest.TestCase):
             with self.assertRaises(kind):
                 vers.RsVec.from_bytes(wrong)
         self.assertTrue(all(issubclass(kind, vers.Refused) for kind in faults))
+        with self.assertRaisesRegex(vers.TooShort, "^the bytes are fewer than a saved form has, or than its head says$"):
+            vers.RsVec.from_bytes(b"")
+
+    def test_faults_speak_without_docstrings(self):
+        program = "import vers\ntry: vers.RsVec.from_bytes(b'')\nexcept vers.TooShort as fault: print(fault)"
+        done = subprocess.run([sys.executable, "-OO", "-c", program], stdout=subprocess.PIPE, text=True,
+                              env={**os.environ, "PYTHONPATH": os.pathsep.join(sys.path)})
+        self.assertEqual(done.stdout, "the bytes are fewer than a saved form has, or than its head says\n")
 
     def test_kinds_of_saved_forms(self):
         index = vers.InvertedIndex([0], [1])

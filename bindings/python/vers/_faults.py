@@ -67,14 +67,27 @@ class NotAText(Refused):
     """No text has the column and the rows of a saved form."""
 
 
-# by the library's statuses from 2 on
+# by the library's statuses from 2 on: each fault, and what it says if the call gives no reason
 FAULTS = (
-    Unknown, Vacant, Refused, Occupied, NoMemory, Shared, TooShort, NotOurs, OtherVersion, OtherKind, BadLength, BadSum,
-    BadPadding, NotAscending, NotAText,
+    (Unknown, "the list has no such query or change"),
+    (Vacant, "the object has no list: its maker has failed"),
+    (Refused, "the numbers that were passed are refused"),
+    (Occupied, "the object has a list already"),
+    (NoMemory, "there is no memory, or the list would be too long"),
+    (Shared, "the list is being read by another thread, so it can't change"),
+    (TooShort, "the bytes are fewer than a saved form has, or than its head says"),
+    (NotOurs, "the bytes do not begin as a saved form does"),
+    (OtherVersion, "the saved form is of another version"),
+    (OtherKind, "the bytes are the saved form of another kind of list"),
+    (BadLength, "no such list is as long, or the bytes go on after it"),
+    (BadSum, "the sum is not that of the words before it"),
+    (BadPadding, "a bit is set past the end of the list"),
+    (NotAscending, "the numbers do not ascend as those of the list do"),
+    (NotAText, "no text has the column and the rows of a saved form"),
 )
 
 
 def fault(status: int, text: Optional[str] = None) -> VersError:
-    """Returns the exception of a status that is neither done nor absent, with a text or with what it always says."""
-    kind = FAULTS[status - 2]
-    return kind(text or kind.__doc__)
+    """Returns the exception of a status that is neither done nor absent, with a text or with that of the status."""
+    kind, reason = FAULTS[status - 2]
+    return kind(text or reason)
