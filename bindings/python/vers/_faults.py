@@ -67,10 +67,10 @@ class NotAText(Refused):
     """No text has the column and the rows of a saved form."""
 
 
-# by the library's statuses from 2 on: each fault, and what it says if the call gives no reason
+# by the library's statuses from 2 on: each fault, and its message if the call gives no reason
 FAULTS = (
     (Unknown, "the list has no such query or change"),
-    (Vacant, "the object has no list: its maker has failed"),
+    (Vacant, "the object has no list, since its constructor failed"),
     (Refused, "the numbers that were passed are refused"),
     (Occupied, "the object has a list already"),
     (NoMemory, "there is no memory, or the list would be too long"),
@@ -79,7 +79,7 @@ FAULTS = (
     (NotOurs, "the bytes do not begin as a saved form does"),
     (OtherVersion, "the saved form is of another version"),
     (OtherKind, "the bytes are the saved form of another kind of list"),
-    (BadLength, "no such list is as long, or the bytes go on after it"),
+    (BadLength, "no such list is as long, or there are bytes after it"),
     (BadSum, "the sum is not that of the words before it"),
     (BadPadding, "a bit is set past the end of the list"),
     (NotAscending, "the numbers do not ascend as those of the list do"),
