@@ -34,7 +34,7 @@ impl<'a, A: Allocator + Copy> Model for ListOf<'a, A> {
 }
 
 impl<'a, A: Allocator + Copy> ListOf<'a, A> {
-    /// Returns the documents of a term, of which there are none if there is no such term.
+    /// Returns the documents of a term: none if there is no such term.
     pub fn new(index: &'a InvertedIndex<A>, term: u64) -> Self
         ensures value { result ≡ term_of index.now term }
         ensures below { (d : ℕ) → is_element (list_of index.now term) d ≡ true → d < index.now.universe }

@@ -38,9 +38,12 @@ impl Pairs for SlicePairs<'_> {
 }
 
 impl<A: Allocator + Copy> InvertedIndex<A> {
-    /// Returns the index of pairs of a term below `terms` and a document below `universe`, which ascend strictly by
-    /// term, and those of one term by document. Errors: tested in the order of `InvertedError`, and before any
-    /// allocation, but for `Memory`.
+    /// Returns the index of pairs of a term below `terms` and a document below `universe`. The pairs ascend strictly,
+    /// by term and then by document.
+    ///
+    /// # Errors
+    ///
+    /// The first that applies, in the order of `InvertedError`. All except `Memory` precede any allocation.
     pub fn from_pairs(
         alloc: A,
         terms: u64,
@@ -57,7 +60,7 @@ impl<A: Allocator + Copy> InvertedIndex<A> {
         InvertedIndex::from_known(alloc, terms, universe, rest, pairs.len())
     }
 
-    /// Returns what `from_pairs` does, of pairs that are read one by one. Errors: as for `from_pairs`.
+    /// Returns the index of pairs from a source, as `from_pairs` does. Errors: as for `from_pairs`.
     pub fn from_source<P: Pairs>(
         alloc: A,
         terms: u64,
@@ -100,7 +103,7 @@ impl<A: Allocator + Copy> InvertedIndex<A> {
     }
 }
 
-/// Returns the first reason for which pairs make no index, in the order of `InvertedError`. `None` if they make one.
+/// Returns the first error of pairs that have no index, in the order of `InvertedError`. `None` if they have one.
 pub fn refusal<P: Pairs>(terms: u64, universe: u64, pairs: P) -> Option<InvertedError>
     ensures { result ≡ refusal_of terms universe (P.left pairs) }
 {

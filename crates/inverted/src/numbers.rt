@@ -42,7 +42,7 @@ impl<A: Allocator + Copy> InvertedIndex<A> {
     }
 }
 
-// Returns the first reason for which numbers are those of no index. `None` if they are those of one.
+// Returns the first error of numbers that no index has. `None` if an index has them.
 fn refusal_of_numbers<A: Allocator + Copy>(
     terms: u64,
     universe: u64,

@@ -43,8 +43,11 @@ impl<A: Allocator + Copy> Clone for Postings<A> {
 }
 
 impl<A: Allocator + Copy> Postings<A> {
-    /// Returns the documents with their costs. Errors: tested in the order of `PostingsError`, and before any
-    /// allocation, but for `Memory`. The costs are dropped on error.
+    /// Returns the documents with their costs. Drops the costs on error.
+    ///
+    /// # Errors
+    ///
+    /// The first that applies, in the order of `PostingsError`. All except `Memory` precede any allocation.
     pub fn from_sorted(documents: &[u64], costs: Vec<u64, A>) -> Result<Self, PostingsError>
         ensures made { IfOk result (λ p. p ≡ record {
           documents = documents.now;

@@ -14,8 +14,8 @@ use std::marker::Model;
 use vers_sorted::elias_fano::{EliasFanoVec, Successors};
 use vers_tally::tally::Tally;
 
-/// The elements of an ascending list, as a source. If the numbers that are searched rise, each search begins where the
-/// last one ended. Contracts see it as the list.
+/// The elements of an ascending list, as a source. If it is searched for ascending numbers, each search begins at the
+/// end of the last one. Contracts see it as the list.
 #[derive(Drop)]
 pub struct Cursor<'a, A: Allocator + Copy> {
     list: &'a EliasFanoVec<A>,

@@ -71,7 +71,7 @@ pub extern "C" fn vers_ask_each(
     status
 }
 
-/// Replaces the first number of each ask by its answer, or by `other` if there is none.
+/// Replaces the first number of each row by its answer, or by `other` if there is none.
 #[unsafe(no_mangle)]
 pub extern "C" fn vers_ask_rows(
     alloc: Global,

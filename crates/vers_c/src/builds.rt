@@ -170,7 +170,7 @@ pub extern "C" fn vers_symbols_build_u32s(
     build_symbols(alloc, u32s, width, handle)
 }
 
-/// Builds a list of parentheses, of which a one opens: the first `len` bits of words.
+/// Builds a list of parentheses from the first `len` bits of words: a one opens, and a zero closes.
 #[unsafe(no_mangle)]
 pub extern "C" fn vers_tree_build(
     alloc: Global,

@@ -63,7 +63,7 @@ pub extern "C" fn vers_documents(
 }
 
 /// Puts documents of two terms of an inverted index, ascending, into another handle, as plain numbers: those that the
-/// code of a `Joint` says. The handles are distinct.
+/// code of a `Joint` selects. The handles are distinct.
 #[unsafe(no_mangle)]
 pub extern "C" fn vers_joined(
     alloc: Global,

@@ -83,8 +83,7 @@ pub extern "C" fn vers_saved_size(alloc: Global, handle: &mut VersHandle) -> Ver
     }
 }
 
-/// Writes the saved form of the handle's structure over bytes, of which there are exactly as many; otherwise
-/// refuses them.
+/// Writes the saved form of the handle's structure to `bytes`. Refuses another number of bytes than the form has.
 #[unsafe(no_mangle)]
 pub extern "C" fn vers_save(alloc: Global, handle: &mut VersHandle, bytes: &mut [u8]) -> u32
     ensures saved { IsSaved (contents handle.old) bytes.old bytes.new result }
@@ -154,7 +153,7 @@ macro_rules! loaded_as {
 //
 // # Errors
 //
-// That of the first test that fails, the last of which is that of a text; `Memory` if the allocator refuses a
+// The error of the first test that fails; the last test is that of a text. `Memory` if the allocator refuses a
 // request.
 fn load(alloc: Global, kind: Kind, bytes: &[u8]) -> Result<Kept, LoadError>
     ensures kind { IfOk result (λ kept. kind_of (content kept) ≡ Some kind) }

@@ -25,7 +25,7 @@ pub const NO_MEMORY: u32 = 6;
 /// The structure has another owner, so it can't change.
 pub const SHARED: u32 = 7;
 
-/// A saved form has fewer bytes than a head and a sum take, or than the head says.
+/// A saved form has fewer bytes than a head and a sum have, or than the head gives.
 pub const TOO_SHORT: u32 = 8;
 
 /// The bytes do not begin as a saved form does.

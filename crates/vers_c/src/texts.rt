@@ -103,7 +103,7 @@ pub extern "C" fn vers_count(alloc: Global, handle: &mut VersHandle, pattern: &[
 }
 
 /// Replaces each of some ends by the number of occurrences of its pattern in a text. The patterns are joined: the first
-/// begins at 0, each other one where the one before ends. Refuses ends that descend, or that are above the number of
+/// begins at 0, each other one at the end of the one before. Refuses ends that descend, or that are above the number of
 /// symbols. Returns a status.
 #[unsafe(no_mangle)]
 pub extern "C" fn vers_count_each(

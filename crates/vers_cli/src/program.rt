@@ -16,7 +16,7 @@ use vers_io::{Device, Sink, Source};
 /// is complete before its first byte is written. The answers of the lines of one read are gathered, and written
 /// together once they have 64 KiB or the lines end. The answer is `bad line` if a line is malformed, `wrong
 /// structure` if the current structure has no such query, and `refused` if a precondition fails; the current
-/// structure is then unchanged, and the run goes on. Memory is needed for 64 KiB of input, for the longest line,
+/// structure is then unchanged, and the run continues. Memory is needed for 64 KiB of input, for the longest line,
 /// for gathered answers and for the current structure.
 ///
 /// # Errors

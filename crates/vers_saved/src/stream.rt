@@ -118,8 +118,8 @@ pub fn save<S: Saved, A: Allocator, W: Sink>(
     write_words(writer, buffer, shape, list)
 }
 
-/// Loads a list from its saved form, in any version, the rest of a reader. Reads blocks of 64 KiB, and keeps the
-/// words. Memory is allocated as bytes come, however great a length the head says.
+/// Loads a list from a reader, the rest of which is its saved form, in any version. Reads blocks of 64 KiB, and keeps
+/// the words. Allocates in proportion to the bytes that it has read, for any length in the head.
 ///
 /// # Errors
 ///

@@ -70,7 +70,7 @@ pub fn high_parts_are_few()
     ensures { HighPartsAreFew }
 {}
 
-/// The parts of an ascending list say its elements.
+/// The parts of an ascending list determine its elements.
 #[tactic(auto, using(crate::proofs::Parted::laws))]
 pub fn parts_decode_to_list()
     ensures { PartsDecodeToList }

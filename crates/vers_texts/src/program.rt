@@ -15,7 +15,7 @@ use vers_io::{Device, Sink, Source};
 ///
 /// A line ends with byte 10 or with the end of the input, and its words are separated by spaces. The answer is
 /// `bad line` if a line is malformed, `wrong structure` if it queries a text and there is none, and `refused` if
-/// a precondition fails; the current text is then unchanged, and the run goes on. Answers are gathered and
+/// a precondition fails; the current text is then unchanged, and the run continues. Answers are gathered and
 /// written as `answer_lines` does. Memory is needed as there, and for the numbers of a line and the text.
 ///
 /// # Errors

@@ -15,8 +15,8 @@ use vers_words::reply::{Reply, append_number};
 const FEED: u64 = 10;
 
 /// Returns the reply with the sites of a pattern, in the order of the text: for each occurrence the name of its
-/// sequence and the offset there. It is refused unless the pattern has residues alone, at least one, the text has the
-/// line feeds of a FASTA text, and each occurrence is in a sequence with a name.
+/// sequence and the offset there. The reply is `refused` unless the pattern has only residues, and at least one, the
+/// text has the line feeds of a FASTA text, and each occurrence is in a sequence with a name.
 pub fn sites_reply<A: Allocator + Copy>(
     alloc: A,
     text: &TextIndex<A>,

@@ -91,13 +91,13 @@ pub fn one_element_of_a_number()
     ensures { OneElementOfANumber }
 {}
 
-/// The quantiles in turn, one for each element, are the elements in ascending order, duplicates included.
+/// The quantiles from the first to the last are the elements in ascending order, duplicates included.
 #[tactic(auto, using(crate::proofs::BySize::quantiles_ascend))]
 pub fn quantiles_list_elements_by_size()
     ensures { QuantilesListElementsBySize }
 {}
 
-/// Numbers of at most `k` digits, where `k` isn't 0, are their own low digits.
+/// Numbers of at most `k` digits are their own low digits if `k` isn't 0.
 #[tactic(auto, using(crate::proofs::Makes::small_numbers_stay))]
 pub fn small_numbers_stay()
     ensures { SmallNumbersStay }

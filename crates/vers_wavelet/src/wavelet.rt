@@ -42,9 +42,9 @@ use vers_rank::fast_rs_vec::RsVec;
 /// and each next digit after a stable sort by the previous digit, zeros first. This is the wavelet matrix of
 /// Claude, Navarro and Ordóñez (Information Systems 47, 2015).
 ///
-/// A symbol is a `BitVec` of its bits, lowest first; or, in the functions `_u64`, a number, of which only the
-/// low bits count. Each query has a form `_counted`, which counts its reads in a `Tally`; the plain form passes
-/// a counter of its own. The forms `_unchecked` have preconditions on their arguments.
+/// A symbol is a `BitVec` of its bits, lowest first; or, in the functions `_u64`, the low bits of a number. Each query
+/// has a form `_counted`, which counts its reads in a `Tally`; the plain form passes a counter of its own. The forms
+/// `_unchecked` have preconditions on their arguments.
 #[derive(Drop)]
 pub struct WaveletMatrix<A: Allocator + Copy> {
     levels: Vec<RsVec<A>, A>,

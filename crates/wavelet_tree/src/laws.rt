@@ -1,4 +1,4 @@
-//! Laws over the definitions, which hold for every tree. Each function does nothing: its contract is the law, and its
+//! Laws over the definitions, true of every tree. Each function does nothing: its contract is the law, and its
 //! proof is checked with the crate.
 #![tactic(auto, using(crate::proofs::PublicLaws::depth_law))]
 

@@ -46,9 +46,8 @@ pub const MAX_LEN: usize = 9223372036854775807;
 /// The greatest number of bits of a block of a tree.
 pub const MAX_BLOCK_SIZE: usize = 4294967296;
 
-/// A list of parentheses, of which a one opens and a zero closes. If they are balanced they represent a forest
-/// of ordered trees, each node of which is named by the position of its one. Contracts see a `BpTree` as the
-/// list of its bits.
+/// A list of parentheses: a one opens, and a zero closes. If they are balanced, they represent a forest of ordered
+/// trees. The position of its one is the handle of a node. Contracts see a `BpTree` as the list of its bits.
 ///
 /// The excess before a position is the number of ones minus the number of zeros before it. Over blocks of
 /// `BLOCK_SIZE` bits a min-max tree of 24 bytes per node stores the total, the least and the greatest excess of
@@ -293,8 +292,8 @@ impl<const BLOCK_SIZE: usize, A: Allocator + Copy> BpTree<BLOCK_SIZE, A> {
     }
 
     /// Returns the last position before `i` before which the excess is one less than before `i` if a one is at
-    /// `i`, or two less if a zero is: in balanced parentheses, where the nearest pair opens that encloses the
-    /// bit's own pair. `None` if there is none, or `i` is out of bounds.
+    /// `i`, or two less if a zero is: in balanced parentheses, the position at which the nearest pair opens that
+    /// encloses the bit's own pair. `None` if there is none, or `i` is out of bounds.
     #[inline]
     pub fn enclose(&self, i: usize) -> Option<usize>
         ensures { result ≡ enclosing self.now i }

@@ -1,4 +1,4 @@
-//! Unsigned integers, of which lists of symbols are made.
+//! Unsigned integers as symbols.
 ghost use Rattle.std.specs.Prelude.{◌≡◌, ◌<◌, ◌≤◌, ◌^◌, ℕ, length};
 
 /// An unsigned integer: `u8`, `u16`, `u32` or `u64`.

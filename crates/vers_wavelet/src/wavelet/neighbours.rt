@@ -114,9 +114,8 @@ impl<A: Allocator + Copy> WaveletMatrix<A> {
         Ok(Some(answer))
     }
 
-    /// Returns the greatest symbol of a range that is at most `symbol`, of which only the low bits count.
-    /// `None` if the symbols have more than 64 bits, the range is reversed or ends past the end, or there is no
-    /// such symbol.
+    /// Returns the greatest symbol of a range that is at most `symbol`. Uses only the low bits of `symbol`. `None` if
+    /// the symbols have more than 64 bits, the range is reversed or ends past the end, or there is no such symbol.
     pub fn predecessor_u64(&self, range: Range<usize>, symbol: u64) -> Option<u64>
         ensures { result ≡ as_word self.now.width
             (greatest_up_to (range_elements self.now.items range.start range.end)
@@ -150,9 +149,8 @@ impl<A: Allocator + Copy> WaveletMatrix<A> {
         Some(answer)
     }
 
-    /// Returns the least symbol of a range that is at least `symbol`, of which only the low bits count. `None`
-    /// if the symbols have more than 64 bits, the range is reversed or ends past the end, or there is no such
-    /// symbol.
+    /// Returns the least symbol of a range that is at least `symbol`. Uses only the low bits of `symbol`. `None` if
+    /// the symbols have more than 64 bits, the range is reversed or ends past the end, or there is no such symbol.
     pub fn successor_u64(&self, range: Range<usize>, symbol: u64) -> Option<u64>
         ensures { result ≡ as_word self.now.width
             (least_from (range_elements self.now.items range.start range.end)

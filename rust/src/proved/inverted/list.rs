@@ -16,7 +16,7 @@ pub struct ListOf<'a, A: Allocator + Copy> {
 }
 
 impl<'a, A: Allocator + Copy> ListOf<'a, A> {
-    /// Returns the documents of a term, of which there are none if there is no such term.
+    /// Returns the documents of a term: none if there is no such term.
     pub fn new(index: &'a InvertedIndex<A>, term: u64) -> Self {
         ListOf {
             index,

@@ -8,8 +8,8 @@ use crate::rattle::Allocator;
 use crate::proved::vers_sorted::elias_fano::{EliasFanoVec, Successors};
 use crate::proved::vers_tally::tally::Tally;
 
-/// The elements of an ascending list, as a source. If the numbers that are searched rise, each search begins where the
-/// last one ended. Contracts see it as the list.
+/// The elements of an ascending list, as a source. If it is searched for ascending numbers, each search begins at the
+/// end of the last one. Contracts see it as the list.
 pub struct Cursor<'a, A: Allocator + Copy> {
     list: &'a EliasFanoVec<A>,
     successors: Successors<'a, A>,

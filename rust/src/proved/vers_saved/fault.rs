@@ -7,7 +7,7 @@ use crate::rattle::AllocError;
 /// Why bytes were not loaded: the first test that fails, in the order of `fault_of`.
 #[derive(Clone, Copy, PartialEq, Eq, Debug)]
 pub enum LoadError {
-    /// There are fewer bytes than a head and a sum take, or than the head says.
+    /// There are fewer bytes than a head and a sum have, or than the head gives.
     TooShort,
     /// The bytes do not begin as a saved form does.
     NotOurs,
@@ -15,7 +15,7 @@ pub enum LoadError {
     OtherVersion,
     /// The list is of another kind, or its items or blocks have another size.
     OtherKind,
-    /// A list of this kind can't have that length, or there are more bytes than the head says.
+    /// A list of this kind can't have that length, or there are more bytes than the head gives.
     BadLength,
     /// The checksum is not that of the words before it.
     BadSum,
@@ -23,7 +23,7 @@ pub enum LoadError {
     BadPadding,
     /// The numbers do not ascend as this kind requires.
     NotAscending,
-    /// No text has the column, the row of the whole text and the rows of the sampled positions that these words say.
+    /// No text has the column, the row of the whole text and the rows of the sampled positions that the words encode.
     NotAText,
     /// The allocator refused a request.
     Memory,

@@ -38,7 +38,7 @@ pub fn clog_is_least() {}
 /// least `n` and at least 2.
 pub fn high_parts_are_few() {}
 
-/// The parts of an ascending list say its elements.
+/// The parts of an ascending list determine its elements.
 pub fn parts_decode_to_list() {}
 
 /// Two ascending lists with the same ends and parts are equal.

@@ -8,8 +8,8 @@ use crate::rattle::Allocator;
 use crate::proved::vers_bits::bit_vec::BitVec;
 use crate::proved::vers_tally::tally::Tally;
 
-/// A list of bits that stores only the positions of its ones, as an ascending list: for bits of which few are
-/// ones. Contracts see a `SparseRSVec` as the list of its bits.
+/// A list of bits that stores only the positions of its ones, as an ascending list, for bits with few ones.
+/// Contracts see a `SparseRSVec` as the list of its bits.
 pub struct SparseRSVec<A: Allocator + Copy> {
     ones: EliasFanoVec<A>,
     len: u64,

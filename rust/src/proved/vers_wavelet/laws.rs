@@ -54,10 +54,10 @@ pub fn wide_symbols_are_no_words() {}
 /// A list has only one `i`-th smallest element, so a quantile is one number.
 pub fn one_element_of_a_number() {}
 
-/// The quantiles in turn, one for each element, are the elements in ascending order, duplicates included.
+/// The quantiles from the first to the last are the elements in ascending order, duplicates included.
 pub fn quantiles_list_elements_by_size() {}
 
-/// Numbers of at most `k` digits, where `k` isn't 0, are their own low digits.
+/// Numbers of at most `k` digits are their own low digits if `k` isn't 0.
 pub fn small_numbers_stay() {}
 
 /// A list of symbols has a level for each digit, and each level has a bit for each symbol.

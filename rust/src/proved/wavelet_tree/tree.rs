@@ -14,10 +14,10 @@ use crate::proved::word_rank::WordRank;
 /// A list of symbols, which are numbers of the same width of at most 16 bits. Contracts see the width and the list of
 /// numbers.
 ///
-/// It stores a binary tree over the symbols, in which each fork divides its symbols where half of its elements are
-/// below, as nearly as symbols allow, and has a bit for each of its elements that tells on which side the element is
-/// (Grossi, Gupta and Vitter, SODA 2003). A symbol's depth, the number of forks that lead to it, is the length of its
-/// code: frequent symbols have short codes. The bits of all forks are one list with a count for each word.
+/// It stores a binary tree over the symbols (Grossi, Gupta and Vitter, SODA 2003). Each fork divides its symbols at the
+/// one that most nearly halves its elements, and has a bit for each element: a one if the element is on the right. A
+/// symbol's depth, the number of forks that lead to it, is the length of its code: frequent symbols have short codes.
+/// The bits of all forks are one list with a count for each word.
 ///
 /// Each query has a form `_counted`, which counts its reads in a `Tally`: forks as nodes, and numbers of lesser
 /// elements as items. The plain form passes a counter of its own.

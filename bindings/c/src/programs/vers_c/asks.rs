@@ -52,7 +52,7 @@ pub fn vers_ask_each(
     status
 }
 
-/// Replaces the first number of each ask by its answer, or by `other` if there is none.
+/// Replaces the first number of each row by its answer, or by `other` if there is none.
 pub fn vers_ask_rows(
     alloc: Global,
     handle: &mut VersHandle,

@@ -138,7 +138,7 @@ pub fn vers_symbols_build_u32s(
     build_symbols(alloc, u32s, width, handle)
 }
 
-/// Builds a list of parentheses, of which a one opens: the first `len` bits of words.
+/// Builds a list of parentheses from the first `len` bits of words: a one opens, and a zero closes.
 pub fn vers_tree_build(
     alloc: Global,
     words: &[u64],

@@ -56,8 +56,7 @@ pub fn vers_saved_size(alloc: Global, handle: &mut VersHandle) -> VersAnswer {
     }
 }
 
-/// Writes the saved form of the handle's structure over bytes, of which there are exactly as many; otherwise
-/// refuses them.
+/// Writes the saved form of the handle's structure to `bytes`. Refuses another number of bytes than the form has.
 pub fn vers_save(alloc: Global, handle: &mut VersHandle, bytes: &mut [u8]) -> u32 {
     if !handle.is_built {
         return VACANT;
@@ -108,7 +107,7 @@ macro_rules! loaded_as {
 //
 // # Errors
 //
-// That of the first test that fails, the last of which is that of a text; `Memory` if the allocator refuses a
+// The error of the first test that fails; the last test is that of a text. `Memory` if the allocator refuses a
 // request.
 fn load(alloc: Global, kind: Kind, bytes: &[u8]) -> Result<Kept, LoadError> {
     match kind {

@@ -87,7 +87,7 @@ pub fn vers_count(alloc: Global, handle: &mut VersHandle, pattern: &[u64]) -> Ve
 }
 
 /// Replaces each of some ends by the number of occurrences of its pattern in a text. The patterns are joined: the first
-/// begins at 0, each other one where the one before ends. Refuses ends that descend, or that are above the number of
+/// begins at 0, each other one at the end of the one before. Refuses ends that descend, or that are above the number of
 /// symbols. Returns a status.
 pub fn vers_count_each(
     alloc: Global,

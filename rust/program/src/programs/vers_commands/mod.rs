@@ -1,5 +1,5 @@
-//! The commands behind the script `vers`: lines about structures and texts, and structures in files. The status is
-//! 0, or 1 after an error, or 2 if the arguments name no command; standard error says why.
+//! The commands of the script `vers`: lines over structures and texts, and structures in files. The status is 0, or 1
+//! after an error, or 2 if the arguments name no command; standard error has the reason.
 
 use crate::rattle::prelude::*;
 

@@ -26,8 +26,8 @@ pub struct Shown {
     pub bytes: u64,
 }
 
-/// Returns the description of the structure in a saved form, the rest of a reader. It is read by blocks, at most one
-/// byte past the end that its head says.
+/// Returns the description of the structure in a saved form, the rest of a reader. Reads blocks, and at most one byte
+/// past the end that the head gives.
 ///
 /// # Errors
 ///

@@ -1,4 +1,4 @@
-//! Unsigned integers, of which lists of symbols are made.
+//! Unsigned integers as symbols.
 
 use crate::rattle::prelude::*;
 

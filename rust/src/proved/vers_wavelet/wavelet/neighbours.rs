@@ -77,9 +77,8 @@ impl<A: Allocator + Copy> WaveletMatrix<A> {
         Ok(Some(answer))
     }
 
-    /// Returns the greatest symbol of a range that is at most `symbol`, of which only the low bits count.
-    /// `None` if the symbols have more than 64 bits, the range is reversed or ends past the end, or there is no
-    /// such symbol.
+    /// Returns the greatest symbol of a range that is at most `symbol`. Uses only the low bits of `symbol`. `None` if
+    /// the symbols have more than 64 bits, the range is reversed or ends past the end, or there is no such symbol.
     pub fn predecessor_u64(&self, range: Range<usize>, symbol: u64) -> Option<u64> {
         let mut tally = Tally::new();
         self.predecessor_u64_counted(range, symbol, &mut tally)
@@ -104,9 +103,8 @@ impl<A: Allocator + Copy> WaveletMatrix<A> {
         Some(answer)
     }
 
-    /// Returns the least symbol of a range that is at least `symbol`, of which only the low bits count. `None`
-    /// if the symbols have more than 64 bits, the range is reversed or ends past the end, or there is no such
-    /// symbol.
+    /// Returns the least symbol of a range that is at least `symbol`. Uses only the low bits of `symbol`. `None` if
+    /// the symbols have more than 64 bits, the range is reversed or ends past the end, or there is no such symbol.
     pub fn successor_u64(&self, range: Range<usize>, symbol: u64) -> Option<u64> {
         let mut tally = Tally::new();
         self.successor_u64_counted(range, symbol, &mut tally)

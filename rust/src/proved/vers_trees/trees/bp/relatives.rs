@@ -78,8 +78,8 @@ impl<const BLOCK_SIZE: usize, A: Allocator + Copy> BpTree<BLOCK_SIZE, A> {
         }
     }
 
-    /// Returns the first or the last node of a depth, as `which` says; roots have depth 0. `None` if no node
-    /// has that depth.
+    /// Returns the first or the last node of a depth, by `which`. The depth of a root is 0. `None` if no node has that
+    /// depth.
     ///
     /// Precondition: the parentheses are balanced.
     #[inline(always)]

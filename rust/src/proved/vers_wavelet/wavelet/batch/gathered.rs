@@ -15,7 +15,7 @@ use crate::proved::vers_tally::tally::Tally;
 pub struct GatheredQuery {
     /// The position.
     pub position: usize,
-    /// The symbol, of which only the low bits count.
+    /// The symbol. Only its low bits are used.
     pub symbol: u64,
     /// The gathered position of the first such symbol from the position on, once the query is answered.
     pub answer: Option<usize>,

@@ -15,7 +15,7 @@ use crate::proved::vers_tally::tally::Tally;
 pub struct RankQuery {
     /// The length of the prefix. Answering overwrites it.
     pub end: usize,
-    /// The symbol, of which only the low bits count.
+    /// The symbol. Only its low bits are used.
     pub symbol: u64,
     /// The number of occurrences of the symbol in the prefix, once the query is answered.
     pub answer: Option<usize>,

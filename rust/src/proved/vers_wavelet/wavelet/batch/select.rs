@@ -16,7 +16,7 @@ use crate::proved::vers_tally::tally::Tally;
 pub struct SelectQuery {
     /// The number of the occurrence (from 0).
     pub rank: usize,
-    /// The symbol, of which only the low bits count.
+    /// The symbol. Only its low bits are used.
     pub symbol: u64,
     /// The position of the occurrence, once the query is answered.
     pub answer: Option<usize>,
