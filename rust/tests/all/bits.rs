@@ -88,13 +88,21 @@ fn sparse_bits_are_found() {
     for length in LENGTHS {
         let plain = bits(&mut random, length, 20);
         let list = BitVec::from_bits_u64(&plain);
+        assert_eq!(SparseRSVec::from(list.clone()), SparseRSVec::from(&list));
         for (wanted, sparse) in [(1, SparseRSVec::from_bitvec(&list)), (0, SparseRSVec::from(&list))] {
             let ones = positions(&plain, wanted);
             assert_eq!(sparse.len(), length as u64);
             assert!(sparse.iter1().eq(ones.iter().map(|&one| one as u64)));
             for position in 0..length + 2 {
                 let before = ones.partition_point(|&one| one < position);
-                assert_eq!(sparse.is_set(position as u64), plain.get(position).map(|&bit| bit == wanted));
+                let is_set = plain.get(position).map(|&bit| bit == wanted);
+                assert_eq!(
+                    (sparse.is_set(position as u64), sparse.get(position as u64)),
+                    (is_set, is_set.map(u64::from))
+                );
+                let or_zero = is_set.unwrap_or(false);
+                assert_eq!(sparse.is_set_unchecked(position as u64), or_zero);
+                assert_eq!(sparse.get_unchecked(position as u64), u64::from(or_zero));
                 assert_eq!(sparse.rank1(position as u64), before as u64);
                 assert_eq!(sparse.rank0(position as u64), (position.min(length) - before) as u64);
                 assert_eq!(sparse.select1(position), ones.get(position).copied().unwrap_or(length) as u64);
@@ -116,7 +124,8 @@ fn bits_change() {
             }
             1 | 2 => {
                 let count = random.below(65) as usize;
-                list.append_bits(number, count);
+                let append = [BitVec::append_bits, BitVec::append_bits_unchecked][position % 2];
+                append(&mut list, number, count);
                 plain.extend((0..count).map(|offset| number >> offset & 1));
             }
             3 => {
@@ -151,6 +160,7 @@ fn bits_change() {
             assert_eq!(list, BitVec::from_bits_u64(&plain));
             let (before, from) = list.clone().split_at(position).unwrap();
             assert!(before.iter().chain(&from).eq(plain.iter().copied()));
+            assert_eq!(list.clone().split_at(plain.len() + 1).unwrap_err(), list);
             let mut joined = before;
             joined.extend([from]);
             assert_eq!(joined, list);
@@ -193,9 +203,11 @@ fn masks_combine_bits() {
             (list.mask_custom(&mask, neither).unwrap(), combined(neither)),
         ] {
             assert_eq!(masked.to_bit_vec(), BitVec::from_bits_u64(&wanted));
-            assert_eq!(masked.count_ones(), wanted.iter().sum());
+            let ones = wanted.iter().sum();
+            assert_eq!((masked.count_ones(), masked.count_zeros()), (ones, length as u64 - ones));
             for (position, &bit) in wanted.iter().enumerate() {
-                assert_eq!(masked.get(position), Some(bit));
+                assert_eq!((masked.get(position), masked.is_bit_set(position)), (Some(bit), Some(bit == 1)));
+                assert_eq!((masked.get_unchecked(position), masked.is_bit_set_unchecked(position)), (bit, bit == 1));
                 let count = 1 + random.below(64) as usize;
                 assert_eq!(masked.get_bits(position, count), masked.to_bit_vec().get_bits(position, count));
             }

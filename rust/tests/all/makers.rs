@@ -22,7 +22,7 @@ fn errors_name_the_first_fault() {
     assert_eq!(WaveletMatrix::try_from_bit_vec(&BitVec::from_ones(4), 3).err(), Some(BuildError::PartialSymbol));
     assert_eq!(WaveletMatrix::try_from_bit_vec(&BitVec::from_ones(4), 0).err(), unsupported(0));
     assert_eq!(TextIndex::from_slice(&[1], 17).err(), unsupported(17));
-    assert_eq!(TextIndex::from_slice(&[1, 4], 2).err(), too_wide(1));
+    assert_eq!(TextIndex::from_slice(&[3, 4], 2).err(), too_wide(1));
     assert_eq!(TextIndex::with_step(&[1], 2, 0).err(), Some(BuildError::ZeroStep));
 }
 

@@ -75,7 +75,10 @@ fn lists_of_bits_stop() {
     assert_eq!(bits, BitVec::from_ones(70), "a call that panics changes nothing");
     assert_eq!((bits.get_bits_unchecked(1000, 0), bits.get_bits_unchecked(60, 20)), (0, (1 << 10) - 1));
     assert_eq!((bits.unpack_element_unchecked(3, 0), bits.unpack_element_unchecked(2, 32)), (0, 63));
-    assert_eq!((bits.get_unchecked(100), bits.is_bit_set_unchecked(127)), (0, false));
+    assert_eq!(
+        (bits.get_unchecked(100), bits.is_bit_set_unchecked(127), bits.get_bits_unchecked(100, 20)),
+        (0, false, 0)
+    );
 }
 
 #[test]
@@ -133,6 +136,7 @@ fn minima_stop() {
     }
     use std::ops::Bound::{Excluded, Unbounded};
     assert_eq!(fast.range_min_with_range((Excluded(FAR), Unbounded)), 2);
+    assert_eq!(binary.range_min_with_range((Excluded(1), Unbounded)), 2);
 }
 
 #[test]
@@ -181,6 +185,22 @@ fn symbols_stop() {
 }
 
 #[test]
+fn symbols_that_are_there_are_answered() {
+    let list = WaveletMatrix::from_slice(&[5, 1, 7], 3);
+    let five = BitVec::from_bits(&[1, 0, 1]);
+    let fives = || [five.clone(), five.clone(), five.clone()];
+    assert_eq!((list.rank_offset_unchecked(0, 9, &five), list.rank_offset_unchecked(1, 9, &five)), (1, 0));
+    assert_eq!((list.select_offset_unchecked(0, 0, &five), list.select_offset_unchecked(1, 0, &five)), (0, 3));
+    assert_eq!([list.get_value_unchecked(0), list.quantile_unchecked(0..3, 1), list.get_sorted_unchecked(1)], fives());
+    let of_ranges = [list.range_min_unchecked(0..1), list.range_max_unchecked(0..2), list.range_median_unchecked(0..3)];
+    assert_eq!(of_ranges, fives());
+    let numbers = [list.get_u64_unchecked(0), list.quantile_u64_unchecked(0..3, 1), list.get_sorted_u64_unchecked(1)];
+    assert_eq!(numbers, [5; 3]);
+    let (least, greatest) = (list.range_min_u64_unchecked(0..1), list.range_max_u64_unchecked(0..2));
+    assert_eq!((least, greatest, list.range_median_u64_unchecked(0..3)), (5, 5, 5));
+}
+
+#[test]
 fn counted_calls_of_no_node_stop() {
     let tree: BpTree = BpTree::from_bit_vector(BitVec::from_bits(&[1, 1, 0, 0]));
     let open: BpTree = BpTree::from_bit_vector(BitVec::from_ones(4));
@@ -211,6 +231,7 @@ fn counted_calls_of_no_node_stop() {
         "no position 4": tree.excess_counted(4, tally);
     }
     assert_eq!((open.dfs_post_iter().next(), open.dfs_iter().count()), (None, 4));
+    assert_eq!((open.dfs_post_iter().len(), open.subtree_iter(0).len()), (0, 0));
 }
 
 #[test]

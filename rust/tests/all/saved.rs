@@ -1,8 +1,10 @@
 //! Saved forms, which are loaded as what they were made of and as nothing else.
 use crate::plain::Random;
+use std::io::{self, ErrorKind, Write};
 use vers_vecs::inverted::InvertedIndex;
 use vers_vecs::postings::Postings;
 use vers_vecs::saved::{LoadError, SaveError, Saved};
+use vers_vecs::text::TextIndex;
 use vers_vecs::{BinaryRmq, BitVec, BpTree, EliasFanoVec, FastRmq, RsVec, SparseRSVec, WaveletMatrix};
 
 /// Saves a structure and loads it; no other bytes are loaded.
@@ -95,6 +97,54 @@ fn the_first_fault_is_reported() {
         RsVec::load(&[&bytes[..], &[0]].concat()).unwrap_err().to_string(),
         "no such structure is as long, or the bytes go on after it"
     );
+}
+
+/// Loads the form of a structure in which a word is another, with the sum that docs/FORMAT.md defines.
+fn changed<S: Saved>(structure: &S, position: usize, word: u64) -> Option<LoadError> {
+    let bytes = structure.save().unwrap();
+    let mut words: Vec<u64> = bytes.chunks(8).map(|it| u64::from_le_bytes(it.try_into().unwrap())).collect();
+    words[position] = word;
+    let last = words.len() - 1;
+    words[last] = words[..last]
+        .iter()
+        .fold(0xcbf2_9ce4_8422_2325, |sum: u64, word| (sum ^ word).wrapping_mul(0x9e37_79b9_7f4a_7c15).rotate_left(29));
+    S::load(&words.iter().flat_map(|it| it.to_le_bytes()).collect::<Vec<_>>()).err()
+}
+
+#[test]
+fn items_that_no_structure_has_are_refused() {
+    let bits = RsVec::from_bit_vec(BitVec::from_bits(&[0, 1, 1, 0]));
+    assert_eq!((changed(&bits, 5, 0b1111), changed(&bits, 5, 0b1_0110)), (None, Some(LoadError::BadPadding)));
+    let postings = Postings::from_sorted(&[1, 4], &[7, 7]).unwrap();
+    assert_eq!((changed(&postings, 5, 3), changed(&postings, 5, 4)), (None, Some(LoadError::NotAscending)));
+    let text = TextIndex::from_bytes(b"abab", 8).unwrap();
+    assert_eq!(changed(&text, 7, 5), Some(LoadError::NotAText), "a text of 4 symbols has the rows 0 to 4");
+}
+
+/// A writer that takes at most three bytes at once.
+struct Narrow(Vec<u8>);
+
+impl Write for Narrow {
+    fn write(&mut self, bytes: &[u8]) -> io::Result<usize> {
+        self.0.write(&bytes[..bytes.len().min(3)])
+    }
+
+    fn flush(&mut self) -> io::Result<()> {
+        Ok(())
+    }
+}
+
+#[test]
+fn forms_are_written_and_read_whole() {
+    let (bits, mut writer) = (RsVec::from_bit_vec(BitVec::from_ones(100)), Narrow(Vec::new()));
+    bits.save_to(&mut writer).unwrap();
+    assert_eq!((&writer.0, RsVec::load_from(&writer.0[..]).unwrap()), (&bits.save().unwrap(), bits));
+    let error = RsVec::load_from(&writer.0[1..]).unwrap_err();
+    assert_eq!((error.kind(), error.to_string()), (ErrorKind::InvalidData, LoadError::NotOurs.to_string()));
+    let mut nothing = Vec::new();
+    let error = WaveletMatrix::from_slice(&[1], 0).save_to(&mut nothing).unwrap_err();
+    assert_eq!((error.kind(), error.to_string()), (ErrorKind::Other, SaveError::NoForm.to_string()));
+    assert_eq!(nothing, []);
 }
 
 #[test]

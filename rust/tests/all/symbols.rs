@@ -131,7 +131,7 @@ fn makers_agree() {
         assert!(list.into_iter_sorted_u64().unwrap().eq(sorted));
     }
     assert!(WaveletMatrix::from_slice(&numbers, 4).into_iter_u64().unwrap().eq(numbers.iter().map(|it| it % 16)));
-    assert!(WaveletMatrix::from_slice(&numbers, 0).is_empty());
+    assert!(WaveletMatrix::from_slice(&numbers, 0).is_empty() && WaveletMatrix::from_slice_pc(&[], 0).is_empty());
 }
 
 #[test]

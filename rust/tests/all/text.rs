@@ -39,6 +39,8 @@ fn some_texts_are_refused() {
 fn bytes_and_shorts_are_the_same_text() {
     let text = TextIndex::from_bytes(b"abracadabra", 8).unwrap();
     assert_eq!((text.len(), text.bits_per_symbol(), text.step()), (11, 8, 32));
+    assert_eq!(TextIndex::from_slice(&[97], 8).unwrap().step(), 32);
+    assert_eq!((TextIndex::default().len(), TextIndex::default().bits_per_symbol()), (0, 8));
     assert_eq!(text.places(&[97, 98]), [0, 7]);
     let text = TextIndex::bytes_with_step(b"abracadabra", 7, 4).unwrap();
     assert_eq!((text.places(&[97, 98]), text.bits_per_symbol(), text.step()), (vec![0, 7], 7, 4));

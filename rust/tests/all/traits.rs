@@ -22,7 +22,7 @@ fn value<T: Clone + Debug + Default + PartialEq + Eq + Hash>(one: &T, other: &T)
         hasher.finish()
     };
     assert_eq!((one, hash(one)), (&one.clone(), hash(&one.clone())));
-    assert_ne!((one, hash(one)), (other, hash(other)));
+    assert_ne!(hash(one), hash(other));
     assert_ne!(one, other);
     assert_ne!(one, &T::default());
     assert_eq!(T::default(), T::default());
@@ -34,8 +34,10 @@ fn values_are_compared_hashed_and_cloned() {
     value(&bits(5), &bits(4));
     value(&RsVec::from(bits(5)), &RsVec::from(bits(4)));
     value(&SparseRSVec::from_bitvec(&bits(5)), &SparseRSVec::from_bitvec(&bits(4)));
+    value(&SparseRSVec::new(&[3], 9), &SparseRSVec::new(&[3], 10));
     value(&EliasFanoVec::from_slice(&[1, 5]), &EliasFanoVec::from_slice(&[1, 6]));
     value(&WaveletMatrix::from_slice(&[1, 5], 3), &WaveletMatrix::from_slice(&[1, 5], 4));
+    assert_ne!(WaveletMatrix::from_slice(&[], 3), WaveletMatrix::from_slice(&[], 4));
     value(&WaveletMatrix::from_bit_vec(&bits(5), 80), &WaveletMatrix::from_bit_vec(&bits(4), 80));
     value(&BinaryRmq::from_vec(vec![1, 5]), &BinaryRmq::from_vec(vec![1, 6]));
     value(&FastRmq::from_vec(vec![1, 5]), &FastRmq::from_vec(vec![1, 6]));
@@ -53,6 +55,9 @@ fn indexes_are_compared_hashed_and_cloned() {
     for other in [index(3, 9, 4), index(2, 8, 4), index(2, 9, 5)] {
         value(&index(2, 9, 4), &other);
     }
+    // the numbers of the first term's pairs don't depend on the limit of documents
+    let of_one_term = |universe| InvertedIndex::from_pairs(1, universe, &[(0, 3)]).unwrap();
+    value(&of_one_term(9), &of_one_term(8));
     let text = |last, width, step| {
         let symbols: Vec<u64> = (0..1 << 17).map(|i| i % 3).chain([last]).collect();
         TextIndex::with_step(&symbols, width, step).unwrap()
@@ -61,6 +66,9 @@ fn indexes_are_compared_hashed_and_cloned() {
         value(&text(2, 2, 64), &other);
     }
     assert_eq!(text(2, 2, 64), text(2, 2, 256));
+    // both have the column 1 1 0, and differ by the row of the whole text
+    let short = |symbols: &[u64]| TextIndex::from_slice(symbols, 1).unwrap();
+    value(&short(&[1, 0, 1]), &short(&[0, 1, 1]));
 }
 
 #[test]
@@ -131,6 +139,7 @@ fn iterators_have_both_ends() {
     iterates(list.iter0(), vec![0, 3]);
     iterates(list.clone().into_iter1(), vec![1, 2, 4]);
     assert!(list.bit_set_iter1().eq([1, 2, 4]) && list.bit_set_iter0().eq([0, 3]));
+    assert_eq!((list.bit_set_iter1().min(), list.bit_set_iter0().min()), (Some(1), Some(0)));
     iterates(SparseRSVec::from_bitvec(&bits).iter1(), vec![1, 2, 4]);
     let numbers = EliasFanoVec::from_slice(&[3, 3, 9]);
     iterates(numbers.iter(), vec![3, 3, 9]);
@@ -160,8 +169,8 @@ fn conversions_go_both_ways() {
     let mut bits: BitVec = flags.into_iter().collect();
     assert_eq!(bits, BitVec::from_bits(&[1, 0, 1]));
     bits.extend([false, true]);
-    bits.extend(&[true]);
-    assert_eq!(bits, BitVec::from_bits(&[1, 0, 1, 0, 1, 1]));
+    bits.extend(&[true, false]);
+    assert_eq!(bits, BitVec::from_bits(&[1, 0, 1, 0, 1, 1, 0]));
     assert_eq!(flags.into_iter().collect::<RsVec>().into_bit_vec(), BitVec::from_bits(&[1, 0, 1]));
     let limbs: BitVec = [3, 4].into_iter().collect();
     assert_eq!((limbs.len(), &limbs), (128, &BitVec::from(&[3, 4][..])));
@@ -190,10 +199,31 @@ fn all_types_cross_threads() {
 type BitMask = bit_vec::BitMask<'static, 'static>;
 
 #[test]
-fn errors_are_errors() {
-    let errors: [Box<dyn Error + Send + Sync>; 3] =
-        [Box::new(BuildError::TooLong), Box::new(LoadError::BadSum), Box::new(SaveError::NoForm)];
-    for error in errors {
-        assert!(!error.to_string().is_empty() && error.source().is_none());
+fn errors_say_what_is_wrong() {
+    let rows: [(Box<dyn Error + Send + Sync>, &str); 21] = [
+        (Box::new(BuildError::NotAscending { position: 3 }), "must ascend, and the one at position 3 doesn't"),
+        (Box::new(BuildError::OutOfRange { position: 3 }), "at position 3 is not below its limit"),
+        (Box::new(BuildError::SymbolTooWide { position: 3 }), "at position 3 has more bits than a symbol"),
+        (Box::new(BuildError::UnsupportedWidth { bits: 3 }), "can't have 3 bits"),
+        (Box::new(BuildError::PartialSymbol), "no multiple of the width"),
+        (Box::new(BuildError::LengthMismatch), "the lengths do not match"),
+        (Box::new(BuildError::ZeroStep), "the sampling step is 0"),
+        (Box::new(BuildError::TooLong), "too many items"),
+        (Box::new(BuildError::OutOfMemory), "out of memory"),
+        (Box::new(LoadError::TooShort), "cut off"),
+        (Box::new(LoadError::NotOurs), "do not begin as a saved form"),
+        (Box::new(LoadError::OtherVersion), "another version"),
+        (Box::new(LoadError::OtherKind), "another kind"),
+        (Box::new(LoadError::BadLength), "no such structure is as long"),
+        (Box::new(LoadError::BadSum), "the sum is not that"),
+        (Box::new(LoadError::BadPadding), "past the end of the list"),
+        (Box::new(LoadError::NotAscending), "do not ascend"),
+        (Box::new(LoadError::NotAText), "no text has"),
+        (Box::new(LoadError::OutOfMemory), "out of memory"),
+        (Box::new(SaveError::NoForm), "no saved form"),
+        (Box::new(SaveError::OutOfMemory), "out of memory"),
+    ];
+    for (error, words) in rows {
+        assert!(error.to_string().contains(words) && error.source().is_none(), "{error}, and not {words}");
     }
 }

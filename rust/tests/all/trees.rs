@@ -115,6 +115,35 @@ fn asked(random: &mut Random, plain: &Plain, tree: &BpTree<64>, node: usize) {
     }
 }
 
+/// Compares the answers for a position with a one with what the documentation says of any parentheses.
+fn asked_by_definition(bits: &BitVec, excess: &[i64], tree: &BpTree, position: usize) {
+    let is_one = |it: usize| bits.get(it) == Some(1);
+    let ones = |range: std::ops::Range<usize>| range.filter(|&it| is_one(it)).count();
+    let close = (position + 1..bits.len()).find(|&it| excess[it + 1] == excess[position]);
+    let open = |close: usize| (0..close).rev().find(|&it| excess[it] == excess[close] - 1);
+    let after = |from: usize, wanted: i64| (from + 1..bits.len()).find(|&it| excess[it + 1] == wanted);
+    assert_eq!(tree.node_index(position), ones(0..position));
+    assert_eq!(tree.first_child(position), Some(position + 1).filter(|&it| is_one(it)));
+    assert_eq!(tree.last_child(position), close.filter(|_| is_one(position + 1)).and_then(|it| open(it - 1)));
+    assert_eq!(tree.next_sibling(position), close.map(|it| it + 1).filter(|&it| is_one(it)));
+    let before = position.checked_sub(1).filter(|&it| !is_one(it));
+    assert_eq!(tree.previous_sibling(position), before.and_then(open));
+    assert_eq!(tree.is_leaf(position), bits.get(position + 1) == Some(0));
+    assert_eq!(tree.has_node(position), tree.is_balanced());
+    assert_eq!((tree.parent(position), tree.enclose(position)), (open(position), open(position)));
+    assert_eq!(tree.depth(position), (excess[position + 1] - 1).max(0) as u64);
+    assert_eq!(tree.subtree_size(position), close.map(|it| ones(position..it)));
+    assert_eq!(tree.level_next(position), close.and_then(|it| after(it, excess[it + 1] + 1)));
+    let risen = (0..position).rev().find(|&it| excess[it] == excess[position] + 1);
+    assert_eq!(tree.level_prev(position), risen.and_then(open));
+    assert_eq!(tree.level_ancestor(position, 0), Some(position));
+    let above = (0..position).rev().find(|&it| excess[it] == excess[position] - 2);
+    assert_eq!(tree.level_ancestor(position, 2), above);
+    for other in (position.saturating_sub(9)..position + 9).filter(|&it| is_one(it)) {
+        assert_eq!(tree.is_ancestor(position, other), close.map(|it| (position..it).contains(&other)));
+    }
+}
+
 #[test]
 fn parentheses_that_are_not_balanced_are_searched() {
     let mut random = Random::new(2);
@@ -128,7 +157,7 @@ fn parentheses_that_are_not_balanced_are_searched() {
         }
         assert_eq!(tree.size(), bits.count_ones() as usize);
         assert_eq!(tree.is_balanced(), excess.iter().all(|&it| it >= 0) && excess[length] == 0);
-        assert_eq!(tree.is_open(length), None);
+        assert_eq!((tree.is_open(length), tree.clone().is_balanced()), (None, tree.is_balanced()));
         for position in 0..length {
             assert_eq!(tree.excess(position), excess[position + 1]);
             for rise in -3..=3 {
@@ -140,13 +169,12 @@ fn parentheses_that_are_not_balanced_are_searched() {
             assert_eq!(tree.close(position), tree.fwd_search(position, -1));
             assert_eq!(tree.open(position), tree.bwd_search(position, -1));
             if bits.get(position) == Some(1) {
-                assert_eq!(tree.node_index(position), (0..position).filter(|&it| bits.get(it) == Some(1)).count());
-                assert_eq!(tree.first_child(position), Some(position + 1).filter(|&it| bits.get(it) == Some(1)));
-                assert_eq!(tree.is_leaf(position), bits.get(position + 1) == Some(0));
-                assert_eq!(tree.has_node(position), tree.is_balanced());
-                assert_eq!(tree.parent(position), tree.enclose(position));
-                assert_eq!(tree.depth(position), (excess[position + 1] - 1).max(0) as u64);
+                asked_by_definition(&bits, &excess, &tree, position);
             }
+        }
+        for depth in 0..4 {
+            let first = (depth > 0).then(|| tree.fwd_search(0, depth)).unwrap_or(Some(0));
+            assert!(tree.is_balanced() || tree.level_leftmost(depth as u64) == first);
         }
         assert_eq!(BitVec::from(tree), bits);
     }
@@ -166,6 +194,9 @@ fn a_walk_builds_a_tree() {
     builder.enter_node();
     builder.enter_node();
     assert_eq!(builder.build().err(), Some(2));
+    let mut builder: BpBuilder = BpBuilder::new();
+    builder.leave_node();
+    assert_eq!(builder.build().err(), Some(-1));
 
     let tree = BpBuilder::<512>::new().build().unwrap();
     assert_eq!((tree.size(), tree.root(), tree.level_leftmost(0), tree.is_empty()), (0, None, None, true));
