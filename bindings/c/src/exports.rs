@@ -174,10 +174,21 @@ exports! {
 mod tests {
     use super::*;
     use std::mem::size_of;
+    use std::ptr::{null, null_mut};
 
     #[test]
     fn a_panic_becomes_a_status() {
         assert_eq!(guarded(|| -> u32 { panic!("expected") }), REFUSED);
+        assert_eq!(guarded(|| -> u64 { panic!("expected") }), u64::MAX);
+        let answer = guarded(|| -> VersAnswer { panic!("expected") });
+        assert_eq!((answer.status, answer.value), (REFUSED, 0));
+    }
+
+    #[test]
+    fn no_items_are_at_null() {
+        // SAFETY: null is for no items.
+        let (read, written): (&[u64], &mut [u64]) = unsafe { (items(null(), 0), items_mut(null_mut(), 0)) };
+        assert!(read.is_empty() && written.is_empty());
     }
 
     #[test]

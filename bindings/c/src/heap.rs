@@ -96,7 +96,11 @@ mod tests {
         for count in [PAGE / 8, PAGE / 8 + 1, 3 * PAGE / 8] {
             assert!(is_placed(&vec![1; count]) && is_placed(&vec![0; count]));
         }
-        assert!(vec![0_u64; 2 * PAGE / 8].iter().all(|it| *it == 0));
+        for _ in 0..4 {
+            // the system reuses the block
+            drop(vec![1_u64; PAGE / 8]);
+            assert!(vec![0_u64; PAGE / 8].iter().all(|it| *it == 0));
+        }
     }
 
     #[test]

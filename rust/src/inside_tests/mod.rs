@@ -7,6 +7,7 @@ mod exports;
 #[cfg(mutants)]
 mod greatest;
 mod memory;
+mod older;
 mod reads;
 #[cfg(mutants)]
 mod suffixes;
