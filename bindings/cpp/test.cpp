@@ -149,7 +149,8 @@ template <class List, class Make>
 static void test_differences(const Numbers &items, Make make) {
     const List list = make(items);
     check("equal", list == make(items) && make({}) == make({}));
-    for (std::size_t position : {std::size_t{0}, std::size_t{63}, std::size_t{64}, items.size() / 2, items.size() - 1}) {
+    const std::size_t last_word = items.size() / 64 * 64;
+    for (std::size_t position : {std::size_t{0}, std::size_t{63}, std::size_t{64}, last_word, items.size() - 1}) {
         Numbers others = items;
         others[position] ^= 1;
         check("another item", list != make(others) && !(make(others) == list));
@@ -358,10 +359,13 @@ static void test_inverted() {
     check("order", !vers::InvertedIndex::from(4, 10, {1, 0}, {2, 3}) && !vers::InvertedIndex::from(4, 10, {1, 1}, {2, 2}));
     auto status = Status::done;
     check("fewer documents", !vers::InvertedIndex::from(4, 10, {0, 1}, {2}, status) && status == Status::refused);
+    check("more documents", !vers::InvertedIndex::from(4, 10, {0}, {2, 3}));
     check("braces", index == vers::InvertedIndex::from(4, 10, {0, 0, 0, 2, 2, 3}, {0, 3, 9, 3, 4, 9}));
     check("status", index == vers::InvertedIndex::from(4, 10, terms, documents, status) && status == Status::done);
     check("other limits", index != vers::InvertedIndex::from(5, 10, terms, documents) &&
                           index != vers::InvertedIndex::from(4, 11, terms, documents));
+    // the numbers of the first term's pairs don't depend on the limit of documents
+    check("another limit", vers::InvertedIndex::from(1, 8, {0}, {3}) != vers::InvertedIndex::from(1, 9, {0}, {3}));
     check("another pair", index != vers::InvertedIndex::from(4, 10, {0, 0, 0, 2, 2, 3}, {0, 3, 9, 3, 5, 9}));
     check("numbers", index->pair_number(3) == 23 && !index->pair_number(6) && index->heap_size() > 0);
     check("count", index->count(0) == 3 && index->count(1) == 0 && index->count(4) == 0);
@@ -584,6 +588,7 @@ static void test_constructors() {
     }
     std::uint64_t array[] = {2, 1, 2, 1, 2};
     check("array of C", vers::TextIndex::from(array, 3, 2)->len() == 3);
+    check("one item", !vers::FastRmq::from({7}).is_empty() && vers::FastRmq::from(Numbers()).is_empty());
     const auto text = vers::TextIndex::from({2, 1, 2}, 2);
     check("in braces", vers::EliasFanoVec::from({2, 5, 90})->get(2) == Found(90) && text->step() == 32);
     check("of a list", vers::FastRmq::from(*vers::EliasFanoVec::from({2, 5})) == vers::FastRmq::from({2, 5}));

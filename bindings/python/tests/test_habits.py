@@ -247,15 +247,18 @@ class Makers(unittest.TestCase):
             "^the one at position 0 is 0, and not below 0$": lambda: vers.SparseRSVec([0], 0),
             "^the term at position 1 is 4, and not below 3$": lambda: vers.InvertedIndex([0, 4], [1, 2], 3),
             "^the document at position 0 is 1, and not below 1$": lambda: vers.InvertedIndex([0], [1], universe=1),
+            f"^the document at position 0 is {vers.NONE}, and not below {vers.NONE}$":
+                lambda: vers.InvertedIndex([0], [vers.NONE]),
             "^the documents descend at position 1: 1 after 4$": lambda: vers.Postings([4, 1], [0, 0]),
             "^2 documents with 1 cost$": lambda: vers.Postings([1, 2], [0]),
-            "^the symbol at position 1 is 4, and above 3$": lambda: vers.TextIndex([3, 4], 2),
+            "^the symbol at position 1 is 4, and above 3$": lambda: vers.TextIndex([3, 4, 5], 2),
             "^the width is 17, and it is from 1 to 16$": lambda: vers.TextIndex([3], 17),
             "^the step is 0$": lambda: vers.TextIndex([3], 2, 0),
             "^the width is 65, and it is at most 64$": lambda: vers.WaveletMatrix([3], 65),
             "^the width is 0, and a symbol has at least 1 bit$": lambda: vers.WaveletMatrix([0, 0], 0),
-            f"^the width is {1 << 40}, and it is at most 64$": lambda: vers.WaveletMatrix([3], 1 << 40),
-            f"^the width is {1 << 40}, and it is from 1 to 16$": lambda: vers.TextIndex([3], 1 << 40),
+            # the low 32 bits are those of a width that is taken
+            f"^the width is {(1 << 32) + 8}, and it is at most 64$": lambda: vers.WaveletMatrix([3], (1 << 32) + 8),
+            f"^the width is {(1 << 32) + 8}, and it is from 1 to 16$": lambda: vers.TextIndex([3], (1 << 32) + 8),
             "^the count is 65, and it is at most 64$": lambda: vers.BitVec().append_bits(0, 65),
             "^1 term with 2 documents$": lambda: vers.InvertedIndex([0], [1, 2]),
             "^position 1 is past the end of 1 parenthesis$": lambda: vers.BpTree("(").excess(1),
@@ -529,6 +532,8 @@ class Arrays(unittest.TestCase):
         numbers = vers.EliasFanoVec([2, 5, (1 << 63) - 1])
         self.assertEqual((numbers[:].typecode, vers.EliasFanoVec([1 << 63])[:].typecode), ("q", "Q"))
         self.assertEqual((vers.EliasFanoVec(numbers[:]), numbers.rank(numbers[1:]).tolist()), (numbers, [1, 2]))
+        for universe, kind in (1 << 63, "q"), ((1 << 63) + 1, "Q"):
+            self.assertEqual(vers.InvertedIndex([0], [3], 1, universe).pairs()[1].typecode, kind)
         self.assertEqual(numbers[::-1], array("q", [(1 << 63) - 1, 5, 2]))
         for wrong in ([-1, 2], [2, -1], [0] * 9 + [-(1 << 63)]):
             with self.assertRaisesRegex(OverflowError, rf"^the number at position {wrong.index(min(wrong))} is -"):
@@ -729,7 +734,8 @@ class Fasta(unittest.TestCase):
             self.refused("^the text isn't that of a FASTA file$", vers.TextIndex(text).sites, b"A")
         for text in b"a\nbc\nGATTA\n", b"\nbc\nGATTA", b"\n\xe3\n\xe4\nTA\n":
             self.refused("^the text isn't that of a FASTA file$", vers.TextIndex(text).sites, b"TA")
-        self.refused("^the text isn't that of a FASTA file$", vers.TextIndex([10, 200, 10, 65], 9).sequences)
+        for symbols in [10, 200, 10, 65], []:
+            self.refused("^the text isn't that of a FASTA file$", vers.TextIndex(symbols, 9).sequences)
 
 
 class Habits(unittest.TestCase):
@@ -755,6 +761,7 @@ class Habits(unittest.TestCase):
         one, other = vers.TextIndex(b"abracadabra" * 50), vers.TextIndex(b"abracadabra" * 50, 8, 3)
         self.assertEqual((one, hash(one)), (other, hash(other)))
         self.assertEqual(vers.WaveletMatrix([], 0), vers.WaveletMatrix([], 0))
+        self.assertEqual(vers.RsVec([1]), mock.ANY)
         for made in some_lists():
             self.assertEqual(pickle.loads(pickle.dumps(made)), made)
             self.assertEqual(copy.copy(made), made)
@@ -869,8 +876,10 @@ class Habits(unittest.TestCase):
             path, room = os.path.join(folder, "list.vers"), os.path.join(folder, "room")
             os.mkdir(room)
             bits.save(path)
-            absent = os.path.join(folder, "absent", "list.vers")
-            for wrong, kind in (room, IsADirectoryError), (absent, FileNotFoundError), (path + "/x", NotADirectoryError):
+            absent, link = os.path.join(folder, "absent", "list.vers"), os.path.join(room, "link")
+            os.symlink(absent, link)
+            for wrong, kind in ((room, IsADirectoryError), (absent, FileNotFoundError), (link, FileNotFoundError),
+                                (path + "/x", NotADirectoryError)):
                 with self.assertRaises(kind) as raised:
                     bits.save(wrong)
                 self.assertEqual((raised.exception.filename, raised.exception.filename2), (wrong, None))

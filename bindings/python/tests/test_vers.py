@@ -53,6 +53,8 @@ class Lists(unittest.TestCase):
                     self.assertEqual(made.predecessor0(position), max((it for it in zeros if it < position), default=None))
                 self.assertEqual(made.get_bits(0, 3), bits[0] + 2 * bits[1] + 4 * bits[2] if count > 2 else None)
                 self.assertGreaterEqual(made.heap_size(), count // 8)
+        # positions are asked by 4096
+        self.assertEqual(list(vers.RsVec([1] * 5000).iter1()), list(range(5000)))
 
     def test_places(self):
         bits = random_bits(100)
@@ -192,6 +194,7 @@ class Lists(unittest.TestCase):
         self.assertEqual((made.last_child(0), made.previous_sibling(7), made.first_child(2)), (7, 1, None))
         self.assertEqual((made.close(0), made.open(11), made.enclose(4)), (11, 0, 1))
         self.assertEqual((made.fwd_search(0, -1), made.bwd_search(11, -1)), (11, 0))
+        self.assertEqual((made.fwd_search(0, -(1 << 63)), made.bwd_search(11, (1 << 63) - 1)), (None, None))
         self.assertEqual((made.depth(8), made.node_index(8), made.node_handle(5)), (2, 5, 8))
         self.assertEqual((made.level_next(4), made.level_prev(8), made.level_ancestor(8, 2)), (8, 4, 0))
         self.assertEqual((made.level_leftmost(2), made.level_rightmost(2), made.level_leftmost(3)), (2, 8, None))
@@ -273,10 +276,12 @@ class Lists(unittest.TestCase):
         self.assertEqual((again, hash(again), again.tolist()), (index, hash(index), index.tolist()))
         for other in ([0, 0, 2], [3, 7, 3], 4), ([0, 0, 2], [3, 7, 3], 3, 9), ([0, 0, 2], [3, 7, 4], 3, 8):
             self.assertNotEqual(index, vers.InvertedIndex(*other))
+        # the numbers of the first term's pairs don't depend on the limit of documents
+        self.assertNotEqual(vers.InvertedIndex([0], [3], 1, 8), vers.InvertedIndex([0], [3], 1, 9))
         empty = vers.InvertedIndex([], [])
         self.assertEqual((len(empty), empty.terms(), empty.tolist(), list(empty.union(0, 1))), (0, 0, [], []))
         for text, arguments in (
-            ("^2 terms with 1 document$", ([0, 1], [2])), ("product of the limits", ([], [], 1 << 40, 1 << 40)),
+            ("^2 terms with 1 document$", ([0, 1], [2])), ("product of the limits", ([], [], 1 << 32, 1 << 32)),
             ("term at position 1 is 4", ([0, 4], [2, 2], 4)), ("document at position 0 is 9", ([0], [9], 1, 9)),
             (r"^the pair at position 1 is \(0, 1\), after \(1, 0\): sort by term, then", ([1, 0], [0, 1])),
             (r"^the pair at position 2 is \(1, 2\), after \(1, 2\): .* without repeats$", ([0, 1, 1], [4, 2, 2])),
@@ -331,6 +336,9 @@ class Batches(unittest.TestCase):
         greatest = vers.EliasFanoVec([3, vers.NONE])
         self.assertEqual(greatest.each("get", [1, 2, 0, 1]).tolist(), [vers.NONE, None, 3, vers.NONE])
         self.assertEqual(greatest.each("successor", [2, vers.NONE]).tolist(), [3, vers.NONE])
+        for other, kind in ((1 << 63) - 1, "q"), (1 << 63, "Q"):
+            found = made.each("successor", [9], other=other)
+            self.assertEqual((found.typecode, found.tolist()), (kind, [other]))
         with self.assertRaisesRegex(OverflowError, "^other is 18446744073709551616"):
             made.each("get", [2], other=vers.NONE + 1)
         with self.assertRaisesRegex(OverflowError, "^other is 18446744073709551615, and signed"):
@@ -344,7 +352,7 @@ class Batches(unittest.TestCase):
         self.assertEqual(made.each("rank", ends, symbols).tolist(), [made.rank(end, s) for end, s in zip(ends, symbols)])
         self.assertEqual(made.each("quantile", 0, 300, ends).tolist(), sorted(symbols))
         self.assertEqual(made.each("rank", 300, range(16)).tolist(), [symbols.count(s) for s in range(16)])
-        with self.assertRaises(ValueError):
+        with self.assertRaisesRegex(ValueError, "^the arrays differ in length: 1 and 2$"):
             made.each("rank", [1, 2], [3])
 
     def test_tree(self):
@@ -418,6 +426,13 @@ class Owners(unittest.TestCase):
             _library.done(_library.clone(other, empty))
         made.append(1)
         self.assertEqual(list(made), [1, 0, 1, 1])
+        owner = vers.BitVec._made(_library.clone_of, made)
+        # only a refusal says why
+        with self.assertRaisesRegex(vers.Shared, "^The list is being read by another thread"):
+            made.append_bits(1, 1)
+        del owner
+        made.append(0)
+        self.assertEqual(list(made), [1, 0, 1, 1, 0])
 
     def test_names_of_faults(self):
         for kind, _ in _faults.FAULTS:
@@ -550,6 +565,7 @@ class Owners(unittest.TestCase):
 
     def test_texts(self):
         self.assertEqual(repr(vers.RsVec([1, 0])), "<vers.RsVec of 2 bits: [1, 0]>")
+        self.assertEqual(repr(vers.FastRmq(range(8))), "<vers.FastRmq of 8 values: [0, 1, 2, 3, 4, 5, 6, 7]>")
         self.assertEqual(repr(vers.FastRmq(range(9))), "<vers.FastRmq of 9 values: [0, 1, 2, 3, 4, 5, 6, 7, ...]>")
         self.assertEqual(repr(vers.BpTree("()")), "<vers.BpTree of 2 parentheses: ()>")
         self.assertEqual(repr(vers.BpTree("(())" * 3)), "<vers.BpTree of 12 parentheses: (())(())...>")
