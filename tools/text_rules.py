@@ -254,6 +254,7 @@ BREAKS = {
     "says `so many`": ("test", '"""Checks', '"""Checks so\n# many'),
     "tools/sources.py:1: has more than 120": ("tools/sources.py", '"""Reads', f'"""{"Reads " * 30}'),
     "CALLS.md:1: has more than 120": ("docs/CALLS.md", "# Calls", f"# Calls{' and' * 40}"),
+    "proofs/Names.antt:1: says `let go`": (f"{RANK}proofs/Names.antt", "-- The names", "-- Let go the names"),
     "says `want of memory`": (TALLY, CHUNKS, f"    /// None for want\n    /// of memory.\n{CHUNKS}"),
 }
 
