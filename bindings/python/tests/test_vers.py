@@ -428,7 +428,7 @@ class Owners(unittest.TestCase):
         self.assertEqual(list(made), [1, 0, 1, 1])
         owner = vers.BitVec._made(_library.clone_of, made)
         # only a refusal says why
-        with self.assertRaisesRegex(vers.Shared, "^The list is being read by another thread"):
+        with self.assertRaisesRegex(vers.Shared, "^the list is being read by another thread"):
             made.append_bits(1, 1)
         del owner
         made.append(0)

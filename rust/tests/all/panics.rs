@@ -233,20 +233,3 @@ fn counted_calls_of_no_node_stop() {
     assert_eq!((open.dfs_post_iter().next(), open.dfs_iter().count()), (None, 4));
     assert_eq!((open.dfs_post_iter().len(), open.subtree_iter(0).len()), (0, 0));
 }
-
-#[test]
-#[cfg(not(debug_assertions))]
-fn calls_of_no_node_answer() {
-    use vers_vecs::{IsAncestor, LevelTree, SubtreeSize, Tree};
-    let lists = [[1, 1, 0, 0], [1, 1, 1, 1], [0, 0, 0, 0], [0, 1, 0, 1]].map(|bits| BitVec::from_bits(&bits));
-    for tree in lists.map(BpTree::<512>::from_bit_vector) {
-        for node in [0, 1, 2, 3, 4, FAR] {
-            let _ = (tree.parent(node), tree.first_child(node), tree.last_child(node), tree.next_sibling(node));
-            let _ = (tree.previous_sibling(node), tree.is_leaf(node), tree.node_index(node), tree.depth(node));
-            let _ =
-                (tree.subtree_size(node), tree.level_ancestor(node, 1), tree.level_next(node), tree.level_prev(node));
-            let _ = (tree.is_ancestor(node, 0), tree.is_ancestor(0, node), tree.excess(node), tree.node_handle(node));
-            let _ = (tree.level_leftmost(node as u64), tree.level_rightmost(node as u64));
-        }
-    }
-}
