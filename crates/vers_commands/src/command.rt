@@ -40,7 +40,7 @@ pub fn command_of(words: &[String]) -> Option<Command<'_>> {
         [_, word, file] => match word.as_str() {
             "save" => Some(Command::Save(file.as_str())),
             "ask" => Some(Command::Ask(file.as_str())),
-            "text" => Some(Command::Text(file.as_str())),
+            "text" if !is_verb(file.as_str()) => Some(Command::Text(file.as_str())),
             "show" => Some(Command::Show(file.as_str())),
             _ => None,
         },
@@ -64,6 +64,28 @@ pub fn command_of(words: &[String]) -> Option<Command<'_>> {
             _ => None,
         },
         _ => None,
+    }
+}
+
+/// Returns the arguments that a command takes, for those that name none.
+pub fn usage_of(words: &[String]) -> &'static str {
+    match words {
+        [_, word, ..] => match word.as_str() {
+            "save" => "save takes FILE",
+            "ask" => "ask takes FILE",
+            "show" => "show takes FILE",
+            "text" => "text takes nothing, FILE, or index [--fasta] FILE INDEX",
+            _ => "unknown arguments",
+        },
+        _ => "unknown arguments",
+    }
+}
+
+// Returns true if a word after `text` is a command, and no file.
+fn is_verb(word: &str) -> bool {
+    match word {
+        "index" => true,
+        _ => false,
     }
 }
 

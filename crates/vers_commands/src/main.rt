@@ -8,7 +8,7 @@ mod help;
 mod lines;
 mod progress;
 
-use command::{Command, command_of};
+use command::{Command, command_of, usage_of};
 use std::alloc::AllocError;
 use std::env;
 use std::process::ExitCode;
@@ -24,7 +24,8 @@ fn main(rt: HostRuntime) -> ExitCode {
     match command_of(words.as_slice()) {
         Some(command) => run(&rt, command),
         None => {
-            let _ = eprintln!(rt; "vers: unknown arguments; vers --help lists the commands");
+            let usage = usage_of(words.as_slice());
+            let _ = eprintln!(rt; "vers: {usage}; vers --help lists the commands");
             ExitCode::from(2)
         }
     }

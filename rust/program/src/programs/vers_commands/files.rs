@@ -10,10 +10,13 @@ use crate::rattle::fs::File;
 use std::process::ExitCode;
 use crate::programs::vers_cli::Device;
 use crate::programs::vers_files::{
-    FilePlace, SaveFault, Shown, WrongLine, ask, ask_text, fault_line, index_fasta_to, index_to,
-    read, save_to, show, symbols_cut, text_fault_line,
+    FilePlace, SaveFault, Shown, TextFault, WrongLine, ask, ask_text, fault_line, index_fasta_to,
+    index_to, read, save_to, show, symbols_cut, text_fault_line,
 };
 use crate::proved::vers_saved::fault::LoadError;
+
+// What a query of a file that isn't a saved form prints.
+const NO_INDEX: &str = "the file is no saved index; vers text index FILE INDEX makes one";
 
 // Opens a file, or prints why it can't.
 fn opened(rt: &HostRuntime, path: &str) -> Option<File> {
@@ -50,6 +53,7 @@ pub fn answer_text(rt: &HostRuntime, path: &str) -> ExitCode {
     let mut writer = Device::new(rt.stdout());
     match ask_text(rt.alloc(), &mut file, &mut reader, &mut writer) {
         Ok(ended) => status(rt, ended),
+        Err(TextFault::File(LoadError::NotOurs)) => fail_about(rt, path, NO_INDEX),
         Err(fault) => fail_about(rt, path, text_fault_line(&fault)),
     }
 }
@@ -208,7 +212,7 @@ fn why_not_saved(fault: SaveFault) -> &'static str {
         SaveFault::Read => "the file can't be read",
         SaveFault::Write => "write failed",
         SaveFault::Begin =>
-            "the file can't be created; if it exists, another save has begun or was interrupted",
+            "the file can't be created: its folder is missing, or another save has begun or was interrupted",
         SaveFault::Sync => "the file can't be synced",
         SaveFault::Put => "the file can't be renamed",
         SaveFault::Settle => "the file is replaced, but its folder can't be synced",

@@ -9,7 +9,7 @@ mod help;
 mod lines;
 mod progress;
 
-use command::{Command, command_of};
+use command::{Command, command_of, usage_of};
 use crate::rattle::AllocError;
 use crate::rattle::host::env;
 use std::process::ExitCode;
@@ -26,7 +26,8 @@ pub fn main() -> ExitCode {
     match command_of(words.as_slice()) {
         Some(command) => run(&rt, command),
         None => {
-            let _ = crate::print_error!("vers: unknown arguments; vers --help lists the commands");
+            let usage = usage_of(words.as_slice());
+            let _ = crate::print_error!("vers: {usage}; vers --help lists the commands");
             ExitCode::from(2)
         }
     }
