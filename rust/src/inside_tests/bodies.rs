@@ -326,6 +326,23 @@ fn ranks_and_bits_of_every_position() {
 }
 
 #[test]
+fn ranks_of_a_list_beyond_the_caches() {
+    // from 2^25 bits on, ranks go limb by limb
+    let limbs: Plain<u64> = (0..(1 << 19) + 11).map(|k: u64| k.wrapping_mul(0x9E37_79B9_7F4A_7C15)).collect();
+    let Ok(index) = RsVec::from_bit_vec(BitVec::from_limbs(Global, &limbs).ok().unwrap()) else { panic!() };
+    let mut before = 0;
+    for (k, limb) in limbs.iter().enumerate() {
+        // some blocks at the beginning of a superblock, and the last ones
+        for bit in 0..if k % 4096 < 9 || k + 20 > limbs.len() { 64 } else { 0 } {
+            let (position, ones) = (64 * k + bit, before + (limb & ((1 << bit) - 1)).count_ones() as usize);
+            assert_eq!((index.rank1(position), index.rank0(position)), (ones, position - ones), "{position}");
+        }
+        before += limb.count_ones() as usize;
+    }
+    assert_eq!((index.rank1(usize::MAX), index.rank0(64 * limbs.len())), (before, 64 * limbs.len() - before));
+}
+
+#[test]
 fn elements_whose_product_wraps_are_too_long() {
     assert_eq!(BitVec::pack_sequence_u8(Global, &[1, 1], 1 << 63).err(), Some(GrowError::TooLong));
     assert_eq!(BitVec::pack_sequence_u64(Global, &[1; 4], 1 << 62).err(), Some(GrowError::TooLong));

@@ -9,6 +9,9 @@ use super::{BLOCK, BLOCKS, LIMB, RsVec};
 use std::alloc::Allocator;
 use vers_tally::tally::Tally;
 
+// The least number of bits of a list that is taken to be larger than the processor's caches.
+const LARGE: usize = 33_554_432;
+
 /// The bit at a position, and the number of zeros below it.
 #[derive(Clone, Copy, Drop)]
 pub struct RankedBit {
@@ -50,7 +53,8 @@ impl<A: Allocator + Copy> RsVec<A> {
     {
         tally.add_rank_call();
         if let Some(limbs) = self.bits.block(position / BLOCK, tally) {
-            return position.min(self.len()) - self.ones_below(limbs, position, tally);
+            let ones = self.ones_of_block(limbs, position);
+            return position.min(self.len()) - self.ones_below(ones, position, tally);
         }
         if position >= self.len() {
             return self.zeros();
@@ -69,7 +73,8 @@ impl<A: Allocator + Copy> RsVec<A> {
     {
         tally.add_rank_call();
         if let Some(limbs) = self.bits.block(position / BLOCK, tally) {
-            return self.ones_below(limbs, position, tally);
+            let ones = self.ones_of_block(limbs, position);
+            return self.ones_below(ones, position, tally);
         }
         if position >= self.len() {
             return self.ones();
@@ -100,8 +105,9 @@ impl<A: Allocator + Copy> RsVec<A> {
     {
         tally.add_rank_call();
         if let Some(limbs) = self.bits.block(position / BLOCK, tally) {
+            let ones = self.ones_in_block(limbs, position);
             return RankedBit {
-                zeros: position - self.ones_below(limbs, position, tally),
+                zeros: position - self.ones_below(ones, position, tally),
                 is_one: limbs[position / LIMB % 8] >> (position % LIMB) & 1 == 1,
             };
         }
@@ -111,11 +117,12 @@ impl<A: Allocator + Copy> RsVec<A> {
         }
     }
 
-    // Returns the number of ones below a position, by the limbs of its block.
+    // Returns the number of ones below a position, by those of its block before it.
     #[inline(always)]
     #[tactic(auto, using(crate::proofs::Ranks::sums))]
-    fn ones_below(&self, limbs: &[u64; 8], position: usize, tally: &mut Tally) -> usize
-        requires limbs { AreLimbsOf self.now (position / BLOCK) limbs.now }
+    fn ones_below(&self, ones: usize, position: usize, tally: &mut Tally) -> usize
+        requires ones { count true self.now (BLOCK * (position / BLOCK)) + ones
+            ≡ count true self.now position }
         requires within { BLOCK * (position / BLOCK) < length self.now }
         ensures value { result ≡ count true self.now position }
         ensures few { result ≤ position }
@@ -123,8 +130,8 @@ impl<A: Allocator + Copy> RsVec<A> {
             (record no_reads { block_entries = 1; superblock_entries = 1 }) }
     {
         let block = position / BLOCK;
-        let ones = self.ones_in_block(limbs, position);
-        BLOCK * block - self.zeros_before(block, tally) + ones
+        let zeros = self.zeros_before(block, tally);
+        BLOCK * block - zeros + ones
     }
 
     // Returns the number of ones below a position in the last block, which may not have all its limbs.
@@ -257,6 +264,37 @@ impl<A: Allocator + Copy> RsVec<A> {
         ensures adds { AddsAtMost tally.old tally.new (only_data_words 1) }
     {
         ones_of_part(self.bits.limb(position / LIMB, tally), position)
+    }
+
+    // Returns the number of ones from the start of a block up to a position in it. Beyond the processor's caches ranks
+    // wait for memory, and the fewer instructions one takes, the more of them wait together.
+    #[inline(always)]
+    fn ones_of_block(&self, limbs: &[u64; 8], position: usize) -> usize
+        requires { AreLimbsOf self.now (position / BLOCK) limbs.now }
+        ensures value { count true self.now (BLOCK * (position / BLOCK)) + result
+            ≡ count true self.now position }
+    {
+        if self.len() < LARGE {
+            self.ones_in_block(limbs, position)
+        } else {
+            self.ones_by_limbs(limbs, position)
+        }
+    }
+
+    // Returns the number of ones from the start of a block up to a position in it, limb by limb.
+    #[inline(always)]
+    #[tactic(auto, using(crate::proofs::Ranks::limbs))]
+    fn ones_by_limbs(&self, limbs: &[u64; 8], position: usize) -> usize
+        requires { AreLimbsOf self.now (position / BLOCK) limbs.now }
+        ensures value { count true self.now (BLOCK * (position / BLOCK)) + result
+            ≡ count true self.now position }
+    {
+        let block = position / BLOCK;
+        let mut ones = 0;
+        for k in 8 * block..position / LIMB {
+            ones += self.ones_of_limb(limbs, block, k);
+        }
+        ones + ones_of_part(limbs[position / LIMB % 8], position)
     }
 
     // Returns the number of ones from the start of a block up to a position in it: up to its half, its quarter
