@@ -2,9 +2,10 @@
 """Draws the tables of docs/PERFORMANCE.md by matplotlib (Debian's package `python3-matplotlib`), and measures nothing.
 
 docs/speed.svg has a bar for each figure that `tools/pages.py` reads there, and docs/growth.svg a line for each
-operation of the tables that `growth.py` printed.
+operation of the tables that `growth` printed.
 """
 import os
+import re
 import sys
 from itertools import groupby
 
@@ -12,7 +13,6 @@ import matplotlib
 from matplotlib import pyplot
 
 import compare
-import growth
 
 sys.path.append(os.path.join(compare.TOP, "tools"))
 import pages
@@ -44,18 +44,31 @@ def draw_speed():
     save(figure, "speed.svg")
 
 
+def read_growth():
+    """Yields the title of each table of times by size, the sizes, and the times of each operation, here and in the
+    original."""
+    with open(os.path.join(compare.TOP, "docs/PERFORMANCE.md"), encoding="utf-8") as file:
+        section = re.search(r"(?s)## Growth with size\n(.*?)\n## ", file.read())[1]
+    for table in re.findall(r"(?m)^(?:\|.*\n)+", section):
+        (title, *sizes), _, *rows = [line.strip("|").split("|") for line in table.splitlines()]
+        powers = [int(base) ** int(exponent) for base, exponent in (it.split("^") for it in sizes)]
+        yield title.replace("`", ""), powers, {
+            name.strip("`"): [[float(it) for it in cell.split(", ")] for cell in cells] for name, *cells in rows}
+
+
 def draw_growth():
     """Draws, for each structure, how the times of its queries and of its build grow with its size."""
-    tables = list(growth.read_tables())
+    tables = list(read_growth())
     figure, rows = pyplot.subplots(len(tables), 2, figsize=(9, 2.6 * len(tables)), layout="constrained")
-    for row, (structure, times) in zip(rows, tables):
-        sizes = [structure.base**it for it in structure.exponents]
-        for panel, operations, what in zip(row, (structure.queries, ["build"]), ("a query", "a build, an item")):
+    for row, (title, sizes, times) in zip(rows, tables):
+        structure, unit = title.split(", ")
+        queries = [it for it in times if it != "build"]
+        for panel, operations, what in zip(row, (queries, ["build"]), ("a query", "a build, an item")):
             for operation in operations:
                 here, original = zip(*times[operation])
                 (line,) = panel.plot(sizes, here, label=operation)
                 panel.plot(sizes, original, color=line.get_color(), linestyle="--")
-            panel.set(xscale="log", yscale="log", title=f"{structure.type}: {what}, ns", xlabel=structure.unit)
+            panel.set(xscale="log", yscale="log", title=f"{structure}: {what}, ns", xlabel=unit)
             panel.legend(fontsize=8)
     figure.suptitle("Solid: this library. Dashed: vers-vecs 1.10.2.")
     save(figure, "growth.svg")
