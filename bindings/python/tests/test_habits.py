@@ -388,6 +388,24 @@ class Makers(unittest.TestCase):
             vers.WaveletMatrix([1], 1).rank(1, -1)
 
 
+class Files(unittest.TestCase):
+    def test_class_of_a_saved_file(self):
+        with tempfile.TemporaryDirectory() as folder:
+            path = os.path.join(folder, "list.vers")
+            for made in some_lists():
+                if isinstance(made, vers.PlainNumbers):
+                    continue
+                made.save(path)
+                kinds = {vers.BitVec: vers.RsVec, vers.BinaryRmq: vers.FastRmq}
+                loaded = vers.load(path)
+                self.assertEqual((type(loaded), loaded.tolist()), (kinds.get(type(made), type(made)), made.tolist()))
+            for content, kind in (b"", vers.TooShort), (bytes(48), vers.NotOurs):
+                with open(path, "wb") as file:
+                    file.write(content)
+                with self.assertRaisesRegex(kind, f"^{re.escape(path)}: "):
+                    vers.load(path)
+
+
 class Arrays(unittest.TestCase):
     def test_refused_by_position(self):
         tree, other = vers.BpTree("(()())"), vers.BpTree(")(")

@@ -18,7 +18,7 @@ from ._faults import (
 from ._bases import NONE
 from ._lists import (
     BinaryRmq, BitVec, BpTree, EliasFanoVec, FastRmq, InvertedIndex, PlainNumbers, Postings, RsVec, SparseRSVec,
-    TextIndex, WaveletMatrix,
+    TextIndex, WaveletMatrix, load,
 )
 
 __version__ = "0.28.0"
@@ -27,5 +27,5 @@ __all__ = [
     "BadLength", "BadPadding", "BadSum", "BinaryRmq", "BitVec", "BpTree", "EliasFanoVec", "FastRmq", "InvertedIndex",
     "NONE", "NoMemory", "NotAText", "NotAscending", "NotOurs", "Occupied", "OtherKind", "OtherVersion", "PlainNumbers",
     "Postings", "Refused", "RsVec", "Shared", "SparseRSVec", "TextIndex", "TooShort", "Unknown", "Vacant", "VersError",
-    "WaveletMatrix",
+    "WaveletMatrix", "load",
 ]

@@ -1131,3 +1131,16 @@ class TextIndex(Shared[str]):
             library.extract, own._at, first, past, why=lambda: (
                 f"{first} to {past} is no range of {_buffers.counted(len(self), 'symbols')}"))
         return made
+
+
+# the class of each kind of saved form; bits are those of a BitVec too, and values those of a BinaryRmq
+_LOADED = {it._kind: it for it in (
+    RsVec, SparseRSVec, EliasFanoVec, WaveletMatrix, FastRmq, BpTree, Postings, InvertedIndex, TextIndex)}
+
+
+def load(path: Path) -> Any:
+    """Returns the list of a saved file, of the class of its kind: an `RsVec` of bits, and a `FastRmq` of values. Raises
+    what `from_bytes` does, with the path."""
+    with open(path, "rb") as file:
+        kind = int.from_bytes(file.read(24)[16:], "little")
+    return _LOADED.get(kind, RsVec).load(path)
