@@ -1,4 +1,4 @@
-//! Lists of bits with rank (how many ones or zeros precede a position) and select (where they are).
+//! Lists of bits with rank (how many ones or zeros precede a position) and select (their positions).
 #![tactic(auto)]
 
 mod build;
