@@ -173,7 +173,7 @@ fn parentheses_that_are_not_balanced_are_searched() {
             }
         }
         for depth in 0..4 {
-            let first = (depth > 0).then(|| tree.fwd_search(0, depth)).unwrap_or(Some(0));
+            let first = if depth > 0 { tree.fwd_search(0, depth) } else { Some(0) };
             assert!(tree.is_balanced() || tree.level_leftmost(depth as u64) == first);
         }
         assert_eq!(BitVec::from(tree), bits);
