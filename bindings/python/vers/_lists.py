@@ -1133,9 +1133,9 @@ class TextIndex(Shared[str]):
         return made
 
 
-# the class of each kind of saved form; bits are those of a BitVec too, and values those of a BinaryRmq
-_LOADED = {it._kind: it for it in (
-    RsVec, SparseRSVec, EliasFanoVec, WaveletMatrix, FastRmq, BpTree, Postings, InvertedIndex, TextIndex)}
+# the classes of saved forms; bits are those of a BitVec too, and values those of a BinaryRmq
+_LOADED: Tuple[Any, ...] = (
+    RsVec, SparseRSVec, EliasFanoVec, WaveletMatrix, FastRmq, BpTree, Postings, InvertedIndex, TextIndex)
 
 
 def load(path: Path) -> Any:
@@ -1143,4 +1143,4 @@ def load(path: Path) -> Any:
     what `from_bytes` does, with the path."""
     with open(path, "rb") as file:
         kind = int.from_bytes(file.read(24)[16:], "little")
-    return _LOADED.get(kind, RsVec).load(path)
+    return next((it for it in _LOADED if it._kind == kind), RsVec).load(path)
