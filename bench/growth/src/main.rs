@@ -141,6 +141,16 @@ fn measure_sorted(table: &mut Table, len: usize) {
     );
 }
 
+/// Returns a range from each position to a random one, or the reverse, and the number of one of its elements.
+fn ranges_from(random: &mut Random, asked: &[(usize, u64)], len: usize) -> Vec<[usize; 3]> {
+    let mut range_from = |it: usize| {
+        let other = random.below(len as u64) as usize;
+        let (start, end) = (it.min(other), it.max(other) + 1);
+        [start, end, random.below((end - start) as u64) as usize]
+    };
+    asked.iter().map(|&(it, _)| range_from(it)).collect()
+}
+
 /// Random symbols of 8 bits. A select is for an occurrence that there is, a quantile of a range of random ends.
 fn measure_symbols(table: &mut Table, len: usize) {
     let items = symbols(len, 8);
@@ -155,12 +165,7 @@ fn measure_symbols(table: &mut Table, len: usize) {
     let asked: Vec<(usize, u64)> = numbers(&mut random, len).into_iter().map(|it| (it, random.below(256))).collect();
     let least = (0..256).map(|symbol| ours.rank_u64(len, symbol).unwrap_or(0)).min().unwrap_or(0);
     let selected: Vec<(usize, u64)> = asked.iter().map(|&(it, symbol)| (it % least.max(1), symbol)).collect();
-    let ends: Vec<[usize; 2]> = asked.iter().map(|&(it, _)| [it, random.below(len as u64) as usize]).collect();
-    let ranges: Vec<[usize; 3]> = ends
-        .iter()
-        .map(|&[one, other]| [one.min(other), one.max(other) + 1])
-        .map(|[start, end]| [start, end, random.below((end - start) as u64) as usize])
-        .collect();
+    let ranges = ranges_from(&mut random, &asked, len);
     let number = |found: Option<u64>| found.unwrap_or(NONE);
     table.query("get_u64", &asked, |&(it, _)| number(ours.get_u64(it)), |&(it, _)| number(theirs.get_u64(it)));
     table.query(
